@@ -1,0 +1,37 @@
+-- Short forms for writing example tables and documents.
+use Prim.Native.Nat.{ℕ, zero}
+use Prim.Native.String.{String}
+use mathlib.Core.List.{List, [], _∷_, map}
+use Rattle.grammar.specs.Ascii.{ascii}
+use Rattle.grammar.specs.Content.{Content}
+use Rattle.grammar.specs.Tree.{Tree, node, Forest, []ᵗ, _∷ᵗ_}
+use Rattle.grammar.specs.Table.{Rule, Table}
+use Rattle.grammar.specs.Fields.{fieldBytes}
+use Rattle.grammar.specs.ReadDocument.{nodeTag, documentEndTag}
+
+-- a rule by type, label and content
+abbrev pub rule : ℕ → ℕ → Content → Rule
+rule k l c = record { type = k; label = l; content = c }
+
+-- a table by its label names and rules, with type 0 its only start
+unfoldable pub startingAt0 : List String → List Rule → Table
+unfolding ascii
+startingAt0 names rules = record { labels = map ascii names; starts = zero ∷ []; rules = rules }
+
+-- a tree by its name and its subtrees
+unfoldable pub tree : String → List Tree → Tree
+unfolding ascii
+tree name ts = node (ascii name) (forest ts)
+  where
+    forest : List Tree → Forest
+    forest [] = []ᵗ
+    forest (t ∷ more) = t ∷ᵗ forest more
+
+-- the field of a node by its name and its number of children, and the end field
+unfoldable pub nodeField : String → ℕ → List ℕ
+unfolding fieldBytes ascii
+nodeField name children = fieldBytes nodeTag (children ∷ ascii name)
+
+unfoldable pub endOfDocument : List ℕ
+unfolding fieldBytes
+endOfDocument = fieldBytes documentEndTag []

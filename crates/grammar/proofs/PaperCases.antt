@@ -1,0 +1,88 @@
+-- The paper's cases P1 to P8, computed. (crates/theory states them as instances of the written meaning.)
+use Prim.Native.Nat.{ℕ}
+use mathlib.Core.Bool.{true, false}
+use mathlib.Core.List.{List, []}
+use mathlib.Core.Path.{_≡_, refl}
+use lib.ListN.{length}
+use Rattle.grammar.specs.Limits.{standard}
+use Rattle.grammar.specs.Names.{asciiClasses}
+use Rattle.grammar.specs.Table.{Table, emptyTable}
+use Rattle.grammar.specs.Kinds.{Kind, local, singleType}
+use Rattle.grammar.specs.Least.{byTable}
+use Rattle.grammar.specs.Outcome.{Outcome, given, refused}
+use Rattle.grammar.specs.ReadTable.{readTable}
+use Rattle.grammar.specs.ReadDocument.{readDocument}
+use Rattle.grammar.specs.Membership.{letsIn}
+use Rattle.grammar.specs.Widen.{widen}
+use Rattle.grammar.specs.declared.Refusal.the-variants.{FieldPastEnd, NoDocument}
+use Rattle.grammar.proofs.PaperTables.{
+  p1Bytes,
+  p1Table,
+  p2Bytes,
+  p2Document,
+  eBytes,
+  p5Table,
+  p5Document,
+  p6Table,
+  p6Local,
+  p7Table,
+  p7Result,
+  p8Table,
+  p8Result,
+}
+
+pub p1-length : length p1Bytes ≡ 17
+unfolding p1Bytes
+p1-length = refl
+
+pub p1-reads : readTable standard asciiClasses p1Bytes ≡ given p1Table
+unfolding readTable standard asciiClasses p1Bytes p1Table
+p1-reads = refl
+
+pub p2-reads : readDocument standard asciiClasses p2Bytes ≡ given p2Document
+unfolding readDocument standard asciiClasses p2Bytes p2Document
+p2-reads = refl
+
+pub p2-let-in : letsIn p1Table p2Document ≡ true
+unfolding letsIn p1Table p2Document
+p2-let-in = refl
+
+pub p3 : readTable standard asciiClasses [] ≡ refused FieldPastEnd
+unfolding readTable standard
+p3 = refl
+
+pub e-reads : readTable standard asciiClasses eBytes ≡ given emptyTable
+unfolding readTable standard eBytes
+e-reads = refl
+
+-- widened by E
+abbrev pub alone : Kind → Table → Outcome Table
+alone kind g = widen standard kind g (byTable emptyTable)
+
+pub p4-local : alone local emptyTable ≡ refused NoDocument
+unfolding widen standard
+p4-local = refl
+
+pub p4-single-type : alone singleType emptyTable ≡ refused NoDocument
+unfolding widen standard
+p4-single-type = refl
+
+pub p6 : alone local p6Table ≡ given p6Local
+unfolding widen standard p6Table p6Local
+p6 = refl
+
+pub p7-local : alone local p7Table ≡ given p7Result
+unfolding widen standard p7Table p7Result
+p7-local = refl
+
+pub p7-single-type : alone singleType p7Table ≡ given p7Result
+unfolding widen standard p7Table p7Result
+p7-single-type = refl
+
+pub p8-local : alone local p8Table ≡ given p8Result
+unfolding widen standard p8Table p8Result
+p8-local = refl
+
+pub p8-single-type : alone singleType p8Table ≡ given p8Result
+unfolding widen standard p8Table p8Result
+p8-single-type = refl

@@ -1,0 +1,33 @@
+-- Deciding the kinds. (crates/theory proves that these are Local and SingleType.)
+use Prim.Native.Nat.{ℕ}
+use mathlib.Core.Bool.{Bool, true, false, _&&_, not}
+use mathlib.Core.List.{List, [], _∷_}
+use lib.Dec.{eqb}
+use Rattle.grammar.specs.Lists.{any, all, allDistinct}
+use Rattle.grammar.specs.Content.{typesIn}
+use Rattle.grammar.specs.Table.{Rule, Table}
+
+unfoldable pub sameLabel : Rule → Rule → Bool
+sameLabel r s = eqb (r .label) (s .label)
+
+unfoldable pub samePair : Rule → Rule → Bool
+samePair r s = eqb (r .type) (s .type) && eqb (r .label) (s .label)
+
+unfoldable pub isLocal : Table → Bool
+unfolding allDistinct sameLabel
+isLocal g = allDistinct sameLabel (g .rules)
+
+-- two types have rules with one label
+unfoldable pub compete : Table → ℕ → ℕ → Bool
+unfolding any sameLabel
+compete g k l = any (λ (r : Rule). eqb (r .type) k && any (λ (s : Rule). eqb (s .type) l && sameLabel r s) (g .rules)) (g .rules)
+
+-- among these types no two different ones compete
+unfoldable pub noneCompete : Table → List ℕ → Bool
+unfolding all compete
+noneCompete g types = all (λ k. all (λ l. elim (eqb k l) [ true ↦ true | false ↦ not (compete g k l) ]) types) types
+
+unfoldable pub isSingleType : Table → Bool
+unfolding allDistinct samePair all noneCompete typesIn
+isSingleType g =
+    allDistinct samePair (g .rules) && noneCompete g (g .starts) && all (λ (r : Rule). noneCompete g (typesIn (r .content))) (g .rules)

@@ -1,0 +1,34 @@
+-- What it is to be the least table of a kind that lets in all that an old table lets in and all that is added.
+use mathlib.Core.Path.{_≡_}
+use Rattle.grammar.specs.Tree.{Tree}
+use Rattle.grammar.specs.Table.{Table, DistinctNames}
+use Rattle.grammar.specs.Derivation.{LetsIn}
+use Rattle.grammar.specs.Kinds.{Kind, OfKind}
+
+pub data Addition : Type 0 where
+  byTable : Table → Addition
+  byDocument : Tree → Addition
+
+-- the documents added: all that a table lets in, or that one document
+abbrev pub Added : Addition → Tree → Type 0
+Added (byTable g) = λ d. LetsIn g d
+Added (byDocument document) = λ d. d ≡ document
+
+-- every document of one sort is let in
+abbrev pub LetsInAll : Table → (Tree → Type 0) → Type 0
+LetsInAll g Documents = (d : Tree) → Documents d → LetsIn g d
+
+-- A rival is any table of the kind, of any size, that lets in the old and the added; no two of its labels have equal names. (A rule
+-- whose label number is not among the labels derives nothing, so nothing is asked of it.)
+pub record Rival (kind : Kind) (old : Table) (addition : Addition) (rival : Table) : Type 0 where
+  pub names : DistinctNames rival
+  pub of-kind : OfKind kind rival
+  pub keeps-old : LetsInAll rival (LetsIn old)
+  pub keeps-added : LetsInAll rival (Added addition)
+
+-- Being of the kind, letting in the old and the added, and being least are one claim.
+pub record LeastWidening (kind : Kind) (old : Table) (addition : Addition) (result : Table) : Type 0 where
+  pub of-kind : OfKind kind result
+  pub keeps-old : LetsInAll result (LetsIn old)
+  pub keeps-added : LetsInAll result (Added addition)
+  pub least : (rival : Table) → Rival kind old addition rival → LetsInAll rival (LetsIn result)

@@ -1,0 +1,36 @@
+-- The limits of files. Every definition that reads one takes this record as an argument.
+use Prim.Native.Nat.{ℕ}
+
+pub record Limits : Type 0 where
+  pub words : ℕ          -- working words that a call needs
+  pub input : ℕ          -- bytes of an input or a result
+  pub name : ℕ           -- bytes of a name
+  pub labels : ℕ
+  pub starts : ℕ
+  pub rules : ℕ
+  pub types : ℕ          -- types are the numbers below this
+  pub content : ℕ        -- bytes of a content
+  pub operands : ℕ       -- operands of a sequence or a choice
+  pub nesting : ℕ
+  pub children : ℕ       -- children of a node
+  pub nodes : ℕ
+  pub levels : ℕ         -- the root is level 1
+
+-- the limits of the paper
+unfoldable pub standard : Limits
+standard =
+    record {
+      words = 16384;
+      input = 32768;
+      name = 63;
+      labels = 64;
+      starts = 64;
+      rules = 64;
+      types = 64;
+      content = 1024;
+      operands = 255;
+      nesting = 32;
+      children = 200;
+      nodes = 1024;
+      levels = 64
+    }

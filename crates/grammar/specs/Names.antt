@@ -1,0 +1,49 @@
+-- Names, when two are equal, and which byte strings are names.
+use Prim.Native.Nat.{ℕ}
+use mathlib.Core.Bool.{Bool, true, false, _&&_, _||_}
+use mathlib.Core.List.{List, [], _∷_, map}
+use mathlib.Core.Path.{_≡_}
+use lib.ListN.{getD}
+use lib.Dec.{eqb, leb}
+use Rattle.grammar.specs.Lists.{all, sameNumbers, numbersBelow}
+
+abbrev pub Name : Type 0
+Name = List ℕ
+
+-- Names are equal when their bytes are. All else that compares names goes through this definition.
+unfoldable pub sameName : Name → Name → Bool
+unfolding sameNumbers
+sameName = sameNumbers
+
+abbrev pub SameName : Name → Name → Type 0
+SameName m n = sameName m n ≡ true
+
+-- The class of each byte: 0 never in a name, 1 not first, 2 anywhere.
+abbrev pub Classes : Type 0
+Classes = List ℕ
+
+-- the first byte is of class 2, and no byte is of class 0
+unfoldable pub isName : Classes → List ℕ → Bool
+unfolding all
+isName classes [] = false
+isName classes (b ∷ bs) = eqb (getD classes b 0) 2 && all (λ c. leb 1 (getD classes c 0)) bs
+
+unfoldable pub isLetter : ℕ → Bool
+isLetter b = (leb 0x41 b && leb b 0x5A) || (leb 0x61 b && leb b 0x7A)
+
+unfoldable pub isDigit : ℕ → Bool
+isDigit b = leb 0x30 b && leb b 0x39
+
+-- Letters and underscore stand anywhere; digits, hyphen and period not first; no other byte.
+unfoldable pub classOf : ℕ → ℕ
+unfolding isLetter isDigit
+classOf b =
+    elim (isLetter b || eqb b 0x5F)
+    [ true ↦ 2
+    | false ↦ elim (isDigit b || eqb b 0x2D || eqb b 0x2E) [ true ↦ 1 | false ↦ 0 ]
+    ]
+
+-- the 256 classes of the paper
+unfoldable pub asciiClasses : Classes
+unfolding classOf numbersBelow
+asciiClasses = map classOf (numbersBelow 256)

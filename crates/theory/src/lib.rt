@@ -1,0 +1,1 @@
+// No functions: the proofs about the written meaning stand in proofs/.
