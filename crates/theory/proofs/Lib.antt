@@ -1,1 +1,3 @@
-pub mod Try
+pub mod BoolLaws
+pub mod ListLaws
+pub mod NameLaws

@@ -1,0 +1,51 @@
+-- Tests and the facts that they decide.
+use mathlib.Core.Bool.{Bool, true, false, not, _&&_, _||_, true≢false, false≢true}
+use mathlib.Core.Logic.{_↔_, _⊎_, inl, inr}
+use mathlib.Core.Path.{_≡_, refl, sym, _∙_}
+
+pub and-left : (a b : Bool) → (a && b) ≡ true → a ≡ true
+and-left true b e = refl
+and-left false b e = e
+
+pub and-right : (a b : Bool) → (a && b) ≡ true → b ≡ true
+and-right true b e = e
+and-right false b e = absurd (false≢true e)
+
+pub and-intro : (a b : Bool) → a ≡ true → b ≡ true → (a && b) ≡ true
+and-intro true b p q = q
+and-intro false b p q = p
+
+pub or-cases : (a b : Bool) → (a || b) ≡ true → (a ≡ true) ⊎ (b ≡ true)
+or-cases true b e = inl refl
+or-cases false b e = inr e
+
+pub or-left : (a b : Bool) → a ≡ true → (a || b) ≡ true
+or-left true b p = refl
+or-left false b p = absurd (false≢true p)
+
+pub or-right : (a b : Bool) → b ≡ true → (a || b) ≡ true
+or-right true b p = refl
+or-right false b p = p
+
+pub or-false : (a b : Bool) → (a || b) ≡ false → (a ≡ false) × (b ≡ false)
+or-false true b e = absurd (true≢false e)
+or-false false b e = (refl, e)
+
+-- a test fails where it cannot pass
+pub false-of : (a : Bool) → (a ≡ true → ⊥) → a ≡ false
+false-of true h = absurd (h refl)
+false-of false h = refl
+
+pub not-both : {a : Bool} → a ≡ true → a ≡ false → ⊥
+not-both p q = true≢false (sym p ∙ q)
+
+-- a test passes or fails
+pub passes-or-fails : (a : Bool) → (a ≡ true) ⊎ (a ≡ false)
+passes-or-fails true = inl refl
+passes-or-fails false = inr refl
+
+-- two tests of one fact are equal
+pub same-test : (a b : Bool) → (a ≡ true) ↔ (b ≡ true) → a ≡ b
+same-test true b e = sym (e .0 refl)
+same-test false true e = e .1 refl
+same-test false false e = refl

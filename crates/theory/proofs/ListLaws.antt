@@ -1,0 +1,218 @@
+-- What the words of grammar's Lists mean, in terms of membership and positions.
+use Prim.Native.Nat.{ℕ, zero, suc, _≤_, _<_}
+use native.Mathlib.Omega.{arith}
+use mathlib.Core.Bool.{Bool, true, false, not, _&&_, _||_, true≢false, false≢true}
+use mathlib.Core.List.{
+  List,
+  [],
+  _∷_,
+  _++_,
+  List·Memᴰ,
+  List·Memᴰ·head,
+  List·Memᴰ·tail,
+  List·Memᴰ·cases-cons,
+  Memᴰ·append-left,
+  Memᴰ·append-right,
+  List·Memᴰ·append-cases,
+  Memᴰ·cast,
+}
+use mathlib.Core.Logic.{_⊎_, inl, inr, ⊎-elim}
+use mathlib.Core.Option.{Option, none as nothing, some as just}
+use mathlib.Core.Path.{_≡_, refl, sym, _∙_, ap, subst}
+use lib.Dec.{eqb}
+use lib.ListN.{length, getElem?}
+use borrow.Author.Tests.{eqb-true, eq-eqb, not-true}
+use Rattle.grammar.specs.Lists.{
+  any,
+  all,
+  keep,
+  distinct,
+  allDistinct,
+  place,
+  joinedOf,
+  isIn,
+  sameNumbers,
+  numbersFrom,
+  numbersBelow,
+}
+use Rattle.theory.proofs.BoolLaws.{and-left, and-right, and-intro, or-cases, or-left, or-right, not-both, passes-or-fails}
+
+module _ {A : Type 0} where
+  pub any-found : (test : A → Bool) (xs : List A) → any test xs ≡ true → (x : A) × List·Memᴰ x xs × (test x ≡ true)
+  unfolding any
+  any-found test [] e = absurd (false≢true e)
+  any-found test (x ∷ xs) e =
+      ⊎-elim
+      (λ p. (x, List·Memᴰ·head refl, p))
+      (λ q. let r = any-found test xs q in (r .0, List·Memᴰ·tail (r .1), r .2))
+      (or-cases (test x) (any test xs) e)
+
+  pub any-of : (test : A → Bool) {x : A} {xs : List A} → List·Memᴰ x xs → test x ≡ true → any test xs ≡ true
+  unfolding any
+  any-of test (List·Memᴰ·head {x = y} {xs = ys} e) p = or-left (test y) (any test ys) (ap test (sym e) ∙ p)
+  any-of test (List·Memᴰ·tail {x = y} {xs = ys} m) p = or-right (test y) (any test ys) (any-of test m p)
+
+  pub all-at : (test : A → Bool) {x : A} {xs : List A} → all test xs ≡ true → List·Memᴰ x xs → test x ≡ true
+  unfolding all
+  all-at test e (List·Memᴰ·head {x = y} {xs = ys} q) = ap test q ∙ and-left (test y) (all test ys) e
+  all-at test e (List·Memᴰ·tail {x = y} {xs = ys} m) = all-at test (and-right (test y) (all test ys) e) m
+
+  pub all-of : (test : A → Bool) (xs : List A) → ((x : A) → List·Memᴰ x xs → test x ≡ true) → all test xs ≡ true
+  unfolding all
+  all-of test [] h = refl
+  all-of test (x ∷ xs) h =
+      and-intro (test x) (all test xs) (h x (List·Memᴰ·head refl)) (all-of test xs (λ y m. h y (List·Memᴰ·tail m)))
+
+  pub keep-yes : (test : A → Bool) (x : A) (xs : List A) → test x ≡ true → keep test (x ∷ xs) ≡ x ∷ keep test xs
+  unfolding keep
+  keep-yes test x xs e = rw (e, keep)
+
+  pub keep-no : (test : A → Bool) (x : A) (xs : List A) → test x ≡ false → keep test (x ∷ xs) ≡ keep test xs
+  unfolding keep
+  keep-no test x xs e = rw (e, keep)
+
+  pub kept : (test : A → Bool) (xs : List A) {x : A} → List·Memᴰ x (keep test xs) → List·Memᴰ x xs × (test x ≡ true)
+  unfolding keep
+  kept test [] m = elim m [ ]
+  kept test (y ∷ ys) {x} m = go (passes-or-fails (test y)) (λ n. kept test ys n)
+    where
+      later : List·Memᴰ x ys × (test x ≡ true) → List·Memᴰ x (y ∷ ys) × (test x ≡ true)
+      later r = (List·Memᴰ·tail (r .0), r .1)
+      go : (test y ≡ true) ⊎ (test y ≡ false) → (List·Memᴰ x (keep test ys) → List·Memᴰ x ys × (test x ≡ true))
+          → List·Memᴰ x (y ∷ ys) × (test x ≡ true)
+      go (inl e) ih =
+          ⊎-elim
+          (λ q. (List·Memᴰ·head q, ap test q ∙ e))
+          (λ n. later (ih n))
+          (List·Memᴰ·cases-cons (subst (λ l. List·Memᴰ x l) (keep-yes test y ys e) m))
+      go (inr e) ih = later (ih (subst (λ l. List·Memᴰ x l) (keep-no test y ys e) m))
+
+  pub keep-mem : (test : A → Bool) {x : A} {xs : List A} → List·Memᴰ x xs → test x ≡ true → List·Memᴰ x (keep test xs)
+  keep-mem test (List·Memᴰ·head {x = y} {xs = ys} q) p =
+      rw (keep-yes test y ys (ap test (sym q) ∙ p)) (List·Memᴰ·head q)
+  keep-mem test {x} (List·Memᴰ·tail {x = y} {xs = ys} m) p = go (passes-or-fails (test y)) (keep-mem test m p)
+    where
+      go : (test y ≡ true) ⊎ (test y ≡ false) → List·Memᴰ x (keep test ys) → List·Memᴰ x (keep test (y ∷ ys))
+      go (inl e) ih = rw (keep-yes test y ys e) (List·Memᴰ·tail ih)
+      go (inr e) ih = rw (keep-no test y ys e) ih
+
+  -- what is distinct was there, and each element has one that is the same among the distinct
+  pub distinct-was : (same : A → A → Bool) (xs : List A) {x : A} → List·Memᴰ x (distinct same xs) → List·Memᴰ x xs
+  unfolding distinct
+  distinct-was same [] m = m
+  distinct-was same (y ∷ ys) m =
+      ⊎-elim
+      (λ q. List·Memᴰ·head q)
+      (λ n. List·Memᴰ·tail (distinct-was same ys (kept (λ z. not (same y z)) (distinct same ys) n .0)))
+      (List·Memᴰ·cases-cons m)
+
+  module _ (same : A → A → Bool) (same-refl : (x : A) → same x x ≡ true)
+      (same-trans : (x y z : A) → same x y ≡ true → same y z ≡ true → same x z ≡ true) where
+    pub distinct-has : {x : A} {xs : List A} → List·Memᴰ x xs → (y : A) × List·Memᴰ y (distinct same xs) × (same y x ≡ true)
+    unfolding distinct
+    distinct-has {x} (List·Memᴰ·head {x = y} q) = (y, List·Memᴰ·head refl, ap (same y) q ∙ same-refl y)
+    distinct-has {x} (List·Memᴰ·tail {x = z} {xs = zs} m) = go (distinct-has m)
+      where
+        go : (y : A) × List·Memᴰ y (distinct same zs) × (same y x ≡ true)
+            → (y : A) × List·Memᴰ y (distinct same (z ∷ zs)) × (same y x ≡ true)
+        go r =
+            ⊎-elim
+            (λ e. (z, List·Memᴰ·head refl, same-trans z (r .0) x e (r .2)))
+            (λ e.
+              (r .0, List·Memᴰ·tail (keep-mem (λ w. not (same z w)) (r .1) (ap not e)), r .2))
+            (passes-or-fails (same z (r .0)))
+
+  -- positions
+  pub at-mem : (xs : List A) (i : ℕ) {x : A} → getElem? xs i ≡ just x → List·Memᴰ x xs
+  at-mem [] i e = absurd (no-thing e)
+    where
+      no-thing : {x : A} → _≡_ {A = Option A} nothing (just x) → ⊥
+      no-thing e = let z : _≡_ {A = ℕ} 0 1 = cc in omega arith
+  at-mem (y ∷ ys) zero {x} e = let q : x ≡ y = cc in List·Memᴰ·head q
+  at-mem (y ∷ ys) (suc i) e = List·Memᴰ·tail (at-mem ys i e)
+
+  pub mem-at : {x : A} {xs : List A} → List·Memᴰ x xs → (i : ℕ) × (getElem? xs i ≡ just x)
+  mem-at (List·Memᴰ·head q) = (zero, ap just (sym q))
+  mem-at (List·Memᴰ·tail m) = let r = mem-at m in (suc (r .0), r .1)
+
+  pub at-below : (xs : List A) (i : ℕ) {x : A} → getElem? xs i ≡ just x → i < length xs
+  at-below [] i e = let z : _≡_ {A = ℕ} 0 1 = cc in omega arith
+  at-below (y ∷ ys) zero e = omega arith
+  at-below (y ∷ ys) (suc i) e = let h = at-below ys i e in omega arith
+
+  pub below-at : (xs : List A) (i : ℕ) → i < length xs → (x : A) × (getElem? xs i ≡ just x)
+  below-at [] i h = absurd (omega arith)
+  below-at (y ∷ ys) zero h = (y, refl)
+  below-at (y ∷ ys) (suc i) h = below-at ys i (omega arith)
+
+  pub just-eq : {x y : A} → _≡_ {A = Option A} (just x) (just y) → y ≡ x
+  just-eq e = cc
+
+  first-differs : (same : A → A → Bool) (z : A) (zs : List A) {y : A} → not (any (same z) zs) ≡ true → List·Memᴰ y zs → same z y ≡ true → ⊥
+  first-differs same z zs n m e = not-both (any-of (same z) m e) (not-true (any (same z) zs) n)
+
+  -- the place of an element that is found
+  pub place-found : (same : A → A → Bool) (x : A) (xs : List A) → any (same x) xs ≡ true
+      → (y : A) × (getElem? xs (place same x xs) ≡ just y) × (same x y ≡ true)
+  unfolding any place
+  place-found same x [] e = absurd (false≢true e)
+  place-found same x (y ∷ ys) e = go (same x y) refl (λ h. place-found same x ys h)
+    where
+      go : (b : Bool) → same x y ≡ b
+          → (any (same x) ys ≡ true → (z : A) × (getElem? ys (place same x ys) ≡ just z) × (same x z ≡ true))
+          → (z : A) × (getElem? (y ∷ ys) (place same x (y ∷ ys)) ≡ just z) × (same x z ≡ true)
+      go true q ih = (y, rw (q, place), q)
+      go false q ih =
+          let r = ih (rw q at e) in
+          (r .0, rw (q, place) (r .1), r .2)
+
+  -- no two elements are the same, by positions
+  module _ (same : A → A → Bool) (same-sym : (x y : A) → same x y ≡ true → same y x ≡ true) where
+    pub differ-at : (xs : List A) (i j : ℕ) (x y : A) → allDistinct same xs ≡ true → getElem? xs i ≡ just x → getElem? xs j ≡ just y
+        → same x y ≡ true → i ≡ j
+    unfolding allDistinct
+    differ-at [] i j x y d p q e = let z : _≡_ {A = ℕ} 0 1 = cc in omega arith
+    differ-at (z ∷ zs) zero zero x y d p q e = refl
+    differ-at (z ∷ zs) zero (suc j) x y d p q e = absurd (first-differs same z zs (and-left _ _ d) (at-mem zs j q) (subst (λ w. same w y ≡ true) (just-eq p) e))
+    differ-at (z ∷ zs) (suc i) zero x y d p q e =
+        absurd (first-differs same z zs (and-left _ _ d) (at-mem zs i p) (subst (λ w. same w x ≡ true) (just-eq q) (same-sym x y e)))
+    differ-at (z ∷ zs) (suc i) (suc j) x y d p q e = ap suc (differ-at zs i j x y (and-right _ _ d) p q e)
+
+module _ {A B : Type 0} where
+  pub joined-from : (f : A → List B) (xs : List A) {y : B} → List·Memᴰ y (joinedOf f xs) → (x : A) × List·Memᴰ x xs × List·Memᴰ y (f x)
+  unfolding joinedOf
+  joined-from f [] m = elim m [ ]
+  joined-from f (x ∷ xs) m =
+      ⊎-elim
+      (λ p. (x, List·Memᴰ·head refl, p))
+      (λ q. let r = joined-from f xs q in (r .0, List·Memᴰ·tail (r .1), r .2))
+      (List·Memᴰ·append-cases (f x) m)
+
+  pub joined-mem : (f : A → List B) {x : A} {xs : List A} {y : B} → List·Memᴰ x xs → List·Memᴰ y (f x) → List·Memᴰ y (joinedOf f xs)
+  unfolding joinedOf
+  joined-mem f {y = y} (List·Memᴰ·head {xs = zs} q) m = Memᴰ·append-left (joinedOf f zs) (subst (λ z. List·Memᴰ y (f z)) q m)
+  joined-mem f (List·Memᴰ·tail {x = z} n) m = Memᴰ·append-right (f z) (joined-mem f n m)
+
+-- numbers
+pub in-mem : (n : ℕ) (ns : List ℕ) → isIn n ns ≡ true → List·Memᴰ n ns
+unfolding isIn
+in-mem n ns e = let r = any-found (eqb n) ns e in Memᴰ·cast (eqb-true n (r .0) (r .2)) (r .1)
+
+pub mem-in : {n : ℕ} {ns : List ℕ} → List·Memᴰ n ns → isIn n ns ≡ true
+unfolding isIn
+mem-in {n} m = any-of (eqb n) m (eq-eqb n n refl)
+
+pub same-numbers : (ms ns : List ℕ) → sameNumbers ms ns ≡ true → ms ≡ ns
+unfolding sameNumbers
+same-numbers [] [] e = refl
+same-numbers [] (n ∷ ns) e = absurd (false≢true e)
+same-numbers (m ∷ ms) [] e = absurd (false≢true e)
+same-numbers (m ∷ ms) (n ∷ ns) e =
+    let p = eqb-true m n (and-left (eqb m n) (sameNumbers ms ns) e) in
+    let q = same-numbers ms ns (and-right (eqb m n) (sameNumbers ms ns) e) in
+    cc
+
+pub same-numbers-refl : (ns : List ℕ) → sameNumbers ns ns ≡ true
+unfolding sameNumbers
+same-numbers-refl [] = refl
+same-numbers-refl (n ∷ ns) = and-intro (eqb n n) (sameNumbers ns ns) (eq-eqb n n refl) (same-numbers-refl ns)
