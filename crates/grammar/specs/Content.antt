@@ -5,7 +5,6 @@ use mathlib.Core.Path.{_≡_}
 use mathlib.Core.Logic.{_⊎_}
 
 infixr 40 _∷ᶜ_
-
 -- A content of any length, count and nesting.
 mutual
   pub data Content : Type 0 where

@@ -10,7 +10,6 @@ pub record Field : Type 0 where
   pub value : List ℕ
 
 infixr 40 _then_
-
 -- The fields of an input, front to back, up to its end or to a field that runs past it.
 pub data Fields : Type 0 where
   noBytes : Fields
@@ -24,9 +23,9 @@ fieldsWithin (suc n) [] = noBytes
 fieldsWithin (suc n) (tag ∷ []) = pastEnd
 fieldsWithin (suc n) (tag ∷ high ∷ []) = pastEnd
 fieldsWithin (suc n) (tag ∷ high ∷ low ∷ rest) =
-    elim (leb (high * 256 + low) (length rest))
-    [ true ↦ record { tag = tag; value = take (high * 256 + low) rest } then fieldsWithin n (drop (high * 256 + low) rest)
-    | false ↦ pastEnd
+    elim (leb (high * 256 + low) (length rest)) [
+      | true ↦ record { tag = tag; value = take (high * 256 + low) rest } then fieldsWithin n (drop (high * 256 + low) rest)
+      | false ↦ pastEnd
     ]
 
 -- each field takes at least three bytes, so there are no more fields than bytes

@@ -2,19 +2,19 @@
 use Prim.Native.Nat.{ℕ}
 
 pub record Limits : Type 0 where
-  pub words : ℕ          -- working words that a call needs
-  pub input : ℕ          -- bytes of an input or a result
-  pub name : ℕ           -- bytes of a name
+  pub words : ℕ  -- working words that a call needs
+  pub input : ℕ  -- bytes of an input or a result
+  pub name : ℕ  -- bytes of a name
   pub labels : ℕ
   pub starts : ℕ
   pub rules : ℕ
-  pub types : ℕ          -- types are the numbers below this
-  pub content : ℕ        -- bytes of a content
-  pub operands : ℕ       -- operands of a sequence or a choice
+  pub types : ℕ  -- types are the numbers below this
+  pub content : ℕ  -- bytes of a content
+  pub operands : ℕ  -- operands of a sequence or a choice
   pub nesting : ℕ
-  pub children : ℕ       -- children of a node
+  pub children : ℕ  -- children of a node
   pub nodes : ℕ
-  pub levels : ℕ         -- the root is level 1
+  pub levels : ℕ  -- the root is level 1
 
 -- the limits of the paper
 unfoldable pub standard : Limits
@@ -32,5 +32,5 @@ standard =
       nesting = 32;
       children = 200;
       nodes = 1024;
-      levels = 64
+      levels = 64;
     }

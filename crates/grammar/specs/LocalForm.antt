@@ -26,9 +26,9 @@ ruleOfLabel g l =
       type = typeOfLabel g l;
       label = l;
       content =
-        choiceOf
-        (map (λ (r : Rule). replace (r .content) (λ k. type (typeOfLabel g (labelOf g k))))
-        (keep (λ (r : Rule). eqb (r .label) l) (g .rules)))
+          choiceOf
+          (map (λ (r : Rule). replace (r .content) (λ k. type (typeOfLabel g (labelOf g k))))
+          (keep (λ (r : Rule). eqb (r .label) l) (g .rules)));
     }
 
 -- Starts are replaced too, and ascend.
@@ -38,6 +38,6 @@ localForm g =
     record {
       labels = g .labels;
       starts =
-        keep (λ t. any (λ k. eqb (typeOfLabel g (labelOf g k)) t) (g .starts)) (numbersBelow (length (usedLabels g)));
-      rules = map (ruleOfLabel g) (usedLabels g)
+          keep (λ t. any (λ k. eqb (typeOfLabel g (labelOf g k)) t) (g .starts)) (numbersBelow (length (usedLabels g)));
+      rules = map (ruleOfLabel g) (usedLabels g);
     }

@@ -38,9 +38,9 @@ isDigit b = leb 0x30 b && leb b 0x39
 unfoldable pub classOf : ℕ → ℕ
 unfolding isLetter isDigit
 classOf b =
-    elim (isLetter b || eqb b 0x5F)
-    [ true ↦ 2
-    | false ↦ elim (isDigit b || eqb b 0x2D || eqb b 0x2E) [ true ↦ 1 | false ↦ 0 ]
+    elim (isLetter b || eqb b 0x5F) [
+      | true ↦ 2
+      | false ↦ elim (isDigit b || eqb b 0x2D || eqb b 0x2E) [ true ↦ 1 | false ↦ 0 ]
     ]
 
 -- the 256 classes of the paper

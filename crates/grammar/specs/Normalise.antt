@@ -29,7 +29,7 @@ ruleOfPair g r =
     record {
       type = pairOf g r;
       label = r .label;
-      content = choiceOf (map (λ (s : Rule). inPairs g (s .content)) (keep (samePair r) (g .rules)))
+      content = choiceOf (map (λ (s : Rule). inPairs g (s .content)) (keep (samePair r) (g .rules)));
     }
 
 -- The pairs of a start type are all starts.
@@ -39,5 +39,5 @@ normalise g =
     record {
       labels = g .labels;
       starts = joinedOf (pairsOf g) (g .starts);
-      rules = map (ruleOfPair g) (distinct samePair (g .rules))
+      rules = map (ruleOfPair g) (distinct samePair (g .rules));
     }

@@ -57,7 +57,6 @@ pub data Outcome (A : Type 0) : Type 0 where
   given : A → Outcome A
 
 infixl 20 _>>=_ _>>_
-
 -- go on with what was given; a refusal ends it
 abbrev pub _>>=_ : {A B : Type 0} → Outcome A → (A → Outcome B) → Outcome B
 refused r >>= f = refused r

@@ -81,12 +81,12 @@ unfoldable mutual
   expressionWithin zero bytes = nothing
   expressionWithin (suc n) [] = nothing
   expressionWithin (suc n) (b ∷ rest) =
-      elim (getElem? operators b)
-      [ nothing ↦ nothing
-      | just (alone c) ↦ just (c, rest)
-      | just (numbered f) ↦ elim rest [ [] ↦ nothing | k ∷ after ↦ just (f k, after) ]
-      | just (counted f) ↦ elim rest [ [] ↦ nothing | k ∷ after ↦ found f (operandsWithin n k after) ]
-      | just (single f) ↦ found f (expressionWithin n rest)
+      elim (getElem? operators b) [
+        | nothing ↦ nothing
+        | just (alone c) ↦ just (c, rest)
+        | just (numbered f) ↦ elim rest [ [] ↦ nothing | k ∷ after ↦ just (f k, after) ]
+        | just (counted f) ↦ elim rest [ [] ↦ nothing | k ∷ after ↦ found f (operandsWithin n k after) ]
+        | just (single f) ↦ found f (expressionWithin n rest)
       ]
 
   -- so many expressions, one after the other

@@ -60,9 +60,9 @@ badNode lim o n =
 unfoldable pub readNode : Limits → Classes → Opened → Field → Outcome Opened
 unfolding isName badNode withNode
 readNode lim classes o f =
-    elim (f .value)
-    [ [] ↦ refused BadField
-    | k ∷ name ↦ do
+    elim (f .value) [
+      | [] ↦ refused BadField
+      | k ∷ name ↦ do
         turnBack (not (eqb (f .tag) nodeTag && leb 1 (length name) && leb (length name) (lim .name))) BadField
         turnBack (not (isName classes name)) BadName
         turnBack (badNode lim o (record { name = name; children = k })) BadTree
@@ -75,13 +75,13 @@ unfolding readNode
 readNodeFields lim classes o noBytes = refused FieldPastEnd
 readNodeFields lim classes o pastEnd = refused FieldPastEnd
 readNodeFields lim classes o (f then rest) =
-    elim (eqb (f .tag) documentEndTag)
-    [ true ↦ do
+    elim (eqb (f .tag) documentEndTag) [
+      | true ↦ do
         turnBack (not (isEmpty (f .value))) BadField
         turnBack (not (isEmpty (o .toCome))) BadTree
         turnBack (bytesLeft rest) BytesAfterEnd
         given (o .nodes)
-    | false ↦ readNode lim classes o f >>= λ more. readNodeFields lim classes more rest
+      | false ↦ readNode lim classes o f >>= λ more. readNodeFields lim classes more rest
     ]
 
 unfoldable pub readNodes : Limits → Classes → List ℕ → Outcome (List Node)

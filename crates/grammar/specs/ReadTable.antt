@@ -86,13 +86,13 @@ readRule lim g (k ∷ l ∷ content) = do
 unfoldable pub readTableField : Limits → Classes → Table → Field → Outcome Table
 unfolding readLabel readStart readRule
 readTableField lim classes g f =
-    elim (eqb (f .tag) labelTag)
-    [ true ↦ readLabel lim classes g (f .value)
-    | false ↦
-        elim (eqb (f .tag) startTag)
-        [ true ↦ readStart lim g (f .value)
-        | false ↦ elim (eqb (f .tag) ruleTag) [ true ↦ readRule lim g (f .value) | false ↦ refused BadField ]
-        ]
+    elim (eqb (f .tag) labelTag) [
+      | true ↦ readLabel lim classes g (f .value)
+      | false ↦
+          elim (eqb (f .tag) startTag) [
+            | true ↦ readStart lim g (f .value)
+            | false ↦ elim (eqb (f .tag) ruleTag) [ true ↦ readRule lim g (f .value) | false ↦ refused BadField ]
+          ]
     ]
 
 -- bytes follow the end field
@@ -107,12 +107,12 @@ unfolding readTableField
 readTableFields lim classes g noBytes = refused FieldPastEnd
 readTableFields lim classes g pastEnd = refused FieldPastEnd
 readTableFields lim classes g (f then rest) =
-    elim (eqb (f .tag) tableEndTag)
-    [ true ↦ do
+    elim (eqb (f .tag) tableEndTag) [
+      | true ↦ do
         turnBack (not (isEmpty (f .value))) BadField
         turnBack (bytesLeft rest) BytesAfterEnd
         given g
-    | false ↦ readTableField lim classes g f >>= λ more. readTableFields lim classes more rest
+      | false ↦ readTableField lim classes g f >>= λ more. readTableFields lim classes more rest
     ]
 
 unfoldable pub readTable : Limits → Classes → List ℕ → Outcome Table

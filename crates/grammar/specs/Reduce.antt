@@ -118,8 +118,8 @@ withoutUnfruitful g =
       labels = g .labels;
       starts = keep (λ k. isIn k known) (g .starts);
       rules =
-        map (λ (r : Rule). record { type = r .type; label = r .label; content = prune known (r .content) })
-        (keep (λ (r : Rule). isIn (r .type) known) (g .rules))
+          map (λ (r : Rule). record { type = r .type; label = r .label; content = prune known (r .content) })
+          (keep (λ (r : Rule). isIn (r .type) known) (g .rules));
     }
 
 -- types reached from a start through the remaining contents: those that a round finds

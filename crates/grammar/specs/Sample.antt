@@ -72,7 +72,7 @@ ruleAt vs v =
     record {
       type = place samePath (v .path) (pathsOf vs);
       label = place sameName (v .name) (namesOf vs);
-      content = contentAt vs (v .path)
+      content = contentAt vs (v .path);
     }
 
 -- Types by first visit, root 0 and only start; labels by first visit; rules by type.
@@ -83,5 +83,5 @@ sample d =
     record {
       labels = namesOf vs;
       starts = zero ∷ [];
-      rules = map (ruleAt vs) (distinct (λ (v w : Visit). samePath (v .path) (w .path)) vs)
+      rules = map (ruleAt vs) (distinct (λ (v w : Visit). samePath (v .path) (w .path)) vs);
     }

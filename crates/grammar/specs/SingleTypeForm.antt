@@ -46,9 +46,9 @@ unfoldable pub moreSets : Table → ℕ → ℕ → List TypeSet → List TypeSe
 unfolding keep any sameNumbers setsMet
 moreSets g zero next sets = sets
 moreSets g (suc n) next sets =
-    elim (getElem? sets next)
-    [ nothing ↦ sets
-    | just s ↦ moreSets g n (suc next) (sets ++ keep (λ t. not (any (sameNumbers t) sets)) (setsMet g s))
+    elim (getElem? sets next) [
+      | nothing ↦ sets
+      | just s ↦ moreSets g n (suc next) (sets ++ keep (λ t. not (any (sameNumbers t) sets)) (setsMet g s))
     ]
 
 -- All sets. As many are looked into as there may be types, so these are all, or more than that.

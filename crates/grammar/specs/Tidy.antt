@@ -60,5 +60,5 @@ tidyTable g =
     record {
       labels = g .labels;
       starts = g .starts;
-      rules = map (λ (r : Rule). record { type = r .type; label = r .label; content = tidy (r .content) }) (g .rules)
+      rules = map (λ (r : Rule). record { type = r .type; label = r .label; content = tidy (r .content) }) (g .rules);
     }

@@ -4,7 +4,6 @@ use mathlib.Core.List.{List, [], _∷_}
 use Rattle.grammar.specs.Names.{Name}
 
 infixr 40 _∷ᵗ_
-
 mutual
   pub data Tree : Type 0 where
     node : Name → Forest → Tree

@@ -25,7 +25,7 @@ added lim old addition r =
     record {
       type = shifted lim (r .type);
       label = place sameName (getD (addition .labels) (r .label) []) (unitedLabels old addition);
-      content = replace (r .content) (λ k. type (shifted lim k))
+      content = replace (r .content) (λ k. type (shifted lim k));
     }
 
 -- Rules keep their order, old first.
@@ -35,5 +35,5 @@ unite lim old addition =
     record {
       labels = unitedLabels old addition;
       starts = old .starts ++ map (shifted lim) (addition .starts);
-      rules = old .rules ++ map (added lim old addition) (addition .rules)
+      rules = old .rules ++ map (added lim old addition) (addition .rules);
     }

@@ -78,6 +78,7 @@ module _ {A : Type 0} where
     where
       later : List·Memᴰ x ys × (test x ≡ true) → List·Memᴰ x (y ∷ ys) × (test x ≡ true)
       later r = (List·Memᴰ·tail (r .0), r .1)
+
       go : (test y ≡ true) ⊎ (test y ≡ false) → (List·Memᴰ x (keep test ys) → List·Memᴰ x ys × (test x ≡ true))
           → List·Memᴰ x (y ∷ ys) × (test x ≡ true)
       go (inl e) ih =
@@ -119,7 +120,7 @@ module _ {A : Type 0} where
             ⊎-elim
             (λ e. (z, List·Memᴰ·head refl, same-trans z (r .0) x e (r .2)))
             (λ e.
-              (r .0, List·Memᴰ·tail (keep-mem (λ w. not (same z w)) (r .1) (ap not e)), r .2))
+            (r .0, List·Memᴰ·tail (keep-mem (λ w. not (same z w)) (r .1) (ap not e)), r .2))
             (passes-or-fails (same z (r .0)))
 
   -- positions
@@ -173,10 +174,10 @@ module _ {A : Type 0} where
     unfolding allDistinct
     differ-at [] i j x y d p q e = let z : _≡_ {A = ℕ} 0 1 = cc in omega arith
     differ-at (z ∷ zs) zero zero x y d p q e = refl
-    differ-at (z ∷ zs) zero (suc j) x y d p q e = absurd (first-differs same z zs (and-left _ _ d) (at-mem zs j q) (subst (λ w. same w y ≡ true) (just-eq p) e))
+    differ-at (z ∷ zs) zero (suc j) x y d p q e = absurd (first-differs same z zs (and-left (not (any (same z) zs)) (allDistinct same zs) d) (at-mem zs j q) (subst (λ w. same w y ≡ true) (just-eq p) e))
     differ-at (z ∷ zs) (suc i) zero x y d p q e =
-        absurd (first-differs same z zs (and-left _ _ d) (at-mem zs i p) (subst (λ w. same w x ≡ true) (just-eq q) (same-sym x y e)))
-    differ-at (z ∷ zs) (suc i) (suc j) x y d p q e = ap suc (differ-at zs i j x y (and-right _ _ d) p q e)
+        absurd (first-differs same z zs (and-left (not (any (same z) zs)) (allDistinct same zs) d) (at-mem zs i p) (subst (λ w. same w x ≡ true) (just-eq q) (same-sym x y e)))
+    differ-at (z ∷ zs) (suc i) (suc j) x y d p q e = ap suc (differ-at zs i j x y (and-right (not (any (same z) zs)) (allDistinct same zs) d) p q e)
 
 module _ {A B : Type 0} where
   pub joined-from : (f : A → List B) (xs : List A) {y : B} → List·Memᴰ y (joinedOf f xs) → (x : A) × List·Memᴰ x xs × List·Memᴰ y (f x)
