@@ -1,3 +1,4 @@
 pub mod BoolLaws
 pub mod ListLaws
 pub mod NameLaws
+pub mod WordLaws
