@@ -18,6 +18,11 @@ unfoldable pub startingAt0 : List String → List Rule → Table
 unfolding ascii
 startingAt0 names rules = record { labels = map ascii names; starts = zero ∷ []; rules = rules }
 
+-- a table of one label, one start and one rule with this content
+unfoldable pub oneRule : Content → Table
+unfolding startingAt0
+oneRule c = startingAt0 ("a" ∷ []) (rule 0 0 c ∷ [])
+
 -- a tree by its name and its subtrees
 unfoldable pub tree : String → List Tree → Tree
 unfolding ascii

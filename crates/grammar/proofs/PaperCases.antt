@@ -22,6 +22,7 @@ use Rattle.grammar.proofs.PaperTables.{
   p2Document,
   eBytes,
   p5Table,
+  p5Local,
   p5Document,
   p6Table,
   p6Local,
@@ -66,6 +67,23 @@ p4-local = refl
 pub p4-single-type : alone singleType emptyTable ≡ refused NoDocument
 unfolding widen standard
 p4-single-type = refl
+
+pub p5-local : alone local p5Table ≡ given p5Local
+unfolding widen standard p5Table p5Local
+p5-local = refl
+
+pub p5-local-lets-in : letsIn p5Local p5Document ≡ true
+unfolding letsIn p5Local p5Document
+p5-local-lets-in = refl
+
+-- the single-type widening is the table itself: its doors never meet within one content
+pub p5-single-type : alone singleType p5Table ≡ given p5Table
+unfolding widen standard p5Table
+p5-single-type = refl
+
+pub p5-single-type-keeps-out : letsIn p5Table p5Document ≡ false
+unfolding letsIn p5Table p5Document
+p5-single-type-keeps-out = refl
 
 pub p6 : alone local p6Table ≡ given p6Local
 unfolding widen standard p6Table p6Local

@@ -40,6 +40,19 @@ p5Table =
     ∷ rule 6 5 empty
     ∷ [])
 
+-- one type a label: the two doors are merged
+unfoldable pub p5Local : Table
+unfolding startingAt0
+p5Local =
+    startingAt0 ("block" ∷ "floor" ∷ "lift" ∷ "door" ∷ "time" ∷ "code" ∷ [])
+    (rule 0 0 (sequence (type 1 ∷ᶜ type 2 ∷ᶜ []ᶜ))
+    ∷ rule 1 1 (type 3)
+    ∷ rule 2 2 (type 3)
+    ∷ rule 3 3 (choice (type 4 ∷ᶜ type 5 ∷ᶜ []ᶜ))
+    ∷ rule 4 4 empty
+    ∷ rule 5 5 empty
+    ∷ [])
+
 -- block(floor(door(code)), lift(door(time)))
 unfoldable pub p5Document : Tree
 unfolding tree
