@@ -1,3 +1,5 @@
 pub mod BoolLaws
 pub mod ListLaws
 pub mod NameLaws
+pub mod Matching
+pub mod Membership
