@@ -3,3 +3,4 @@ pub mod ListLaws
 pub mod NameLaws
 pub mod Matching
 pub mod Membership
+pub mod KindTests
