@@ -4,3 +4,4 @@ pub mod NameLaws
 pub mod Matching
 pub mod Membership
 pub mod KindTests
+pub mod SameTree
