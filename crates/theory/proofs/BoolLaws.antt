@@ -1,7 +1,7 @@
 -- Tests and the facts that they decide.
 use mathlib.Core.Bool.{Bool, true, false, not, _&&_, _||_, true≢false, false≢true}
 use mathlib.Core.Logic.{_↔_, _⊎_, inl, inr}
-use mathlib.Core.Path.{_≡_, refl, sym, _∙_}
+use mathlib.Core.Path.{_≡_, refl, sym, _∙_, ap}
 
 pub and-left : (a b : Bool) → (a && b) ≡ true → a ≡ true
 and-left true b e = refl
@@ -49,3 +49,14 @@ pub same-test : (a b : Bool) → (a ≡ true) ↔ (b ≡ true) → a ≡ b
 same-test true b e = sym (e .0 refl)
 same-test false true e = e .1 refl
 same-test false false e = refl
+
+-- a test that is made of tests decides what is made of their facts
+pub and-decides : (a b : Bool) {A B : Type 0} → (a ≡ true) ↔ A → (b ≡ true) ↔ B → ((a && b) ≡ true) ↔ (A × B)
+and-decides a b p q = (λ e. (p .0 (and-left a b e), q .0 (and-right a b e)), λ h. and-intro a b (p .1 (h .0)) (q .1 (h .1)))
+
+-- the first, or not the second
+pub unless-decides : (a b : Bool) {A B : Type 0} → (a ≡ true) ↔ A → (b ≡ true) ↔ B
+    → (elim a as (λ x. Bool) [ true ↦ true | false ↦ not b ] ≡ true) ↔ (B → A)
+unless-decides true b p q = (λ e y. p .0 refl, λ h. refl)
+unless-decides false b p q =
+    (λ e y. absurd (not-both e (ap not (q .1 y))), λ h. ap not (false-of b (λ t. false≢true (p .1 (h (q .0 t))))))

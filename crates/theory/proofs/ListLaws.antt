@@ -16,7 +16,7 @@ use mathlib.Core.List.{
   List·Memᴰ·append-cases,
   Memᴰ·cast,
 }
-use mathlib.Core.Logic.{_⊎_, inl, inr, ⊎-elim}
+use mathlib.Core.Logic.{_↔_, _⊎_, inl, inr, ⊎-elim}
 use mathlib.Core.Option.{Option, none as nothing, some as just}
 use mathlib.Core.Path.{_≡_, refl, sym, _∙_, ap, subst}
 use lib.Dec.{eqb}
@@ -35,7 +35,7 @@ use Rattle.grammar.specs.Lists.{
   numbersFrom,
   numbersBelow,
 }
-use Rattle.theory.proofs.BoolLaws.{and-left, and-right, and-intro, or-cases, or-left, or-right, not-both, passes-or-fails}
+use Rattle.theory.proofs.BoolLaws.{and-left, and-right, and-intro, or-cases, or-left, or-right, false-of, not-both, passes-or-fails}
 
 module _ {A : Type 0} where
   pub any-found : (test : A → Bool) (xs : List A) → any test xs ≡ true → (x : A) × List·Memᴰ x xs × (test x ≡ true)
@@ -179,6 +179,25 @@ module _ {A : Type 0} where
         absurd (first-differs same z zs (and-left (not (any (same z) zs)) (allDistinct same zs) d) (at-mem zs i p) (subst (λ w. same w x ≡ true) (just-eq q) (same-sym x y e)))
     differ-at (z ∷ zs) (suc i) (suc j) x y d p q e = ap suc (differ-at zs i j x y (and-right (not (any (same z) zs)) (allDistinct same zs) d) p q e)
 
+  pub all-differ : (same : A → A → Bool) (xs : List A)
+      → ((i j : ℕ) (x y : A) → getElem? xs i ≡ just x → getElem? xs j ≡ just y → same x y ≡ true → i ≡ j)
+      → allDistinct same xs ≡ true
+  unfolding allDistinct
+  all-differ same [] h = refl
+  all-differ same (z ∷ zs) h =
+      and-intro
+      (not (any (same z) zs))
+      (allDistinct same zs)
+      (ap not (false-of (any (same z) zs) first))
+      (all-differ same zs (λ i j x y p q e. let r = h (suc i) (suc j) x y p q e in omega arith))
+    where
+      first : any (same z) zs ≡ true → ⊥
+      first e =
+          let r = any-found (same z) zs e in
+          let i = mem-at (r .1) in
+          let never = h zero (suc (i .0)) z (r .0) refl (i .1) (r .2) in
+          omega arith
+
 module _ {A B : Type 0} where
   pub joined-from : (f : A → List B) (xs : List A) {y : B} → List·Memᴰ y (joinedOf f xs) → (x : A) × List·Memᴰ x xs × List·Memᴰ y (f x)
   unfolding joinedOf
@@ -217,3 +236,8 @@ pub same-numbers-refl : (ns : List ℕ) → sameNumbers ns ns ≡ true
 unfolding sameNumbers
 same-numbers-refl [] = refl
 same-numbers-refl (n ∷ ns) = and-intro (eqb n n) (sameNumbers ns ns) (eq-eqb n n refl) (same-numbers-refl ns)
+
+-- testing all elements decides the fact of every element, where the test of one decides its fact
+pub all-decides : {A : Type 0} {P : A → Type 0} (test : A → Bool) (xs : List A) → ((x : A) → (test x ≡ true) ↔ P x)
+    → (all test xs ≡ true) ↔ ((x : A) → List·Memᴰ x xs → P x)
+all-decides test xs d = (λ e x m. d x .0 (all-at test e m), λ h. all-of test xs (λ x m. d x .1 (h x m)))
