@@ -5,3 +5,5 @@ pub mod WordLaws
 pub mod Matching
 pub mod Membership
 pub mod KindTests
+pub mod ContentBytes
+pub mod FieldBytes
