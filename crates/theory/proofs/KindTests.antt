@@ -21,11 +21,10 @@ use Rattle.theory.proofs.ListLaws.{any-found, any-of, differ-at, all-di
 module _ (same : Rule → Rule → Bool) (Alike : Rule → Rule → Type 0) (same-sym : (r s : Rule) → same r s ≡ true → same s r ≡ true)
     (alike : (r s : Rule) → (same r s ≡ true) ↔ Alike r s) where
   no-two : (g : Table) → (allDistinct same (g .rules) ≡ true) ↔ NoTwoRules g Alike
-  no-two g =
-      (
-        λ d i j r s p q e. differ-at same same-sym (g .rules) i j r s d p q (alike r s .1 e),
-        λ h. all-differ same (g .rules) (λ i j r s p q e. h i j r s p q (alike r s .0 e)),
-      )
+  no-two g = (
+    λ d i j r s p q e. differ-at same same-sym (g .rules) i j r s d p q (alike r s .1 e),
+    λ h. all-differ same (g .rules) (λ i j r s p q e. h i j r s p q (alike r s .0 e)),
+  )
 
 equal : (m n : ℕ) → (eqb m n ≡ true) ↔ (m ≡ n)
 equal m n = (eqb-true m n, eq-eqb m n)
@@ -100,13 +99,12 @@ none-compete g types = (λ e k l m n. d .0 e k m l n, λ h. d .1 (λ k m l n. h 
 
 pub is-single-type : (g : Table) → (isSingleType g ≡ true) ↔ SingleType g
 unfolding isSingleType
-is-single-type g =
-    (
-      λ e.
+is-single-type g = (
+  λ e.
       let p = d .0 e in
       record { rules = p .0 .0; starts = p .0 .1; contents = p .1 },
-      λ s. d .1 ((s .rules, s .starts), s .contents),
-    )
+  λ s. d .1 ((s .rules, s .starts), s .contents),
+)
   where
     d : (isSingleType g ≡ true)
         ↔ ((NoTwoRules g (λ r s. (r .type ≡ s .type) × (r .label ≡ s .label)) × NoneCompete g (g .starts))

@@ -183,12 +183,11 @@ parts-in-turn (c ∷ cs) back first second p q =
     (parts-in-turn cs back (λ us. first (c ∷ us)) second p q)
 
 joined-picked : {L M : Language} {us front back : List (List ℕ)} → us ≡ front ++ back → Picked L front → Picked M back → Picked (Joined L M) us
-joined-picked e a b =
-    (
-      a .0 ++ b .0,
-      record { front = a .0; back = b .0; joined = refl; front-in = a .1; back-in = b .1 },
-      rw e (picks-join (a .2) (b .2)),
-    )
+joined-picked e a b = (
+  a .0 ++ b .0,
+  record { front = a .0; back = b .0; joined = refl; front-in = a .1; back-in = b .1 },
+  rw e (picks-join (a .2) (b .2)),
+)
 
 module _ {s t : Test} {L M : Language} (p : Recognises s L) (q : Recognises t M) where
   pub either : Recognises (λ us. s us || t us) (λ w. L w ⊎ M w)
@@ -241,7 +240,7 @@ module _ {test : Test} {L : Language} (p : Recognises test L) where
   repeated-word (suc n) (c ∷ cs) e =
       let r = in-turn-parts cs (λ us. test (c ∷ us)) (repeatedWithin n test) e in
       let j =
-        joined-picked (ap (λ us. c ∷ us) (r .joined)) (p .word-of (c ∷ r .front) (r .of-front)) (repeated-word n (r .back) (r .of-back)) in
+      joined-picked (ap (λ us. c ∷ us) (r .joined)) (p .word-of (c ∷ r .front) (r .of-front)) (repeated-word n (r .back) (r .of-back)) in
       (j .0, one-part-more (j .1), j .2)
 
   no-part : (n : ℕ) {us : List (List ℕ)} → Picks us [] → repeatedWithin n test us ≡ true

@@ -58,8 +58,7 @@ fitting-fits g n us k m =
     let b = kept (fitting g n us) (g .rules) (a .1) in
     let named = and-left (isNamed g (a .0 .label) n) (matches (a .0 .content) us) (b .1) in
     let matching = and-right (isNamed g (a .0 .label) n) (matches (a .0 .content) us) (b .1) in
-    let c = matches-words (a .0 .content) .word-of us matching in
-    (
+    let c = matches-words (a .0 .content) .word-of us matching in (
       c .0,
       record {
         rule = a .0;
@@ -76,11 +75,11 @@ fits-fitting : (g : Table) (n : Name) (us : List (List ℕ)) (k : ℕ) (w : List
 fits-fitting g n us k w f p =
     let r : Rule = f .rule in
     let passes =
-      and-intro
-      (isNamed g (r .label) n)
-      (matches (r .content) us)
-      (named-is g (r .label) n (f .of-name))
-      (matches-words (r .content) .passes us w (f .word) p) in
+    and-intro
+    (isNamed g (r .label) n)
+    (matches (r .content) us)
+    (named-is g (r .label) n (f .of-name))
+    (matches-words (r .content) .passes us w (f .word) p) in
     Memᴰ·cast (sym (f .of-type)) (Memᴰ·map (λ (r : Rule). r .type) (keep-mem (fitting g n us) (f .of-table) passes))
 
 -- the types of a tree derive it

@@ -1,0 +1,2 @@
+// File readers. Every byte string has the one answer that the written meaning gives it.
+pub mod numbers;
