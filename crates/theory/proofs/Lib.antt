@@ -7,3 +7,4 @@ pub mod Membership
 pub mod KindTests
 pub mod ContentBytes
 pub mod FieldBytes
+pub mod PaperTheorem

@@ -35,7 +35,8 @@ use Rattle.grammar.specs.Lists.{
   numbersFrom,
   numbersBelow,
 }
-use Rattle.theory.proofs.BoolLaws.{and-left, and-right, and-intro, or-cases, or-left, or-right, false-of, not-both, passes-or-fails}
+use Rattle.theory.proofs.BoolLaws.{and-left, and-right, and-intro, or-cases, or-left, or-right, not-both, passes-or-fails}
+use Rattle.theory.proofs.BoolLaws.{false-of}
 
 module _ {A : Type 0} where
   pub any-found : (test : A → Bool) (xs : List A) → any test xs ≡ true → (x : A) × List·Memᴰ x xs × (test x ≡ true)
@@ -179,6 +180,7 @@ module _ {A : Type 0} where
         absurd (first-differs same z zs (and-left (not (any (same z) zs)) (allDistinct same zs) d) (at-mem zs i p) (subst (λ w. same w x ≡ true) (just-eq q) (same-sym x y e)))
     differ-at (z ∷ zs) (suc i) (suc j) x y d p q e = ap suc (differ-at zs i j x y (and-right (not (any (same z) zs)) (allDistinct same zs) d) p q e)
 
+  -- and the other way round
   pub all-differ : (same : A → A → Bool) (xs : List A)
       → ((i j : ℕ) (x y : A) → getElem? xs i ≡ just x → getElem? xs j ≡ just y → same x y ≡ true → i ≡ j)
       → allDistinct same xs ≡ true
@@ -237,7 +239,15 @@ unfolding sameNumbers
 same-numbers-refl [] = refl
 same-numbers-refl (n ∷ ns) = and-intro (eqb n n) (sameNumbers ns ns) (eq-eqb n n refl) (same-numbers-refl ns)
 
--- testing all elements decides the fact of every element, where the test of one decides its fact
-pub all-decides : {A : Type 0} {P : A → Type 0} (test : A → Bool) (xs : List A) → ((x : A) → (test x ≡ true) ↔ P x)
-    → (all test xs ≡ true) ↔ ((x : A) → List·Memᴰ x xs → P x)
-all-decides test xs d = (λ e x m. d x .0 (all-at test e m), λ h. all-of test xs (λ x m. d x .1 (h x m)))
+-- where the test of one element decides its fact: some element has it, every element has it
+module _ {A : Type 0} {P : A → Type 0} (test : A → Bool) (xs : List A) (decides : (x : A) → (test x ≡ true) ↔ P x) where
+  pub any-decides : (any test xs ≡ true) ↔ ((x : A) × List·Memᴰ x xs × P x)
+  any-decides = (
+    λ e.
+        let r = any-found test xs e in
+        (r .0, r .1, decides (r .0) .0 (r .2)),
+    λ r. any-of test (r .1) (decides (r .0) .1 (r .2)),
+  )
+
+  pub all-decides : (all test xs ≡ true) ↔ ((x : A) → List·Memᴰ x xs → P x)
+  all-decides = (λ e x m. decides x .0 (all-at test e m), λ h. all-of test xs (λ x m. decides x .1 (h x m)))
