@@ -8,3 +8,15 @@ pub mod KindTests
 pub mod ContentBytes
 pub mod FieldBytes
 pub mod PaperTheorem
+pub mod Automaton
+pub mod Covering
+pub mod KindLaws
+pub mod LeastLocal
+pub mod LeastMerge
+pub mod LeastSingleType
+pub mod Merge
+pub mod SameTree
+pub mod Standing
+pub mod TableAutomaton
+pub mod TreeAutomaton
+pub mod ReducedTable
