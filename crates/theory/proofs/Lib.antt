@@ -20,3 +20,6 @@ pub mod Standing
 pub mod TableAutomaton
 pub mod TreeAutomaton
 pub mod ReducedTable
+pub mod OutcomeLaws
+pub mod TableBytes
+pub mod ReadWithin

@@ -37,6 +37,18 @@ use Rattle.grammar.specs.Lists.{
 }
 use Rattle.theory.proofs.BoolLaws.{and-left, and-right, and-intro, or-cases, or-left, or-right, not-both, passes-or-fails}
 use Rattle.theory.proofs.BoolLaws.{false-of}
+use Rattle.theory.proofs.BoolLaws.{
+  and-left,
+  and-right,
+  and-intro,
+  or-cases,
+  or-left,
+  or-right,
+  or-false,
+  false-of,
+  not-both,
+  passes-or-fails,
+}
 
 module _ {A : Type 0} where
   pub any-found : (test : A → Bool) (xs : List A) → any test xs ≡ true → (x : A) × List·Memᴰ x xs × (test x ≡ true)
@@ -251,3 +263,42 @@ module _ {A : Type 0} {P : A → Type 0} (test : A → Bool) (xs : List A) (deci
 
   pub all-decides : (all test xs ≡ true) ↔ ((x : A) → List·Memᴰ x xs → P x)
   all-decides = (λ e x m. decides x .0 (all-at test e m), λ h. all-of test xs (λ x m. decides x .1 (h x m)))
+-- an element at the end of distinct ones
+module _ {A : Type 0} (same : A → A → Bool) (same-sym : (x y : A) → same x y ≡ true → same y x ≡ true) where
+  apart : {x : A} {xs : List A} (y : A) (ys : List A) → List·Memᴰ x xs → allDistinct same (xs ++ y ∷ ys) ≡ true → same x y ≡ true → ⊥
+  unfolding allDistinct
+  apart y ys (List·Memᴰ·head {x = z} {xs = zs} q) d e =
+      let n = and-left (not (any (same z) (zs ++ y ∷ ys))) (allDistinct same (zs ++ y ∷ ys)) d in
+      not-both
+      (any-of (same z) (Memᴰ·append-right zs (List·Memᴰ·head refl)) (ap (λ (w : A). same w y) (sym q) ∙ e))
+      (not-true (any (same z) (zs ++ y ∷ ys)) n)
+  apart y ys (List·Memᴰ·tail {x = z} {xs = zs} m) d e =
+      apart y ys m (and-right (not (any (same z) (zs ++ y ∷ ys))) (allDistinct same (zs ++ y ∷ ys)) d) e
+
+  pub distinct-new : (xs : List A) (y : A) (ys : List A) → allDistinct same (xs ++ y ∷ ys) ≡ true → any (same y) xs ≡ false
+  distinct-new xs y ys d =
+      false-of (any (same y) xs) (λ e. let r = any-found (same y) xs e in apart y ys (r .1) d (same-sym y (r .0) (r .2)))
+
+  pub distinct-end : (xs : List A) (y : A) → allDistinct same xs ≡ true → any (same y) xs ≡ false → allDistinct same (xs ++ (y ∷ [])) ≡ true
+  unfolding allDistinct
+  distinct-end [] y d n = refl
+  distinct-end (x ∷ xs) y d n =
+      let p = or-false (same y x) (any (same y) xs) n in
+      let older = not-true (any (same x) xs) (and-left (not (any (same x) xs)) (allDistinct same xs) d) in
+      and-intro
+      (not (any (same x) (xs ++ (y ∷ []))))
+      (allDistinct same (xs ++ (y ∷ [])))
+      (ap not (false-of (any (same x) (xs ++ (y ∷ []))) (λ e. unlike older (p .0) e)))
+      (distinct-end xs y (and-right (not (any (same x) xs)) (allDistinct same xs) d) (p .1))
+    where
+      unlike : any (same x) xs ≡ false → same y x ≡ false → any (same x) (xs ++ (y ∷ [])) ≡ true → ⊥
+      unlike older newer e =
+          let r = any-found (same x) (xs ++ (y ∷ [])) e in
+          ⊎-elim
+          (λ m. not-both (any-of (same x) m (r .2)) older)
+          (λ m. not-both (same-sym x y (any-one (r .0) m (r .2))) newer)
+          (List·Memᴰ·append-cases xs (r .1))
+        where
+          any-one : (z : A) → List·Memᴰ z (y ∷ []) → same x z ≡ true → same x y ≡ true
+          any-one z (List·Memᴰ·head q) s = ap (same x) (sym q) ∙ s
+          any-one z (List·Memᴰ·tail m) s = elim m [ ]
