@@ -1,17 +1,19 @@
 -- What the kinds of tables say of rules and types, without positions.
 --     one-rule             where no two rules are alike, rules that are alike are equal
+--     one-fitting          in a single-type table, a type has one rule of a name
 --     local-compete        in a local table, types that have rules with one label are equal
 --     local-single-type    a local table is single-type
 use Prim.Native.Nat.{ℕ}
-use mathlib.Core.List.{List·Memᴰ}
+use mathlib.Core.List.{List, List·Memᴰ}
 use mathlib.Core.Option.{some as just}
 use mathlib.Core.Path.{_≡_, sym, _∙_, ap, subst}
 use lib.ListN.{getElem?}
 use Rattle.grammar.specs.Names.{Name, SameName}
 use Rattle.grammar.specs.Table.{Rule, Table, Named, DistinctNames}
+use Rattle.grammar.specs.Derivation.{Fits}
 use Rattle.grammar.specs.Kinds.{NoTwoRules, Local, Competing, SingleType}
 use Rattle.theory.proofs.ListLaws.{mem-at, just-eq}
-use Rattle.theory.proofs.NameLaws.{name-sym, name-trans}
+use Rattle.theory.proofs.NameLaws.{name-refl, name-sym, name-trans}
 
 pub one-rule : (g : Table) (Alike : Rule → Rule → Type 0) → NoTwoRules g Alike → (r s : Rule) → List·Memᴰ r (g .rules)
     → List·Memᴰ s (g .rules) → Alike r s → r ≡ s
@@ -26,6 +28,12 @@ pub one-label : (g : Table) → DistinctNames g → {i j : ℕ} {m n : Name} →
 one-label g names {i} {j} {m} {n} p q e =
     names i j (p .name) (q .name) (p .listed) (q .listed)
     (name-trans (p .name) n (q .name) (name-trans (p .name) m n (p .same) e) (name-sym (q .name) n (q .same)))
+
+pub one-fitting : (g : Table) → DistinctNames g → SingleType g → {k : ℕ} {n : Name} {v w : List ℕ} (f : Fits g k n v) (h : Fits g k n w)
+    → f .rule ≡ h .rule
+one-fitting g names kind {n = n} f h =
+    one-rule g (λ r s. (r .type ≡ s .type) × (r .label ≡ s .label)) (kind .rules) (f .rule) (h .rule) (f .of-table) (h .of-table)
+    (f .of-type ∙ sym (h .of-type), one-label g names (f .of-name) (h .of-name) (name-refl n))
 
 pub local-compete : (g : Table) → Local g → (k l : ℕ) → Competing g k l → k ≡ l
 local-compete g local k l c =

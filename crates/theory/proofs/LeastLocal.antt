@@ -12,7 +12,7 @@ use Rattle.theory.proofs.NameLaws.{name-refl}
 use Rattle.theory.proofs.KindLaws.{local-compete}
 use Rattle.theory.proofs.Automaton.{Automaton, Accepts, accepts, AcceptsDocument, AllAlive, fill-at, Among}
 use Rattle.theory.proofs.Merge.{Merge}
-use Rattle.theory.proofs.LeastMerge.{Sole, StartMember, among-derived, least-merge}
+use Rattle.theory.proofs.LeastMerge.{StartMember, AllSole, among-derived, least-merge}
 
 -- a start state, or in a step, all of it alive, of a state that is reached
 pub data Reached {State : Type 0} (A : Automaton State) : State → Type 0 where
@@ -22,7 +22,7 @@ pub data Reached {State : Type 0} (A : Automaton State) : State → Type 0 where
 pub record LocalMerge {State : Type 0} (A : Automaton State) (G : Table) (Member : ℕ → State → Type 0) : Type 0 where
   pub merge : Merge A G Member
   pub reached : (k : ℕ) (s : State) → Member k s → Reached A s
-  pub start-members : (k : ℕ) → List·Memᴰ k (G .starts) → StartMember A Member k
+  pub start-members : (k : ℕ) → List·Memᴰ k (G .starts) → StartMember A G Member k
 
 -- some type derives the tree
 pub record Derived (H : Table) (t : Tree) : Type 0 where
@@ -46,14 +46,16 @@ module _ {State : Type 0} {A : Automaton State} (H : Table) (keeps : LetsInAll H
 module _ {State : Type 0} {A : Automaton State} {G : Table} {Member : ℕ → State → Type 0} (merged : LocalMerge A G Member)
     (H : Table) (names : DistinctNames H) (kind : Local H) (keeps : LetsInAll H (AcceptsDocument A)) where
   -- Whatever type derives the tree, no other has a rule with its label.
-  sole : (k j : ℕ) (s : State) (t : Tree) → Member k s → Accepts A s t → Sole H j t
-  sole k j s t m a =
+  sole : (k j : ℕ) → AllSole A G Member H k j
+  sole k j s m t a =
       let d = reached-derived H keeps (merged .reached k s m) t a in
       record { type = d .type; derived = d .derived; alone = local-compete H kind j (d .type) }
 
   pub least-local : LetsInAll H (LetsIn G)
   least-local =
       least-merge (merged .merge) H names keeps
-      (λ k n w m f. merged .start-members k m)
-      (λ k j s t p q. sole k j s t)
-      (λ k j n w v c f h l i s t p q. sole l i s t)
+      (record {
+        start-member = λ k n w m f. merged .start-members k m;
+        start-sole = λ k j p q. sole k j;
+        word-sole = λ k j n w v c f h l i p q. sole l i;
+      })

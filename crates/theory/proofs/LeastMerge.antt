@@ -1,6 +1,7 @@
--- What the two kinds share. Let a table (the rival) let in all that the automaton accepts, and let each tree that a member of a merged
--- type accepts be derived by a type of the rival that labels tell from others (Sole).
---     least-merge    then the rival lets in all that the merge lets in
+-- What the two kinds share.
+--     least-merge    a table that lets in all that the automaton accepts, and whose labels tell the types that derive what merged
+--                    states accept (Tells), lets in all that the merge lets in
+-- Its types cover the merged types: they derive all that the members accept.
 use Prim.Native.Nat.{ℕ}
 use mathlib.Core.List.{List, List·Memᴰ, List·Memᴰ·head, List·Memᴰ·tail, Forall₂, Forall₂·nil, Forall₂·cons}
 use mathlib.Core.Path.{_≡_, refl, sym, subst}
@@ -47,7 +48,7 @@ pub record Sole (H : Table) (j : ℕ) (t : Tree) : Type 0 where
   pub derived : Derives H type t
   pub alone : Competing H j type → j ≡ type
 
-module _ {State : Type 0} (A : Automaton State) (Member : ℕ → State → Type 0) where
+module _ {State : Type 0} (A : Automaton State) (G : Table) (Member : ℕ → State → Type 0) where
   -- a member of the type that is a start state and accepts some tree
   pub record StartMember (k : ℕ) : Type 0 where
     pub state : State
@@ -55,9 +56,20 @@ module _ {State : Type 0} (A : Automaton State) (Member : ℕ → State → Type
     pub start : A .Start state
     pub alive : Alive A state
 
-  -- The type of the other table derives all that the members accept.
+  -- the type j of the other table derives all that the members of k accept
   abbrev pub Covers : Table → ℕ → ℕ → Type 0
   Covers H k j = (s : State) → Member k s → (t : Tree) → Accepts A s t → Derives H j t
+
+  -- each tree that a member of the type k accepts has a type that its label tells from j
+  abbrev pub AllSole : Table → ℕ → ℕ → Type 0
+  AllSole H k j = (s : State) → Member k s → (t : Tree) → Accepts A s t → Sole H j t
+
+  -- Labels tell start types of H apart, and the types of a word of a type that covers.
+  pub record Tells (H : Table) : Type 0 where
+    pub start-member : (k : ℕ) (n : Name) (w : List ℕ) → List·Memᴰ k (G .starts) → Fits G k n w → StartMember k
+    pub start-sole : (k j : ℕ) → List·Memᴰ k (G .starts) → List·Memᴰ j (H .starts) → AllSole H k j
+    pub word-sole : (k j : ℕ) (n : Name) (w v : List ℕ) → Covers H k j → Fits G k n w → Fits H j n v → (l i : ℕ) → List·Memᴰ l w
+        → List·Memᴰ i v → AllSole H l i
 
 module _ {State : Type 0} {A : Automaton State} {G : Table} {Member : ℕ → State → Type 0} (merge : Merge A G Member) where
   -- The members of a type have its rules' names.
@@ -84,56 +96,44 @@ module _ {State : Type 0} {A : Automaton State} {G : Table} {Member : ℕ → St
         }
 
     -- A type that derives one tree of a merged type covers it, if each of the trees has its sole type.
-    covers : {k j : ℕ} {r : State} {t : Tree} → Member k r → Accepts A r t → Derives H j t
-        → ((s : State) → Member k s → (u : Tree) → Accepts A s u → Sole H j u) → Covers A Member H k j
+    covers : {k j : ℕ} {r : State} {t : Tree} → Member k r → Accepts A r t → Derives H j t → AllSole A G Member H k j
+        → Covers A G Member H k j
     covers {k} {j} {r} m a d sole s n u b =
         let o = sole s n u b in
         subst (λ (l : ℕ). Derives H l u) (sym (o .alone (competing (merge .one-name k r s m n) a b d (o .derived)))) (o .derived)
 
-    covers-all : {Cover : ℕ → ℕ → Type 0} {w v : List ℕ} {u : List State} {ts : Forest} → Forall₂ Member w u → AcceptsAll A u ts
-        → DerivesAll H v ts
-        → ((k j : ℕ) (s : State) (t : Tree) → List·Memᴰ k w → List·Memᴰ j v → Member k s → Accepts A s t → Derives H j t → Cover k j)
-        → Forall₂ Cover w v
-    covers-all Forall₂·nil accepts-none derives-none c = Forall₂·nil
-    covers-all (Forall₂·cons {a = k} {b = s} m ms) (accepts-next {t = t} a all) (derives-next {k = j} d ds) c =
+    covers-all : {w v : List ℕ} {u : List State} {ts : Forest} → Forall₂ Member w u → AcceptsAll A u ts → DerivesAll H v ts
+        → ((k j : ℕ) → List·Memᴰ k w → List·Memᴰ j v → AllSole A G Member H k j) → Forall₂ (Covers A G Member H) w v
+    covers-all Forall₂·nil accepts-none derives-none sole = Forall₂·nil
+    covers-all (Forall₂·cons {a = k} m ms) (accepts-next a all) (derives-next {k = j} d ds) sole =
         Forall₂·cons
-        (c k j s t (List·Memᴰ·head refl) (List·Memᴰ·head refl) m a d)
-        (covers-all ms all ds (λ k j s t p q. c k j s t (List·Memᴰ·tail p) (List·Memᴰ·tail q)))
+        (covers m a d (sole k j (List·Memᴰ·head refl) (List·Memᴰ·head refl)))
+        (covers-all ms all ds (λ l i p q. sole l i (List·Memᴰ·tail p) (List·Memᴰ·tail q)))
 
-    module _ (keeps : LetsInAll H (AcceptsDocument A))
-        (start-member : (k : ℕ) (n : Name) (w : List ℕ) → List·Memᴰ k (G .starts) → Fits G k n w → StartMember A Member k)
-        (start-sole : (k j : ℕ) (s : State) (t : Tree) → List·Memᴰ k (G .starts) → List·Memᴰ j (H .starts) → Member k s
-        → Accepts A s t → Sole H j t)
-        (word-sole : (k j : ℕ) (n : Name) (w v : List ℕ) → Covers A Member H k j → Fits G k n w → Fits H j n v → (l i : ℕ) (s : State) (t : Tree)
-        → List·Memᴰ l w → List·Memᴰ i v → Member l s → Accepts A s t → Sole H i t) where
-      pub least-merge : LetsInAll H (LetsIn G)
-      least-merge = covered-let-in (record { starts = start-covers; words = word-covers })
-        where
-          start-covers : (k : ℕ) (n : Name) (w : List ℕ) → List·Memᴰ k (G .starts) → Fits G k n w → StartCover G H (Covers A Member H) k
-          start-covers k n w m f =
-              let s = start-member k n w m f in
-              let a = s .alive .accepted in
-              let l = keeps (s .alive .tree) (record { start = s .state; of-automaton = s .start; accepted = a }) in
-              record {
-                type = l .start;
-                of-table = l .of-table;
-                covers = covers (s .member) a (l .derived) (λ r p t q. start-sole k (l .start) r t m (l .of-table) p q);
-              }
+    pub least-merge : LetsInAll H (AcceptsDocument A) → Tells A G Member H → LetsInAll H (LetsIn G)
+    least-merge keeps tells = covered-let-in (record { starts = start-covers; words = word-covers })
+      where
+        start-covers : (k : ℕ) (n : Name) (w : List ℕ) → List·Memᴰ k (G .starts) → Fits G k n w
+            → StartCover G H (Covers A G Member H) k
+        start-covers k n w m f =
+            let s = tells .start-member k n w m f in
+            let a = s .alive .accepted in
+            let l = keeps (s .alive .tree) (record { start = s .state; of-automaton = s .start; accepted = a }) in
+            record {
+              type = l .start;
+              of-table = l .of-table;
+              covers = covers (s .member) a (l .derived) (tells .start-sole k (l .start) m (l .of-table));
+            }
 
-          word-covers : (k j : ℕ) (n : Name) (w : List ℕ) → Covers A Member H k j → Fits G k n w → WordCover G H (Covers A Member H) j n w
-          word-covers k j n w c f =
-              let b = merge .backward k n w f in
-              let filled = fill A (b .next) (b .alive) in
-              let d = c (b .state) (b .member) (node n (filled .trees)) (accepts (b .named) (b .step) (filled .accepted)) in
-              go (b .members) (filled .accepted) d
-            where
-              go : {u : List State} {ts : Forest} → Forall₂ Member w u → AcceptsAll A u ts → Derives H j (node n ts)
-                  → WordCover G H (Covers A Member H) j n w
-              go ms all (derives {w = v} f′ ds) =
-                  record {
-                    word = v;
-                    fits = f′;
-                    covers =
-                        covers-all ms all ds
-                        (λ l i s t p q m a d. covers m a d (λ r m′ u a′. word-sole k j n w v c f f′ l i r u p q m′ a′));
-                  }
+        word-covers : (k j : ℕ) (n : Name) (w : List ℕ) → Covers A G Member H k j → Fits G k n w
+            → WordCover G H (Covers A G Member H) j n w
+        word-covers k j n w c f =
+            let b = merge .backward k n w f in
+            let filled = fill A (b .next) (b .alive) in
+            go (b .members) (filled .accepted)
+            (c (b .state) (b .member) (node n (filled .trees)) (accepts (b .named) (b .step) (filled .accepted)))
+          where
+            go : {u : List State} {ts : Forest} → Forall₂ Member w u → AcceptsAll A u ts → Derives H j (node n ts)
+                → WordCover G H (Covers A G Member H) j n w
+            go ms all (derives {w = v} f′ ds) =
+                record { word = v; fits = f′; covers = covers-all ms all ds (tells .word-sole k j n w v c f f′) }

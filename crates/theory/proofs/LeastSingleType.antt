@@ -3,20 +3,19 @@
 --     least-single-type    a single-type table that lets in all that the automaton accepts lets in all that the merge lets in
 use Prim.Native.Nat.{ℕ}
 use mathlib.Core.List.{List, List·Memᴰ}
-use mathlib.Core.Path.{_≡_, sym, _∙_, subst}
-use Rattle.grammar.specs.Names.{Name, SameName}
+use mathlib.Core.Path.{subst}
+use Rattle.grammar.specs.Names.{Name}
 use Rattle.grammar.specs.Content.{typesIn}
-use Rattle.grammar.specs.Tree.{Tree, node, Forest}
+use Rattle.grammar.specs.Tree.{node, Forest}
 use Rattle.grammar.specs.Table.{Rule, Table, DistinctNames}
 use Rattle.grammar.specs.Derivation.{Fits, Derives, derives, LetsIn}
 use Rattle.grammar.specs.Kinds.{SingleType}
 use Rattle.grammar.specs.Least.{LetsInAll}
-use Rattle.theory.proofs.NameLaws.{name-refl}
 use Rattle.theory.proofs.Standing.{word-stands}
-use Rattle.theory.proofs.KindLaws.{one-rule, one-label}
-use Rattle.theory.proofs.Automaton.{Automaton, Accepts, accepts, AcceptsDocument, AllAlive, fill, fill-at, Among}
+use Rattle.theory.proofs.KindLaws.{one-fitting}
+use Rattle.theory.proofs.Automaton.{Automaton, accepts, AcceptsDocument, AllAlive, fill, fill-at, Among}
 use Rattle.theory.proofs.Merge.{Merge}
-use Rattle.theory.proofs.LeastMerge.{Sole, StartMember, Covers, among-derived, member-named, least-merge}
+use Rattle.theory.proofs.LeastMerge.{Sole, StartMember, Covers, AllSole, among-derived, member-named, least-merge}
 
 module _ {State : Type 0} (A : Automaton State) (G : Table) (Member : ℕ → State → Type 0) where
   -- the state stands in a step, all of it alive, of a member of the type
@@ -35,7 +34,7 @@ module _ {State : Type 0} (A : Automaton State) (G : Table) (Member : ℕ → St
 
 module _ {State : Type 0} {A : Automaton State} {G : Table} {Member : ℕ → State → Type 0} (single : SingleTypeMerge A G Member)
     (H : Table) (names : DistinctNames H) (kind : SingleType H) (keeps : LetsInAll H (AcceptsDocument A)) where
-  start-member : (k : ℕ) (n : Name) (w : List ℕ) → List·Memᴰ k (G .starts) → Fits G k n w → StartMember A Member k
+  start-member : (k : ℕ) (n : Name) (w : List ℕ) → List·Memᴰ k (G .starts) → Fits G k n w → StartMember A G Member k
   start-member k n w m f =
       let b = single .merge .backward k n w f in
       let filled = fill A (b .next) (b .alive) in
@@ -46,39 +45,35 @@ module _ {State : Type 0} {A : Automaton State} {G : Table} {Member : ℕ → St
         alive = record { tree = node n (filled .trees); accepted = accepts (b .named) (b .step) (filled .accepted) };
       }
 
-  start-sole : (k j : ℕ) (s : State) (t : Tree) → List·Memᴰ k (G .starts) → List·Memᴰ j (H .starts) → Member k s → Accepts A s t
-      → Sole H j t
-  start-sole k j s t p q m a =
+  start-sole : (k j : ℕ) → List·Memᴰ k (G .starts) → List·Memᴰ j (H .starts) → AllSole A G Member H k j
+  start-sole k j p q s m t a =
       let l = keeps t (record { start = s; of-automaton = single .start-states k p s m; accepted = a }) in
       record { type = l .start; derived = l .derived; alone = kind .starts j (l .start) q (l .of-table) }
 
-  -- One rule of a type has the name, so all its words are of one content.
-  word-sole : (k j : ℕ) (n : Name) (w v : List ℕ) → Covers A Member H k j → Fits G k n w → Fits H j n v → (l i : ℕ)
-      (s : State) (t : Tree) → List·Memᴰ l w → List·Memᴰ i v → Member l s → Accepts A s t → Sole H i t
-  word-sole k j n w v c f h l i s t p q m a =
+  -- One rule of the type j has the name, so the types of all its words stand in one content.
+  word-sole : (k j : ℕ) (n : Name) (w v : List ℕ) → Covers A G Member H k j → Fits G k n w → Fits H j n v → (l i : ℕ)
+      → List·Memᴰ l w → List·Memᴰ i v → AllSole A G Member H l i
+  word-sole k j n w v c f h l i p q s m t a =
       let r = single .arises k n w f l p s m in
       let filled = fill-at A (r .within) (r .alive) a in
-      go (member-named (single .merge) f (r .member))
-      (c (r .state) (r .member) (node (A .name (r .state)) (filled .trees))
-      (accepts (name-refl (A .name (r .state))) (r .step) (filled .accepted)))
+      go
+      (c (r .state) (r .member) (node n (filled .trees))
+      (accepts (member-named (single .merge) f (r .member)) (r .step) (filled .accepted)))
       (filled .among)
     where
-      go : {n′ : Name} {ts : Forest} → SameName n′ n → Derives H j (node n′ ts) → Among t ts → Sole H i t
-      go {n′} e (derives {w = v′} h′ ds) among =
+      go : {ts : Forest} → Derives H j (node n ts) → Among t ts → Sole H i t
+      go (derives h′ ds) among =
           let d = among-derived ds among in
-          let same : h′ .rule ≡ h .rule =
-          one-rule H (λ r s. (r .type ≡ s .type) × (r .label ≡ s .label)) (kind .rules) (h′ .rule) (h .rule) (h′ .of-table)
-          (h .of-table)
-          (h′ .of-type ∙ sym (h .of-type), one-label H names (h′ .of-name) (h .of-name) e)
-          in
           record {
             type = d .type;
             derived = d .derived;
             alone =
                 kind .contents (h .rule) (h .of-table) i (d .type) (word-stands (h .rule .content) (h .word) q)
-                (subst (λ (r : Rule). List·Memᴰ (d .type) (typesIn (r .content))) same
+                (subst (λ (r : Rule). List·Memᴰ (d .type) (typesIn (r .content))) (one-fitting H names kind h′ h)
                 (word-stands (h′ .rule .content) (h′ .word) (d .within)));
           }
 
   pub least-single-type : LetsInAll H (LetsIn G)
-  least-single-type = least-merge (single .merge) H names keeps start-member start-sole word-sole
+  least-single-type =
+      least-merge (single .merge) H names keeps
+      (record { start-member = start-member; start-sole = start-sole; word-sole = word-sole })

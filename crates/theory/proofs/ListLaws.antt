@@ -263,6 +263,7 @@ module _ {A : Type 0} {P : A → Type 0} (test : A → Bool) (xs : List A) (deci
 
   pub all-decides : (all test xs ≡ true) ↔ ((x : A) → List·Memᴰ x xs → P x)
   all-decides = (λ e x m. decides x .0 (all-at test e m), λ h. all-of test xs (λ x m. decides x .1 (h x m)))
+
 -- an element at the end of distinct ones
 module _ {A : Type 0} (same : A → A → Bool) (same-sym : (x y : A) → same x y ≡ true → same y x ≡ true) where
   apart : {x : A} {xs : List A} (y : A) (ys : List A) → List·Memᴰ x xs → allDistinct same (xs ++ y ∷ ys) ≡ true → same x y ≡ true → ⊥

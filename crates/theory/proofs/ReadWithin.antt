@@ -82,10 +82,11 @@ content-was lim bytes c e =
     let r = was-given (whole (expressionOf bytes)) _ c e in
     let p = had-no-fault (not (isProper lim (r .0))) BadContent _ c (r .2) in
     let q = had-no-fault (ltb (lim .nesting) (nesting (r .0))) NestedTooDeep _ c (p .1) in
-    let same : r .0 ≡ c = given-eq (q .1) in
-    (expression-was bytes c [] (whole-was (expressionOf bytes) c (r .1 ∙ ap given same)) ∙ append-nil (contentBytes c),
-    not-false (isProper lim c) (rw same at (p .0)),
-    ltb-false (lim .nesting) (nesting c) (rw same at (q .0)))
+    let same : r .0 ≡ c = given-eq (q .1) in (
+      expression-was bytes c [] (whole-was (expressionOf bytes) c (r .1 ∙ ap given same)) ∙ append-nil (contentBytes c),
+      not-false (isProper lim c) (rw same at (p .0)),
+      ltb-false (lim .nesting) (nesting c) (rw same at (q .0)),
+    )
 
 -- one element more
 each-end : {A : Type 0} (P : A → Type 0) (xs : List A) (x : A) → ((y : A) → List·Memᴰ y xs → P y) → P x → (y : A)
@@ -138,10 +139,10 @@ module _ (lim : Limits) (classes : Classes) where
         no-starts = empty-is (g .starts) (and-left (isEmpty (g .starts)) (isEmpty (g .rules)) front);
         no-rules = empty-is (g .rules) (and-right (isEmpty (g .starts)) (isEmpty (g .rules)) front);
         name =
-          record {
-            rule = not-false (isName classes value) (b .0);
-            size = leb-true (length value) (lim .name) (and-right (first && long) short shape);
-          };
+            record {
+              rule = not-false (isName classes value) (b .0);
+              size = leb-true (length value) (lim .name) (and-right (first && long) short shape);
+            };
         new = c .0;
         room = leb-false (lim .labels) (length (g .labels)) (d .0);
         result = given-eq (d .1);
@@ -202,11 +203,11 @@ module _ (lim : Limits) (classes : Classes) where
         rule = record { type = k; label = l; content = d .0 };
         bytes = ap (λ (bs : List ℕ). k ∷ l ∷ bs) (was .0);
         within =
-          record {
-            type = leb-false (lim .types) k (range .0);
-            label = leb-false (length (g .labels)) l (range .1);
-            content = record { proper = was .1; size = subst (λ (bs : List ℕ). length bs ≤ lim .content) (was .0) size; nests = was .2 };
-          };
+            record {
+              type = leb-false (lim .types) k (range .0);
+              label = leb-false (length (g .labels)) l (range .1);
+              content = record { proper = was .1; size = subst (λ (bs : List ℕ). length bs ≤ lim .content) (was .0) size; nests = was .2 };
+            };
         room = leb-false (lim .rules) (length (g .rules)) (b .0);
         result = given-eq (d .2);
       }
@@ -234,17 +235,17 @@ module _ (lim : Limits) (classes : Classes) where
           let room = w .room in
           record {
             labels =
-              record {
-                each = each-end (NameWithin lim classes) (g .labels) value (h .labels .each) (w .name);
-                differ = distinct-end sameName name-sym (g .labels) value (h .labels .differ) (w .new);
-                few = omega arith;
-              };
+                record {
+                  each = each-end (NameWithin lim classes) (g .labels) value (h .labels .each) (w .name);
+                  differ = distinct-end sameName name-sym (g .labels) value (h .labels .differ) (w .new);
+                  few = omega arith;
+                };
             starts = h .starts;
             rules =
-              record {
-                each = λ r m. elim (subst (λ (rs : List Rule). List·Memᴰ r rs) (w .no-rules) m) [ ];
-                few = h .rules .few;
-              };
+                record {
+                  each = λ r m. elim (subst (λ (rs : List Rule). List·Memᴰ r rs) (w .no-rules) m) [ ];
+                  few = h .rules .few;
+                };
           }
 
   start-adds : (g : Table) (value : List ℕ) (more : Table) → StartRead g value more → Adds g startTag value more
@@ -262,11 +263,11 @@ module _ (lim : Limits) (classes : Classes) where
           record {
             labels = h .labels;
             starts =
-              record {
-                each = each-end (λ k. k < lim .types) (g .starts) (w .start) (h .starts .each) (w .known);
-                differ = distinct-end eqb eqb-sym (g .starts) (w .start) (h .starts .differ) (w .new);
-                few = omega arith;
-              };
+                record {
+                  each = each-end (λ k. k < lim .types) (g .starts) (w .start) (h .starts .each) (w .known);
+                  differ = distinct-end eqb eqb-sym (g .starts) (w .start) (h .starts .differ) (w .new);
+                  few = omega arith;
+                };
             rules = h .rules;
           }
 
@@ -285,8 +286,8 @@ module _ (lim : Limits) (classes : Classes) where
             labels = h .labels;
             starts = h .starts;
             rules =
-              record {
-                each = each-end (RuleWithin lim (length (g .labels))) (g .rules) (w .rule) (h .rules .each) (w .within);
-                few = omega arith;
-              };
+                record {
+                  each = each-end (RuleWithin lim (length (g .labels))) (g .rules) (w .rule) (h .rules .each) (w .within);
+                  few = omega arith;
+                };
           }

@@ -2,6 +2,7 @@
 -- type steps to the words of its rule's content.
 --     type-accepts     a type accepts just what it derives
 --     table-accepts    the automaton accepts just what the table lets in
+--     table-kept       so a table that lets in all that this one lets in lets in all that the automaton accepts
 use Prim.Native.Nat.{ℕ, zero, suc, _<_}
 use native.Mathlib.Omega.{arith}
 use mathlib.Core.Bool.{Bool}
@@ -19,6 +20,7 @@ use Rattle.grammar.specs.Tree.{Tree, Forest}
 use Rattle.grammar.specs.Table.{Rule, Table}
 use Rattle.grammar.specs.Derivation.{Fits, Derives, derives, DerivesAll, derives-none, derives-next, LetsIn}
 use Rattle.grammar.specs.Kinds.{NoTwoRules}
+use Rattle.grammar.specs.Least.{LetsInAll}
 use Rattle.grammar.specs.LocalForm.{labelOf}
 use Rattle.theory.proofs.ListLaws.{kept, keep-mem, below-at}
 use Rattle.theory.proofs.KindLaws.{one-rule}
@@ -133,3 +135,6 @@ module _ (g : Table) (one-each : OneRuleEach g) where
       λ a. record { start = a .start; of-table = a .of-automaton; derived = accepted-derived (a .accepted) },
       λ l. record { start = l .start; of-automaton = l .of-table; accepted = derived-accepted (l .derived) },
     )
+
+    pub table-kept : (H : Table) → LetsInAll H (LetsIn g) → LetsInAll H (AcceptsDocument (tableAutomaton g))
+    table-kept H keeps d a = keeps d (table-accepts d .0 a)

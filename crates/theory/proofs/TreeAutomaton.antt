@@ -3,14 +3,18 @@
 --     document-accepts    so the automaton accepts just the documents that are the same
 --     tree-alive          each tree accepts itself
 --     document-kept       a table that lets in the document lets in all that this automaton accepts
+--     least-document      a table of either kind that lets in the document lets in all that a single-type merge of it lets in
+use Prim.Native.Nat.{ℕ}
 use mathlib.Core.List.{List, [], _∷_}
 use mathlib.Core.Logic.{_↔_}
 use mathlib.Core.Path.{_≡_, refl, subst}
 use Rattle.grammar.specs.Names.{Name}
 use Rattle.grammar.specs.Tree.{Tree, node, Forest, []ᵗ, _∷ᵗ_}
-use Rattle.grammar.specs.Table.{Table}
+use Rattle.grammar.specs.Table.{Table, DistinctNames}
 use Rattle.grammar.specs.Derivation.{LetsIn}
+use Rattle.grammar.specs.Kinds.{Kind, local, singleType, OfKind, SingleType}
 use Rattle.grammar.specs.Least.{LetsInAll}
+use Rattle.theory.proofs.KindLaws.{local-single-type}
 use Rattle.theory.proofs.SameTree.{SameTree, same-node, SameForest, same-none, same-next, same-refl, same-let-in}
 use Rattle.theory.proofs.Automaton.{
   Automaton,
@@ -22,6 +26,7 @@ use Rattle.theory.proofs.Automaton.{
   AcceptsDocument,
   Alive,
 }
+use Rattle.theory.proofs.LeastSingleType.{SingleTypeMerge, least-single-type}
 
 abbrev pub rootName : Tree → Name
 rootName (node n ts) = n
@@ -68,3 +73,11 @@ module _ (d : Tree) where
 
   pub document-kept : (H : Table) → LetsIn H d → LetsInAll H (AcceptsDocument (treeAutomaton d))
   document-kept H l e a = same-let-in l (document-accepts e .0 a)
+
+  pub least-document : {G : Table} {Member : ℕ → Tree → Type 0} → SingleTypeMerge (treeAutomaton d) G Member → (kind : Kind) (H : Table)
+      → DistinctNames H → OfKind kind H → LetsIn H d → LetsInAll H (LetsIn G)
+  least-document single kind H names of-kind l = least-single-type single H names (single-type kind of-kind) (document-kept H l)
+    where
+      single-type : (kind : Kind) → OfKind kind H → SingleType H
+      single-type local h = local-single-type H h
+      single-type singleType h = h
