@@ -21,5 +21,6 @@ pub mod TableAutomaton
 pub mod TreeAutomaton
 pub mod ReducedTable
 pub mod OutcomeLaws
+pub mod ReadSteps
 pub mod TableBytes
 pub mod ReadWithin

@@ -7,6 +7,8 @@ use mathlib.Core.List.{
   [],
   _∷_,
   _++_,
+  append-assoc,
+  append-nil,
   List·Memᴰ,
   List·Memᴰ·head,
   List·Memᴰ·tail,
@@ -281,6 +283,9 @@ module _ {A : Type 0} (same : A → A → Bool) (same-sym : (x y : A) → same x
       false-of (any (same y) xs) (λ e. let r = any-found (same y) xs e in apart y ys (r .1) d (same-sym y (r .0) (r .2)))
 
   pub distinct-end : (xs : List A) (y : A) → allDistinct same xs ≡ true → any (same y) xs ≡ false → allDistinct same (xs ++ (y ∷ [])) ≡ true
+
+  pub distinct-end : (xs : List A) (y : A) → allDistinct same xs ≡ true → any (same y) xs ≡ false
+      → allDistinct same (xs ++ (y ∷ [])) ≡ true
   unfolding allDistinct
   distinct-end [] y d n = refl
   distinct-end (x ∷ xs) y d n =
@@ -303,3 +308,20 @@ module _ {A : Type 0} (same : A → A → Bool) (same-sym : (x y : A) → same x
           any-one : (z : A) → List·Memᴰ z (y ∷ []) → same x z ≡ true → same x y ≡ true
           any-one z (List·Memᴰ·head q) s = ap (same x) (sym q) ∙ s
           any-one z (List·Memᴰ·tail m) s = elim m [ ]
+
+-- one element more at the end
+pub each-end : {A : Type 0} (P : A → Type 0) (xs : List A) (x : A) → ((y : A) → List·Memᴰ y xs → P y) → P x → (y : A)
+    → List·Memᴰ y (xs ++ (x ∷ [])) → P y
+each-end {A} P xs x h p y m = ⊎-elim (h y) (only y) (List·Memᴰ·append-cases xs m)
+  where
+    only : (z : A) → List·Memᴰ z (x ∷ []) → P z
+    only z (List·Memᴰ·head q) = subst P (sym q) p
+    only z (List·Memᴰ·tail n) = elim n [ ]
+
+pub joined-end : {A B : Type 0} (f : A → List B) (xs : List A) (x : A) → joinedOf f (xs ++ (x ∷ [])) ≡ joinedOf f xs ++ f x
+unfolding joinedOf
+joined-end f [] x = append-nil (f x)
+joined-end {A} {B} f (y ∷ ys) x = ap (λ (l : List B). f y ++ l) (joined-end f ys x) ∙ sym (append-assoc (f y) (joinedOf f ys) (f x))
+
+pub eqb-sym : (m n : ℕ) → eqb m n ≡ true → eqb n m ≡ true
+eqb-sym m n e = eq-eqb n m (sym (eqb-true m n e))
