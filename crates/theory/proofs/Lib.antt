@@ -24,3 +24,12 @@ pub mod OutcomeLaws
 pub mod ReadSteps
 pub mod TableBytes
 pub mod ReadWithin
+pub mod NoTwo
+pub mod SameWords
+pub mod TidyWords
+pub mod SimplifyWords
+pub mod Rounds
+pub mod Fruitful
+pub mod CarryDerivations
+pub mod Reached
+pub mod ReduceDocuments
