@@ -33,3 +33,12 @@ pub mod Fruitful
 pub mod CarryDerivations
 pub mod Reached
 pub mod ReduceDocuments
+pub mod PathLaws
+pub mod PositionLaws
+pub mod NormaliseDocuments
+pub mod ReplacedTypes
+pub mod SampleMembers
+pub mod SampleMerge
+pub mod TableConditions
+pub mod UniteDocuments
+pub mod VisitedTrees
