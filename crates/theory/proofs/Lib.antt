@@ -42,3 +42,6 @@ pub mod SampleMerge
 pub mod TableConditions
 pub mod UniteDocuments
 pub mod VisitedTrees
+pub mod SameRules
+pub mod UsedLabelsDocuments
+pub mod TidyTable
