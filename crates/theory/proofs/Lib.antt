@@ -47,3 +47,5 @@ pub mod UsedLabelsDocuments
 pub mod TidyTable
 pub mod ReducedUnion
 pub mod FinishedForm
+pub mod ReducedAutomaton
+pub mod LocalMerge
