@@ -49,3 +49,5 @@ pub mod ReducedUnion
 pub mod FinishedForm
 pub mod ReducedAutomaton
 pub mod LocalMerge
+pub mod SetsClosed
+pub mod SingleTypeMerge
