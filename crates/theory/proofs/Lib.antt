@@ -51,3 +51,5 @@ pub mod ReducedAutomaton
 pub mod LocalMerge
 pub mod SetsClosed
 pub mod SingleTypeMerge
+pub mod LeastForms
+pub mod WidenLeast
