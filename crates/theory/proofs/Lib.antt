@@ -53,3 +53,5 @@ pub mod SetsClosed
 pub mod SingleTypeMerge
 pub mod LeastForms
 pub mod WidenLeast
+pub mod SampleLeast
+pub mod LeastLaws

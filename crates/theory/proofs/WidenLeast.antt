@@ -32,6 +32,8 @@ use Rattle.theory.proofs.OutcomeLaws.{given-eq, was-given, had-no-fault
 use Rattle.theory.proofs.ReducedUnion.{reduced-union, union-documents, union-nothing}
 use Rattle.theory.proofs.FinishedForm.{LeastForm, finished, finished-least}
 use Rattle.theory.proofs.LeastForms.{least-form}
+use Rattle.theory.proofs.SampleMembers.{sample-lets-in}
+use Rattle.theory.proofs.SampleLeast.{sample-least}
 
 -- the table before its size is looked at
 abbrev pub unsized : Limits → Kind → Table → Table → Table
@@ -121,3 +123,37 @@ module _ (lim : Limits) (classes : Classes) (kind : Kind) (old addition : Table)
       no-starts [] b q e = refl
       no-starts (k ∷ ks) true q e = absurd (false≢true q)
       no-starts (k ∷ ks) false q e = absurd (not-thirteen lim (unsized lim kind old addition) e)
+
+-- A document is added through its sample, and the sample adds no more than the document asks.
+module _ (lim : Limits) (classes : Classes) (kind : Kind) (old : Table) (d : Tree) (old-within : TableWithin lim classes old)
+    (sample-within : (g : Table) → sampleTable lim d ≡ given g → TableWithin lim classes g) where
+  sampled : (g : Table) → sampleTable lim d ≡ given g → g ≡ sample d
+  unfolding sampleTable ofSize
+  sampled g e = sym (given-eq (had-no-fault (tooLarge lim (sample d)) ResultTooLarge (given (sample d)) g e .1))
+
+  pub widened-by-document : (result : Table) → widen lim kind old (byDocument d) ≡ given result
+      → LeastWidening kind old (byDocument d) result
+  unfolding widen
+  widened-by-document result e =
+      let a = was-given (sampleTable lim d) (λ g. widenByTable lim kind old g) result e in
+      let q = sampled (a .0) (a .1) in
+      let w = widened-by-table lim classes kind old (a .0) old-within (sample-within (a .0) (a .1)) result (a .2) in
+      record {
+        of-kind = w .of-kind;
+        keeps-old = w .keeps-old;
+        keeps-added =
+            λ e p.
+            w .keeps-added e
+            (subst (λ (g : Table). LetsIn g e) (sym q) (subst (λ (t : Tree). LetsIn (sample d) t) (sym p) (sample-lets-in d)));
+        least =
+            λ rival r.
+            w .least rival
+            (record {
+              names = r .names;
+              of-kind = r .of-kind;
+              keeps-old = r .keeps-old;
+              keeps-added =
+                  subst (λ (g : Table). LetsInAll rival (LetsIn g)) (sym q)
+                  (sample-least d kind rival (r .names) (r .of-kind) (r .keeps-added d refl));
+            });
+      }
