@@ -45,3 +45,5 @@ pub mod VisitedTrees
 pub mod SameRules
 pub mod UsedLabelsDocuments
 pub mod TidyTable
+pub mod Counted
+pub mod WrittenBytes
