@@ -47,3 +47,7 @@ pub mod UsedLabelsDocuments
 pub mod TidyTable
 pub mod Counted
 pub mod WrittenBytes
+pub mod ReducedUnion
+pub mod FinishedForm
+pub mod ReducedAutomaton
+pub mod LocalMerge

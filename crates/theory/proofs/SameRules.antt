@@ -1,5 +1,5 @@
--- Two tables whose starts are the same and whose rules agree one by one: in type, in label up to a renumbering of labels, and in the
--- content's words and types.
+-- Two tables whose starts are the same and whose rules agree one by one: in type, in label up to a renumbering of labels, and in
+-- the content's words and types.
 --     same-documents      they let in the same documents
 --     same-local          one is local if the other is
 --     same-single-type    one is single-type if the other is
@@ -9,7 +9,6 @@
 use Prim.Native.Nat.{ℕ}
 use mathlib.Core.List.{List, [], _∷_, List·Memᴰ, Forall₂, Forall₂·nil, Forall₂·cons}
 use mathlib.Core.Logic.{_↔_}
-use mathlib.Core.Option.{Option, some as just}
 use mathlib.Core.Path.{_≡_, refl, sym, _∙_, subst}
 use lib.ListN.{getElem?}
 use Rattle.grammar.specs.Names.{Name}
@@ -19,7 +18,7 @@ use Rattle.grammar.specs.Table.{Rule, Table}
 use Rattle.grammar.specs.Derivation.{Fits, LetsIn}
 use Rattle.grammar.specs.Kinds.{NoTwoRules, Local, Competing, NoneCompete, SingleType}
 use Rattle.grammar.specs.Least.{LetsInAll}
-use Rattle.theory.proofs.ListLaws.{at-mem, at-below, below-at, related-turn, related-at, related-mem}
+use Rattle.theory.proofs.ListLaws.{at-below, below-at, related-turn, related-at, related-mem}
 use Rattle.theory.proofs.Covering.{covered-let-in}
 use Rattle.theory.proofs.TableAutomaton.{OneRuleEach, Labelled}
 

@@ -1,30 +1,24 @@
 -- Tidying the contents of a table, where tidying keeps a content's words and the types that stand in it:
 --     tidy-documents      the tidied table lets in what the table lets in
 --     tidy-local          it is local, tidy-single-type single-type, if the table is
+--     tidy-one-rule       each type has at most one rule if it has so in the table
 --     tidy-labels         it has the same labels, tidy-starts the same starts
 --     tidy-names          no two labels have equal names if so in the table
 --     tidy-labelled       the rules' labels are among the labels if so in the table
 use Prim.Native.Nat.{ℕ}
 use mathlib.Core.List.{List, List·Memᴰ}
 use mathlib.Core.Logic.{_↔_}
-use mathlib.Core.Path.{_≡_, refl, sym, _∙_, ap, subst}
+use mathlib.Core.Path.{_≡_, refl, sym, _∙_, ap}
 use lib.ListN.{getElem?}
 use Rattle.grammar.specs.Content.{Content, Word, typesIn}
 use Rattle.grammar.specs.Tree.{Tree}
-use Rattle.grammar.specs.Table.{Rule, Table, DistinctNames}
+use Rattle.grammar.specs.Table.{Table, DistinctNames}
 use Rattle.grammar.specs.Derivation.{LetsIn}
 use Rattle.grammar.specs.Kinds.{Local, SingleType}
 use Rattle.grammar.specs.Tidy.{tidy, tidyTable}
 use Rattle.theory.proofs.ListLaws.{related-map}
 use Rattle.theory.proofs.TableAutomaton.{OneRuleEach, Labelled}
-use Rattle.theory.proofs.SameRules.{
-  SameRules,
-  same-documents,
-  same-local,
-  same-single-type,
-  same-one-rule,
-  same-labelled,
-}
+use Rattle.theory.proofs.SameRules.{SameRules, same-documents, same-local, same-single-type, same-one-rule, same-labelled}
 
 module _ (g : Table) where
   pub tidy-labels : tidyTable g .labels ≡ g .labels

@@ -5,11 +5,11 @@
 --     used-labels-names          no two labels have equal names if so in the table
 --     used-labels-labelled       the rules' labels are among the labels
 --     used-labels-count          there are at most as many labels as rules
-use Prim.Native.Nat.{ℕ, suc, _+_, _≤_, _<_}
+use Prim.Native.Nat.{ℕ, _≤_, _<_}
 use native.Mathlib.Omega.{arith}
-use mathlib.Core.Bool.{Bool, true, false, _||_}
-use mathlib.Core.List.{List, [], _∷_, List·Memᴰ, List·Memᴰ·head, List·Memᴰ·tail, map}
-use mathlib.Core.Logic.{_↔_, _⊎_, inl, inr}
+use mathlib.Core.Bool.{true, false}
+use mathlib.Core.List.{List, [], _∷_, List·Memᴰ, List·Memᴰ·head, List·Memᴰ·tail}
+use mathlib.Core.Logic.{_↔_}
 use mathlib.Core.Option.{some as just}
 use mathlib.Core.Path.{_≡_, refl, sym, _∙_, ap, subst}
 use lib.Dec.{eqb}
@@ -24,7 +24,6 @@ use Rattle.grammar.specs.Kinds.{Local, SingleType}
 use Rattle.grammar.specs.UsedLabels.{usedLabels, withUsedLabels}
 use Rattle.theory.proofs.ListLaws.{
   any-of,
-  any-found,
   kept,
   keep-mem,
   at-mem,
@@ -41,14 +40,7 @@ use Rattle.theory.proofs.ListLaws.{
   related-map,
 }
 use Rattle.theory.proofs.TableAutomaton.{OneRuleEach, Labelled}
-use Rattle.theory.proofs.SameRules.{
-  SameRules,
-  same-documents,
-  same-local,
-  same-single-type,
-  same-one-rule,
-  same-labelled,
-}
+use Rattle.theory.proofs.SameRules.{SameRules, same-documents, same-local, same-single-type, same-one-rule, same-labelled}
 
 -- the used labels: labels of rules, among the labels, each once
 module _ (g : Table) where
