@@ -51,3 +51,4 @@ pub mod ReducedUnion
 pub mod FinishedForm
 pub mod ReducedAutomaton
 pub mod LocalMerge
+pub mod NumberedTable
