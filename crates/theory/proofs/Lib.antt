@@ -52,3 +52,5 @@ pub mod FinishedForm
 pub mod ReducedAutomaton
 pub mod LocalMerge
 pub mod NumberedTable
+pub mod SampleWithin
+pub mod DocumentWithin
