@@ -54,3 +54,9 @@ pub mod LocalMerge
 pub mod NumberedTable
 pub mod SampleWithin
 pub mod DocumentWithin
+pub mod SetsClosed
+pub mod SingleTypeMerge
+pub mod LeastForms
+pub mod WidenLeast
+pub mod SampleLeast
+pub mod LeastLaws

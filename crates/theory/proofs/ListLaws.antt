@@ -462,3 +462,34 @@ module _ {A B : Type 0} where
         let at = mem-at m in
         let r = related-at rs (at .0) (at .1) in
         (r .0, at-mem xs (at .0) (r .1), r .2)
+
+pub keep-map : {A B : Type 0} (f : A → B) (test : B → Bool) (xs : List A) → keep test (map f xs) ≡ map f (keep (λ x. test (f x)) xs)
+unfolding keep
+keep-map f test [] = refl
+keep-map {A} f test (x ∷ xs) = go (passes-or-fails (test (f x))) (keep-map f test xs)
+  where
+    go : (test (f x) ≡ true) ⊎ (test (f x) ≡ false) → keep test (map f xs) ≡ map f (keep (λ x. test (f x)) xs)
+        → keep test (map f (x ∷ xs)) ≡ map f (keep (λ x. test (f x)) (x ∷ xs))
+    go (inl e) ih =
+        keep-yes test (f x) (map f xs) e
+        ∙ ap (λ (l : List _). f x ∷ l) ih
+        ∙ ap (map f) (sym (keep-yes (λ (y : A). test (f y)) x xs e))
+    go (inr e) ih = keep-no test (f x) (map f xs) e ∙ ih ∙ ap (map f) (sym (keep-no (λ (y : A). test (f y)) x xs e))
+
+-- what stands at a place of numbers that ascend one by one
+pub numbers-at : (from n i : ℕ) {k : ℕ} → getElem? (numbersFrom from n) i ≡ just k → k ≡ from + i
+unfolding numbersFrom
+numbers-at from zero i e = let z : _≡_ {A = ℕ} 0 1 = cc in absurd (omega arith)
+numbers-at from (suc n) zero e = let q = just-eq e in omega arith
+numbers-at from (suc n) (suc i) e = let q = numbers-at (suc from) n i e in omega arith
+
+pub numbers-length : (from n : ℕ) → length (numbersFrom from n) ≡ n
+unfolding numbersFrom
+numbers-length from zero = refl
+numbers-length from (suc n) = ap suc (numbers-length (suc from) n)
+
+-- nothing stands at a place only past the end
+pub past-end : {A : Type 0} (xs : List A) (i : ℕ) → getElem? xs i ≡ nothing → length xs ≤ i
+past-end [] i e = omega arith
+past-end (x ∷ xs) zero e = let z : _≡_ {A = ℕ} 0 1 = cc in absurd (omega arith)
+past-end (x ∷ xs) (suc i) e = let h = past-end xs i e in omega arith
