@@ -62,6 +62,9 @@ use Rattle.theory.proofs.ListLaws.{
   at-below,
   below-at,
   numbers-below,
+  numbers-length,
+  distinct-map,
+  keep-all,
 }
 use Rattle.theory.proofs.NameLaws.{name-refl, name-sym}
 use Rattle.theory.proofs.PathLaws.{path-refl}
@@ -81,37 +84,6 @@ use Rattle.theory.proofs.SampleMerge.{
 use Rattle.theory.proofs.Counted.{Counted, AllCounted, choice-counted}
 use Rattle.theory.proofs.DocumentWithin.{DocumentWithin}
 use Rattle.theory.proofs.NumberedTable.{LimitsAgree, Numbered, table-small, numbered-within}
-
--- what is kept of images, and the distinct images
-keep-map : {A B : Type 0} (f : A → B) (test : B → Bool) (xs : List A) → keep test (map f xs) ≡ map f (keep (λ x. test (f x)) xs)
-unfolding keep
-keep-map f test [] = refl
-keep-map {A} {B} f test (x ∷ xs) = go (test (f x)) refl (keep-map f test xs)
-  where
-    go : (b : Bool) → test (f x) ≡ b → keep test (map f xs) ≡ map f (keep (λ x. test (f x)) xs)
-        → keep test (map f (x ∷ xs)) ≡ map f (keep (λ x. test (f x)) (x ∷ xs))
-    go true e ih = rw (e, keep) (ap (λ (l : List B). f x ∷ l) ih)
-    go false e ih = rw (e, keep) ih
-
-distinct-map : {A B : Type 0} (f : A → B) (same : B → B → Bool) (xs : List A)
-    → distinct same (map f xs) ≡ map f (distinct (λ x y. same (f x) (f y)) xs)
-unfolding distinct
-distinct-map f same [] = refl
-distinct-map {A} {B} f same (x ∷ xs) =
-    ap (λ (l : List B). f x ∷ l)
-    (ap (keep (λ y. not (same (f x) y))) (distinct-map f same xs)
-    ∙ keep-map f (λ y. not (same (f x) y)) (distinct (λ x y. same (f x) (f y)) xs))
-
-keep-all : {A : Type 0} (test : A → Bool) (xs : List A) → ((x : A) → List·Memᴰ x xs → test x ≡ true) → keep test xs ≡ xs
-unfolding keep
-keep-all test [] h = refl
-keep-all {A} test (x ∷ xs) h =
-    keep-yes test x xs (h x (List·Memᴰ·head refl)) ∙ ap (λ (l : List A). x ∷ l) (keep-all test xs (λ y m. h y (List·Memᴰ·tail m)))
-
-numbers-length : (from n : ℕ) → length (numbersFrom from n) ≡ n
-unfolding numbersFrom
-numbers-length from zero = refl
-numbers-length from (suc n) = ap suc (numbers-length (suc from) n)
 
 -- the sequence of some types
 operands-count : (cs : List Content) → count (operands cs) ≡ length cs
