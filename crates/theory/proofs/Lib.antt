@@ -60,3 +60,4 @@ pub mod LeastForms
 pub mod WidenLeast
 pub mod SampleLeast
 pub mod LeastLaws
+pub mod CountedTables
