@@ -1,6 +1,6 @@
 -- Tables of counted contents: the steps of widening keep the contents counted, and the names among those of the two tables.
 --     union-counted    the contents of the reduced union, if those of both tables are counted
---     form-counted     the contents of the form of a table whose contents are
+--     local-counted, single-type-counted    the contents of the forms of a table whose contents are
 --     union-name       a name of the reduced union is a name of one of the two tables
 use Prim.Native.Nat.{ℕ}
 use mathlib.Core.Bool.{Bool, not}
@@ -14,7 +14,6 @@ use Rattle.grammar.specs.Names.{Name, sameName, Classes}
 use Rattle.grammar.specs.Content.{Content, type, choiceOf, replace}
 use Rattle.grammar.specs.Table.{Rule, Table}
 use Rattle.grammar.specs.WithinLimits.{TableWithin}
-use Rattle.grammar.specs.Kinds.{Kind, local, singleType}
 use Rattle.grammar.specs.KindTests.{samePair}
 use Rattle.grammar.specs.Unite.{unitedLabels, shifted, added, unite}
 use Rattle.grammar.specs.Normalise.{pairsOf, inPairs, ruleOfPair, normalise}
@@ -22,7 +21,7 @@ use Rattle.grammar.specs.Reduce.{prune, fruitful, withoutUnfruitful, reached, w
 use Rattle.grammar.specs.UsedLabels.{usedLabels}
 use Rattle.grammar.specs.LocalForm.{labelOf, typeOfLabel, ruleOfLabel, localForm}
 use Rattle.grammar.specs.SingleTypeForm.{TypeSet, ofLabel, members, typesMet, allSets, contentOfSet, ruleOfSet, singleTypeForm}
-use Rattle.grammar.specs.Widen.{form, reducedUnion}
+use Rattle.grammar.specs.Widen.{reducedUnion}
 use Rattle.theory.proofs.ListLaws.{kept}
 use Rattle.theory.proofs.Counted.{Counted, proper-counted, choice-counted, replace-counted, prune-counted}
 
@@ -107,7 +106,7 @@ module _ (lim : Limits) where
       (λ o. inr (kept (λ x. not (any (sameName x) (old .labels))) (addition .labels) o .0))
       (List·Memᴰ·append-cases (old .labels) m)
 
-  local-counted : (g : Table) → RulesCounted (g .rules) → RulesCounted (localForm g .rules)
+  pub local-counted : (g : Table) → RulesCounted (g .rules) → RulesCounted (localForm g .rules)
   unfolding localForm ruleOfLabel
   local-counted g h r m =
       let (l, n, e) = Memᴰ·of-map (ruleOfLabel g) (usedLabels g) m in
@@ -115,15 +114,10 @@ module _ (lim : Limits) where
       (choices-counted _ (keep (λ (s : Rule). eqb (s .label) l) (g .rules)) (kept-counted _ (g .rules) h)
       (λ s. renamed-counted (λ k. typeOfLabel g (labelOf g k)) (s .content)))
 
-  single-type-counted : (g : Table) → RulesCounted (g .rules) → RulesCounted (singleTypeForm lim g .rules)
+  pub single-type-counted : (g : Table) → RulesCounted (g .rules) → RulesCounted (singleTypeForm lim g .rules)
   unfolding singleTypeForm ruleOfSet contentOfSet members
   single-type-counted g h r m =
       let (s, n, e) = Memᴰ·of-map (ruleOfSet g (allSets lim g)) (allSets lim g) m in
       subst (λ (q : Rule). Counted lim (q .content)) e
       (choices-counted _ (members g s) (kept-counted _ (g .rules) h)
       (λ q. renamed-counted (λ k. place sameNumbers (ofLabel g (typesMet g s) (labelOf g k)) (allSets lim g)) (q .content)))
-
-  pub form-counted : (kind : Kind) (g : Table) → RulesCounted (g .rules) → RulesCounted (form lim kind g .rules)
-  unfolding form
-  form-counted local g h = local-counted g h
-  form-counted singleType g h = single-type-counted g h

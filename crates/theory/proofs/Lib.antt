@@ -61,3 +61,4 @@ pub mod WidenLeast
 pub mod SampleLeast
 pub mod LeastLaws
 pub mod CountedTables
+pub mod FormsNumbered
