@@ -4,9 +4,9 @@
 --     union-name       a name of the reduced union is a name of one of the two tables
 use Prim.Native.Nat.{ℕ}
 use mathlib.Core.Bool.{Bool, not}
-use mathlib.Core.List.{List, _++_, map, List·Memᴰ, List·Memᴰ·append-cases, Memᴰ·of-map}
+use mathlib.Core.List.{List, map, List·Memᴰ, List·Memᴰ·append-cases, Memᴰ·of-map}
 use mathlib.Core.Logic.{_⊎_, inl, inr, ⊎-elim}
-use mathlib.Core.Path.{_≡_, sym, ap, subst}
+use mathlib.Core.Path.{subst}
 use lib.Dec.{eqb}
 use Rattle.grammar.specs.Lists.{any, keep, distinct, place, isIn, sameNumbers}
 use Rattle.grammar.specs.Limits.{Limits}
@@ -17,10 +17,10 @@ use Rattle.grammar.specs.WithinLimits.{TableWithin}
 use Rattle.grammar.specs.KindTests.{samePair}
 use Rattle.grammar.specs.Unite.{unitedLabels, shifted, added, unite}
 use Rattle.grammar.specs.Normalise.{pairsOf, inPairs, ruleOfPair, normalise}
-use Rattle.grammar.specs.Reduce.{prune, fruitful, withoutUnfruitful, reached, withoutUnreached, reduce}
+use Rattle.grammar.specs.Reduce.{fruitful, withoutUnfruitful, withoutUnreached, reduce}
 use Rattle.grammar.specs.UsedLabels.{usedLabels}
 use Rattle.grammar.specs.LocalForm.{labelOf, typeOfLabel, ruleOfLabel, localForm}
-use Rattle.grammar.specs.SingleTypeForm.{TypeSet, ofLabel, members, typesMet, allSets, contentOfSet, ruleOfSet, singleTypeForm}
+use Rattle.grammar.specs.SingleTypeForm.{ofLabel, members, typesMet, allSets, contentOfSet, ruleOfSet, singleTypeForm}
 use Rattle.grammar.specs.Widen.{reducedUnion}
 use Rattle.theory.proofs.ListLaws.{kept}
 use Rattle.theory.proofs.Counted.{Counted, proper-counted, choice-counted, replace-counted, prune-counted}

@@ -1,11 +1,11 @@
 -- The form of a reduced table is numbered, of either kind, if it has at most as many types as there may be:
 --   form-numbered : ReducedTable g → names and contents of g are so → length (form lim kind g .rules) ≤ lim .types
 --       → Numbered lim classes (form lim kind g)
-use Prim.Native.Nat.{ℕ, zero, _+_, _≤_, _<_}
+use Prim.Native.Nat.{ℕ, zero, _≤_, _<_}
 use native.Mathlib.Omega.{arith}
 use mathlib.Core.Bool.{Bool, true}
-use mathlib.Core.List.{List, [], map, List·Memᴰ, List·Memᴰ·eq-of-singleton, Memᴰ·of-map}
-use mathlib.Core.Path.{_≡_, refl, sym, _∙_, ap, subst}
+use mathlib.Core.List.{List, map, List·Memᴰ, List·Memᴰ·eq-of-singleton, Memᴰ·of-map}
+use mathlib.Core.Path.{_≡_, sym, _∙_, ap, subst}
 use lib.ListN.{length, length-append, length-map}
 use lib.Dec.{eqb}
 use Rattle.grammar.specs.Lists.{any, keep, allDistinct, numbersBelow}

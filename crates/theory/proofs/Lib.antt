@@ -62,3 +62,4 @@ pub mod SampleLeast
 pub mod LeastLaws
 pub mod CountedTables
 pub mod FormsNumbered
+pub mod ResultWithin

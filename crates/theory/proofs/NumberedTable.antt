@@ -5,8 +5,8 @@
 use Prim.Native.Nat.{ℕ, _≤_, _<_}
 use native.Mathlib.Omega.{arith}
 use mathlib.Core.Bool.{Bool, true, false}
-use mathlib.Core.List.{List, [], map, List·Memᴰ, Memᴰ·of-map}
-use mathlib.Core.Path.{_≡_, refl, sym, _∙_, ap, subst}
+use mathlib.Core.List.{List, [], List·Memᴰ, Memᴰ·of-map}
+use mathlib.Core.Path.{_≡_, refl, sym, ap, subst}
 use lib.ListN.{length, length-map, getD}
 use lib.Dec.{eqb, ltb}
 use borrow.Author.Tests.{ltb-false}
@@ -20,7 +20,7 @@ use Rattle.grammar.specs.WriteTable.{tableBytes}
 use Rattle.grammar.specs.WithinLimits.{NameWithin, ContentWithin, TableWithin}
 use Rattle.grammar.specs.Size.{widestChoice, contentTooLarge, tooLarge}
 use Rattle.grammar.specs.UsedLabels.{usedLabels, withUsedLabels}
-use Rattle.grammar.specs.Tidy.{tidy, tidyTable}
+use Rattle.grammar.specs.Tidy.{tidyTable}
 use Rattle.theory.proofs.BoolLaws.{or-false, false-of, not-both}
 use Rattle.theory.proofs.ListLaws.{any-of, at-mem, at-or-else, all-differ}
 use Rattle.theory.proofs.TableConditions.{LabelsListed}

@@ -3,27 +3,13 @@
 -- A document that is read is within the limits (document-within).
 use Prim.Native.Nat.{ℕ, zero, suc, _≤_, _<_}
 use native.Mathlib.Omega.{arith}
-use mathlib.Core.Bool.{Bool, true, false, not}
-use mathlib.Core.List.{
-  List,
-  [],
-  _∷_,
-  _++_,
-  map,
-  List·Memᴰ,
-  List·Memᴰ·head,
-  List·Memᴰ·tail,
-  List·Memᴰ·eq-of-singleton,
-  Memᴰ·cast,
-  Memᴰ·map,
-  Memᴰ·of-map,
-}
-use mathlib.Core.Logic.{_⊎_, inl, inr}
+use mathlib.Core.Bool.{Bool, true}
+use mathlib.Core.List.{List, [], _∷_, _++_, map, List·Memᴰ, List·Memᴰ·head, List·Memᴰ·eq-of-singleton, Memᴰ·map, Memᴰ·of-map}
 use mathlib.Core.Path.{_≡_, refl, sym, _∙_, ap, subst}
-use lib.ListN.{length, length-map, getElem?, getD}
+use lib.ListN.{length, length-map, getD}
 use lib.Dec.{eqb}
 use borrow.Author.Tests.{eq-eqb}
-use Rattle.grammar.specs.Lists.{any, keep, distinct, place, allDistinct, numbersFrom, numbersBelow}
+use Rattle.grammar.specs.Lists.{any, keep, distinct, place, allDistinct, numbersBelow}
 use Rattle.grammar.specs.Limits.{Limits}
 use Rattle.grammar.specs.Names.{Name, sameName, SameName, Classes}
 use Rattle.grammar.specs.Content.{Content, type, typesIn, typesInAll, count, operands, choiceOf}
@@ -49,24 +35,8 @@ use Rattle.grammar.specs.Sample.{
   sample,
 }
 use Rattle.grammar.specs.Widen.{ofSize, sampleTable}
-use Rattle.theory.proofs.BoolLaws.{passes-or-fails}
-use Rattle.theory.proofs.ListLaws.{
-  any-of,
-  kept,
-  keep-yes,
-  keep-no,
-  distinct-was,
-  joined-from,
-  place-found,
-  at-mem,
-  at-below,
-  below-at,
-  numbers-below,
-  numbers-length,
-  distinct-map,
-  keep-all,
-}
-use Rattle.theory.proofs.NameLaws.{name-refl, name-sym}
+use Rattle.theory.proofs.ListLaws.{any-of, kept, distinct-was, joined-from, place-found, at-mem, at-below, below-at, numbers-below, numbers-length, distinct-map, keep-all}
+use Rattle.theory.proofs.NameLaws.{name-refl}
 use Rattle.theory.proofs.PathLaws.{path-refl}
 use Rattle.theory.proofs.OutcomeLaws.{had-no-fault, given-eq}
 use Rattle.theory.proofs.ReplacedTypes.{choice-types}
@@ -236,38 +206,38 @@ module _ (d : Tree) where
       let c = numbers-length zero (length (sample d .labels)) in
       omega arith
 
-  module _ (lim : Limits) (classes : Classes) (agree : LimitsAgree lim) (within : DocumentWithin lim classes d) where
-    sample-numbered : Numbered lim classes (sample d)
-    unfolding allDistinct
-    sample-numbered =
-        let (v, m) = first-visit d in
-        let some = path-below v m in
-        record {
-          names =
-              λ n o.
-              let (u, p, e) = name-from n o in
-              subst (NameWithin lim classes) e (within u p .name);
-          names-differ = sample-names d;
-          start-types =
-              λ k o.
-              let z = List·Memᴰ·eq-of-singleton (subst (λ (ks : List ℕ). List·Memᴰ k ks) (sample-starts d) o) in
-              omega arith;
-          starts-differ = rw (sample-starts d);
-          few-starts = rw (sample-starts d) (omega arith);
-          rule-types = rule-below;
-          listed = sample-listed d;
-          content-types = content-below;
-          counted =
-              content-counted lim
-              (λ u p.
-              let a = agree .children in
-              let b = within u p .children in
-              omega arith);
-        }
+module _ (lim : Limits) (classes : Classes) (agree : LimitsAgree lim) (d : Tree) (within : DocumentWithin lim classes d) where
+  sample-numbered : Numbered lim classes (sample d)
+  unfolding allDistinct
+  sample-numbered =
+      let (v, m) = first-visit d in
+      let some = path-below d v m in
+      record {
+        names =
+            λ n o.
+            let (u, p, e) = name-from d n o in
+            subst (NameWithin lim classes) e (within u p .name);
+        names-differ = sample-names d;
+        start-types =
+            λ k o.
+            let z = List·Memᴰ·eq-of-singleton (subst (λ (ks : List ℕ). List·Memᴰ k ks) (sample-starts d) o) in
+            omega arith;
+        starts-differ = rw (sample-starts d);
+        few-starts = rw (sample-starts d) (omega arith);
+        rule-types = rule-below d;
+        listed = sample-listed d;
+        content-types = content-below d;
+        counted =
+            content-counted d lim
+            (λ u p.
+            let a = agree .children in
+            let b = within u p .children in
+            omega arith);
+      }
 
-    pub sample-within : (g : Table) → sampleTable lim d ≡ given g → TableWithin lim classes g
-    unfolding sampleTable ofSize
-    sample-within g e =
-        let (small, same) = had-no-fault (tooLarge lim (sample d)) ResultTooLarge _ g e in
-        subst (TableWithin lim classes) (given-eq same)
-        (numbered-within lim classes agree (sample d) sample-numbered few-labels (table-small lim (sample d) small))
+  pub sample-within : (g : Table) → sampleTable lim d ≡ given g → TableWithin lim classes g
+  unfolding sampleTable ofSize
+  sample-within g e =
+      let (small, same) = had-no-fault (tooLarge lim (sample d)) ResultTooLarge _ g e in
+      subst (TableWithin lim classes) (given-eq same)
+      (numbered-within lim classes agree (sample d) sample-numbered (few-labels d) (table-small lim (sample d) small))

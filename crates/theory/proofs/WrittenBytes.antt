@@ -1,8 +1,8 @@
 -- The numbers written for a table that a file can hold are bytes, where the limits are those of bytes:
 --   table-bytes-small : BytesAgree lim classes → TableWithin lim classes g → AreBytes (tableBytes g)
-use Prim.Native.Nat.{ℕ, zero, suc, _+_, _/_, _%_, _≤_, _<_}
+use Prim.Native.Nat.{ℕ, zero, suc, _/_, _%_, _≤_, _<_}
 use native.Mathlib.Omega.{arith}
-use mathlib.Core.Bool.{Bool, true, false, _&&_}
+use mathlib.Core.Bool.{true, _&&_}
 use mathlib.Core.List.{
   List,
   [],
@@ -15,13 +15,13 @@ use mathlib.Core.List.{
   List·Memᴰ·append-cases,
 }
 use mathlib.Core.Logic.{⊎-elim}
-use mathlib.Core.Path.{_≡_, refl, sym, _∙_, ap, subst}
-use lib.ListN.{length, length-append, getD}
+use mathlib.Core.Path.{_≡_, ap}
+use lib.ListN.{length, length-append, length-map, getD}
 use lib.Dec.{eqb, leb}
 use borrow.Author.Tests.{eqb-true, leb-true, ltb-true}
-use Rattle.grammar.specs.Lists.{all, joinedOf}
-use Rattle.grammar.specs.Limits.{Limits}
-use Rattle.grammar.specs.Names.{Name, Classes, isName}
+use Rattle.grammar.specs.Lists.{all, joinedOf, numbersBelow}
+use Rattle.grammar.specs.Limits.{Limits, standard}
+use Rattle.grammar.specs.Names.{Name, Classes, isName, classOf, asciiClasses}
 use Rattle.grammar.specs.Content.{
   Content,
   none,
@@ -37,14 +37,14 @@ use Rattle.grammar.specs.Content.{
   _∷ᶜ_,
   count,
 }
-use Rattle.grammar.specs.Table.{Rule, Table}
+use Rattle.grammar.specs.Table.{Table}
 use Rattle.grammar.specs.Fields.{fieldBytes}
 use Rattle.grammar.specs.ReadContent.{contentBytes, operandBytes, isProper, areProper}
 use Rattle.grammar.specs.ReadTable.{labelTag, startTag, ruleTag, tableEndTag}
 use Rattle.grammar.specs.WriteTable.{ruleBytes, tableBytes}
-use Rattle.grammar.specs.WithinLimits.{NameWithin, RuleWithin, TableWithin}
+use Rattle.grammar.specs.WithinLimits.{TableWithin}
 use Rattle.theory.proofs.BoolLaws.{and-left, and-right}
-use Rattle.theory.proofs.ListLaws.{all-at, joined-from}
+use Rattle.theory.proofs.ListLaws.{all-at, joined-from, numbers-length}
 use Rattle.theory.proofs.FieldBytes.{AreBytes}
 
 -- limits of files of bytes
@@ -54,6 +54,14 @@ pub record BytesAgree (lim : Limits) (classes : Classes) : Type 0 where
   pub operands : lim .operands ≤ 255
   pub input : lim .input < 65536
   pub name-bytes : length classes ≤ 256
+
+-- those of the paper
+pub standard-bytes : BytesAgree standard asciiClasses
+unfolding standard asciiClasses numbersBelow
+standard-bytes =
+    let a = length-map (numbersBelow 256) classOf in
+    let b = numbers-length 0 256 in
+    record { types = omega arith; labels = omega arith; operands = omega arith; input = omega arith; name-bytes = omega arith }
 
 small-none : AreBytes []
 small-none b m = elim m [ ]
