@@ -1,8 +1,10 @@
 -- Counted contents: every sequence has from 2 operands to as many as the limit allows, and every choice at least 2.
 --     proper-counted        a proper content is counted
 --     counted-proper        a counted content with no choice too wide and all types in range is proper
---     choice-counted        so is the choice of counted contents, replace-counted a counted content with counted contents for types,
---     simplify-counted      a simplified, prune-counted a pruned and tidy-counted a tidied content, if it was
+--     choice-counted        the choice of counted contents is counted
+--     replace-counted       and so is a counted content with counted contents in place of types,
+--     simplify-counted      simplified (prune-counted: pruned),
+--     tidy-counted          or tidied
 use Prim.Native.Nat.{ℕ, suc, _≤_, _<_}
 use native.Mathlib.Omega.{arith}
 use mathlib.Core.Bool.{Bool, true, false, not, _&&_}
@@ -207,13 +209,17 @@ module _ (lim : Limits) where
         let few = h .0 in
         let many = h .1 in
         let all = operands-counted (simplifyAll cs) (λ c m. each-simplified-counted cs (h .2) c m) in
-        unless-counted (any isNone (simplifyAll cs)) none (sequence (operands (simplifyAll cs))) tt (omega arith, omega arith, all)
+        unless-counted (any isNone (simplifyAll cs)) none (sequence (operands (simplifyAll cs))) tt
+        (omega arith, omega arith, all)
     simplify-counted (choice cs) h =
         choice-counted (keep (λ c. not (isNone c)) (simplifyAll cs))
         (λ c m. each-simplified-counted cs (h .1) c (kept (λ c. not (isNone c)) (simplifyAll cs) m .0))
-    simplify-counted (anyNumber c) h = unless-counted (isNone (simplify c)) empty (anyNumber (simplify c)) tt (simplify-counted c h)
-    simplify-counted (oneOrMore c) h = unless-counted (isNone (simplify c)) none (oneOrMore (simplify c)) tt (simplify-counted c h)
-    simplify-counted (optional c) h = unless-counted (isNone (simplify c)) empty (optional (simplify c)) tt (simplify-counted c h)
+    simplify-counted (anyNumber c) h =
+        unless-counted (isNone (simplify c)) empty (anyNumber (simplify c)) tt (simplify-counted c h)
+    simplify-counted (oneOrMore c) h =
+        unless-counted (isNone (simplify c)) none (oneOrMore (simplify c)) tt (simplify-counted c h)
+    simplify-counted (optional c) h =
+        unless-counted (isNone (simplify c)) empty (optional (simplify c)) tt (simplify-counted c h)
 
     pub each-simplified-counted : (cs : Contents) → AllCounted lim cs → EachCounted (simplifyAll cs)
     each-simplified-counted []ᶜ h = each-none

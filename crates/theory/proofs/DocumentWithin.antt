@@ -77,7 +77,8 @@ module _ (lim : Limits) (classes : Classes) where
       ltb-false (lim .children) (n .children) (or-false full many q .1)
 
   -- what is read of one field is a node within the limits
-  node-read : (o : Opened) (f : Field) (more : Opened) → readNode lim classes o f ≡ given more → (n : Node) × NodeWithin n × (withNode o n ≡ more)
+  node-read : (o : Opened) (f : Field) (more : Opened) → readNode lim classes o f ≡ given more
+      → (n : Node) × NodeWithin n × (withNode o n ≡ more)
   unfolding readNode
   node-read o f more e = go (f .value) refl
     where
@@ -86,10 +87,12 @@ module _ (lim : Limits) (classes : Classes) where
       go (k ∷ name) q =
           let w = rw (q, readNode) at e in
           let n : Node = record { name = name; children = k } in
-          let a = had-no-fault (not (eqb (f .tag) nodeTag && leb 1 (length name) && leb (length name) (lim .name))) BadField _ more w in
+          let fits = eqb (f .tag) nodeTag && leb 1 (length name) in
+          let short = leb (length name) (lim .name) in
+          let a = had-no-fault (not (fits && short)) BadField _ more w in
           let b = had-no-fault (not (isName classes name)) BadName _ more (a .1) in
           let c = had-no-fault (badNode lim o n) BadTree _ more (b .1) in
-          let size = and-right (eqb (f .tag) nodeTag && leb 1 (length name)) (leb (length name) (lim .name)) (not-false _ (a .0)) in (
+          let size = and-right fits short (not-false (fits && short) (a .0)) in (
             n,
             record {
               name = record { rule = not-false (isName classes name) (b .0); size = leb-true (length name) (lim .name) size };

@@ -72,7 +72,8 @@ module _ (f : ℕ → ℕ) where
   renamed : Rule → Content
   renamed r = replace (r .content) (λ j. type (f j))
 
-  chosen-types : (rs : List Rule) (k : ℕ) → List·Memᴰ k (typesIn (choiceOf (map (λ (r : Rule). replace (r .content) (λ j. type (f j))) rs)))
+  chosen-types : (rs : List Rule) (k : ℕ)
+      → List·Memᴰ k (typesIn (choiceOf (map (λ (r : Rule). replace (r .content) (λ j. type (f j))) rs)))
       → (r : Rule) × List·Memᴰ r rs × (j : ℕ) × List·Memᴰ j (typesIn (r .content)) × (k ≡ f j)
   unfolding renamed
   chosen-types rs k m =

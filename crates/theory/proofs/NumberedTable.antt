@@ -88,7 +88,8 @@ table-small lim g e =
     }
 
 module _ (lim : Limits) (classes : Classes) (agree : LimitsAgree lim) (g : Table) where
-  pub numbered-within : Numbered lim classes g → length (g .labels) ≤ length (g .rules) → TableSmall lim g → TableWithin lim classes g
+  pub numbered-within : Numbered lim classes g → length (g .labels) ≤ length (g .rules) → TableSmall lim g
+      → TableWithin lim classes g
   numbered-within h l small =
       let a = agree .labels in
       let b = agree .starts in

@@ -35,7 +35,20 @@ use Rattle.grammar.specs.Sample.{
   sample,
 }
 use Rattle.grammar.specs.Widen.{ofSize, sampleTable}
-use Rattle.theory.proofs.ListLaws.{any-of, kept, distinct-was, joined-from, place-found, at-mem, at-below, below-at, numbers-below, numbers-length, distinct-map, keep-all}
+use Rattle.theory.proofs.ListLaws.{
+  any-of,
+  kept,
+  distinct-was,
+  joined-from,
+  place-found,
+  at-mem,
+  at-below,
+  below-at,
+  numbers-below,
+  numbers-length,
+  distinct-map,
+  keep-all,
+}
 use Rattle.theory.proofs.NameLaws.{name-refl}
 use Rattle.theory.proofs.PathLaws.{path-refl}
 use Rattle.theory.proofs.OutcomeLaws.{had-no-fault, given-eq}
@@ -101,9 +114,12 @@ module _ (d : Tree) where
 
   rules-are : length (sample d .rules) ≡ length (pathsOf (seen d))
   unfolding sample
-  rules-are = length-map (distinct oneVisit (seen d)) (ruleAt (seen d)) ∙ sym (ap length paths-are ∙ length-map (distinct oneVisit (seen d)) (λ (v : Visit). v .path))
+  rules-are =
+      length-map (distinct oneVisit (seen d)) (ruleAt (seen d))
+      ∙ sym (ap length paths-are ∙ length-map (distinct oneVisit (seen d)) (λ (v : Visit). v .path))
 
-  rule-of : {r : Rule} → List·Memᴰ r (sample d .rules) → (v : Visit) × List·Memᴰ v (distinct oneVisit (seen d)) × (ruleAt (seen d) v ≡ r)
+  rule-of : {r : Rule} → List·Memᴰ r (sample d .rules)
+      → (v : Visit) × List·Memᴰ v (distinct oneVisit (seen d)) × (ruleAt (seen d) v ≡ r)
   unfolding sample
   rule-of m = Memᴰ·of-map (ruleAt (seen d)) (distinct oneVisit (seen d)) m
 

@@ -72,7 +72,8 @@ small-cons n ns p h b m = ⊎-elim (λ e. omega arith) (h b) (List·Memᴰ·case
 small-append : (ms ns : List ℕ) → AreBytes ms → AreBytes ns → AreBytes (ms ++ ns)
 small-append ms ns p q b m = ⊎-elim (p b) (q b) (List·Memᴰ·append-cases ms m)
 
-small-joined : {A : Type 0} (f : A → List ℕ) (xs : List A) → ((x : A) → List·Memᴰ x xs → AreBytes (f x)) → AreBytes (joinedOf f xs)
+small-joined : {A : Type 0} (f : A → List ℕ) (xs : List A) → ((x : A) → List·Memᴰ x xs → AreBytes (f x))
+    → AreBytes (joinedOf f xs)
 small-joined f xs h b m = let (x, n, o) = joined-from f xs m in h x n b o
 
 -- each of joined lists is no longer than all of them
@@ -118,7 +119,9 @@ name-small classes (b ∷ bs) l e = small-cons b bs first rest
     rest : AreBytes bs
     rest c m =
         let q =
-        all-at (λ c. leb 1 (getD classes c 0)) (and-right (eqb (getD classes b 0) 2) (all (λ c. leb 1 (getD classes c 0)) bs) e) m in
+        all-at (λ c. leb 1 (getD classes c 0))
+        (and-right (eqb (getD classes b 0) 2) (all (λ c. leb 1 (getD classes c 0)) bs) e)
+        m in
         let r = has-class classes c (leb-true 1 (getD classes c 0) q) in
         omega arith
 
