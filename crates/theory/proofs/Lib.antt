@@ -63,3 +63,7 @@ pub mod LeastLaws
 pub mod CountedTables
 pub mod FormsNumbered
 pub mod ResultWithin
+pub mod Marked
+pub mod MarkedWords
+pub mod MarkedRun
+pub mod MarkedPass
