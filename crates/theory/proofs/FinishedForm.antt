@@ -20,7 +20,7 @@ use Rattle.theory.proofs.UsedLabelsDocuments.{
   used-labels-single-type,
   used-labels-labelled,
 }
-use Rattle.theory.proofs.TableAutomaton.{Labelled}
+use Rattle.theory.proofs.TableConditions.{Labelled}
 
 -- of the kind, letting in all that g lets in, and least so
 pub record LeastForm (kind : Kind) (g form : Table) : Type 0 where

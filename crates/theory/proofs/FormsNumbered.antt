@@ -33,7 +33,7 @@ use Rattle.theory.proofs.ListLaws.{
 use Rattle.theory.proofs.Rounds.{keep-shorter}
 use Rattle.theory.proofs.ReplacedTypes.{choice-types, replace-types}
 use Rattle.theory.proofs.TableAutomaton.{label-of}
-use Rattle.theory.proofs.ReducedTable.{HasRule, ReducedTable}
+use Rattle.theory.proofs.ReducedTable.{ReducedTable}
 use Rattle.theory.proofs.UsedLabelsDocuments.{label-used}
 use Rattle.theory.proofs.LocalMerge.{local-form-names, local-form-labelled}
 use Rattle.theory.proofs.SetsClosed.{starts-first}
@@ -48,6 +48,7 @@ use Rattle.theory.proofs.SingleTypeMerge.{
 }
 use Rattle.theory.proofs.CountedTables.{RulesCounted, local-counted, single-type-counted}
 use Rattle.theory.proofs.NumberedTable.{Numbered}
+use Rattle.theory.proofs.TableConditions.{HasRule}
 
 -- numbers kept of those below a bound
 module _ (test : ℕ → Bool) (n : ℕ) where

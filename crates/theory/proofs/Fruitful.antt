@@ -57,6 +57,7 @@ use Rattle.theory.proofs.NameLaws.{name-refl}
 use Rattle.theory.proofs.SameWords.{AllIn, all-in-none, all-in-append}
 use Rattle.theory.proofs.SimplifyWords.{join}
 use Rattle.theory.proofs.Rounds.{not-known, rounds-hold, rounds-closed, closed-has}
+use Rattle.theory.proofs.TableConditions.{Labelled}
 
 module _ (known : List ℕ) where
   -- a language has a word of known types
@@ -131,10 +132,6 @@ some-forest g (k ∷ w) h =
     let t = h k (List·Memᴰ·head refl) in
     let ts = some-forest g w (λ l m. h l (List·Memᴰ·tail m)) in
     (t .0 ∷ᵗ ts .0, derives-next (t .1) (ts .1))
-
--- every rule's label is a label of the table
-abbrev pub Labelled : Table → Type 0
-Labelled g = (r : Rule) → List·Memᴰ r (g .rules) → r .label < length (g .labels)
 
 module _ (g : Table) where
   -- what a round finds: types, not known, of rules whose contents have words of known types

@@ -42,7 +42,7 @@ use Rattle.theory.proofs.ListLaws.{any-of, kept, keep-mem, distinct-was
 use Rattle.theory.proofs.WordLaws.{choice-words, Spells, spells-none, spells-next, replace-words}
 use Rattle.theory.proofs.PositionLaws.{place-same, same-place, no-two-map, no-two-weaken, no-two-distinct}
 use Rattle.theory.proofs.ReplacedTypes.{choice-types, replace-types}
-use Rattle.theory.proofs.TableConditions.{LabelsListed, HasRule}
+use Rattle.theory.proofs.TableConditions.{Labelled, HasRule}
 
 -- Rules are of one pair when type and label are equal.
 pub one-pair : (r s : Rule) → (r .type ≡ s .type) × (r .label ≡ s .label) → samePair r s ≡ true
@@ -335,7 +335,7 @@ module _ (g : Table) where
   unfolding normalise
   normalise-names h = h
 
-  pub normalise-listed : LabelsListed g → LabelsListed (normalise g)
+  pub normalise-listed : Labelled g → Labelled (normalise g)
   unfolding normalise ruleOfPair
   normalise-listed h r m =
       let (s, n, e) = normal-rule m in

@@ -23,7 +23,7 @@ use Rattle.grammar.specs.UsedLabels.{usedLabels, withUsedLabels}
 use Rattle.grammar.specs.Tidy.{tidyTable}
 use Rattle.theory.proofs.BoolLaws.{or-false, false-of, not-both}
 use Rattle.theory.proofs.ListLaws.{any-of, at-mem, at-or-else, all-differ}
-use Rattle.theory.proofs.TableConditions.{LabelsListed}
+use Rattle.theory.proofs.TableConditions.{Labelled}
 use Rattle.theory.proofs.ContentBytes.{content-bytes-injective}
 use Rattle.theory.proofs.TidyWords.{tidy-types}
 use Rattle.theory.proofs.TidyTable.{tidy-labels}
@@ -49,7 +49,7 @@ pub record Numbered (lim : Limits) (classes : Classes) (g : Table) : Type 0 wher
   pub starts-differ : allDistinct eqb (g .starts) ≡ true
   pub few-starts : length (g .starts) ≤ length (g .rules)
   pub rule-types : (r : Rule) → List·Memᴰ r (g .rules) → r .type < length (g .rules)
-  pub listed : LabelsListed g
+  pub listed : Labelled g
   pub content-types : (r : Rule) → List·Memᴰ r (g .rules) → (k : ℕ) → List·Memᴰ k (typesIn (r .content)) → k < length (g .rules)
   pub counted : (r : Rule) → List·Memᴰ r (g .rules) → Counted lim (r .content)
 
@@ -135,7 +135,7 @@ module _ (lim : Limits) (classes : Classes) where
   -- a table with the starts of another, as many rules like its rules, and names of it
   like-numbered : (g h : Table) → h .starts ≡ g .starts → length (h .rules) ≡ length (g .rules)
       → ((r : Rule) → List·Memᴰ r (h .rules) → RuleLike lim r (g .rules))
-      → ((n : Name) → List·Memᴰ n (h .labels) → List·Memᴰ n (g .labels)) → DistinctNames h → LabelsListed h
+      → ((n : Name) → List·Memᴰ n (h .labels) → List·Memᴰ n (g .labels)) → DistinctNames h → Labelled h
       → Numbered lim classes g → Numbered lim classes h
   like-numbered g h starts rules like named differ listed n =
       record {
@@ -200,7 +200,7 @@ module _ (lim : Limits) (classes : Classes) where
             counted = λ h. subst (Counted lim) c (tidy-counted lim (s .content) h);
           }
 
-      listed : LabelsListed (tidyTable g)
+      listed : Labelled (tidyTable g)
       listed r m =
           let (s, o, e) = Memᴰ·of-map _ (g .rules) m in
           subst (λ (q : Rule). q .label < length (g .labels)) e (n .listed s o)

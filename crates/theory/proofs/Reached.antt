@@ -20,20 +20,15 @@ use Rattle.theory.proofs.ListLaws.{kept, keep-mem, in-mem, mem-in, join
 use Rattle.theory.proofs.SameWords.{StandsIn, types-of-word}
 use Rattle.theory.proofs.Rounds.{not-known, rounds-start, rounds-hold, rounds-closed, closed-has}
 use Rattle.theory.proofs.CarryDerivations.{carry-tree}
+use Rattle.theory.proofs.TableConditions.{HasRule}
 
 pub data ReachedFrom (g : Table) : ℕ → Type 0 where
   from-start : {k : ℕ} → List·Memᴰ k (g .starts) → ReachedFrom g k
   through : {r : Rule} {k : ℕ} → List·Memᴰ r (g .rules) → ReachedFrom g (r .type) → StandsIn k (r .content) → ReachedFrom g k
 
--- the type has a rule
-pub record Ruled (g : Table) (k : ℕ) : Type 0 where
-  pub rule : Rule
-  pub of-table : List·Memᴰ rule (g .rules)
-  pub of-type : rule .type ≡ k
-
 -- every type that stands in a content has a rule
 abbrev pub AllRuled : Table → Type 0
-AllRuled g = (r : Rule) (k : ℕ) → List·Memᴰ r (g .rules) → StandsIn k (r .content) → Ruled g k
+AllRuled g = (r : Rule) (k : ℕ) → List·Memᴰ r (g .rules) → StandsIn k (r .content) → HasRule g k
 
 module _ (g : Table) where
   -- what a round finds: types, not known, that stand in the contents of known types

@@ -28,12 +28,11 @@ use Rattle.theory.proofs.ListLaws.{kept, keep-mem, in-mem, mem-in}
 use Rattle.theory.proofs.NoTwo.{no-two-keep, no-two-map}
 use Rattle.theory.proofs.SameWords.{StandsIn}
 use Rattle.theory.proofs.SimplifyWords.{prune-words, WordWith, prune-standing}
-use Rattle.theory.proofs.Fruitful.{SomeTree, Labelled, tree-fruitful, forest-fruitful, fruitful-is}
+use Rattle.theory.proofs.Fruitful.{SomeTree, tree-fruitful, forest-fruitful, fruitful-is}
 use Rattle.theory.proofs.CarryDerivations.{carry-tree}
 use Rattle.theory.proofs.Reached.{
   ReachedFrom,
   from-start,
-  Ruled,
   AllRuled,
   reached-is,
   reached-on,
@@ -42,6 +41,7 @@ use Rattle.theory.proofs.Reached.{
   reached-remains,
   reached-trees,
 }
+use Rattle.theory.proofs.TableConditions.{Labelled, HasRule}
 
 pub reduce-labels : (g : Table) → reduce g .labels ≡ g .labels
 unfolding reduce withoutUnreached withoutUnfruitful
@@ -129,7 +129,7 @@ module _ (g : Table) where
         let p = fruitful-standing r k m s .1 in
         rule-of (fruitful-is g labelled k .0 p .1) p
       where
-        rule-of : {k : ℕ} {t : Tree} → Derives g k t → List·Memᴰ k (fruitful g) → Ruled (withoutUnfruitful g) k
+        rule-of : {k : ℕ} {t : Tree} → Derives g k t → List·Memᴰ k (fruitful g) → HasRule (withoutUnfruitful g) k
         rule-of (derives f a) p =
             record {
               rule = pruned (f .rule);

@@ -12,7 +12,8 @@ use Rattle.theory.proofs.Standing.{word-stands}
 use Rattle.theory.proofs.Automaton.{Alive, AllAlive}
 use Rattle.theory.proofs.LeastLocal.{Reached, at-start, by-step}
 use Rattle.theory.proofs.TableAutomaton.{Steps, tableAutomaton, type-accepts}
-use Rattle.theory.proofs.ReducedTable.{HasRule, Reaches, from-start, from-content, ReducedTable}
+use Rattle.theory.proofs.ReducedTable.{Reaches, from-start, from-content, ReducedTable}
+use Rattle.theory.proofs.TableConditions.{HasRule}
 
 abbrev pub rule-that-fits : {g : Table} {k : ℕ} {n : Name} {w : List ℕ} → Fits g k n w → HasRule g k
 rule-that-fits f = record { rule = f .rule; of-table = f .of-table; of-type = f .of-type }

@@ -7,13 +7,7 @@ use Rattle.grammar.specs.Content.{typesIn, Word}
 use Rattle.grammar.specs.Tree.{Tree}
 use Rattle.grammar.specs.Table.{Rule, Table, DistinctNames}
 use Rattle.grammar.specs.Derivation.{Derives}
-use Rattle.theory.proofs.TableAutomaton.{OneRuleEach, Labelled}
-
--- a rule of the type
-pub record HasRule (g : Table) (k : ℕ) : Type 0 where
-  pub rule : Rule
-  pub of-table : List·Memᴰ rule (g .rules)
-  pub of-type : rule .type ≡ k
+use Rattle.theory.proofs.TableConditions.{Labelled, OneRuleEach, HasRule}
 
 -- reached from a start through the contents
 pub data Reaches (g : Table) : ℕ → Type 0 where

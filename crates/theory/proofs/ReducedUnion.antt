@@ -16,7 +16,7 @@ use Rattle.grammar.specs.Unite.{unite}
 use Rattle.grammar.specs.Normalise.{normalise}
 use Rattle.grammar.specs.Reduce.{reduce}
 use Rattle.grammar.specs.Widen.{reducedUnion}
-use Rattle.theory.proofs.TableConditions.{LabelsListed, within-below, within-listed, within-names}
+use Rattle.theory.proofs.TableConditions.{Labelled, within-below, within-listed, within-names, HasRule}
 use Rattle.theory.proofs.UniteDocuments.{unite-documents, unite-labels, unite-names}
 use Rattle.theory.proofs.NormaliseDocuments.{normalise-documents, normalise-types, normalise-names, normalise-listed}
 use Rattle.theory.proofs.Reached.{ReachedFrom, from-start as first, through}
@@ -32,7 +32,7 @@ use Rattle.theory.proofs.ReduceDocuments.{
   reduce-labelled,
   reduce-one-rule,
 }
-use Rattle.theory.proofs.ReducedTable.{HasRule, Reaches, from-start, from-content, ReducedTable}
+use Rattle.theory.proofs.ReducedTable.{Reaches, from-start, from-content, ReducedTable}
 
 derived-rule : {g : Table} {k : ℕ} {t : Tree} → Derives g k t → HasRule g k
 derived-rule (derives f all) = record { rule = f .rule; of-table = f .of-table; of-type = f .of-type }
@@ -49,10 +49,10 @@ module _ (lim : Limits) (classes : Classes) (old addition : Table) (old-within :
   abbrev normal : Table
   normal = normalise united
 
-  united-listed : LabelsListed united
+  united-listed : Labelled united
   united-listed = unite-labels lim old addition (within-listed lim classes old old-within) (within-listed lim classes addition addition-within)
 
-  normal-listed : LabelsListed normal
+  normal-listed : Labelled normal
   normal-listed = normalise-listed united united-listed
 
   normal-names : DistinctNames normal

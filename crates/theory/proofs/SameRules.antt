@@ -20,7 +20,7 @@ use Rattle.grammar.specs.Kinds.{NoTwoRules, Local, Competing, NoneCompete, Sing
 use Rattle.grammar.specs.Least.{LetsInAll}
 use Rattle.theory.proofs.ListLaws.{at-below, below-at, related-turn, related-at, related-mem}
 use Rattle.theory.proofs.Covering.{covered-let-in}
-use Rattle.theory.proofs.TableAutomaton.{OneRuleEach, Labelled}
+use Rattle.theory.proofs.TableConditions.{Labelled, OneRuleEach}
 
 -- Label l m: the number l of a label in the one table is m in the other
 pub record SameRule (Label : ℕ → ℕ → Type 0) (r s : Rule) : Type 0 where

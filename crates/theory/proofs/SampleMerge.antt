@@ -52,7 +52,7 @@ use Rattle.theory.proofs.NameLaws.{name-refl, name-sym, name-trans}
 use Rattle.theory.proofs.PathLaws.{SamePath, path-refl, path-sym, path-trans, path-parts}
 use Rattle.theory.proofs.PositionLaws.{place-same, same-place, no-two-map, no-two-weaken, no-two-distinct}
 use Rattle.theory.proofs.WordLaws.{choice-words}
-use Rattle.theory.proofs.TableConditions.{LabelsListed}
+use Rattle.theory.proofs.TableConditions.{Labelled}
 use Rattle.theory.proofs.VisitedTrees.{
   rootName,
   childrenOf,
@@ -327,7 +327,7 @@ module _ (d : Tree) where
       (no-two-distinct oneVisit (λ u v. path-sym (u .path) (v .path)) seen)
       (λ u v m n e. path-types u v (first-was m) (first-was n) .0 e))
 
-  pub sample-listed : LabelsListed (sample d)
+  pub sample-listed : Labelled (sample d)
   sample-listed r m =
       let (v, n, e) = sample-rule m in
       let (x, at, s) = label-at v (first-was n) in

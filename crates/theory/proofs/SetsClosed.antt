@@ -72,7 +72,8 @@ use Rattle.theory.proofs.PositionLaws.{
   no-two-map,
 }
 use Rattle.theory.proofs.TableAutomaton.{label-of}
-use Rattle.theory.proofs.ReducedTable.{HasRule, ReducedTable}
+use Rattle.theory.proofs.ReducedTable.{ReducedTable}
+use Rattle.theory.proofs.TableConditions.{HasRule}
 
 -- the worklist
 module _ (g : Table) where

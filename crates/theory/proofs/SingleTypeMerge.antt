@@ -90,17 +90,8 @@ use Rattle.theory.proofs.Standing.{word-stands}
 use Rattle.theory.proofs.Automaton.{Automaton, AllAlive}
 use Rattle.theory.proofs.Merge.{Forth, Back, StartType, accepted-let-in}
 use Rattle.theory.proofs.LeastSingleType.{Arises, SingleTypeMerge, least-single-type}
-use Rattle.theory.proofs.TableAutomaton.{
-  typeName,
-  Steps,
-  tableAutomaton,
-  OneRuleEach,
-  Labelled,
-  label-of,
-  type-accepts,
-  table-accepts,
-}
-use Rattle.theory.proofs.ReducedTable.{HasRule, ReducedTable}
+use Rattle.theory.proofs.TableAutomaton.{typeName, Steps, tableAutomaton, label-of, type-accepts, table-accepts}
+use Rattle.theory.proofs.ReducedTable.{ReducedTable}
 use Rattle.theory.proofs.SetsClosed.{
   OneLabelSet,
   founded-member,
@@ -120,6 +111,7 @@ use Rattle.theory.proofs.SetsClosed.{
   sets-distinct,
   each-set,
 }
+use Rattle.theory.proofs.TableConditions.{Labelled, OneRuleEach, HasRule}
 
 -- the types that stand in a renamed content, and in a choice
 module _ (h : ℕ → ℕ) where

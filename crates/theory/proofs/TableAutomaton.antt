@@ -33,6 +33,7 @@ use Rattle.theory.proofs.Automaton.{
   accepts-next,
   AcceptsDocument,
 }
+use Rattle.theory.proofs.TableConditions.{Labelled, OneRuleEach}
 
 -- the name of a type: that of its one rule's label
 unfoldable pub typeName : Table → ℕ → Name
@@ -47,12 +48,6 @@ pub record Steps (g : Table) (k : ℕ) (w : List ℕ) : Type 0 where
 
 abbrev pub tableAutomaton : Table → Automaton ℕ
 tableAutomaton g = record { name = typeName g; Step = Steps g; Start = λ k. List·Memᴰ k (g .starts) }
-
-abbrev pub OneRuleEach : Table → Type 0
-OneRuleEach g = NoTwoRules g (λ r s. r .type ≡ s .type)
-
-abbrev pub Labelled : Table → Type 0
-Labelled g = (r : Rule) → List·Memᴰ r (g .rules) → r .label < length (g .labels)
 
 at-else : {A : Type 0} (xs : List A) (i : ℕ) (d : A) {x : A} → getElem? xs i ≡ just x → getD xs i d ≡ x
 at-else [] i d e = let z : _≡_ {A = ℕ} 0 1 = cc in absurd (omega arith)

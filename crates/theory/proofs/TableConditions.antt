@@ -1,6 +1,6 @@
 -- Conditions that the steps of widening ask of tables and keep, and that every table within the limits meets:
 --     TypesBelow      within-below     every type is below the limit
---     LabelsListed    within-listed    each rule's label is among the labels
+--     Labelled    within-listed    each rule's label is among the labels
 --     DistinctNames   within-names     no two labels have equal names
 use Prim.Native.Nat.{ℕ, _<_}
 use mathlib.Core.Bool.{Bool, true, _&&_}
@@ -35,14 +35,20 @@ use Rattle.grammar.specs.WithinLimits.{TableWithin}
 use Rattle.theory.proofs.BoolLaws.{and-left, and-right}
 use Rattle.theory.proofs.ListLaws.{differ-at}
 use Rattle.theory.proofs.NameLaws.{name-sym}
+use Rattle.grammar.specs.Kinds.{NoTwoRules}
 
 pub record TypesBelow (lim : Limits) (g : Table) : Type 0 where
   pub starts : (k : ℕ) → List·Memᴰ k (g .starts) → k < lim .types
   pub rules : (r : Rule) → List·Memᴰ r (g .rules) → r .type < lim .types
   pub contents : (r : Rule) → List·Memᴰ r (g .rules) → (k : ℕ) → List·Memᴰ k (typesIn (r .content)) → k < lim .types
 
-abbrev pub LabelsListed : Table → Type 0
-LabelsListed g = (r : Rule) → List·Memᴰ r (g .rules) → r .label < length (g .labels)
+-- each rule's label is a label of the table
+abbrev pub Labelled : Table → Type 0
+Labelled g = (r : Rule) → List·Memᴰ r (g .rules) → r .label < length (g .labels)
+
+-- no type has two rules
+abbrev pub OneRuleEach : Table → Type 0
+OneRuleEach g = NoTwoRules g (λ r s. r .type ≡ s .type)
 
 -- the type has a rule
 pub record HasRule (g : Table) (k : ℕ) : Type 0 where
@@ -86,7 +92,7 @@ module _ (lim : Limits) (classes : Classes) (g : Table) (within : TableWithin li
         contents = λ r m. proper-below (r .content) lim (within .each-rule r m .content .proper);
       }
 
-  pub within-listed : LabelsListed g
+  pub within-listed : Labelled g
   within-listed r m = within .each-rule r m .label
 
   pub within-names : DistinctNames g

@@ -17,8 +17,8 @@ use Rattle.grammar.specs.Derivation.{LetsIn}
 use Rattle.grammar.specs.Kinds.{Local, SingleType}
 use Rattle.grammar.specs.Tidy.{tidy, tidyTable}
 use Rattle.theory.proofs.ListLaws.{related-map}
-use Rattle.theory.proofs.TableAutomaton.{OneRuleEach, Labelled}
 use Rattle.theory.proofs.SameRules.{SameRules, same-documents, same-local, same-single-type, same-one-rule, same-labelled}
+use Rattle.theory.proofs.TableConditions.{Labelled, OneRuleEach}
 
 module _ (g : Table) where
   pub tidy-labels : tidyTable g .labels ≡ g .labels

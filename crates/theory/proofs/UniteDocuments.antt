@@ -44,7 +44,7 @@ use Rattle.theory.proofs.NameLaws.{name-refl, name-sym, name-trans}
 use Rattle.theory.proofs.WordLaws.{rename-words}
 use Rattle.theory.proofs.PositionLaws.{at-joined, at-front, at-else, no-two-append, no-two-keep}
 use Rattle.theory.proofs.Standing.{word-stands}
-use Rattle.theory.proofs.TableConditions.{TypesBelow, LabelsListed}
+use Rattle.theory.proofs.TableConditions.{TypesBelow, Labelled}
 
 module _ (lim : Limits) (old addition : Table) where
   abbrev united : Table
@@ -194,7 +194,7 @@ module _ (lim : Limits) (old addition : Table) where
     unite-apart r s m e = let h = below .rules r m in let f = added-type s in omega arith
 
     -- a derivation of the united table from a type below the limit is one of old
-    fits-old : LabelsListed old → {k : ℕ} {n : Name} {w : List ℕ} → k < lim .types → Fits united k n w → Fits old k n w
+    fits-old : Labelled old → {k : ℕ} {n : Name} {w : List ℕ} → k < lim .types → Fits united k n w → Fits old k n w
     fits-old listed {k} {n} {w} h f = ⊎-elim here (λ t. absurd (there t)) (rule-of (f .of-table))
       where
         here : List·Memᴰ (f .rule) (old .rules) → Fits old k n w
@@ -217,12 +217,12 @@ module _ (lim : Limits) (old addition : Table) where
     fits-below f l m = below .contents (f .rule) (f .of-table) l (word-stands (f .rule .content) (f .word) m)
 
     mutual
-      pub derives-old : {k : ℕ} {t : Tree} → Derives united k t → LabelsListed old → k < lim .types → Derives old k t
+      pub derives-old : {k : ℕ} {t : Tree} → Derives united k t → Labelled old → k < lim .types → Derives old k t
       derives-old (derives f ds) listed h =
           let e = fits-old listed h f in
           derives e (derives-old-all ds listed (fits-below e))
 
-      pub derives-old-all : {w : List ℕ} {ts : Forest} → DerivesAll united w ts → LabelsListed old
+      pub derives-old-all : {w : List ℕ} {ts : Forest} → DerivesAll united w ts → Labelled old
           → ((k : ℕ) → List·Memᴰ k w → k < lim .types) → DerivesAll old w ts
       derives-old-all derives-none listed h = derives-none
       derives-old-all (derives-next {k = k} d ds) listed h =
@@ -235,7 +235,7 @@ module _ (lim : Limits) (old addition : Table) where
       fits : Fits addition k n source
       renamed : w ≡ map (shifted lim) source
 
-    fits-added : LabelsListed addition → {j : ℕ} {n : Name} {w : List ℕ} → Fits united j n w → (k : ℕ) → j ≡ shifted lim k
+    fits-added : Labelled addition → {j : ℕ} {n : Name} {w : List ℕ} → Fits united j n w → (k : ℕ) → j ≡ shifted lim k
         → FitsAdded k n w
     unfolding added
     fits-added listed {j} {n} {w} f k e = ⊎-elim (λ m. absurd (here m)) (λ t. there (t .0) (t .1) (t .2)) (rule-of (f .of-table))
@@ -262,13 +262,13 @@ module _ (lim : Limits) (old addition : Table) where
             }
 
     mutual
-      pub derives-added : {j : ℕ} {t : Tree} → Derives united j t → LabelsListed addition → (k : ℕ) → j ≡ shifted lim k
+      pub derives-added : {j : ℕ} {t : Tree} → Derives united j t → Labelled addition → (k : ℕ) → j ≡ shifted lim k
           → Derives addition k t
       derives-added (derives f ds) listed k e =
           let a = fits-added listed f k e in
           derives (a .fits) (derives-added-all ds listed (a .source) (a .renamed))
 
-      pub derives-added-all : {v : List ℕ} {ts : Forest} → DerivesAll united v ts → LabelsListed addition → (w : List ℕ)
+      pub derives-added-all : {v : List ℕ} {ts : Forest} → DerivesAll united v ts → Labelled addition → (w : List ℕ)
           → v ≡ map (shifted lim) w → DerivesAll addition w ts
       derives-added-all derives-none listed [] e = derives-none
       derives-added-all derives-none listed (k ∷ w) e = absurd (nil≢cons e)
@@ -276,7 +276,7 @@ module _ (lim : Limits) (old addition : Table) where
       derives-added-all (derives-next d ds) listed (k ∷ w) e =
           derives-next (derives-added d listed k (head-eq-of-cons-eq e)) (derives-added-all ds listed w (tail-eq-of-cons-eq e))
 
-    pub unite-documents : LabelsListed old → LabelsListed addition → (d : Tree)
+    pub unite-documents : Labelled old → Labelled addition → (d : Tree)
         → LetsIn (unite lim old addition) d ↔ (LetsIn old d ⊎ LetsIn addition d)
     unfolding unite
     unite-documents old-listed added-listed d = (apart, ⊎-elim of-old of-addition)
@@ -313,7 +313,7 @@ module _ (lim : Limits) (old addition : Table) where
             }
 
   -- Each rule's label is among the united labels.
-  pub unite-labels : LabelsListed old → LabelsListed addition → LabelsListed united
+  pub unite-labels : Labelled old → Labelled addition → Labelled united
   unite-labels old-listed added-listed r m = ⊎-elim here (λ t. there (t .0) (t .1) (t .2)) (rule-of m)
     where
       here : List·Memᴰ r (old .rules) → r .label < length (united .labels)

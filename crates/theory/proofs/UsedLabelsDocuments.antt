@@ -39,8 +39,8 @@ use Rattle.theory.proofs.ListLaws.{
   at-map,
   related-map,
 }
-use Rattle.theory.proofs.TableAutomaton.{OneRuleEach, Labelled}
 use Rattle.theory.proofs.SameRules.{SameRules, same-documents, same-local, same-single-type, same-one-rule, same-labelled}
+use Rattle.theory.proofs.TableConditions.{Labelled, OneRuleEach}
 
 -- the used labels: labels of rules, among the labels, each once
 module _ (g : Table) where
