@@ -23,3 +23,5 @@ pub mod ReducedTable
 pub mod OutcomeLaws
 pub mod TableBytes
 pub mod ReadWithin
+pub mod DistinctLaws
+pub mod Alternatives
