@@ -25,3 +25,4 @@ pub mod TableBytes
 pub mod ReadWithin
 pub mod DistinctLaws
 pub mod Alternatives
+pub mod ChoiceLaws
