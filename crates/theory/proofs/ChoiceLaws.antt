@@ -125,7 +125,7 @@ list-of-operands (x ∷ xs) = ap (λ (l : List Content). x ∷ l) (list-of-opera
 abbrev pub Single : List Content → Type 0
 Single xs = (x : Content) → List·Memᴰ x xs → alternatives x ≡ x ∷ []
 
-single-one : (x : Content) → alternatives x ≡ x ∷ [] → Single (x ∷ [])
+pub single-one : (x : Content) → alternatives x ≡ x ∷ [] → Single (x ∷ [])
 single-one x e y m = subst (λ (z : Content). alternatives z ≡ z ∷ []) (sym (List·Memᴰ·eq-of-singleton m)) e
 
 pub single-append : (xs ys : List Content) → Single xs → Single ys → Single (xs ++ ys)

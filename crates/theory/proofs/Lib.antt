@@ -26,3 +26,4 @@ pub mod ReadWithin
 pub mod DistinctLaws
 pub mod Alternatives
 pub mod ChoiceLaws
+pub mod EmittedContent

@@ -1,0 +1,228 @@
+-- What stands in a content of the result, straight from the source contents. For any pairs of source types, any known (fruitful)
+-- pairs and any result type of a pair:
+--   emitted      one source content, in normal form, pruned, with result types for pairs, tidied:
+--                  tidy (retyped target (prune known (inPairsOf pairs c))) ≡ written (alts (resultsOf pairs known target) c)
+--   emitted-pair the source contents of one pair, joined by choice: the same of their joined alternatives
+--   emitted-rule a rule of the result, the choice of the contents of some pairs: the same of all the pairs' source contents in order,
+--                provided that each pair has alternatives (as a fruitful one does: among several a none would stay as an operand)
+-- `written []` is none, so in the first two a content that reducing leaves as none comes out as none.
+use Prim.Native.Nat.{ℕ}
+use mathlib.Core.Bool.{Bool, true, false, cond, not, _||_}
+use mathlib.Core.List.{List, [], _∷_, _++_, append-assoc, map, List·Memᴰ, List·Memᴰ·head, List·Memᴰ·tail}
+use mathlib.Core.Logic.{_↔_, ⊎-elim}
+use mathlib.Core.Path.{_≡_, refl, sym, _∙_, ap, ap₂, subst, subst₂, fun-ext}
+use Rattle.grammar.specs.Lists.{any, keep, distinct, joinedOf, isIn}
+use Rattle.grammar.specs.Content.{
+  Content,
+  none,
+  empty,
+  type,
+  sequence,
+  choice,
+  anyNumber,
+  oneOrMore,
+  optional,
+  Contents,
+  []ᶜ,
+  _∷ᶜ_,
+  operands,
+  choiceOf,
+  replace,
+  replaceAll,
+}
+use Rattle.grammar.specs.ReadContent.{sameContent}
+use Rattle.grammar.specs.ReadTable.{isEmpty}
+use Rattle.grammar.specs.Reduce.{isNone, simplify, simplifyAll, prune}
+use Rattle.grammar.specs.Tidy.{alternatives, tidy, tidyAll}
+use Rattle.theory.proofs.ListLaws.{keep-yes, keep-no, kept}
+use Rattle.theory.proofs.ContentBytes.{same-content}
+use Rattle.theory.proofs.DistinctLaws.{distinct-again, distinct-join}
+use Rattle.theory.proofs.Alternatives.{written, around, inSequence, alts, altsOfEach, sequence-none, sequence-some}
+use Rattle.theory.proofs.ChoiceLaws.{
+  notNone,
+  Single,
+  single-append,
+  single-one,
+  single-distinct,
+  alternatives-choice,
+  replace-choice,
+  replace-twice,
+  simplify-choice,
+  tidy-choice,
+}
+
+-- a content with a result type for each pair
+abbrev pub retyped : (ℕ → ℕ) → Content → Content
+retyped target c = replace c (λ p. type (target p))
+
+-- a content with the choice of its pairs for each source type
+abbrev pub inPairsOf : (ℕ → List ℕ) → Content → Content
+inPairsOf pairs c = replace c (λ k. choiceOf (map type (pairs k)))
+
+-- a source type's fruitful pairs, and their result types
+abbrev pub pairsLeft : (ℕ → List ℕ) → List ℕ → ℕ → List ℕ
+pairsLeft pairs known k = keep (λ p. isIn p known) (pairs k)
+
+abbrev pub resultsOf : (ℕ → List ℕ) → List ℕ → (ℕ → ℕ) → ℕ → List ℕ
+resultsOf pairs known target k = map target (pairsLeft pairs known k)
+
+alternatives-written : (x : Content) (xs : List Content) → Single (x ∷ xs) → alternatives (written (x ∷ xs)) ≡ distinct sameContent (x ∷ xs)
+unfolding written
+alternatives-written x xs p = alternatives-choice x (keep (λ y. not (sameContent x y)) (distinct sameContent xs)) (single-distinct (x ∷ xs) p)
+
+-- an operator of one operand
+record Wraps (f : Content → Content) : Type 0 where
+  never-none : (c : Content) → isNone (f c) ≡ false
+  replaced : (c : Content) (h : ℕ → Content) → replace (f c) h ≡ f (replace c h)
+  tidied : (c : Content) → tidy (f c) ≡ f (tidy c)
+  alone : (c : Content) → alternatives (f c) ≡ f c ∷ []
+
+wraps-any-number : Wraps anyNumber
+unfolding isNone replace tidy
+wraps-any-number = record { never-none = λ c. refl; replaced = λ c h. refl; tidied = λ c. refl; alone = λ c. refl }
+
+wraps-one-or-more : Wraps oneOrMore
+unfolding isNone replace tidy
+wraps-one-or-more = record { never-none = λ c. refl; replaced = λ c h. refl; tidied = λ c. refl; alone = λ c. refl }
+
+wraps-optional : Wraps optional
+unfolding isNone replace tidy
+wraps-optional = record { never-none = λ c. refl; replaced = λ c h. refl; tidied = λ c. refl; alone = λ c. refl }
+
+module _ (target : ℕ → ℕ) where
+  -- a pruned content, and the alternatives that it gives
+  record Gives (x : Content) (us : List Content) : Type 0 where
+    none-if : isNone x ≡ isEmpty us
+    tidied : tidy (retyped target x) ≡ written us
+    single : Single us
+
+  data GivesEach : List Content → List (List Content) → Type 0 where
+    no-more : GivesEach [] []
+    next : {x : Content} {us : List Content} {xs : List Content} {uss : List (List Content)} → Gives x us → GivesEach xs uss
+        → GivesEach (x ∷ xs) (us ∷ uss)
+
+  gives-none : Gives none []
+  unfolding isNone replace tidy written
+  gives-none = record { none-if = refl; tidied = refl; single = λ x m. elim m [ ] }
+
+  gives-empty : Gives empty (empty ∷ [])
+  unfolding isNone replace tidy written
+  gives-empty = record { none-if = refl; tidied = refl; single = single-one empty refl }
+
+  gives-type : (p : ℕ) → Gives (type p) (type (target p) ∷ [])
+  unfolding isNone replace tidy written
+  gives-type p = record { none-if = refl; tidied = refl; single = single-one (type (target p)) refl }
+
+  -- an operator around an operand; other where the operand is none
+  gives-around : (f : Content → Content) → Wraps f → (other : Content) (others : List Content) → Gives other others
+      → (x : Content) (us : List Content) → Gives x us → Gives (cond (isNone x) other (f x)) (around f others us)
+  unfolding around written
+  gives-around f w other others q x [] g = subst (λ (b : Bool). Gives (cond b other (f x)) others) (sym (g .none-if)) q
+  gives-around f w other others q x (u ∷ us) g =
+      subst (λ (b : Bool). Gives (cond b other (f x)) (f (written (u ∷ us)) ∷ [])) (sym (g .none-if))
+      (record {
+        none-if = w .never-none x;
+        tidied =
+            ap tidy (w .replaced x (λ p. type (target p))) ∙ w .tidied (retyped target x) ∙ ap f (g .tidied);
+        single = single-one (f (written (u ∷ us))) (w .alone (written (u ∷ us)));
+      })
+
+  -- a sequence; none where an operand is none
+  each-none : {xs : List Content} {uss : List (List Content)} → GivesEach xs uss → any isNone xs ≡ any isEmpty uss
+  unfolding any
+  each-none no-more = refl
+  each-none (next g gs) = ap₂ _||_ (g .none-if) (each-none gs)
+
+  each-tidied : {xs : List Content} {uss : List (List Content)} → GivesEach xs uss
+      → tidyAll (replaceAll (operands xs) (λ p. type (target p))) ≡ map written uss
+  unfolding operands replace tidy
+  each-tidied no-more = refl
+  each-tidied (next g gs) = ap₂ _∷_ (g .tidied) (each-tidied gs)
+
+  whole-sequence : (xs : List Content) (uss : List (List Content)) → GivesEach xs uss
+      → Gives (sequence (operands xs)) (sequence (operands (map written uss)) ∷ [])
+  unfolding isNone replace tidy written
+  whole-sequence xs uss gs =
+      record {
+        none-if = refl;
+        tidied = ap (λ (l : List Content). sequence (operands l)) (each-tidied gs);
+        single = single-one (sequence (operands (map written uss))) refl;
+      }
+
+  gives-sequence : (xs : List Content) (uss : List (List Content)) → GivesEach xs uss
+      → Gives (cond (any isNone xs) none (sequence (operands xs))) (inSequence uss)
+  gives-sequence xs uss gs =
+      subst (λ (b : Bool). Gives (cond b none (sequence (operands xs))) (inSequence uss)) (sym (each-none gs))
+      (go (any isEmpty uss) refl)
+    where
+      go : (b : Bool) → any isEmpty uss ≡ b → Gives (cond b none (sequence (operands xs))) (inSequence uss)
+      go true e = rw (sequence-none uss e) gives-none
+      go false e = rw (sequence-some uss e) (whole-sequence xs uss gs)
+
+  -- a choice; none drops out
+  each-single : {xs : List Content} {uss : List (List Content)} → GivesEach xs uss → Single (joinedOf (λ us. us) uss)
+  unfolding joinedOf
+  each-single no-more = λ x m. elim m [ ]
+  each-single (next {us = us} {uss = uss} g gs) =
+      single-append us (joinedOf (λ us. us) uss) (g .single) (each-single gs)
+
+  gathered : List Content → List Content
+  gathered xs = joinedOf alternatives (map tidy (map (retyped target) (keep notNone xs)))
+
+  gathered-next : (x : Content) (us : List Content) → Gives x us → (xs ws : List Content)
+      → distinct sameContent (gathered xs) ≡ distinct sameContent ws
+      → distinct sameContent (gathered (x ∷ xs)) ≡ distinct sameContent (us ++ ws)
+  unfolding gathered joinedOf
+  gathered-next x [] g xs ws e =
+      ap (λ (l : List Content). distinct sameContent (joinedOf alternatives (map tidy (map (retyped target) l))))
+      (keep-no notNone x xs (ap not (g .none-if)))
+      ∙ e
+  gathered-next x (u ∷ us) g xs ws e =
+      ap (λ (l : List Content). distinct sameContent (joinedOf alternatives (map tidy (map (retyped target) l))))
+      (keep-yes notNone x xs (ap not (g .none-if)))
+      ∙ distinct-join sameContent same-content (alternatives (tidy (retyped target x))) (gathered xs) (u ∷ us) ws
+      (ap (distinct sameContent) (ap alternatives (g .tidied) ∙ alternatives-written u us (g .single))
+      ∙ distinct-again sameContent same-content (u ∷ us))
+      e
+
+  each-gathered : {xs : List Content} {uss : List (List Content)} → GivesEach xs uss
+      → distinct sameContent (gathered xs) ≡ distinct sameContent (joinedOf (λ us. us) uss)
+  unfolding gathered joinedOf keep
+  each-gathered no-more = refl
+  each-gathered (next {x = x} {us = us} {xs = xs} {uss = uss} g gs) =
+      gathered-next x us g xs (joinedOf (λ us. us) uss) (each-gathered gs)
+
+  none-of-kept : (ys : List Content) → ((y : Content) → List·Memᴰ y ys → notNone y ≡ true) → isNone (choiceOf ys) ≡ isEmpty ys
+  unfolding isNone choiceOf
+  none-of-kept [] h = refl
+  none-of-kept (y ∷ []) h = not-true-false (isNone y) (h y (List·Memᴰ·head refl))
+    where
+      not-true-false : (b : Bool) → not b ≡ true → b ≡ false
+      not-true-false true e = sym e
+      not-true-false false e = refl
+  none-of-kept (y ∷ z ∷ zs) h = refl
+
+  none-next : (x : Content) (us : List Content) → Gives x us → (xs ws : List Content) → isEmpty (keep notNone xs) ≡ isEmpty ws
+      → isEmpty (keep notNone (x ∷ xs)) ≡ isEmpty (us ++ ws)
+  none-next x [] g xs ws e = ap isEmpty (keep-no notNone x xs (ap not (g .none-if))) ∙ e
+  none-next x (u ∷ us) g xs ws e = ap isEmpty (keep-yes notNone x xs (ap not (g .none-if)))
+
+  each-empty : {xs : List Content} {uss : List (List Content)} → GivesEach xs uss
+      → isEmpty (keep notNone xs) ≡ isEmpty (joinedOf (λ us. us) uss)
+  unfolding joinedOf keep
+  each-empty no-more = refl
+  each-empty (next {x = x} {us = us} {xs = xs} {uss = uss} g gs) =
+      none-next x us g xs (joinedOf (λ us. us) uss) (each-empty gs)
+
+  gives-choice : (xs : List Content) (uss : List (List Content)) → GivesEach xs uss
+      → Gives (choiceOf (keep notNone xs)) (joinedOf (λ us. us) uss)
+  unfolding gathered written
+  gives-choice xs uss gs =
+      record {
+        none-if = none-of-kept (keep notNone xs) (λ y m. kept notNone xs m .1) ∙ each-empty gs;
+        tidied =
+            ap tidy (replace-choice (λ p. type (target p)) (keep notNone xs))
+            ∙ tidy-choice (map (retyped target) (keep notNone xs))
+            ∙ ap choiceOf (each-gathered gs);
+        single = each-single gs;
+      }
