@@ -7,7 +7,7 @@
 --                provided that each pair has alternatives (as a fruitful one does: among several a none would stay as an operand)
 -- `written []` is none, so in the first two a content that reducing leaves as none comes out as none.
 use Prim.Native.Nat.{ℕ}
-use mathlib.Core.Bool.{Bool, true, false, cond, not, _||_}
+use mathlib.Core.Bool.{Bool, true, false, not, _||_}
 use mathlib.Core.List.{List, [], _∷_, _++_, append-assoc, map, List·Memᴰ, List·Memᴰ·head, List·Memᴰ·tail}
 use mathlib.Core.Logic.{_↔_, ⊎-elim}
 use mathlib.Core.Path.{_≡_, refl, sym, _∙_, ap, ap₂, subst, subst₂, fun-ext}
@@ -37,7 +37,7 @@ use Rattle.grammar.specs.Tidy.{alternatives, tidy, tidyAll}
 use Rattle.theory.proofs.ListLaws.{keep-yes, keep-no, kept}
 use Rattle.theory.proofs.ContentBytes.{same-content}
 use Rattle.theory.proofs.DistinctLaws.{distinct-again, distinct-join}
-use Rattle.theory.proofs.Alternatives.{written, around, inSequence, alts, altsOfEach, sequence-none, sequence-some}
+use Rattle.theory.proofs.Alternatives.{written, around, inSequence, alts, altsOfEach, onlyIf, sequence-none, sequence-some}
 use Rattle.theory.proofs.ChoiceLaws.{
   notNone,
   Single,
@@ -91,10 +91,10 @@ wraps-optional = record { never-none = λ c. refl; replaced = λ c h. refl; tidi
 
 module _ (target : ℕ → ℕ) where
   -- a pruned content, and the alternatives that it gives
-  record Gives (x : Content) (us : List Content) : Type 0 where
-    none-if : isNone x ≡ isEmpty us
-    tidied : tidy (retyped target x) ≡ written us
-    single : Single us
+  pub record Gives (x : Content) (us : List Content) : Type 0 where
+    pub none-if : isNone x ≡ isEmpty us
+    pub tidied : tidy (retyped target x) ≡ written us
+    pub single : Single us
 
   data GivesEach : List Content → List (List Content) → Type 0 where
     no-more : GivesEach [] []
@@ -115,11 +115,11 @@ module _ (target : ℕ → ℕ) where
 
   -- an operator around an operand; other where the operand is none
   gives-around : (f : Content → Content) → Wraps f → (other : Content) (others : List Content) → Gives other others
-      → (x : Content) (us : List Content) → Gives x us → Gives (cond (isNone x) other (f x)) (around f others us)
+      → (x : Content) (us : List Content) → Gives x us → Gives (elim (isNone x) as (λ b. Content) [ true ↦ other | false ↦ f x ]) (around f others us)
   unfolding around written
-  gives-around f w other others q x [] g = subst (λ (b : Bool). Gives (cond b other (f x)) others) (sym (g .none-if)) q
+  gives-around f w other others q x [] g = subst (λ (b : Bool). Gives (elim b as (λ b. Content) [ true ↦ other | false ↦ f x ]) others) (sym (g .none-if)) q
   gives-around f w other others q x (u ∷ us) g =
-      subst (λ (b : Bool). Gives (cond b other (f x)) (f (written (u ∷ us)) ∷ [])) (sym (g .none-if))
+      subst (λ (b : Bool). Gives (elim b as (λ b. Content) [ true ↦ other | false ↦ f x ]) (f (written (u ∷ us)) ∷ [])) (sym (g .none-if))
       (record {
         none-if = w .never-none x;
         tidied =
@@ -150,12 +150,12 @@ module _ (target : ℕ → ℕ) where
       }
 
   gives-sequence : (xs : List Content) (uss : List (List Content)) → GivesEach xs uss
-      → Gives (cond (any isNone xs) none (sequence (operands xs))) (inSequence uss)
+      → Gives (elim (any isNone xs) as (λ b. Content) [ true ↦ none | false ↦ sequence (operands xs) ]) (inSequence uss)
   gives-sequence xs uss gs =
-      subst (λ (b : Bool). Gives (cond b none (sequence (operands xs))) (inSequence uss)) (sym (each-none gs))
+      subst (λ (b : Bool). Gives (elim b as (λ b. Content) [ true ↦ none | false ↦ sequence (operands xs) ]) (inSequence uss)) (sym (each-none gs))
       (go (any isEmpty uss) refl)
     where
-      go : (b : Bool) → any isEmpty uss ≡ b → Gives (cond b none (sequence (operands xs))) (inSequence uss)
+      go : (b : Bool) → any isEmpty uss ≡ b → Gives (elim b as (λ b. Content) [ true ↦ none | false ↦ sequence (operands xs) ]) (inSequence uss)
       go true e = rw (sequence-none uss e) gives-none
       go false e = rw (sequence-some uss e) (whole-sequence xs uss gs)
 
@@ -226,3 +226,92 @@ module _ (target : ℕ → ℕ) where
             ∙ ap choiceOf (each-gathered gs);
         single = each-single gs;
       }
+
+module _ {A B C : Type 0} where
+  pub joined-map : (g : B → List C) (f : A → B) (xs : List A) → joinedOf g (map f xs) ≡ joinedOf (λ x. g (f x)) xs
+  unfolding joinedOf
+  joined-map g f [] = refl
+  joined-map g f (x ∷ xs) = ap (λ (l : List C). g (f x) ++ l) (joined-map g f xs)
+
+module _ {A C : Type 0} where
+  pub joined-append : (g : A → List C) (xs ys : List A) → joinedOf g (xs ++ ys) ≡ joinedOf g xs ++ joinedOf g ys
+  unfolding joinedOf
+  joined-append g [] ys = refl
+  joined-append g (x ∷ xs) ys =
+      ap (λ (l : List C). g x ++ l) (joined-append g xs ys) ∙ sym (append-assoc (g x) (joinedOf g xs) (joinedOf g ys))
+
+module _ (pairs : ℕ → List ℕ) (known : List ℕ) (target : ℕ → ℕ) where
+  -- a pair as pruning leaves it before it simplifies
+  abbrev markPair : ℕ → Content
+  markPair p = elim (isIn p known) as (λ b. Content) [ true ↦ type p | false ↦ none ]
+
+  -- the pairs of one type
+  ofPair : ℕ → List Content
+  ofPair p = onlyIf (isIn p known) (type (target p) ∷ [])
+
+  gives-pair : (p : ℕ) → Gives target (simplify (replace (type p) markPair)) (ofPair p)
+  unfolding simplify replace ofPair onlyIf
+  gives-pair p = go (isIn p known)
+    where
+      go : (b : Bool) → Gives target (simplify (elim b as (λ b. Content) [ true ↦ type p | false ↦ none ])) (onlyIf b (type (target p) ∷ []))
+      go true = gives-type target p
+      go false = gives-none target
+
+  gives-each-pair : (ps : List ℕ) → GivesEach target (map simplify (map (λ c. replace c markPair) (map type ps))) (map ofPair ps)
+  gives-each-pair [] = no-more
+  gives-each-pair (p ∷ ps) = next (gives-pair p) (gives-each-pair ps)
+
+  of-pairs : (ps : List ℕ) → joinedOf (λ us. us) (map ofPair ps) ≡ map type (map target (keep (λ p. isIn p known) ps))
+  unfolding joinedOf ofPair onlyIf keep
+  of-pairs [] = refl
+  of-pairs (p ∷ ps) = go (isIn p known) (of-pairs ps)
+    where
+      go : (b : Bool) → joinedOf (λ us. us) (map ofPair ps) ≡ map type (map target (keep (λ q. isIn q known) ps))
+          → onlyIf b (type (target p) ∷ []) ++ joinedOf (λ us. us) (map ofPair ps)
+          ≡ map type (map target (elim b as (λ b. List ℕ) [ true ↦ p ∷ keep (λ q. isIn q known) ps | false ↦ keep (λ q. isIn q known) ps ]))
+      go true ih = ap (λ (l : List Content). type (target p) ∷ l) ih
+      go false ih = ih
+
+  gives-types : (ps : List ℕ)
+      → Gives target (simplify (replace (choiceOf (map type ps)) markPair)) (map type (map target (keep (λ p. isIn p known) ps)))
+  gives-types ps =
+      subst₂ (Gives target)
+      (sym (ap simplify (replace-choice markPair (map type ps)) ∙ simplify-choice (map (λ c. replace c markPair) (map type ps))))
+      (of-pairs ps)
+      (gives-choice target (map simplify (map (λ c. replace c markPair) (map type ps))) (map ofPair ps) (gives-each-pair ps))
+
+  abbrev pairsMarked : ℕ → Content
+  pairsMarked k = replace (choiceOf (map type (pairs k))) markPair
+
+  abbrev results : ℕ → List ℕ
+  results = resultsOf pairs known target
+
+  mutual
+    unfolding simplify replace alts
+
+    gives : (c : Content) → Gives target (simplify (replace c pairsMarked)) (alts results c)
+    gives none = gives-none target
+    gives empty = gives-empty target
+    gives (type k) = gives-types (pairs k)
+    gives (sequence cs) = gives-sequence target (simplifyAll (replaceAll cs pairsMarked)) (altsOfEach results cs) (gives-each cs)
+    gives (choice cs) = gives-choice target (simplifyAll (replaceAll cs pairsMarked)) (altsOfEach results cs) (gives-each cs)
+    gives (anyNumber c) =
+        gives-around target anyNumber wraps-any-number empty (empty ∷ []) (gives-empty target) (simplify (replace c pairsMarked)) (alts results c)
+        (gives c)
+    gives (oneOrMore c) =
+        gives-around target oneOrMore wraps-one-or-more none [] (gives-none target) (simplify (replace c pairsMarked)) (alts results c) (gives c)
+    gives (optional c) =
+        gives-around target optional wraps-optional empty (empty ∷ []) (gives-empty target) (simplify (replace c pairsMarked)) (alts results c)
+        (gives c)
+
+    gives-each : (cs : Contents) → GivesEach target (simplifyAll (replaceAll cs pairsMarked)) (altsOfEach results cs)
+    gives-each []ᶜ = no-more
+    gives-each (c ∷ᶜ cs) = next (gives c) (gives-each cs)
+
+  pub gives-content : (c : Content) → Gives target (prune known (inPairsOf pairs c)) (alts results c)
+  unfolding prune
+  gives-content c =
+      subst (λ (d : Content). Gives target (simplify d) (alts results c)) (sym (replace-twice (λ k. choiceOf (map type (pairs k))) markPair c)) (gives c)
+
+  pub emitted : (c : Content) → tidy (retyped target (prune known (inPairsOf pairs c))) ≡ written (alts (resultsOf pairs known target) c)
+  emitted c = gives-content c .tidied
