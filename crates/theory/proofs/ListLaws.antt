@@ -1,5 +1,5 @@
 -- What the words of grammar's Lists mean, in terms of membership and positions.
-use Prim.Native.Nat.{ℕ, zero, suc, _≤_, _<_}
+use Prim.Native.Nat.{ℕ, zero, suc, _+_, _≤_, _<_}
 use native.Mathlib.Omega.{arith}
 use mathlib.Core.Bool.{Bool, true, false, not, _&&_, _||_, true≢false, false≢true}
 use mathlib.Core.List.{
@@ -7,6 +7,8 @@ use mathlib.Core.List.{
   [],
   _∷_,
   _++_,
+  append-assoc,
+  append-nil,
   List·Memᴰ,
   List·Memᴰ·head,
   List·Memᴰ·tail,
@@ -15,13 +17,17 @@ use mathlib.Core.List.{
   Memᴰ·append-right,
   List·Memᴰ·append-cases,
   Memᴰ·cast,
+  map,
+  Forall₂,
+  Forall₂·nil,
+  Forall₂·cons,
 }
 use mathlib.Core.Logic.{_↔_, _⊎_, inl, inr, ⊎-elim}
 use mathlib.Core.Option.{Option, none as nothing, some as just}
 use mathlib.Core.Path.{_≡_, refl, sym, _∙_, ap, subst}
 use lib.Dec.{eqb}
-use lib.ListN.{length, getElem?}
-use borrow.Author.Tests.{eqb-true, eq-eqb, not-true}
+use lib.ListN.{length, getElem?, getD}
+use borrow.Author.Tests.{eqb-true, eqb-false, eq-eqb, not-true}
 use Rattle.grammar.specs.Lists.{
   any,
   all,
@@ -280,7 +286,8 @@ module _ {A : Type 0} (same : A → A → Bool) (same-sym : (x y : A) → same x
   distinct-new xs y ys d =
       false-of (any (same y) xs) (λ e. let r = any-found (same y) xs e in apart y ys (r .1) d (same-sym y (r .0) (r .2)))
 
-  pub distinct-end : (xs : List A) (y : A) → allDistinct same xs ≡ true → any (same y) xs ≡ false → allDistinct same (xs ++ (y ∷ [])) ≡ true
+  pub distinct-end : (xs : List A) (y : A) → allDistinct same xs ≡ true → any (same y) xs ≡ false
+      → allDistinct same (xs ++ (y ∷ [])) ≡ true
   unfolding allDistinct
   distinct-end [] y d n = refl
   distinct-end (x ∷ xs) y d n =
@@ -303,3 +310,186 @@ module _ {A : Type 0} (same : A → A → Bool) (same-sym : (x y : A) → same x
           any-one : (z : A) → List·Memᴰ z (y ∷ []) → same x z ≡ true → same x y ≡ true
           any-one z (List·Memᴰ·head q) s = ap (same x) (sym q) ∙ s
           any-one z (List·Memᴰ·tail m) s = elim m [ ]
+
+-- one element more at the end
+pub each-end : {A : Type 0} (P : A → Type 0) (xs : List A) (x : A) → ((y : A) → List·Memᴰ y xs → P y) → P x → (y : A)
+    → List·Memᴰ y (xs ++ (x ∷ [])) → P y
+each-end {A} P xs x h p y m = ⊎-elim (h y) (only y) (List·Memᴰ·append-cases xs m)
+  where
+    only : (z : A) → List·Memᴰ z (x ∷ []) → P z
+    only z (List·Memᴰ·head q) = subst P (sym q) p
+    only z (List·Memᴰ·tail n) = elim n [ ]
+
+pub joined-end : {A B : Type 0} (f : A → List B) (xs : List A) (x : A) → joinedOf f (xs ++ (x ∷ [])) ≡ joinedOf f xs ++ f x
+unfolding joinedOf
+joined-end f [] x = append-nil (f x)
+joined-end {A} {B} f (y ∷ ys) x = ap (λ (l : List B). f y ++ l) (joined-end f ys x) ∙ sym (append-assoc (f y) (joinedOf f ys) (f x))
+
+pub eqb-sym : (m n : ℕ) → eqb m n ≡ true → eqb n m ≡ true
+eqb-sym m n e = eq-eqb n m (sym (eqb-true m n e))
+
+-- the numbers below a bound
+numbers-from : (from n : ℕ) {k : ℕ} → List·Memᴰ k (numbersFrom from n) → (from ≤ k) × (k < from + n)
+unfolding numbersFrom
+numbers-from from zero m = elim m [ ]
+numbers-from from (suc n) {k} m =
+    ⊎-elim
+    (λ e. omega arith)
+    (λ q. let r = numbers-from (suc from) n q in omega arith)
+    (List·Memᴰ·cases-cons m)
+
+from-numbers : (from n k : ℕ) → from ≤ k → k < from + n → List·Memᴰ k (numbersFrom from n)
+unfolding numbersFrom
+from-numbers from zero k p q = absurd (omega arith)
+from-numbers from (suc n) k p q =
+    ⊎-elim
+    (λ e. List·Memᴰ·head (eqb-true k from e))
+    (λ e. let other = eqb-false k from e in List·Memᴰ·tail (from-numbers (suc from) n k (omega (arith, other)) (omega arith)))
+    (passes-or-fails (eqb k from))
+
+pub numbers-below : (n k : ℕ) → List·Memᴰ k (numbersBelow n) ↔ (k < n)
+unfolding numbersBelow
+numbers-below n k =
+    (λ m. let r = numbers-from zero n m in omega arith, λ h. from-numbers zero n k (omega arith) (omega arith))
+
+from-differ : (from n : ℕ) → allDistinct eqb (numbersFrom from n) ≡ true
+unfolding numbersFrom allDistinct
+from-differ from zero = refl
+from-differ from (suc n) =
+    and-intro
+    (not (any (eqb from) (numbersFrom (suc from) n)))
+    (allDistinct eqb (numbersFrom (suc from) n))
+    (ap not (false-of (any (eqb from) (numbersFrom (suc from) n)) first))
+    (from-differ (suc from) n)
+  where
+    first : any (eqb from) (numbersFrom (suc from) n) ≡ true → ⊥
+    first e =
+        let r = any-found (eqb from) (numbersFrom (suc from) n) e in
+        let same = eqb-true from (r .0) (r .2) in
+        let above = numbers-from (suc from) n (r .1) in
+        omega arith
+
+pub numbers-differ : (n : ℕ) → allDistinct eqb (numbersBelow n) ≡ true
+unfolding numbersBelow
+numbers-differ n = from-differ zero n
+
+-- a number that is listed stands at its place
+pub place-at : (n : ℕ) (ns : List ℕ) → List·Memᴰ n ns → getElem? ns (place eqb n ns) ≡ just n
+place-at n ns m =
+    let r = place-found eqb n ns (any-of (eqb n) m (eq-eqb n n refl)) in
+    r .1 ∙ ap {B = Option ℕ} just (sym (eqb-true n (r .0) (r .2)))
+
+pub one-place : (ns : List ℕ) (i j : ℕ) {m n : ℕ} → allDistinct eqb ns ≡ true → getElem? ns i ≡ just m → getElem? ns j ≡ just n → m ≡ n → i ≡ j
+one-place ns i j {m} {n} d p q e = differ-at eqb (λ x y t. eq-eqb y x (sym (eqb-true x y t))) ns i j m n d p q (eq-eqb m n e)
+
+module _ {A : Type 0} where
+  -- what is kept of different elements differs
+  pub keep-differ : (same : A → A → Bool) (test : A → Bool) (xs : List A) → allDistinct same xs ≡ true
+      → allDistinct same (keep test xs) ≡ true
+  unfolding allDistinct keep
+  keep-differ same test [] d = refl
+  keep-differ same test (x ∷ xs) d = go (passes-or-fails (test x)) (keep-differ same test xs (and-right new (allDistinct same xs) d))
+    where
+      new : Bool
+      new = not (any (same x) xs)
+
+      first : any (same x) (keep test xs) ≡ true → ⊥
+      first e =
+          let r = any-found (same x) (keep test xs) e in
+          first-differs same x xs (and-left new (allDistinct same xs) d) (kept test xs (r .1) .0) (r .2)
+
+      go : (test x ≡ true) ⊎ (test x ≡ false) → allDistinct same (keep test xs) ≡ true
+          → allDistinct same (keep test (x ∷ xs)) ≡ true
+      go (inl e) ih =
+          rw (keep-yes test x xs e)
+          (and-intro (not (any (same x) (keep test xs))) (allDistinct same (keep test xs)) (ap not (false-of (any (same x) (keep test xs)) first)) ih)
+      go (inr e) ih = rw (keep-no test x xs e) ih
+
+  -- what one of two tests keeps is no more than both keep
+  pub keep-either : (p q : A → Bool) (xs : List A) → length (keep (λ x. p x || q x) xs) ≤ length (keep p xs) + length (keep q xs)
+  unfolding keep
+  keep-either p q [] = omega arith
+  keep-either p q (x ∷ xs) = go (p x) (q x) refl refl (keep-either p q xs)
+    where
+      either : A → Bool
+      either y = p y || q y
+
+      go : (a b : Bool) → p x ≡ a → q x ≡ b → length (keep either xs) ≤ length (keep p xs) + length (keep q xs)
+          → length (keep either (x ∷ xs)) ≤ length (keep p (x ∷ xs)) + length (keep q (x ∷ xs))
+      go true true e d ih = rw (e, d, keep) (omega arith)
+      go true false e d ih = rw (e, d, keep) (omega arith)
+      go false true e d ih = rw (e, d, keep) (omega arith)
+      go false false e d ih = rw (e, d, keep) (omega arith)
+
+  -- the element at a place, or else another
+  pub at-or-else : (xs : List A) (i : ℕ) (x : A) → i < length xs → getElem? xs i ≡ just (getD xs i x)
+  at-or-else [] i x h = absurd (omega arith)
+  at-or-else (y ∷ ys) zero x h = refl
+  at-or-else (y ∷ ys) (suc i) x h = at-or-else ys i x (omega arith)
+
+module _ {A B : Type 0} where
+  -- mapped elements, by positions
+  pub map-at : (f : A → B) (xs : List A) (i : ℕ) {x : A} → getElem? xs i ≡ just x → getElem? (map f xs) i ≡ just (f x)
+  map-at f [] i e = let z : _≡_ {A = ℕ} 0 1 = cc in absurd (omega arith)
+  map-at f (y ∷ ys) zero e = ap (λ z. just (f z)) (sym (just-eq e))
+  map-at f (y ∷ ys) (suc i) e = map-at f ys i e
+
+  pub at-map : (f : A → B) (xs : List A) (i : ℕ) {y : B} → getElem? (map f xs) i ≡ just y
+      → (x : A) × (getElem? xs i ≡ just x) × (f x ≡ y)
+  at-map f [] i e = let z : _≡_ {A = ℕ} 0 1 = cc in absurd (omega arith)
+  at-map f (x ∷ xs) zero e = (x, refl, sym (just-eq e))
+  at-map f (x ∷ xs) (suc i) e = at-map f xs i e
+
+  -- lists whose elements are related in order
+  module _ {R : A → B → Type 0} where
+    pub related-map : (f : A → B) (xs : List A) → ((x : A) → List·Memᴰ x xs → R x (f x)) → Forall₂ R xs (map f xs)
+    related-map f [] h = Forall₂·nil
+    related-map f (x ∷ xs) h = Forall₂·cons (h x (List·Memᴰ·head refl)) (related-map f xs (λ y m. h y (List·Memᴰ·tail m)))
+
+    pub related-turn : {S : B → A → Type 0} → ((x : A) (y : B) → R x y → S y x) → {xs : List A} {ys : List B} → Forall₂ R xs ys
+        → Forall₂ S ys xs
+    related-turn turn Forall₂·nil = Forall₂·nil
+    related-turn turn (Forall₂·cons {a = x} {b = y} r rs) = Forall₂·cons (turn x y r) (related-turn turn rs)
+
+    pub related-at : {xs : List A} {ys : List B} → Forall₂ R xs ys → (i : ℕ) {y : B} → getElem? ys i ≡ just y
+        → (x : A) × (getElem? xs i ≡ just x) × R x y
+    related-at Forall₂·nil i e = let z : _≡_ {A = ℕ} 0 1 = cc in absurd (omega arith)
+    related-at (Forall₂·cons {a = x} r rs) zero e = (x, refl, subst (λ y. R x y) (sym (just-eq e)) r)
+    related-at (Forall₂·cons r rs) (suc i) e = related-at rs i e
+
+    pub related-mem : {xs : List A} {ys : List B} → Forall₂ R xs ys → {y : B} → List·Memᴰ y ys → (x : A) × List·Memᴰ x xs × R x y
+    related-mem {xs} rs m =
+        let at = mem-at m in
+        let r = related-at rs (at .0) (at .1) in
+        (r .0, at-mem xs (at .0) (r .1), r .2)
+
+pub keep-map : {A B : Type 0} (f : A → B) (test : B → Bool) (xs : List A) → keep test (map f xs) ≡ map f (keep (λ x. test (f x)) xs)
+unfolding keep
+keep-map f test [] = refl
+keep-map {A} f test (x ∷ xs) = go (passes-or-fails (test (f x))) (keep-map f test xs)
+  where
+    go : (test (f x) ≡ true) ⊎ (test (f x) ≡ false) → keep test (map f xs) ≡ map f (keep (λ x. test (f x)) xs)
+        → keep test (map f (x ∷ xs)) ≡ map f (keep (λ x. test (f x)) (x ∷ xs))
+    go (inl e) ih =
+        keep-yes test (f x) (map f xs) e
+        ∙ ap (λ (l : List _). f x ∷ l) ih
+        ∙ ap (map f) (sym (keep-yes (λ (y : A). test (f y)) x xs e))
+    go (inr e) ih = keep-no test (f x) (map f xs) e ∙ ih ∙ ap (map f) (sym (keep-no (λ (y : A). test (f y)) x xs e))
+
+-- what stands at a place of numbers that ascend one by one
+pub numbers-at : (from n i : ℕ) {k : ℕ} → getElem? (numbersFrom from n) i ≡ just k → k ≡ from + i
+unfolding numbersFrom
+numbers-at from zero i e = let z : _≡_ {A = ℕ} 0 1 = cc in absurd (omega arith)
+numbers-at from (suc n) zero e = let q = just-eq e in omega arith
+numbers-at from (suc n) (suc i) e = let q = numbers-at (suc from) n i e in omega arith
+
+pub numbers-length : (from n : ℕ) → length (numbersFrom from n) ≡ n
+unfolding numbersFrom
+numbers-length from zero = refl
+numbers-length from (suc n) = ap suc (numbers-length (suc from) n)
+
+-- nothing stands at a place only past the end
+pub past-end : {A : Type 0} (xs : List A) (i : ℕ) → getElem? xs i ≡ nothing → length xs ≤ i
+past-end [] i e = omega arith
+past-end (x ∷ xs) zero e = let z : _≡_ {A = ℕ} 0 1 = cc in absurd (omega arith)
+past-end (x ∷ xs) (suc i) e = let h = past-end xs i e in omega arith

@@ -2,47 +2,21 @@
 --   read-within : readTable lim classes bytes ≡ given g → TableWithin lim classes g
 --   read-was : AreBytes bytes → readTable lim classes bytes ≡ given g → tableBytes g ≡ bytes
 -- (The bytes of a table spell the lengths of fields in one way. Numbers above 255 could spell them otherwise.)
-use Prim.Native.Nat.{ℕ, zero, suc, _+_, _≤_, _<_}
+use Prim.Native.Nat.{ℕ, _+_, _≤_, _<_}
 use native.Mathlib.Omega.{arith}
-use mathlib.Core.Bool.{Bool, true, false, not, _&&_, _||_}
-use mathlib.Core.List.{
-  List,
-  [],
-  _∷_,
-  _++_,
-  append-assoc,
-  append-nil,
-  List·Memᴰ,
-  List·Memᴰ·head,
-  List·Memᴰ·tail,
-  List·Memᴰ·append-cases,
-  Memᴰ·append-right,
-}
-use mathlib.Core.Logic.{⊎-elim}
-use mathlib.Core.Option.{none as nothing, some as just}
+use mathlib.Core.Bool.{Bool, true, false, not}
+use mathlib.Core.List.{List, [], _∷_, _++_, append-assoc, append-nil, List·Memᴰ, Memᴰ·append-right}
 use mathlib.Core.Path.{_≡_, refl, sym, _∙_, ap, ap₂, subst}
 use lib.ListN.{length, length-append}
-use lib.Dec.{eqb, leb, ltb}
-use borrow.Author.Tests.{eqb-true, leb-true, leb-false, ltb-false, not-false, not-true}
-use Rattle.grammar.specs.Lists.{any, allDistinct, joinedOf, isIn}
+use lib.Dec.{eqb, ltb}
+use borrow.Author.Tests.{eqb-true, ltb-false, not-false}
+use Rattle.grammar.specs.Lists.{allDistinct, joinedOf}
 use Rattle.grammar.specs.Limits.{Limits}
-use Rattle.grammar.specs.Names.{Name, sameName, Classes, isName}
-use Rattle.grammar.specs.Content.{Content, nesting}
+use Rattle.grammar.specs.Names.{sameName, Classes}
 use Rattle.grammar.specs.Table.{Rule, Table, emptyTable}
-use Rattle.grammar.specs.Outcome.{Outcome, given, refused, _>>=_, _>>_, turnBack}
-use Rattle.grammar.specs.declared.Refusal.the-variants.{
-  InputTooLong,
-  BadField,
-  BadName,
-  Repeated,
-  TooMany,
-  OutOfRange,
-  BytesAfterEnd,
-  BadContent,
-  NestedTooDeep,
-}
+use Rattle.grammar.specs.Outcome.{given}
+use Rattle.grammar.specs.declared.Refusal.the-variants.{InputTooLong, BadField, BytesAfterEnd}
 use Rattle.grammar.specs.Fields.{Field, Fields, noBytes, pastEnd, _then_, fieldsOf, fieldBytes}
-use Rattle.grammar.specs.ReadContent.{contentBytes, Parsed, expressionOf, isProper, whole, readContent}
 use Rattle.grammar.specs.ReadTable.{
   labelTag,
   startTag,
@@ -52,59 +26,29 @@ use Rattle.grammar.specs.ReadTable.{
   withLabel,
   withStart,
   withRule,
-  readLabel,
-  readStart,
-  readRule,
   readTableField,
   bytesLeft,
   readTableFields,
   readTable,
 }
 use Rattle.grammar.specs.WriteTable.{ruleBytes, tableBytes}
-use Rattle.grammar.specs.WithinLimits.{NameWithin, ContentWithin, RuleWithin, TableWithin}
-use Rattle.theory.proofs.BoolLaws.{and-left, and-right, or-false}
-use Rattle.theory.proofs.ListLaws.{distinct-end}
+use Rattle.grammar.specs.WithinLimits.{NameWithin, RuleWithin, TableWithin}
+use Rattle.theory.proofs.ListLaws.{distinct-end, each-end, joined-end, eqb-sym}
 use Rattle.theory.proofs.NameLaws.{name-sym}
 use Rattle.theory.proofs.OutcomeLaws.{was-given, had-no-fault, given-eq}
-use Rattle.theory.proofs.ContentBytes.{expression-was}
 use Rattle.theory.proofs.FieldBytes.{AreBytes, Front, fields-were, fields-none}
-use Rattle.theory.proofs.TableBytes.{LabelsFit, StartsFit, RulesFit, eqb-sym}
-
-whole-was : (p : Parsed Content) (c : Content) → whole p ≡ given c → p ≡ just (c, [])
-whole-was nothing c e = let z : _≡_ {A = ℕ} 0 1 = cc in absurd (omega arith)
-whole-was (just (d, [])) c e = rw (given-eq e)
-whole-was (just (d, b ∷ rest)) c e = let z : _≡_ {A = ℕ} 0 1 = cc in absurd (omega arith)
-
-pub content-was : (lim : Limits) (bytes : List ℕ) (c : Content) → readContent lim bytes ≡ given c
-    → (bytes ≡ contentBytes c) × (isProper lim c ≡ true) × (nesting c ≤ lim .nesting)
-unfolding readContent
-content-was lim bytes c e =
-    let r = was-given (whole (expressionOf bytes)) _ c e in
-    let p = had-no-fault (not (isProper lim (r .0))) BadContent _ c (r .2) in
-    let q = had-no-fault (ltb (lim .nesting) (nesting (r .0))) NestedTooDeep _ c (p .1) in
-    let same : r .0 ≡ c = given-eq (q .1) in (
-      expression-was bytes c [] (whole-was (expressionOf bytes) c (r .1 ∙ ap given same)) ∙ append-nil (contentBytes c),
-      not-false (isProper lim c) (rw same at (p .0)),
-      ltb-false (lim .nesting) (nesting c) (rw same at (q .0)),
-    )
-
--- one element more
-each-end : {A : Type 0} (P : A → Type 0) (xs : List A) (x : A) → ((y : A) → List·Memᴰ y xs → P y) → P x → (y : A)
-    → List·Memᴰ y (xs ++ (x ∷ [])) → P y
-each-end {A} P xs x h p y m = ⊎-elim (h y) (only y) (List·Memᴰ·append-cases xs m)
-  where
-    only : (z : A) → List·Memᴰ z (x ∷ []) → P z
-    only z (List·Memᴰ·head q) = subst P (sym q) p
-    only z (List·Memᴰ·tail n) = elim n [ ]
-
-joined-end : {A B : Type 0} (f : A → List B) (xs : List A) (x : A) → joinedOf f (xs ++ (x ∷ [])) ≡ joinedOf f xs ++ f x
-unfolding joinedOf
-joined-end f [] x = append-nil (f x)
-joined-end {A} {B} f (y ∷ ys) x = ap (λ (l : List B). f y ++ l) (joined-end f ys x) ∙ sym (append-assoc (f y) (joinedOf f ys) (f x))
-
-empty-is : {A : Type 0} (xs : List A) → isEmpty xs ≡ true → xs ≡ []
-empty-is [] e = refl
-empty-is (x ∷ xs) e = let z : _≡_ {A = ℕ} 0 1 = cc in absurd (omega arith)
+use Rattle.theory.proofs.ReadSteps.{
+  LabelRead,
+  label-was,
+  StartRead,
+  start-was,
+  RuleRead,
+  rule-was,
+  end-field,
+  next-field,
+  empty-is,
+}
+use Rattle.theory.proofs.TableBytes.{LabelsFit, StartsFit, RulesFit}
 
 -- the bytes of a table before its end field
 bodyBytes : Table → List ℕ
@@ -114,115 +58,17 @@ bodyBytes g =
     ++ joinedOf (λ r. fieldBytes ruleTag (ruleBytes r)) (g .rules)
 
 module _ (lim : Limits) (classes : Classes) where
-  -- what a label that is read is, and how the table goes on
-  pub record LabelRead (g : Table) (value : List ℕ) (more : Table) : Type 0 where
-    pub no-starts : g .starts ≡ []
-    pub no-rules : g .rules ≡ []
-    pub name : NameWithin lim classes value
-    pub new : any (sameName value) (g .labels) ≡ false
-    pub room : length (g .labels) < lim .labels
-    pub result : withLabel g value ≡ more
-
-  pub label-was : (g : Table) (value : List ℕ) (more : Table) → readLabel lim classes g value ≡ given more → LabelRead g value more
-  unfolding readLabel
-  label-was g value more e =
-      let first = isEmpty (g .starts) && isEmpty (g .rules) in
-      let long = leb 1 (length value) in
-      let short = leb (length value) (lim .name) in
-      let a = had-no-fault _ BadField _ more e in
-      let b = had-no-fault _ BadName _ more (a .1) in
-      let c = had-no-fault _ Repeated _ more (b .1) in
-      let d = had-no-fault _ TooMany _ more (c .1) in
-      let shape = not-false (first && long && short) (a .0) in
-      let front = and-left first long (and-left (first && long) short shape) in
-      record {
-        no-starts = empty-is (g .starts) (and-left (isEmpty (g .starts)) (isEmpty (g .rules)) front);
-        no-rules = empty-is (g .rules) (and-right (isEmpty (g .starts)) (isEmpty (g .rules)) front);
-        name =
-            record {
-              rule = not-false (isName classes value) (b .0);
-              size = leb-true (length value) (lim .name) (and-right (first && long) short shape);
-            };
-        new = c .0;
-        room = leb-false (lim .labels) (length (g .labels)) (d .0);
-        result = given-eq (d .1);
-      }
-
-  -- a start
-  pub record StartRead (g : Table) (value : List ℕ) (more : Table) : Type 0 where
-    pub start : ℕ
-    pub byte : value ≡ start ∷ []
-    pub no-rules : g .rules ≡ []
-    pub new : any (eqb start) (g .starts) ≡ false
-    pub room : length (g .starts) < lim .starts
-    pub known : start < lim .types
-    pub result : withStart g start ≡ more
-
-  pub start-was : (g : Table) (value : List ℕ) (more : Table) → readStart lim g value ≡ given more → StartRead g value more
-  unfolding readStart
-  start-was g [] more e = let z : _≡_ {A = ℕ} 0 1 = cc in absurd (omega arith)
-  start-was g (k ∷ []) more e =
-      let a = had-no-fault _ BadField _ more e in
-      let b = had-no-fault _ Repeated _ more (a .1) in
-      let c = had-no-fault _ TooMany _ more (b .1) in
-      let d = had-no-fault _ OutOfRange _ more (c .1) in
-      record {
-        start = k;
-        byte = refl;
-        no-rules = empty-is (g .rules) (not-false (isEmpty (g .rules)) (a .0));
-        new = b .0;
-        room = leb-false (lim .starts) (length (g .starts)) (c .0);
-        known = leb-false (lim .types) k (d .0);
-        result = given-eq (d .1);
-      }
-  start-was g (k ∷ b ∷ rest) more e = let z : _≡_ {A = ℕ} 0 1 = cc in absurd (omega arith)
-
-  -- a rule
-  pub record RuleRead (g : Table) (value : List ℕ) (more : Table) : Type 0 where
-    pub rule : Rule
-    pub bytes : value ≡ ruleBytes rule
-    pub within : RuleWithin lim (length (g .labels)) rule
-    pub room : length (g .rules) < lim .rules
-    pub result : withRule g rule ≡ more
-
-  pub rule-was : (g : Table) (value : List ℕ) (more : Table) → readRule lim g value ≡ given more → RuleRead g value more
-  unfolding readRule ruleBytes
-  rule-was g [] more e = let z : _≡_ {A = ℕ} 0 1 = cc in absurd (omega arith)
-  rule-was g (k ∷ []) more e = let z : _≡_ {A = ℕ} 0 1 = cc in absurd (omega arith)
-  rule-was g (k ∷ l ∷ content) more e =
-      let long = leb 1 (length content) in
-      let short = leb (length content) (lim .content) in
-      let a = had-no-fault _ BadField _ more e in
-      let b = had-no-fault _ TooMany _ more (a .1) in
-      let c = had-no-fault _ OutOfRange _ more (b .1) in
-      let d = was-given (readContent lim content) _ more (c .1) in
-      let range = or-false (leb (lim .types) k) (leb (length (g .labels)) l) (c .0) in
-      let was = content-was lim content (d .0) (d .1) in
-      let size = leb-true (length content) (lim .content) (and-right long short (not-false (long && short) (a .0))) in
-      record {
-        rule = record { type = k; label = l; content = d .0 };
-        bytes = ap (λ (bs : List ℕ). k ∷ l ∷ bs) (was .0);
-        within =
-            record {
-              type = leb-false (lim .types) k (range .0);
-              label = leb-false (length (g .labels)) l (range .1);
-              content = record { proper = was .1; size = subst (λ (bs : List ℕ). length bs ≤ lim .content) (was .0) size; nests = was .2 };
-            };
-        room = leb-false (lim .rules) (length (g .rules)) (b .0);
-        result = given-eq (d .2);
-      }
-
   record Fits (g : Table) : Type 0 where
     labels : LabelsFit lim classes (g .labels)
-    starts : StartsFit lim classes (g .starts)
-    rules : RulesFit lim classes (length (g .labels)) (g .rules)
+    starts : StartsFit lim (g .starts)
+    rules : RulesFit lim (length (g .labels)) (g .rules)
 
   -- what a field that is read adds to the table
   record Adds (g : Table) (tag : ℕ) (value : List ℕ) (more : Table) : Type 0 where
     bytes : bodyBytes more ≡ bodyBytes g ++ fieldBytes tag value
     fits : Fits g → Fits more
 
-  label-adds : (g : Table) (value : List ℕ) (more : Table) → LabelRead g value more → Adds g labelTag value more
+  label-adds : (g : Table) (value : List ℕ) (more : Table) → LabelRead lim classes g value more → Adds g labelTag value more
   unfolding bodyBytes joinedOf
   label-adds g value more w = subst (λ (t : Table). Adds g labelTag value t) (w .result) (record { bytes = added; fits = fitting })
     where
@@ -248,13 +94,15 @@ module _ (lim : Limits) (classes : Classes) where
                 };
           }
 
-  start-adds : (g : Table) (value : List ℕ) (more : Table) → StartRead g value more → Adds g startTag value more
+  start-adds : (g : Table) (value : List ℕ) (more : Table) → StartRead lim g value more → Adds g startTag value more
   unfolding bodyBytes joinedOf
   start-adds g value more w = subst (λ (t : Table). Adds g startTag value t) (w .result) (record { bytes = added; fits = fitting })
     where
       added : bodyBytes (withStart g (w .start)) ≡ bodyBytes g ++ fieldBytes startTag value
       added =
-          rw (w .no-rules, w .byte) (simp (append-nil, joined-end (λ k. fieldBytes startTag (k ∷ [])) (g .starts) (w .start), append-assoc))
+          rw
+          (w .no-rules, w .byte)
+          (simp (append-nil, joined-end (λ k. fieldBytes startTag (k ∷ [])) (g .starts) (w .start), append-assoc))
 
       fitting : Fits g → Fits (withStart g (w .start))
       fitting h =
@@ -271,7 +119,7 @@ module _ (lim : Limits) (classes : Classes) where
             rules = h .rules;
           }
 
-  rule-adds : (g : Table) (value : List ℕ) (more : Table) → RuleRead g value more → Adds g ruleTag value more
+  rule-adds : (g : Table) (value : List ℕ) (more : Table) → RuleRead lim g value more → Adds g ruleTag value more
   unfolding bodyBytes joinedOf
   rule-adds g value more w = subst (λ (t : Table). Adds g ruleTag value t) (w .result) (record { bytes = added; fits = fitting })
     where
@@ -291,3 +139,134 @@ module _ (lim : Limits) (classes : Classes) where
                   few = omega arith;
                 };
           }
+
+  field-adds : (g : Table) (f : Field) (more : Table) → readTableField lim classes g f ≡ given more
+      → Adds g (f .tag) (f .value) more
+  unfolding readTableField
+  field-adds g f more e = go (eqb (f .tag) labelTag) (eqb (f .tag) startTag) (eqb (f .tag) ruleTag) refl refl refl
+    where
+      of-tag : (tag : ℕ) → eqb (f .tag) tag ≡ true → Adds g tag (f .value) more → Adds g (f .tag) (f .value) more
+      of-tag tag q a = rw (eqb-true (f .tag) tag q) a
+
+      go : (a b c : Bool) → eqb (f .tag) labelTag ≡ a → eqb (f .tag) startTag ≡ b → eqb (f .tag) ruleTag ≡ c
+          → Adds g (f .tag) (f .value) more
+      go true b c p q r =
+          let read = rw (p, readTableField) at e in
+          of-tag labelTag p (label-adds g (f .value) more (label-was lim classes g (f .value) more read))
+      go false true c p q r =
+          let read = rw (p, q, readTableField) at e in
+          of-tag startTag q (start-adds g (f .value) more (start-was lim g (f .value) more read))
+      go false false true p q r =
+          let read = rw (p, q, r, readTableField) at e in
+          of-tag ruleTag r (rule-adds g (f .value) more (rule-was lim g (f .value) more read))
+      go false false false p q r =
+          let w = rw (p, q, r, readTableField) at e in
+          let z : _≡_ {A = ℕ} 0 1 = cc in
+          absurd (omega arith)
+
+  -- how the rest of a table is written
+  record Ends (g : Table) (s : List ℕ) (more : Table) : Type 0 where
+    spelled : List ℕ
+    whole : bodyBytes g ++ spelled ≡ tableBytes more
+    size : length s ≡ length spelled
+    same : AreBytes s → s ≡ spelled
+    fits : Fits g → Fits more
+
+  none-left : (fs : Fields) → bytesLeft fs ≡ false → fs ≡ noBytes
+  none-left noBytes e = refl
+  none-left pastEnd e = let z : _≡_ {A = ℕ} 0 1 = cc in absurd (omega arith)
+  none-left (f then fs) e = let z : _≡_ {A = ℕ} 0 1 = cc in absurd (omega arith)
+
+  ends : (fs : Fields) (g : Table) (s : List ℕ) (more : Table) → fieldsOf s ≡ fs → readTableFields lim classes g fs ≡ given more
+      → Ends g s more
+  unfolding readTableFields tableBytes bodyBytes
+  ends noBytes g s more p e = let z : _≡_ {A = ℕ} 0 1 = cc in absurd (omega arith)
+  ends pastEnd g s more p e = let z : _≡_ {A = ℕ} 0 1 = cc in absurd (omega arith)
+  ends (f then fs) g s more p e =
+      go (eqb (f .tag) tableEndTag) refl (fields-were s f fs p) (λ g′ s′ p′ e′. ends fs g′ s′ more p′ e′)
+    where
+      go : (b : Bool) → eqb (f .tag) tableEndTag ≡ b → Front s f fs
+          → ((g′ : Table) (s′ : List ℕ) → fieldsOf s′ ≡ fs → readTableFields lim classes g′ fs ≡ given more → Ends g′ s′ more)
+          → Ends g s more
+      go true q front ih =
+          let a = had-no-fault (not (isEmpty (f .value))) BadField _ more (sym (end-field lim classes g f fs q) ∙ e) in
+          let b = had-no-fault (bytesLeft fs) BytesAfterEnd _ more (a .1) in
+          let same = given-eq (b .1) in
+          let t = eqb-true (f .tag) tableEndTag q in
+          let v = empty-is (f .value) (not-false (isEmpty (f .value)) (a .0)) in
+          let r = fields-none (front .rest) (sym (front .after) ∙ none-left fs (b .0)) in
+          let here : fieldBytes (f .tag) (f .value) ++ front .rest ≡ fieldBytes tableEndTag [] =
+          ap₂ _++_ (ap₂ fieldBytes t v) r ∙ append-nil (fieldBytes tableEndTag []) in
+          subst (λ (m : Table). Ends g s m) same (record {
+            spelled = fieldBytes tableEndTag [];
+            whole = refl;
+            size = front .size ∙ ap length here;
+            same = λ small. front .written small ∙ here;
+            fits = λ h. h;
+          })
+      go false q front ih =
+          let a = was-given (readTableField lim classes g f) _ more (sym (next-field lim classes g f fs q) ∙ e) in
+          let add = field-adds g f (a .0) (a .1) in
+          let later = ih (a .0) (front .rest) (sym (front .after)) (a .2) in
+          let here = fieldBytes (f .tag) (f .value) in
+          let l = length-append here (front .rest) in
+          let m = length-append here (later .spelled) in
+          let n = front .size in
+          let o = later .size in
+          record {
+            spelled = here ++ later .spelled;
+            whole =
+                sym (append-assoc (bodyBytes g) here (later .spelled))
+                ∙ ap (λ (bs : List ℕ). bs ++ later .spelled) (sym (add .bytes))
+                ∙ later .whole;
+            size = omega arith;
+            same =
+                λ small.
+                let w = front .written small in
+                w
+                ∙ ap
+                (λ (bs : List ℕ). here ++ bs)
+                (later .same (λ b i. small b (subst (λ (bs : List ℕ). List·Memᴰ b bs) (sym w) (Memᴰ·append-right here i))));
+            fits = λ h. later .fits (add .fits h);
+          }
+
+  -- the table of no labels, starts or rules fits
+  none-fits : Fits emptyTable
+  unfolding allDistinct
+  none-fits =
+      record {
+        labels = record { each = λ n m. elim m [ ]; differ = refl; few = omega arith };
+        starts = record { each = λ k m. elim m [ ]; differ = refl; few = omega arith };
+        rules = record { each = λ r m. elim m [ ]; few = omega arith };
+      }
+
+  module _ (bytes : List ℕ) (g : Table) (read : readTable lim classes bytes ≡ given g) where
+    short-enough : (length bytes ≤ lim .input) × Ends emptyTable bytes g
+    unfolding readTable
+    short-enough =
+        let a = had-no-fault (ltb (lim .input) (length bytes)) InputTooLong _ g read in
+        (ltb-false (lim .input) (length bytes) (a .0), ends (fieldsOf bytes) emptyTable bytes g refl (a .1))
+
+    spelled-so : short-enough .1 .spelled ≡ tableBytes g
+    unfolding bodyBytes joinedOf
+    spelled-so = short-enough .1 .whole
+
+    pub read-was : AreBytes bytes → tableBytes g ≡ bytes
+    read-was small = sym (short-enough .1 .same small ∙ spelled-so)
+
+    pub read-within : TableWithin lim classes g
+    read-within =
+        let h = short-enough .1 .fits none-fits in
+        let short = short-enough .0 in
+        let size = short-enough .1 .size ∙ ap length spelled-so in
+        record {
+          names = h .labels .each;
+          labels-differ = h .labels .differ;
+          labels = h .labels .few;
+          start-types = h .starts .each;
+          starts-differ = h .starts .differ;
+          starts = h .starts .few;
+          each-rule = h .rules .each;
+          rules = h .rules .few;
+          size = omega arith;
+        }
