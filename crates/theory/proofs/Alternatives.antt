@@ -8,13 +8,14 @@
 --
 --   alts-empty : isEmpty (alts results c) ≡ not (hasAlts (λ k. not (isEmpty (results k))) c)
 --   alts-plain : an alternative is no choice, and it is not none
---   has-word   : hasWord known c ≡ hasAlts (λ k. isIn k known) c
+--   productive : isEmpty (alts (resultsOf pairs known target) c) ≡ not (hasAlts (hasLeft pairs known) c)
+--   word-alts  : hasWord known c ≡ hasAlts (λ k. isIn k known) c
 --   alts-renamed, has-renamed, pairs-renamed : of a content with types in place of types (the addition's, made distinct from the old)
 use Prim.Native.Nat.{ℕ}
 use mathlib.Core.Bool.{Bool, true, false, not, _&&_, _||_}
 use mathlib.Core.List.{List, [], _∷_, _++_, map, List·Memᴰ, List·Memᴰ·cases-cons, List·Memᴰ·eq-of-singleton}
 use mathlib.Core.Logic.{⊎-elim}
-use mathlib.Core.Path.{_≡_, refl, sym, _∙_, ap, ap₂, subst}
+use mathlib.Core.Path.{_≡_, refl, sym, _∙_, ap, ap₂, subst, fun-ext}
 use Rattle.grammar.specs.Lists.{any, all, keep, distinct, joinedOf, isIn}
 use Rattle.grammar.specs.Content.{
   Content,
@@ -100,6 +101,24 @@ onlyIf false xs = []
 -- whether any is left
 unfoldable pub someLeft : (ℕ → List ℕ) → ℕ → Bool
 someLeft left k = not (isEmpty (left k))
+
+-- Over any pairs of a source type, any known (fruitful) pairs and any result type of a pair: a content with the choice of its pairs
+-- for each source type, and a content with a result type for each pair
+abbrev pub inPairsOf : (ℕ → List ℕ) → Content → Content
+inPairsOf pairs c = replace c (λ k. choiceOf (map type (pairs k)))
+
+abbrev pub retyped : (ℕ → ℕ) → Content → Content
+retyped target c = replace c (λ p. type (target p))
+
+-- a source type's fruitful pairs, whether it has any, and their result types
+abbrev pub pairsLeft : (ℕ → List ℕ) → List ℕ → ℕ → List ℕ
+pairsLeft pairs known k = keep (λ p. isIn p known) (pairs k)
+
+abbrev pub hasLeft : (ℕ → List ℕ) → List ℕ → ℕ → Bool
+hasLeft pairs known k = any (λ p. isIn p known) (pairs k)
+
+abbrev pub resultsOf : (ℕ → List ℕ) → List ℕ → (ℕ → ℕ) → ℕ → List ℕ
+resultsOf pairs known target k = map target (pairsLeft pairs known k)
 
 -- A sequence with an operand that has no alternatives has no pairs; elsewhere such a part has none of itself.
 unfoldable mutual
@@ -192,28 +211,64 @@ module _ (results : ℕ → List ℕ) where
         ∙ ap₂ _&&_ (alts-empty c) (all-empty cs)
         ∙ sym (not-or (hasAlts (someLeft results) c) (oneHasAlts (someLeft results) cs))
 
+  pub all-alts-empty : (cs : List Content) → isEmpty (joinedOf (alts results) cs) ≡ not (any (hasAlts (someLeft results)) cs)
+  unfolding joinedOf any
+  all-alts-empty [] = refl
+  all-alts-empty (c ∷ cs) =
+      append-empty (alts results c) (joinedOf (alts results) cs)
+      ∙ ap₂ _&&_ (alts-empty c) (all-alts-empty cs)
+      ∙ sym (not-or (hasAlts (someLeft results) c) (any (hasAlts (someLeft results)) cs))
+
+keep-some : {A : Type 0} (test : A → Bool) (xs : List A) → not (isEmpty (keep test xs)) ≡ any test xs
+unfolding keep any
+keep-some test [] = refl
+keep-some {A} test (x ∷ xs) = go (test x) (keep-some test xs)
+  where
+    go : (b : Bool) → not (isEmpty (keep test xs)) ≡ any test xs
+        → not (isEmpty {A = A} (elim b as (λ y. List A) [ true ↦ x ∷ keep test xs | false ↦ keep test xs ])) ≡ (b || any test xs)
+    go true ih = refl
+    go false ih = ih
+
+module _ (pairs : ℕ → List ℕ) (known : List ℕ) where
+  pub some-pairs : someLeft (pairsLeft pairs known) ≡ hasLeft pairs known
+  unfolding someLeft
+  some-pairs = fun-ext (λ k. keep-some (λ p. isIn p known) (pairs k))
+
+  pub some-results : (target : ℕ → ℕ) → someLeft (resultsOf pairs known target) ≡ hasLeft pairs known
+  unfolding someLeft
+  some-results target =
+      fun-ext (λ k. ap not (map-empty target (pairsLeft pairs known k)) ∙ keep-some (λ p. isIn p known) (pairs k))
+
+  pub productive : (target : ℕ → ℕ) (c : Content) → isEmpty (alts (resultsOf pairs known target) c) ≡ not (hasAlts (hasLeft pairs known) c)
+  productive target c = alts-empty (resultsOf pairs known target) c ∙ ap (λ has. not (hasAlts has c)) (some-results target)
+
+  pub all-productive : (target : ℕ → ℕ) (cs : List Content)
+      → isEmpty (joinedOf (alts (resultsOf pairs known target)) cs) ≡ not (any (hasAlts (hasLeft pairs known)) cs)
+  all-productive target cs =
+      all-alts-empty (resultsOf pairs known target) cs ∙ ap (λ has. not (any (hasAlts has) cs)) (some-results target)
+
 -- to have alternatives is to have a word of the types that give some
 module _ (known : List ℕ) where
   mutual
     unfolding hasWord hasAlts
 
-    pub has-word : (c : Content) → hasWord known c ≡ hasAlts (λ k. isIn k known) c
-    has-word none = refl
-    has-word empty = refl
-    has-word (type k) = refl
-    has-word (sequence cs) = have-words cs
-    has-word (choice cs) = one-has-word cs
-    has-word (anyNumber c) = refl
-    has-word (oneOrMore c) = has-word c
-    has-word (optional c) = refl
+    pub word-alts : (c : Content) → hasWord known c ≡ hasAlts (λ k. isIn k known) c
+    word-alts none = refl
+    word-alts empty = refl
+    word-alts (type k) = refl
+    word-alts (sequence cs) = all-words-alts cs
+    word-alts (choice cs) = one-word-alts cs
+    word-alts (anyNumber c) = refl
+    word-alts (oneOrMore c) = word-alts c
+    word-alts (optional c) = refl
 
-    have-words : (cs : Contents) → haveWords known cs ≡ allHaveAlts (λ k. isIn k known) cs
-    have-words []ᶜ = refl
-    have-words (c ∷ᶜ cs) = ap₂ _&&_ (has-word c) (have-words cs)
+    all-words-alts : (cs : Contents) → haveWords known cs ≡ allHaveAlts (λ k. isIn k known) cs
+    all-words-alts []ᶜ = refl
+    all-words-alts (c ∷ᶜ cs) = ap₂ _&&_ (word-alts c) (all-words-alts cs)
 
-    one-has-word : (cs : Contents) → oneHasWord known cs ≡ oneHasAlts (λ k. isIn k known) cs
-    one-has-word []ᶜ = refl
-    one-has-word (c ∷ᶜ cs) = ap₂ _||_ (has-word c) (one-has-word cs)
+    one-word-alts : (cs : Contents) → oneHasWord known cs ≡ oneHasAlts (λ k. isIn k known) cs
+    one-word-alts []ᶜ = refl
+    one-word-alts (c ∷ᶜ cs) = ap₂ _||_ (word-alts c) (one-word-alts cs)
 
 -- an alternative is what it gives to a choice, and is not none
 pub record Plain (x : Content) : Type 0 where

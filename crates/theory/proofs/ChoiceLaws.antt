@@ -1,11 +1,11 @@
 -- What is done to the choice of some contents, however many they are, is done to each of them:
 --   replace-choice   replace (choiceOf xs) f ≡ choiceOf (map (λ c. replace c f) xs)
 --   simplify-choice  simplify (choiceOf xs) ≡ choiceOf (keep notNone (map simplify xs))
+--   word-choice      hasWord known (choiceOf xs) ≡ any (hasWord known) xs
 --   tidy-choice      tidy (choiceOf xs) ≡ written (joinedOf alternatives (map tidy xs))
---   types-choice     typesIn (choiceOf xs) ≡ joinedOf typesIn xs
 -- And of replacing twice: replace-twice : replace (replace c f) g ≡ replace c (λ k. replace (f k) g)
 use Prim.Native.Nat.{ℕ}
-use mathlib.Core.Bool.{Bool, true, false, not, false≢true}
+use mathlib.Core.Bool.{Bool, true, false, not, _||_, false≢true}
 use mathlib.Core.List.{List, [], _∷_, _++_, append-nil, map, List·Memᴰ, List·Memᴰ·head, List·Memᴰ·tail, List·Memᴰ·cases-cons, List·Memᴰ·append-cases, List·Memᴰ·eq-of-singleton}
 use mathlib.Core.Logic.{_↔_, ⊎-elim}
 use mathlib.Core.Path.{_≡_, refl, sym, _∙_, ap, ap₂, subst}
@@ -23,15 +23,13 @@ use Rattle.grammar.specs.Content.{
   Contents,
   []ᶜ,
   _∷ᶜ_,
-  typesIn,
-  typesInAll,
   operands,
   choiceOf,
   replace,
   replaceAll,
 }
 use Rattle.grammar.specs.ReadContent.{sameContent}
-use Rattle.grammar.specs.Reduce.{isNone, simplify, simplifyAll}
+use Rattle.grammar.specs.Reduce.{hasWord, oneHasWord, isNone, simplify, simplifyAll}
 use Rattle.grammar.specs.Tidy.{listOf, alternatives, tidy, tidyAll}
 use Rattle.theory.proofs.ListLaws.{keep-yes, keep-no, distinct-was}
 use Rattle.theory.proofs.ContentBytes.{same-content}
@@ -72,18 +70,6 @@ module _ (f g : ℕ → Content) where
     replace-all-twice []ᶜ = refl
     replace-all-twice (c ∷ᶜ cs) = ap₂ _∷ᶜ_ (replace-twice c) (replace-all-twice cs)
 
--- the types that stand
-types-operands : (xs : List Content) → typesInAll (operands xs) ≡ joinedOf typesIn xs
-unfolding operands typesIn joinedOf
-types-operands [] = refl
-types-operands (x ∷ xs) = ap (λ (l : List ℕ). typesIn x ++ l) (types-operands xs)
-
-pub types-choice : (xs : List Content) → typesIn (choiceOf xs) ≡ joinedOf typesIn xs
-unfolding choiceOf typesIn joinedOf
-types-choice [] = refl
-types-choice (x ∷ []) = sym (append-nil (typesIn x))
-types-choice (x ∷ y ∷ ys) = ap (λ (l : List ℕ). typesIn x ++ (typesIn y ++ l)) (types-operands ys)
-
 -- simplifying
 pub is-none : (c : Content) → isNone c ≡ true → c ≡ none
 unfolding isNone
@@ -114,6 +100,23 @@ unfolding choiceOf simplify
 simplify-choice [] = refl
 simplify-choice (x ∷ []) = sym (one-kept (simplify x))
 simplify-choice (x ∷ y ∷ ys) = ap (λ (l : List Content). choiceOf (keep notNone (simplify x ∷ simplify y ∷ l))) (simplify-operands ys)
+
+-- having a word
+module _ (known : List ℕ) where
+  word-operands : (xs : List Content) → oneHasWord known (operands xs) ≡ any (hasWord known) xs
+  unfolding operands hasWord any
+  word-operands [] = refl
+  word-operands (x ∷ xs) = ap (λ (b : Bool). hasWord known x || b) (word-operands xs)
+
+  pub word-choice : (xs : List Content) → hasWord known (choiceOf xs) ≡ any (hasWord known) xs
+  unfolding choiceOf hasWord any
+  word-choice [] = refl
+  word-choice (x ∷ []) = or-nothing (hasWord known x)
+    where
+      or-nothing : (b : Bool) → b ≡ (b || false)
+      or-nothing true = refl
+      or-nothing false = refl
+  word-choice (x ∷ y ∷ ys) = ap (λ (b : Bool). hasWord known x || (hasWord known y || b)) (word-operands ys)
 
 -- tidying
 pub list-of-operands : (xs : List Content) → listOf (operands xs) ≡ xs

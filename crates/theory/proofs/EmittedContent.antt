@@ -8,7 +8,7 @@
 -- `written []` is none, so in the first two a content that reducing leaves as none comes out as none.
 use Prim.Native.Nat.{ℕ}
 use mathlib.Core.Bool.{Bool, true, false, not, _||_}
-use mathlib.Core.List.{List, [], _∷_, _++_, append-assoc, map, List·Memᴰ, List·Memᴰ·head, List·Memᴰ·tail}
+use mathlib.Core.List.{List, [], _∷_, _++_, map, map-map, List·Memᴰ, List·Memᴰ·head, List·Memᴰ·tail, Forall₂, Forall₂·nil, Forall₂·cons}
 use mathlib.Core.Logic.{_↔_, ⊎-elim}
 use mathlib.Core.Path.{_≡_, refl, sym, _∙_, ap, ap₂, subst, subst₂, fun-ext}
 use Rattle.grammar.specs.Lists.{any, keep, distinct, joinedOf, isIn}
@@ -35,9 +35,10 @@ use Rattle.grammar.specs.ReadTable.{isEmpty}
 use Rattle.grammar.specs.Reduce.{isNone, simplify, simplifyAll, prune}
 use Rattle.grammar.specs.Tidy.{alternatives, tidy, tidyAll}
 use Rattle.theory.proofs.ListLaws.{keep-yes, keep-no, kept}
+use Rattle.theory.proofs.ReplacedTypes.{joined-append}
 use Rattle.theory.proofs.ContentBytes.{same-content}
 use Rattle.theory.proofs.DistinctLaws.{distinct-again, distinct-join}
-use Rattle.theory.proofs.Alternatives.{written, around, inSequence, alts, altsOfEach, onlyIf, sequence-none, sequence-some}
+use Rattle.theory.proofs.Alternatives.{written, around, inSequence, alts, altsOfEach, onlyIf, inPairsOf, retyped, resultsOf, hasAlts, hasLeft, all-productive, sequence-none, sequence-some}
 use Rattle.theory.proofs.ChoiceLaws.{
   notNone,
   Single,
@@ -50,21 +51,6 @@ use Rattle.theory.proofs.ChoiceLaws.{
   simplify-choice,
   tidy-choice,
 }
-
--- a content with a result type for each pair
-abbrev pub retyped : (ℕ → ℕ) → Content → Content
-retyped target c = replace c (λ p. type (target p))
-
--- a content with the choice of its pairs for each source type
-abbrev pub inPairsOf : (ℕ → List ℕ) → Content → Content
-inPairsOf pairs c = replace c (λ k. choiceOf (map type (pairs k)))
-
--- a source type's fruitful pairs, and their result types
-abbrev pub pairsLeft : (ℕ → List ℕ) → List ℕ → ℕ → List ℕ
-pairsLeft pairs known k = keep (λ p. isIn p known) (pairs k)
-
-abbrev pub resultsOf : (ℕ → List ℕ) → List ℕ → (ℕ → ℕ) → ℕ → List ℕ
-resultsOf pairs known target k = map target (pairsLeft pairs known k)
 
 alternatives-written : (x : Content) (xs : List Content) → Single (x ∷ xs) → alternatives (written (x ∷ xs)) ≡ distinct sameContent (x ∷ xs)
 unfolding written
@@ -96,10 +82,8 @@ module _ (target : ℕ → ℕ) where
     pub tidied : tidy (retyped target x) ≡ written us
     pub single : Single us
 
-  data GivesEach : List Content → List (List Content) → Type 0 where
-    no-more : GivesEach [] []
-    next : {x : Content} {us : List Content} {xs : List Content} {uss : List (List Content)} → Gives x us → GivesEach xs uss
-        → GivesEach (x ∷ xs) (us ∷ uss)
+  abbrev GivesEach : List Content → List (List Content) → Type 0
+  GivesEach xs uss = Forall₂ Gives xs uss
 
   gives-none : Gives none []
   unfolding isNone replace tidy written
@@ -130,14 +114,14 @@ module _ (target : ℕ → ℕ) where
   -- a sequence; none where an operand is none
   each-none : {xs : List Content} {uss : List (List Content)} → GivesEach xs uss → any isNone xs ≡ any isEmpty uss
   unfolding any
-  each-none no-more = refl
-  each-none (next g gs) = ap₂ _||_ (g .none-if) (each-none gs)
+  each-none Forall₂·nil = refl
+  each-none (Forall₂·cons g gs) = ap₂ _||_ (g .none-if) (each-none gs)
 
   each-tidied : {xs : List Content} {uss : List (List Content)} → GivesEach xs uss
       → tidyAll (replaceAll (operands xs) (λ p. type (target p))) ≡ map written uss
   unfolding operands replace tidy
-  each-tidied no-more = refl
-  each-tidied (next g gs) = ap₂ _∷_ (g .tidied) (each-tidied gs)
+  each-tidied Forall₂·nil = refl
+  each-tidied (Forall₂·cons g gs) = ap₂ _∷_ (g .tidied) (each-tidied gs)
 
   whole-sequence : (xs : List Content) (uss : List (List Content)) → GivesEach xs uss
       → Gives (sequence (operands xs)) (sequence (operands (map written uss)) ∷ [])
@@ -162,8 +146,8 @@ module _ (target : ℕ → ℕ) where
   -- a choice; none drops out
   each-single : {xs : List Content} {uss : List (List Content)} → GivesEach xs uss → Single (joinedOf (λ us. us) uss)
   unfolding joinedOf
-  each-single no-more = λ x m. elim m [ ]
-  each-single (next {us = us} {uss = uss} g gs) =
+  each-single Forall₂·nil = λ x m. elim m [ ]
+  each-single (Forall₂·cons {b = us} {l₂ = uss} g gs) =
       single-append us (joinedOf (λ us. us) uss) (g .single) (each-single gs)
 
   gathered : List Content → List Content
@@ -188,8 +172,8 @@ module _ (target : ℕ → ℕ) where
   each-gathered : {xs : List Content} {uss : List (List Content)} → GivesEach xs uss
       → distinct sameContent (gathered xs) ≡ distinct sameContent (joinedOf (λ us. us) uss)
   unfolding gathered joinedOf keep
-  each-gathered no-more = refl
-  each-gathered (next {x = x} {us = us} {xs = xs} {uss = uss} g gs) =
+  each-gathered Forall₂·nil = refl
+  each-gathered (Forall₂·cons {a = x} {b = us} {l₁ = xs} {l₂ = uss} g gs) =
       gathered-next x us g xs (joinedOf (λ us. us) uss) (each-gathered gs)
 
   none-of-kept : (ys : List Content) → ((y : Content) → List·Memᴰ y ys → notNone y ≡ true) → isNone (choiceOf ys) ≡ isEmpty ys
@@ -210,8 +194,8 @@ module _ (target : ℕ → ℕ) where
   each-empty : {xs : List Content} {uss : List (List Content)} → GivesEach xs uss
       → isEmpty (keep notNone xs) ≡ isEmpty (joinedOf (λ us. us) uss)
   unfolding joinedOf keep
-  each-empty no-more = refl
-  each-empty (next {x = x} {us = us} {xs = xs} {uss = uss} g gs) =
+  each-empty Forall₂·nil = refl
+  each-empty (Forall₂·cons {a = x} {b = us} {l₁ = xs} {l₂ = uss} g gs) =
       none-next x us g xs (joinedOf (λ us. us) uss) (each-empty gs)
 
   gives-choice : (xs : List Content) (uss : List (List Content)) → GivesEach xs uss
@@ -233,12 +217,11 @@ module _ {A B C : Type 0} where
   joined-map g f [] = refl
   joined-map g f (x ∷ xs) = ap (λ (l : List C). g (f x) ++ l) (joined-map g f xs)
 
-module _ {A C : Type 0} where
-  pub joined-append : (g : A → List C) (xs ys : List A) → joinedOf g (xs ++ ys) ≡ joinedOf g xs ++ joinedOf g ys
+  pub joined-twice : (g : B → List C) (f : A → List B) (xs : List A) → joinedOf g (joinedOf f xs) ≡ joinedOf (λ x. joinedOf g (f x)) xs
   unfolding joinedOf
-  joined-append g [] ys = refl
-  joined-append g (x ∷ xs) ys =
-      ap (λ (l : List C). g x ++ l) (joined-append g xs ys) ∙ sym (append-assoc (g x) (joinedOf g xs) (joinedOf g ys))
+  joined-twice g f [] = refl
+  joined-twice g f (x ∷ xs) =
+      joined-append g (f x) (joinedOf f xs) ∙ ap (λ (l : List C). joinedOf g (f x) ++ l) (joined-twice g f xs)
 
 module _ (pairs : ℕ → List ℕ) (known : List ℕ) (target : ℕ → ℕ) where
   -- a pair as pruning leaves it before it simplifies
@@ -258,8 +241,8 @@ module _ (pairs : ℕ → List ℕ) (known : List ℕ) (target : ℕ → ℕ) wh
       go false = gives-none target
 
   gives-each-pair : (ps : List ℕ) → GivesEach target (map simplify (map (λ c. replace c markPair) (map type ps))) (map ofPair ps)
-  gives-each-pair [] = no-more
-  gives-each-pair (p ∷ ps) = next (gives-pair p) (gives-each-pair ps)
+  gives-each-pair [] = Forall₂·nil
+  gives-each-pair (p ∷ ps) = Forall₂·cons (gives-pair p) (gives-each-pair ps)
 
   of-pairs : (ps : List ℕ) → joinedOf (λ us. us) (map ofPair ps) ≡ map type (map target (keep (λ p. isIn p known) ps))
   unfolding joinedOf ofPair onlyIf keep
@@ -305,8 +288,8 @@ module _ (pairs : ℕ → List ℕ) (known : List ℕ) (target : ℕ → ℕ) wh
         (gives c)
 
     gives-each : (cs : Contents) → GivesEach target (simplifyAll (replaceAll cs pairsMarked)) (altsOfEach results cs)
-    gives-each []ᶜ = no-more
-    gives-each (c ∷ᶜ cs) = next (gives c) (gives-each cs)
+    gives-each []ᶜ = Forall₂·nil
+    gives-each (c ∷ᶜ cs) = Forall₂·cons (gives c) (gives-each cs)
 
   pub gives-content : (c : Content) → Gives target (prune known (inPairsOf pairs c)) (alts results c)
   unfolding prune
@@ -315,3 +298,58 @@ module _ (pairs : ℕ → List ℕ) (known : List ℕ) (target : ℕ → ℕ) wh
 
   pub emitted : (c : Content) → tidy (retyped target (prune known (inPairsOf pairs c))) ≡ written (alts (resultsOf pairs known target) c)
   emitted c = gives-content c .tidied
+
+  -- the contents of one pair
+  gives-all : (cs : List Content)
+      → GivesEach target (map simplify (map (λ c. replace c markPair) (map (inPairsOf pairs) cs))) (map (alts results) cs)
+  unfolding prune
+  gives-all [] = Forall₂·nil
+  gives-all (c ∷ cs) = Forall₂·cons (gives-content c) (gives-all cs)
+
+  abbrev pub pairContent : List Content → Content
+  pairContent cs = prune known (choiceOf (map (inPairsOf pairs) cs))
+
+  pub gives-pair-content : (cs : List Content) → Gives target (pairContent cs) (joinedOf (alts results) cs)
+  unfolding prune
+  gives-pair-content cs =
+      let ds : List Content = map (inPairsOf pairs) cs in
+      subst₂ (Gives target)
+      (sym (ap simplify (replace-choice markPair ds) ∙ simplify-choice (map (λ c. replace c markPair) ds)))
+      (joined-map (λ us. us) (alts results) cs)
+      (gives-choice target (map simplify (map (λ c. replace c markPair) ds)) (map (alts results) cs) (gives-all cs))
+
+  pub emitted-pair : (cs : List Content)
+      → tidy (retyped target (prune known (choiceOf (map (inPairsOf pairs) cs)))) ≡ written (joinedOf (alts (resultsOf pairs known target)) cs)
+  emitted-pair cs = gives-pair-content cs .tidied
+
+  -- what is left of a pair's contents is none just where they have no alternatives
+  pub pair-none : (cs : List Content) → isNone (prune known (choiceOf (map (inPairsOf pairs) cs))) ≡ not (any (hasAlts (hasLeft pairs known)) cs)
+  pair-none cs = gives-pair-content cs .none-if ∙ all-productive pairs known target cs
+
+  -- the contents of some pairs
+  module _ {A : Type 0} (contents : A → List Content) where
+    abbrev left : A → Content
+    left p = pairContent (contents p)
+
+    gives-pairs : (ps : List A) → GivesEach target (map left ps) (map (λ p. joinedOf (alts results) (contents p)) ps)
+    gives-pairs [] = Forall₂·nil
+    gives-pairs (p ∷ ps) = Forall₂·cons (gives-pair-content (contents p)) (gives-pairs ps)
+
+    all-kept : (ps : List A) → ((p : A) → List·Memᴰ p ps → any (hasAlts (hasLeft pairs known)) (contents p) ≡ true)
+        → keep notNone (map left ps) ≡ map left ps
+    unfolding keep
+    all-kept [] h = refl
+    all-kept (p ∷ ps) h =
+        keep-yes notNone (left p) (map left ps) (ap not (pair-none (contents p)) ∙ ap (λ b. not (not b)) (h p (List·Memᴰ·head refl)))
+        ∙ ap (λ (l : List Content). left p ∷ l) (all-kept ps (λ q m. h q (List·Memᴰ·tail m)))
+
+    pub emitted-rule : (ps : List A) → ((p : A) → List·Memᴰ p ps → any (hasAlts (hasLeft pairs known)) (contents p) ≡ true)
+        → tidy (choiceOf (map (λ p. retyped target (prune known (choiceOf (map (inPairsOf pairs) (contents p))))) ps))
+        ≡ written (joinedOf (alts (resultsOf pairs known target)) (joinedOf contents ps))
+    emitted-rule ps h =
+        ap (λ (l : List Content). tidy (choiceOf l)) (sym (map-map (retyped target) left ps))
+        ∙ ap tidy (sym (replace-choice (λ p. type (target p)) (map left ps)))
+        ∙ ap (λ (l : List Content). tidy (retyped target (choiceOf l))) (sym (all-kept ps h))
+        ∙ gives-choice target (map left ps) (map (λ p. joinedOf (alts results) (contents p)) ps) (gives-pairs ps) .tidied
+        ∙ ap written
+        (joined-map (λ us. us) (λ p. joinedOf (alts results) (contents p)) ps ∙ sym (joined-twice (alts results) contents ps))
