@@ -16,7 +16,7 @@ use mathlib.Core.Bool.{Bool, true, false, not, _&&_, _||_}
 use mathlib.Core.List.{List, [], _∷_, _++_, map, List·Memᴰ, List·Memᴰ·cases-cons, List·Memᴰ·eq-of-singleton}
 use mathlib.Core.Logic.{⊎-elim}
 use mathlib.Core.Path.{_≡_, refl, sym, _∙_, ap, ap₂, subst, fun-ext}
-use Rattle.grammar.specs.Lists.{any, all, keep, distinct, joinedOf, isIn}
+use Rattle.grammar.specs.Lists.{any, keep, distinct, joinedOf, isIn}
 use Rattle.grammar.specs.Content.{
   Content,
   none,
@@ -172,7 +172,7 @@ map-empty : {A B : Type 0} (f : A → B) (xs : List A) → isEmpty (map f xs) �
 map-empty f [] = refl
 map-empty f (x ∷ xs) = refl
 
-not-not : (a : Bool) → not (not a) ≡ a
+pub not-not : (a : Bool) → not (not a) ≡ a
 not-not true = refl
 not-not false = refl
 

@@ -4,10 +4,10 @@
 --   distinct-join  : lists with the same distinct elements, joined, have the same distinct elements
 --   one-more-old, one-more-new : an element at the end is dropped if it is there, and stays if it is not
 use mathlib.Core.Bool.{Bool, true, false, not, _||_, true≢false}
-use mathlib.Core.List.{List, [], _∷_, _++_, append-nil, map}
+use mathlib.Core.List.{List, [], _∷_, _++_, append-nil}
 use mathlib.Core.Logic.{_↔_}
-use mathlib.Core.Path.{_≡_, refl, sym, _∙_, ap, subst}
-use Rattle.grammar.specs.Lists.{any, keep, distinct, joinedOf}
+use mathlib.Core.Path.{_≡_, refl, sym, _∙_, ap}
+use Rattle.grammar.specs.Lists.{any, keep, distinct}
 use Rattle.theory.proofs.BoolLaws.{false-of, not-both, or-false}
 use Rattle.theory.proofs.ListLaws.{keep-yes, keep-no}
 

@@ -9,8 +9,7 @@
 use Prim.Native.Nat.{ℕ}
 use mathlib.Core.Bool.{Bool, true, false, not, _||_}
 use mathlib.Core.List.{List, [], _∷_, _++_, map, map-map, List·Memᴰ, List·Memᴰ·head, List·Memᴰ·tail, Forall₂, Forall₂·nil, Forall₂·cons}
-use mathlib.Core.Logic.{_↔_, ⊎-elim}
-use mathlib.Core.Path.{_≡_, refl, sym, _∙_, ap, ap₂, subst, subst₂, fun-ext}
+use mathlib.Core.Path.{_≡_, refl, sym, _∙_, ap, ap₂, subst, subst₂}
 use Rattle.grammar.specs.Lists.{any, keep, distinct, joinedOf, isIn}
 use Rattle.grammar.specs.Content.{
   Content,
@@ -38,7 +37,7 @@ use Rattle.theory.proofs.ListLaws.{keep-yes, keep-no, kept}
 use Rattle.theory.proofs.ReplacedTypes.{joined-append}
 use Rattle.theory.proofs.ContentBytes.{same-content}
 use Rattle.theory.proofs.DistinctLaws.{distinct-again, distinct-join}
-use Rattle.theory.proofs.Alternatives.{written, around, inSequence, alts, altsOfEach, onlyIf, inPairsOf, retyped, resultsOf, hasAlts, hasLeft, all-productive, sequence-none, sequence-some}
+use Rattle.theory.proofs.Alternatives.{written, around, inSequence, alts, altsOfEach, onlyIf, inPairsOf, retyped, resultsOf, hasAlts, allHaveAlts, hasLeft, one-empty, some-results, all-productive, sequence-none, sequence-some}
 use Rattle.theory.proofs.ChoiceLaws.{
   notNone,
   Single,
@@ -223,16 +222,24 @@ module _ {A B C : Type 0} where
   joined-twice g f (x ∷ xs) =
       joined-append g (f x) (joinedOf f xs) ∙ ap (λ (l : List C). joinedOf g (f x) ++ l) (joined-twice g f xs)
 
-module _ (pairs : ℕ → List ℕ) (known : List ℕ) (target : ℕ → ℕ) where
-  -- a pair as pruning leaves it before it simplifies
-  abbrev markPair : ℕ → Content
-  markPair p = elim (isIn p known) as (λ b. Content) [ true ↦ type p | false ↦ none ]
+-- a pair as pruning leaves it before it simplifies, and a source type so
+abbrev pub markPair : List ℕ → ℕ → Content
+markPair known p = elim (isIn p known) as (λ b. Content) [ true ↦ type p | false ↦ none ]
 
+abbrev pub pairsMarked : (ℕ → List ℕ) → List ℕ → ℕ → Content
+pairsMarked pairs known k = replace (choiceOf (map type (pairs k))) (markPair known)
+
+pub pruned-marked : (pairs : ℕ → List ℕ) (known : List ℕ) (c : Content)
+    → prune known (inPairsOf pairs c) ≡ simplify (replace c (pairsMarked pairs known))
+unfolding prune
+pruned-marked pairs known c = ap simplify (replace-twice (λ k. choiceOf (map type (pairs k))) (markPair known) c)
+
+module _ (pairs : ℕ → List ℕ) (known : List ℕ) (target : ℕ → ℕ) where
   -- the pairs of one type
   ofPair : ℕ → List Content
   ofPair p = onlyIf (isIn p known) (type (target p) ∷ [])
 
-  gives-pair : (p : ℕ) → Gives target (simplify (replace (type p) markPair)) (ofPair p)
+  gives-pair : (p : ℕ) → Gives target (simplify (replace (type p) (markPair known))) (ofPair p)
   unfolding simplify replace ofPair onlyIf
   gives-pair p = go (isIn p known)
     where
@@ -240,7 +247,7 @@ module _ (pairs : ℕ → List ℕ) (known : List ℕ) (target : ℕ → ℕ) wh
       go true = gives-type target p
       go false = gives-none target
 
-  gives-each-pair : (ps : List ℕ) → GivesEach target (map simplify (map (λ c. replace c markPair) (map type ps))) (map ofPair ps)
+  gives-each-pair : (ps : List ℕ) → GivesEach target (map simplify (map (λ c. replace c (markPair known)) (map type ps))) (map ofPair ps)
   gives-each-pair [] = Forall₂·nil
   gives-each-pair (p ∷ ps) = Forall₂·cons (gives-pair p) (gives-each-pair ps)
 
@@ -256,15 +263,12 @@ module _ (pairs : ℕ → List ℕ) (known : List ℕ) (target : ℕ → ℕ) wh
       go false ih = ih
 
   gives-types : (ps : List ℕ)
-      → Gives target (simplify (replace (choiceOf (map type ps)) markPair)) (map type (map target (keep (λ p. isIn p known) ps)))
+      → Gives target (simplify (replace (choiceOf (map type ps)) (markPair known))) (map type (map target (keep (λ p. isIn p known) ps)))
   gives-types ps =
       subst₂ (Gives target)
-      (sym (ap simplify (replace-choice markPair (map type ps)) ∙ simplify-choice (map (λ c. replace c markPair) (map type ps))))
+      (sym (ap simplify (replace-choice (markPair known) (map type ps)) ∙ simplify-choice (map (λ c. replace c (markPair known)) (map type ps))))
       (of-pairs ps)
-      (gives-choice target (map simplify (map (λ c. replace c markPair) (map type ps))) (map ofPair ps) (gives-each-pair ps))
-
-  abbrev pairsMarked : ℕ → Content
-  pairsMarked k = replace (choiceOf (map type (pairs k))) markPair
+      (gives-choice target (map simplify (map (λ c. replace c (markPair known)) (map type ps))) (map ofPair ps) (gives-each-pair ps))
 
   abbrev results : ℕ → List ℕ
   results = resultsOf pairs known target
@@ -272,51 +276,56 @@ module _ (pairs : ℕ → List ℕ) (known : List ℕ) (target : ℕ → ℕ) wh
   mutual
     unfolding simplify replace alts
 
-    gives : (c : Content) → Gives target (simplify (replace c pairsMarked)) (alts results c)
+    gives : (c : Content) → Gives target (simplify (replace c (pairsMarked pairs known))) (alts results c)
     gives none = gives-none target
     gives empty = gives-empty target
     gives (type k) = gives-types (pairs k)
-    gives (sequence cs) = gives-sequence target (simplifyAll (replaceAll cs pairsMarked)) (altsOfEach results cs) (gives-each cs)
-    gives (choice cs) = gives-choice target (simplifyAll (replaceAll cs pairsMarked)) (altsOfEach results cs) (gives-each cs)
+    gives (sequence cs) = gives-sequence target (simplifyAll (replaceAll cs (pairsMarked pairs known))) (altsOfEach results cs) (gives-each cs)
+    gives (choice cs) = gives-choice target (simplifyAll (replaceAll cs (pairsMarked pairs known))) (altsOfEach results cs) (gives-each cs)
     gives (anyNumber c) =
-        gives-around target anyNumber wraps-any-number empty (empty ∷ []) (gives-empty target) (simplify (replace c pairsMarked)) (alts results c)
+        gives-around target anyNumber wraps-any-number empty (empty ∷ []) (gives-empty target) (simplify (replace c (pairsMarked pairs known))) (alts results c)
         (gives c)
     gives (oneOrMore c) =
-        gives-around target oneOrMore wraps-one-or-more none [] (gives-none target) (simplify (replace c pairsMarked)) (alts results c) (gives c)
+        gives-around target oneOrMore wraps-one-or-more none [] (gives-none target) (simplify (replace c (pairsMarked pairs known))) (alts results c) (gives c)
     gives (optional c) =
-        gives-around target optional wraps-optional empty (empty ∷ []) (gives-empty target) (simplify (replace c pairsMarked)) (alts results c)
+        gives-around target optional wraps-optional empty (empty ∷ []) (gives-empty target) (simplify (replace c (pairsMarked pairs known))) (alts results c)
         (gives c)
 
-    gives-each : (cs : Contents) → GivesEach target (simplifyAll (replaceAll cs pairsMarked)) (altsOfEach results cs)
+    gives-each : (cs : Contents) → GivesEach target (simplifyAll (replaceAll cs (pairsMarked pairs known))) (altsOfEach results cs)
     gives-each []ᶜ = Forall₂·nil
     gives-each (c ∷ᶜ cs) = Forall₂·cons (gives c) (gives-each cs)
 
+  -- where a sequence becomes none
+  pub some-none : (cs : Contents) → any isNone (simplifyAll (replaceAll cs (pairsMarked pairs known))) ≡ not (allHaveAlts (hasLeft pairs known) cs)
+  some-none cs =
+      each-none target (gives-each cs)
+      ∙ one-empty results cs
+      ∙ ap (λ has. not (allHaveAlts has cs)) (some-results pairs known target)
+
   pub gives-content : (c : Content) → Gives target (prune known (inPairsOf pairs c)) (alts results c)
-  unfolding prune
-  gives-content c =
-      subst (λ (d : Content). Gives target (simplify d) (alts results c)) (sym (replace-twice (λ k. choiceOf (map type (pairs k))) markPair c)) (gives c)
+  gives-content c = rw (pruned-marked pairs known c) (gives c)
 
   pub emitted : (c : Content) → tidy (retyped target (prune known (inPairsOf pairs c))) ≡ written (alts (resultsOf pairs known target) c)
   emitted c = gives-content c .tidied
 
   -- the contents of one pair
   gives-all : (cs : List Content)
-      → GivesEach target (map simplify (map (λ c. replace c markPair) (map (inPairsOf pairs) cs))) (map (alts results) cs)
+      → GivesEach target (map simplify (map (λ c. replace c (markPair known)) (map (inPairsOf pairs) cs))) (map (alts results) cs)
   unfolding prune
   gives-all [] = Forall₂·nil
   gives-all (c ∷ cs) = Forall₂·cons (gives-content c) (gives-all cs)
 
-  abbrev pub pairContent : List Content → Content
+  abbrev pairContent : List Content → Content
   pairContent cs = prune known (choiceOf (map (inPairsOf pairs) cs))
 
-  pub gives-pair-content : (cs : List Content) → Gives target (pairContent cs) (joinedOf (alts results) cs)
+  pub gives-pair-content : (cs : List Content) → Gives target (prune known (choiceOf (map (inPairsOf pairs) cs))) (joinedOf (alts results) cs)
   unfolding prune
   gives-pair-content cs =
       let ds : List Content = map (inPairsOf pairs) cs in
       subst₂ (Gives target)
-      (sym (ap simplify (replace-choice markPair ds) ∙ simplify-choice (map (λ c. replace c markPair) ds)))
+      (sym (ap simplify (replace-choice (markPair known) ds) ∙ simplify-choice (map (λ c. replace c (markPair known)) ds)))
       (joined-map (λ us. us) (alts results) cs)
-      (gives-choice target (map simplify (map (λ c. replace c markPair) ds)) (map (alts results) cs) (gives-all cs))
+      (gives-choice target (map simplify (map (λ c. replace c (markPair known)) ds)) (map (alts results) cs) (gives-all cs))
 
   pub emitted-pair : (cs : List Content)
       → tidy (retyped target (prune known (choiceOf (map (inPairsOf pairs) cs)))) ≡ written (joinedOf (alts (resultsOf pairs known target)) cs)

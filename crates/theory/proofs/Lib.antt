@@ -28,6 +28,7 @@ pub mod DistinctLaws
 pub mod Alternatives
 pub mod ChoiceLaws
 pub mod EmittedContent
+pub mod MetPairs
 pub mod NoTwo
 pub mod SameWords
 pub mod TidyWords
