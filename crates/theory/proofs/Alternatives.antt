@@ -337,8 +337,8 @@ module _ (results : ℕ → List ℕ) where
     alts-plain (sequence cs) = plain-in-sequence (altsOfEach results cs)
     alts-plain (choice cs) =
         λ x m.
-            let r = joined-from (λ xs. xs) (altsOfEach results cs) m in
-            each-plain cs (r .0) (r .1) x (r .2)
+        let r = joined-from (λ xs. xs) (altsOfEach results cs) m in
+        each-plain cs (r .0) (r .1) x (r .2)
     alts-plain (anyNumber c) = plain-around anyNumber plain-any-number (empty ∷ []) (plain-one plain-empty) (alts results c)
     alts-plain (oneOrMore c) = plain-around oneOrMore plain-one-or-more [] plain-nothing (alts results c)
     alts-plain (optional c) = plain-around optional plain-optional (empty ∷ []) (plain-one plain-empty) (alts results c)
