@@ -56,3 +56,4 @@ pub mod ReducedAutomaton
 pub mod LocalMerge
 pub mod SetsClosed
 pub mod SingleTypeMerge
+pub mod EmittedRule
