@@ -12,7 +12,7 @@
 --   word-alts  : hasWord known c ≡ hasAlts (λ k. isIn k known) c
 --   alts-renamed, has-renamed, pairs-renamed : of a content with types in place of types (the addition's, made distinct from the old)
 use Prim.Native.Nat.{ℕ}
-use mathlib.Core.Bool.{Bool, true, false, not, _&&_, _||_}
+use mathlib.Core.Bool.{Bool, true, false, not, _&&_, _||_, true≢false, false≢true}
 use mathlib.Core.List.{List, [], _∷_, _++_, map, List·Memᴰ, List·Memᴰ·cases-cons, List·Memᴰ·eq-of-singleton}
 use mathlib.Core.Logic.{⊎-elim}
 use mathlib.Core.Path.{_≡_, refl, sym, _∙_, ap, ap₂, subst, fun-ext}
@@ -218,6 +218,34 @@ module _ (results : ℕ → List ℕ) where
       append-empty (alts results c) (joinedOf (alts results) cs)
       ∙ ap₂ _&&_ (alts-empty c) (all-alts-empty cs)
       ∙ sym (not-or (hasAlts (someLeft results) c) (any (hasAlts (someLeft results)) cs))
+
+-- what a walk writes once it has asked whether there are alternatives
+around-full : (f : Content → Content) (others xs : List Content) → isEmpty xs ≡ false → around f others xs ≡ f (written xs) ∷ []
+unfolding around
+around-full f others [] e = absurd (true≢false e)
+around-full f others (x ∷ xs) e = refl
+
+around-blank : (f : Content → Content) (others xs : List Content) → isEmpty xs ≡ true → around f others xs ≡ others
+unfolding around
+around-blank f others [] e = refl
+around-blank f others (x ∷ xs) e = absurd (false≢true e)
+
+module _ (results : ℕ → List ℕ) where
+  module _ (f : Content → Content) (others : List Content) (c : Content) where
+    pub around-has : hasAlts (someLeft results) c ≡ true → around f others (alts results c) ≡ f (written (alts results c)) ∷ []
+    around-has e = around-full f others (alts results c) (alts-empty results c ∙ ap not e)
+
+    pub around-has-not : hasAlts (someLeft results) c ≡ false → around f others (alts results c) ≡ others
+    around-has-not e = around-blank f others (alts results c) (alts-empty results c ∙ ap not e)
+
+  pub sequence-has : (cs : Contents) → allHaveAlts (someLeft results) cs ≡ true
+      → alts results (sequence cs) ≡ sequence (operands (map written (altsOfEach results cs))) ∷ []
+  unfolding alts
+  sequence-has cs e = sequence-some (altsOfEach results cs) (one-empty results cs ∙ ap not e)
+
+  pub sequence-has-not : (cs : Contents) → allHaveAlts (someLeft results) cs ≡ false → alts results (sequence cs) ≡ []
+  unfolding alts
+  sequence-has-not cs e = sequence-none (altsOfEach results cs) (one-empty results cs ∙ ap not e)
 
 keep-some : {A : Type 0} (test : A → Bool) (xs : List A) → not (isEmpty (keep test xs)) ≡ any test xs
 unfolding keep any

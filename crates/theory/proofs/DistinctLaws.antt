@@ -2,6 +2,7 @@
 --   distinct-again : distinct same (distinct same xs) ≡ distinct same xs
 --   distinct-left  : distinct same (distinct same xs ++ ys) ≡ distinct same (xs ++ ys)
 --   distinct-join  : lists with the same distinct elements, joined, have the same distinct elements
+--   distinct-grows : what comes after only adds at the end
 --   one-more-old, one-more-new : an element at the end is dropped if it is there, and stays if it is not
 use mathlib.Core.Bool.{Bool, true, false, not, _||_, true≢false}
 use mathlib.Core.List.{List, [], _∷_, _++_, append-nil}
@@ -91,6 +92,17 @@ module _ {A : Type 0} where
     distinct-left (x ∷ xs) ys =
         ap (λ (l : List A). x ∷ l)
         (keep-before (λ y. not (same x y)) (distinct same xs) ys ∙ ap (keep (λ y. not (same x y))) (distinct-left xs ys))
+
+    -- what comes after adds at the end
+    pub distinct-grows : (xs ys : List A) → (more : List A) × (distinct same (xs ++ ys) ≡ distinct same xs ++ more)
+    unfolding distinct
+    distinct-grows [] ys = (distinct same ys, refl)
+    distinct-grows (x ∷ xs) ys =
+        let r = distinct-grows xs ys in
+        let unlike : (A → Bool) = λ y. not (same x y) in (
+          keep unlike (r .0),
+          ap (λ (l : List A). x ∷ l) (ap (keep unlike) (r .1) ∙ keep-append unlike (distinct same xs) (r .0)),
+        )
 
     pub distinct-again : (xs : List A) → distinct same (distinct same xs) ≡ distinct same xs
     distinct-again xs =

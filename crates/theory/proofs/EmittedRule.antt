@@ -7,15 +7,15 @@
 --                   source contents of those pairs make, in order
 -- and by it local-content, set-content, the tidied contents of the local and of the single-type form, and set-met, the pairs met in a set.
 use Prim.Native.Nat.{ℕ}
-use mathlib.Core.Bool.{Bool, true, false, not, _&&_}
-use mathlib.Core.List.{List, [], _∷_, _++_, map, map-map, List·Memᴰ, Memᴰ·map}
-use mathlib.Core.Path.{_≡_, refl, sym, _∙_, ap, subst, fun-ext}
+use mathlib.Core.Bool.{Bool, true}
+use mathlib.Core.List.{List, map, map-map, List·Memᴰ, Memᴰ·map}
+use mathlib.Core.Path.{_≡_, refl, sym, _∙_, ap, fun-ext}
 use lib.Dec.{eqb}
 use Rattle.grammar.specs.Lists.{any, keep, distinct, place, joinedOf, isIn, sameNumbers}
-use Rattle.grammar.specs.Content.{Content, type, typesIn, choiceOf, replace}
+use Rattle.grammar.specs.Content.{Content, type, typesIn, choiceOf}
 use Rattle.grammar.specs.Tree.{Tree}
 use Rattle.grammar.specs.Table.{Rule, Table}
-use Rattle.grammar.specs.Derivation.{Derives, derives, Fits}
+use Rattle.grammar.specs.Derivation.{Derives, derives}
 use Rattle.grammar.specs.KindTests.{samePair}
 use Rattle.grammar.specs.Normalise.{pairOf, pairsOf, inPairs, ruleOfPair, normalise}
 use Rattle.grammar.specs.Reduce.{
@@ -36,7 +36,7 @@ use Rattle.grammar.specs.Tidy.{tidy}
 use Rattle.theory.proofs.ListLaws.{any-of, keep-mem, kept, keep-map, distinct-was, in-mem}
 use Rattle.theory.proofs.TableConditions.{LabelsListed}
 use Rattle.theory.proofs.Fruitful.{has-word, forest-fruitful, fruitful-is}
-use Rattle.theory.proofs.NormaliseDocuments.{OfPair, same-pair, PairFits, pair-words, pair-fits, normalise-listed}
+use Rattle.theory.proofs.NormaliseDocuments.{OfPair, same-pair, pair-words, pair-fits, normalise-listed}
 use Rattle.theory.proofs.Alternatives.{written, alts, hasAlts, pairsMet, inPairsOf, retyped, pairsLeft, hasLeft, resultsOf}
 use Rattle.theory.proofs.EmittedContent.{emitted-rule, joined-map}
 use Rattle.theory.proofs.MetPairs.{met-in-pairs, word-met, word-met-in-pair}
@@ -144,3 +144,46 @@ module _ (u : Table) where
         ∙ ap (λ (cs : List Content). tidy (choiceOf cs)) (map-map (λ (r : Rule). retyped target (r .content)) ruleLeft merged)
         ∙ emitted-rule (pairsOf u) (fruitful (normalise u)) target pairContents merged
         (λ s m. pair-has s (kept (λ r. isIn (pairOf u r) (reached (withoutUnfruitful (normalise u)))) fruitfulPairs (kept (λ r. test (ruleLeft r)) pairsStanding m .0) .0))
+
+    abbrev left : Table
+    left = reduce (normalise u)
+
+    -- the rule of a label in the local form
+    pub local-content : (l : ℕ)
+        → tidy (ruleOfLabel (reduce (normalise u)) l .content)
+        ≡ written
+        (joinedOf
+        (alts
+        (resultsOf (pairsOf u) (fruitful (normalise u)) (λ p. typeOfLabel (reduce (normalise u)) (labelOf (reduce (normalise u)) p))))
+        (joinedOf pairContents (keep (λ (s : Rule). eqb (s .label) l) pairsStanding)))
+    unfolding ruleOfLabel
+    local-content l = emitted-merge (λ p. typeOfLabel left (labelOf left p)) (λ (r : Rule). eqb (r .label) l)
+
+    -- the content of a set in the single-type form
+    pub set-content : (sets : List TypeSet) (s : TypeSet)
+        → tidy (contentOfSet (reduce (normalise u)) sets s)
+        ≡ written
+        (joinedOf
+        (alts
+        (resultsOf (pairsOf u) (fruitful (normalise u))
+        (λ p.
+        place sameNumbers
+        (ofLabel (reduce (normalise u)) (typesMet (reduce (normalise u)) s) (labelOf (reduce (normalise u)) p))
+        sets)))
+        (joinedOf pairContents (keep (λ r. isIn (pairOf u r) s) pairsStanding)))
+    unfolding contentOfSet members
+    set-content sets s =
+        emitted-merge (λ p. place sameNumbers (ofLabel left (typesMet left s) (labelOf left p)) sets) (λ (r : Rule). isIn (r .type) s)
+
+  -- the pairs met in a set
+  pub set-met : (s : TypeSet)
+      → typesMet (reduce (normalise u)) s
+      ≡ joinedOf (pairsMet (pairsLeft (pairsOf u) (fruitful (normalise u))))
+      (joinedOf pairContents (keep (λ r. isIn (pairOf u r) s) pairsStanding))
+  unfolding typesMet members
+  set-met s =
+      let ms : List Rule = keep (λ r. isIn (pairOf u r) s) pairsStanding in
+      ap (joinedOf (λ (r : Rule). typesIn (r .content)))
+      (ap (keep (λ (r : Rule). isIn (r .type) s)) left-rules ∙ keep-map ruleLeft (λ (r : Rule). isIn (r .type) s) pairsStanding)
+      ∙ joined-map (λ (r : Rule). typesIn (r .content)) ruleLeft ms
+      ∙ met-in-pairs (pairsOf u) (fruitful (normalise u)) pairContents ms

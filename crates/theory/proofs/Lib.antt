@@ -57,3 +57,4 @@ pub mod LocalMerge
 pub mod SetsClosed
 pub mod SingleTypeMerge
 pub mod EmittedRule
+pub mod Gathering
