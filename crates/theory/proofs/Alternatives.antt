@@ -10,7 +10,7 @@
 --   alts-plain : an alternative is no choice, and it is not none
 --   productive : isEmpty (alts (resultsOf pairs known target) c) ≡ not (hasAlts (hasLeft pairs known) c)
 --   word-alts  : hasWord known c ≡ hasAlts (λ k. isIn k known) c
---   alts-renamed, has-renamed, pairs-renamed : of a content with types in place of types (the addition's, made distinct from the old)
+--   alts-renamed, has-renamed, pairs-renamed : of a content with types in place of types (as the addition's are made distinct)
 use Prim.Native.Nat.{ℕ}
 use mathlib.Core.Bool.{Bool, true, false, not, _&&_, _||_, true≢false, false≢true}
 use mathlib.Core.List.{List, [], _∷_, _++_, map, List·Memᴰ, List·Memᴰ·cases-cons, List·Memᴰ·eq-of-singleton}
@@ -102,8 +102,8 @@ onlyIf false xs = []
 unfoldable pub someLeft : (ℕ → List ℕ) → ℕ → Bool
 someLeft left k = not (isEmpty (left k))
 
--- Over any pairs of a source type, any known (fruitful) pairs and any result type of a pair: a content with the choice of its pairs
--- for each source type, and a content with a result type for each pair
+-- Over any pairs of a source type, any known (fruitful) pairs and any result type of a pair: a content with the choice of its
+-- pairs for each source type, and a content with a result type for each pair
 abbrev pub inPairsOf : (ℕ → List ℕ) → Content → Content
 inPairsOf pairs c = replace c (λ k. choiceOf (map type (pairs k)))
 
@@ -153,7 +153,8 @@ pub sequence-none : (xss : List (List Content)) → any isEmpty xss ≡ true →
 unfolding inSequence
 sequence-none xss e = rw (e, inSequence)
 
-pub sequence-some : (xss : List (List Content)) → any isEmpty xss ≡ false → inSequence xss ≡ sequence (operands (map written xss)) ∷ []
+pub sequence-some : (xss : List (List Content)) → any isEmpty xss ≡ false
+    → inSequence xss ≡ sequence (operands (map written xss)) ∷ []
 unfolding inSequence
 sequence-some xss e = rw (e, inSequence)
 
@@ -204,7 +205,8 @@ module _ (results : ℕ → List ℕ) where
         ap₂ _||_ (alts-empty c) (one-empty cs)
         ∙ sym (not-and (hasAlts (someLeft results) c) (allHaveAlts (someLeft results) cs))
 
-    pub all-empty : (cs : Contents) → isEmpty (joinedOf (λ xs. xs) (altsOfEach results cs)) ≡ not (oneHasAlts (someLeft results) cs)
+    pub all-empty : (cs : Contents)
+        → isEmpty (joinedOf (λ xs. xs) (altsOfEach results cs)) ≡ not (oneHasAlts (someLeft results) cs)
     all-empty []ᶜ = refl
     all-empty (c ∷ᶜ cs) =
         append-empty (alts results c) (joinedOf (λ xs. xs) (altsOfEach results cs))
@@ -267,7 +269,8 @@ module _ (pairs : ℕ → List ℕ) (known : List ℕ) where
   some-results target =
       fun-ext (λ k. ap not (map-empty target (pairsLeft pairs known k)) ∙ keep-some (λ p. isIn p known) (pairs k))
 
-  pub productive : (target : ℕ → ℕ) (c : Content) → isEmpty (alts (resultsOf pairs known target) c) ≡ not (hasAlts (hasLeft pairs known) c)
+  pub productive : (target : ℕ → ℕ) (c : Content)
+      → isEmpty (alts (resultsOf pairs known target) c) ≡ not (hasAlts (hasLeft pairs known) c)
   productive target c = alts-empty (resultsOf pairs known target) c ∙ ap (λ has. not (hasAlts has c)) (some-results target)
 
   pub all-productive : (target : ℕ → ℕ) (cs : List Content)

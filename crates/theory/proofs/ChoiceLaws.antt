@@ -6,7 +6,18 @@
 -- And of replacing twice: replace-twice : replace (replace c f) g ≡ replace c (λ k. replace (f k) g)
 use Prim.Native.Nat.{ℕ}
 use mathlib.Core.Bool.{Bool, true, false, not, _||_, false≢true}
-use mathlib.Core.List.{List, [], _∷_, _++_, append-nil, map, List·Memᴰ, List·Memᴰ·head, List·Memᴰ·append-cases, List·Memᴰ·eq-of-singleton}
+use mathlib.Core.List.{
+  List,
+  [],
+  _∷_,
+  _++_,
+  append-nil,
+  map,
+  List·Memᴰ,
+  List·Memᴰ·head,
+  List·Memᴰ·append-cases,
+  List·Memᴰ·eq-of-singleton,
+}
 use mathlib.Core.Logic.{⊎-elim}
 use mathlib.Core.Path.{_≡_, refl, sym, _∙_, ap, ap₂, subst}
 use Rattle.grammar.specs.Lists.{any, keep, distinct, joinedOf}
@@ -99,7 +110,8 @@ pub simplify-choice : (xs : List Content) → simplify (choiceOf xs) ≡ choiceO
 unfolding choiceOf simplify
 simplify-choice [] = refl
 simplify-choice (x ∷ []) = sym (one-kept (simplify x))
-simplify-choice (x ∷ y ∷ ys) = ap (λ (l : List Content). choiceOf (keep notNone (simplify x ∷ simplify y ∷ l))) (simplify-operands ys)
+simplify-choice (x ∷ y ∷ ys) =
+    ap (λ (l : List Content). choiceOf (keep notNone (simplify x ∷ simplify y ∷ l))) (simplify-operands ys)
 
 -- having a word
 module _ (known : List ℕ) where
@@ -165,13 +177,15 @@ mutual
   all-single : (cs : Contents) → Single (joinedOf alternatives (tidyAll cs))
   all-single []ᶜ = λ x m. elim m [ ]
   all-single (c ∷ᶜ cs) =
-      single-append (alternatives (tidy c)) (joinedOf alternatives (tidyAll cs)) (λ x m. tidied-single c x m) (λ x m. all-single cs x m)
+      single-append (alternatives (tidy c)) (joinedOf alternatives (tidyAll cs)) (λ x m. tidied-single c x m)
+      (λ x m. all-single cs x m)
 
 written-one : (x : Content) → alternatives x ≡ x ∷ [] → written (alternatives x) ≡ x
 unfolding written
 written-one x e = rw e refl
 
-written-again : (xs : List Content) → Single xs → distinct sameContent xs ≡ xs → written (alternatives (choiceOf xs)) ≡ choiceOf xs
+written-again : (xs : List Content) → Single xs → distinct sameContent xs ≡ xs
+    → written (alternatives (choiceOf xs)) ≡ choiceOf xs
 unfolding written alternatives
 written-again [] p e = refl
 written-again (x ∷ xs) p e = ap written (alternatives-choice x xs p) ∙ ap choiceOf e

@@ -138,7 +138,8 @@ module _ {A : Type 0} where
         ∙ append-nil (keep (λ z. not (same x z)) ys)
 
     -- an element at the end: new, or there before
-    pub one-more-new : (xs : List A) (y : A) → any (same y) xs ≡ false → distinct same (xs ++ (y ∷ [])) ≡ distinct same xs ++ (y ∷ [])
+    pub one-more-new : (xs : List A) (y : A) → any (same y) xs ≡ false
+        → distinct same (xs ++ (y ∷ [])) ≡ distinct same xs ++ (y ∷ [])
     unfolding distinct any
     one-more-new [] y e = refl
     one-more-new (x ∷ xs) y e =

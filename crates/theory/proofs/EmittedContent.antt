@@ -3,12 +3,25 @@
 --   emitted      one source content, in normal form, pruned, with result types for pairs, tidied:
 --                  tidy (retyped target (prune known (inPairsOf pairs c))) ≡ written (alts (resultsOf pairs known target) c)
 --   emitted-pair the source contents of one pair, joined by choice: the same of their joined alternatives
---   emitted-rule a rule of the result, the choice of the contents of some pairs: the same of all the pairs' source contents in order,
+--   emitted-rule a rule of the result, the choice of the contents of some pairs: the same of all their source contents in order,
 --                provided that each pair has alternatives (as a fruitful one does: among several a none would stay as an operand)
 -- `written []` is none, so in the first two a content that reducing leaves as none comes out as none.
 use Prim.Native.Nat.{ℕ}
 use mathlib.Core.Bool.{Bool, true, false, not, _||_}
-use mathlib.Core.List.{List, [], _∷_, _++_, map, map-map, List·Memᴰ, List·Memᴰ·head, List·Memᴰ·tail, Forall₂, Forall₂·nil, Forall₂·cons}
+use mathlib.Core.List.{
+  List,
+  [],
+  _∷_,
+  _++_,
+  map,
+  map-map,
+  List·Memᴰ,
+  List·Memᴰ·head,
+  List·Memᴰ·tail,
+  Forall₂,
+  Forall₂·nil,
+  Forall₂·cons,
+}
 use mathlib.Core.Path.{_≡_, refl, sym, _∙_, ap, ap₂, subst, subst₂}
 use Rattle.grammar.specs.Lists.{any, keep, distinct, joinedOf, isIn}
 use Rattle.grammar.specs.Content.{
@@ -37,7 +50,25 @@ use Rattle.theory.proofs.ListLaws.{keep-yes, keep-no, kept}
 use Rattle.theory.proofs.ReplacedTypes.{joined-append}
 use Rattle.theory.proofs.ContentBytes.{same-content}
 use Rattle.theory.proofs.DistinctLaws.{distinct-again, distinct-join}
-use Rattle.theory.proofs.Alternatives.{written, around, inSequence, alts, altsOfEach, onlyIf, inPairsOf, retyped, resultsOf, hasAlts, allHaveAlts, hasLeft, one-empty, some-results, all-productive, sequence-none, sequence-some}
+use Rattle.theory.proofs.Alternatives.{
+  written,
+  around,
+  inSequence,
+  alts,
+  altsOfEach,
+  onlyIf,
+  inPairsOf,
+  retyped,
+  resultsOf,
+  hasAlts,
+  allHaveAlts,
+  hasLeft,
+  one-empty,
+  some-results,
+  all-productive,
+  sequence-none,
+  sequence-some,
+}
 use Rattle.theory.proofs.ChoiceLaws.{
   notNone,
   Single,
@@ -51,9 +82,11 @@ use Rattle.theory.proofs.ChoiceLaws.{
   tidy-choice,
 }
 
-alternatives-written : (x : Content) (xs : List Content) → Single (x ∷ xs) → alternatives (written (x ∷ xs)) ≡ distinct sameContent (x ∷ xs)
+alternatives-written : (x : Content) (xs : List Content) → Single (x ∷ xs)
+    → alternatives (written (x ∷ xs)) ≡ distinct sameContent (x ∷ xs)
 unfolding written
-alternatives-written x xs p = alternatives-choice x (keep (λ y. not (sameContent x y)) (distinct sameContent xs)) (single-distinct (x ∷ xs) p)
+alternatives-written x xs p =
+    alternatives-choice x (keep (λ y. not (sameContent x y)) (distinct sameContent xs)) (single-distinct (x ∷ xs) p)
 
 -- an operator of one operand
 record Wraps (f : Content → Content) : Type 0 where
@@ -73,6 +106,10 @@ wraps-one-or-more = record { never-none = λ c. refl; replaced = λ c h. refl; t
 wraps-optional : Wraps optional
 unfolding isNone replace tidy
 wraps-optional = record { never-none = λ c. refl; replaced = λ c h. refl; tidied = λ c. refl; alone = λ c. refl }
+
+-- a content, or another in its place
+abbrev pub unless : Bool → Content → Content → Content
+unless b other c = elim b as (λ x. Content) [ true ↦ other | false ↦ c ]
 
 module _ (target : ℕ → ℕ) where
   -- a pruned content, and the alternatives that it gives
@@ -98,11 +135,11 @@ module _ (target : ℕ → ℕ) where
 
   -- an operator around an operand; other where the operand is none
   gives-around : (f : Content → Content) → Wraps f → (other : Content) (others : List Content) → Gives other others
-      → (x : Content) (us : List Content) → Gives x us → Gives (elim (isNone x) as (λ b. Content) [ true ↦ other | false ↦ f x ]) (around f others us)
+      → (x : Content) (us : List Content) → Gives x us → Gives (unless (isNone x) other (f x)) (around f others us)
   unfolding around written
-  gives-around f w other others q x [] g = subst (λ (b : Bool). Gives (elim b as (λ b. Content) [ true ↦ other | false ↦ f x ]) others) (sym (g .none-if)) q
+  gives-around f w other others q x [] g = subst (λ (b : Bool). Gives (unless b other (f x)) others) (sym (g .none-if)) q
   gives-around f w other others q x (u ∷ us) g =
-      subst (λ (b : Bool). Gives (elim b as (λ b. Content) [ true ↦ other | false ↦ f x ]) (f (written (u ∷ us)) ∷ [])) (sym (g .none-if))
+      subst (λ (b : Bool). Gives (unless b other (f x)) (f (written (u ∷ us)) ∷ [])) (sym (g .none-if))
       (record {
         none-if = w .never-none x;
         tidied =
@@ -133,12 +170,12 @@ module _ (target : ℕ → ℕ) where
       }
 
   gives-sequence : (xs : List Content) (uss : List (List Content)) → GivesEach xs uss
-      → Gives (elim (any isNone xs) as (λ b. Content) [ true ↦ none | false ↦ sequence (operands xs) ]) (inSequence uss)
+      → Gives (unless (any isNone xs) none (sequence (operands xs))) (inSequence uss)
   gives-sequence xs uss gs =
-      subst (λ (b : Bool). Gives (elim b as (λ b. Content) [ true ↦ none | false ↦ sequence (operands xs) ]) (inSequence uss)) (sym (each-none gs))
+      subst (λ (b : Bool). Gives (unless b none (sequence (operands xs))) (inSequence uss)) (sym (each-none gs))
       (go (any isEmpty uss) refl)
     where
-      go : (b : Bool) → any isEmpty uss ≡ b → Gives (elim b as (λ b. Content) [ true ↦ none | false ↦ sequence (operands xs) ]) (inSequence uss)
+      go : (b : Bool) → any isEmpty uss ≡ b → Gives (unless b none (sequence (operands xs))) (inSequence uss)
       go true e = rw (sequence-none uss e) gives-none
       go false e = rw (sequence-some uss e) (whole-sequence xs uss gs)
 
@@ -216,7 +253,8 @@ module _ {A B C : Type 0} where
   joined-map g f [] = refl
   joined-map g f (x ∷ xs) = ap (λ (l : List C). g (f x) ++ l) (joined-map g f xs)
 
-  pub joined-twice : (g : B → List C) (f : A → List B) (xs : List A) → joinedOf g (joinedOf f xs) ≡ joinedOf (λ x. joinedOf g (f x)) xs
+  pub joined-twice : (g : B → List C) (f : A → List B) (xs : List A)
+      → joinedOf g (joinedOf f xs) ≡ joinedOf (λ x. joinedOf g (f x)) xs
   unfolding joinedOf
   joined-twice g f [] = refl
   joined-twice g f (x ∷ xs) =
@@ -224,7 +262,7 @@ module _ {A B C : Type 0} where
 
 -- a pair as pruning leaves it before it simplifies, and a source type so
 abbrev pub markPair : List ℕ → ℕ → Content
-markPair known p = elim (isIn p known) as (λ b. Content) [ true ↦ type p | false ↦ none ]
+markPair known p = elim (isIn p known) as (λ x. Content) [ true ↦ type p | false ↦ none ]
 
 abbrev pub pairsMarked : (ℕ → List ℕ) → List ℕ → ℕ → Content
 pairsMarked pairs known k = replace (choiceOf (map type (pairs k))) (markPair known)
@@ -235,6 +273,14 @@ unfolding prune
 pruned-marked pairs known c = ap simplify (replace-twice (λ k. choiceOf (map type (pairs k))) (markPair known) c)
 
 module _ (pairs : ℕ → List ℕ) (known : List ℕ) (target : ℕ → ℕ) where
+  -- contents, each pruned
+  abbrev eachPruned : List Content → List Content
+  eachPruned cs = map simplify (map (λ c. replace c (markPair known)) cs)
+
+  pruned-choice : (cs : List Content) → prune known (choiceOf cs) ≡ choiceOf (keep notNone (eachPruned cs))
+  unfolding prune
+  pruned-choice cs = ap simplify (replace-choice (markPair known) cs) ∙ simplify-choice (map (λ c. replace c (markPair known)) cs)
+
   -- the pairs of one type
   ofPair : ℕ → List Content
   ofPair p = onlyIf (isIn p known) (type (target p) ∷ [])
@@ -243,11 +289,12 @@ module _ (pairs : ℕ → List ℕ) (known : List ℕ) (target : ℕ → ℕ) wh
   unfolding simplify replace ofPair onlyIf
   gives-pair p = go (isIn p known)
     where
-      go : (b : Bool) → Gives target (simplify (elim b as (λ b. Content) [ true ↦ type p | false ↦ none ])) (onlyIf b (type (target p) ∷ []))
+      go : (b : Bool)
+          → Gives target (simplify (elim b as (λ x. Content) [ true ↦ type p | false ↦ none ])) (onlyIf b (type (target p) ∷ []))
       go true = gives-type target p
       go false = gives-none target
 
-  gives-each-pair : (ps : List ℕ) → GivesEach target (map simplify (map (λ c. replace c (markPair known)) (map type ps))) (map ofPair ps)
+  gives-each-pair : (ps : List ℕ) → GivesEach target (eachPruned (map type ps)) (map ofPair ps)
   gives-each-pair [] = Forall₂·nil
   gives-each-pair (p ∷ ps) = Forall₂·cons (gives-pair p) (gives-each-pair ps)
 
@@ -258,45 +305,51 @@ module _ (pairs : ℕ → List ℕ) (known : List ℕ) (target : ℕ → ℕ) wh
     where
       go : (b : Bool) → joinedOf (λ us. us) (map ofPair ps) ≡ map type (map target (keep (λ q. isIn q known) ps))
           → onlyIf b (type (target p) ∷ []) ++ joinedOf (λ us. us) (map ofPair ps)
-          ≡ map type (map target (elim b as (λ b. List ℕ) [ true ↦ p ∷ keep (λ q. isIn q known) ps | false ↦ keep (λ q. isIn q known) ps ]))
+          ≡ map type
+          (map target (elim b as (λ x. List ℕ) [ true ↦ p ∷ keep (λ q. isIn q known) ps | false ↦ keep (λ q. isIn q known) ps ]))
       go true ih = ap (λ (l : List Content). type (target p) ∷ l) ih
       go false ih = ih
 
   gives-types : (ps : List ℕ)
-      → Gives target (simplify (replace (choiceOf (map type ps)) (markPair known))) (map type (map target (keep (λ p. isIn p known) ps)))
+      → Gives target (prune known (choiceOf (map type ps))) (map type (map target (keep (λ p. isIn p known) ps)))
   gives-types ps =
-      subst₂ (Gives target)
-      (sym (ap simplify (replace-choice (markPair known) (map type ps)) ∙ simplify-choice (map (λ c. replace c (markPair known)) (map type ps))))
-      (of-pairs ps)
-      (gives-choice target (map simplify (map (λ c. replace c (markPair known)) (map type ps))) (map ofPair ps) (gives-each-pair ps))
+      subst₂ (Gives target) (sym (pruned-choice (map type ps))) (of-pairs ps)
+      (gives-choice target (eachPruned (map type ps)) (map ofPair ps) (gives-each-pair ps))
 
   abbrev results : ℕ → List ℕ
   results = resultsOf pairs known target
 
-  mutual
-    unfolding simplify replace alts
+  -- a source content, and some, pruned
+  abbrev pruned : Content → Content
+  pruned c = simplify (replace c (pairsMarked pairs known))
 
-    gives : (c : Content) → Gives target (simplify (replace c (pairsMarked pairs known))) (alts results c)
+  abbrev prunedAll : Contents → List Content
+  prunedAll cs = simplifyAll (replaceAll cs (pairsMarked pairs known))
+
+  mutual
+    unfolding simplify replace alts prune
+
+    gives : (c : Content) → Gives target (pruned c) (alts results c)
     gives none = gives-none target
     gives empty = gives-empty target
     gives (type k) = gives-types (pairs k)
-    gives (sequence cs) = gives-sequence target (simplifyAll (replaceAll cs (pairsMarked pairs known))) (altsOfEach results cs) (gives-each cs)
-    gives (choice cs) = gives-choice target (simplifyAll (replaceAll cs (pairsMarked pairs known))) (altsOfEach results cs) (gives-each cs)
+    gives (sequence cs) = gives-sequence target (prunedAll cs) (altsOfEach results cs) (gives-each cs)
+    gives (choice cs) = gives-choice target (prunedAll cs) (altsOfEach results cs) (gives-each cs)
     gives (anyNumber c) =
-        gives-around target anyNumber wraps-any-number empty (empty ∷ []) (gives-empty target) (simplify (replace c (pairsMarked pairs known))) (alts results c)
+        gives-around target anyNumber wraps-any-number empty (empty ∷ []) (gives-empty target) (pruned c) (alts results c)
         (gives c)
     gives (oneOrMore c) =
-        gives-around target oneOrMore wraps-one-or-more none [] (gives-none target) (simplify (replace c (pairsMarked pairs known))) (alts results c) (gives c)
+        gives-around target oneOrMore wraps-one-or-more none [] (gives-none target) (pruned c) (alts results c) (gives c)
     gives (optional c) =
-        gives-around target optional wraps-optional empty (empty ∷ []) (gives-empty target) (simplify (replace c (pairsMarked pairs known))) (alts results c)
+        gives-around target optional wraps-optional empty (empty ∷ []) (gives-empty target) (pruned c) (alts results c)
         (gives c)
 
-    gives-each : (cs : Contents) → GivesEach target (simplifyAll (replaceAll cs (pairsMarked pairs known))) (altsOfEach results cs)
+    gives-each : (cs : Contents) → GivesEach target (prunedAll cs) (altsOfEach results cs)
     gives-each []ᶜ = Forall₂·nil
     gives-each (c ∷ᶜ cs) = Forall₂·cons (gives c) (gives-each cs)
 
   -- where a sequence becomes none
-  pub some-none : (cs : Contents) → any isNone (simplifyAll (replaceAll cs (pairsMarked pairs known))) ≡ not (allHaveAlts (hasLeft pairs known) cs)
+  pub some-none : (cs : Contents) → any isNone (prunedAll cs) ≡ not (allHaveAlts (hasLeft pairs known) cs)
   some-none cs =
       each-none target (gives-each cs)
       ∙ one-empty results cs
@@ -305,12 +358,13 @@ module _ (pairs : ℕ → List ℕ) (known : List ℕ) (target : ℕ → ℕ) wh
   pub gives-content : (c : Content) → Gives target (prune known (inPairsOf pairs c)) (alts results c)
   gives-content c = rw (pruned-marked pairs known c) (gives c)
 
-  pub emitted : (c : Content) → tidy (retyped target (prune known (inPairsOf pairs c))) ≡ written (alts (resultsOf pairs known target) c)
+  pub emitted : (c : Content)
+      → tidy (retyped target (prune known (inPairsOf pairs c))) ≡ written (alts (resultsOf pairs known target) c)
   emitted c = gives-content c .tidied
 
   -- the contents of one pair
   gives-all : (cs : List Content)
-      → GivesEach target (map simplify (map (λ c. replace c (markPair known)) (map (inPairsOf pairs) cs))) (map (alts results) cs)
+      → GivesEach target (eachPruned (map (inPairsOf pairs) cs)) (map (alts results) cs)
   unfolding prune
   gives-all [] = Forall₂·nil
   gives-all (c ∷ cs) = Forall₂·cons (gives-content c) (gives-all cs)
@@ -318,21 +372,21 @@ module _ (pairs : ℕ → List ℕ) (known : List ℕ) (target : ℕ → ℕ) wh
   abbrev pairContent : List Content → Content
   pairContent cs = prune known (choiceOf (map (inPairsOf pairs) cs))
 
-  pub gives-pair-content : (cs : List Content) → Gives target (prune known (choiceOf (map (inPairsOf pairs) cs))) (joinedOf (alts results) cs)
-  unfolding prune
+  pub gives-pair-content : (cs : List Content)
+      → Gives target (prune known (choiceOf (map (inPairsOf pairs) cs))) (joinedOf (alts results) cs)
   gives-pair-content cs =
       let ds : List Content = map (inPairsOf pairs) cs in
-      subst₂ (Gives target)
-      (sym (ap simplify (replace-choice (markPair known) ds) ∙ simplify-choice (map (λ c. replace c (markPair known)) ds)))
-      (joined-map (λ us. us) (alts results) cs)
-      (gives-choice target (map simplify (map (λ c. replace c (markPair known)) ds)) (map (alts results) cs) (gives-all cs))
+      subst₂ (Gives target) (sym (pruned-choice ds)) (joined-map (λ us. us) (alts results) cs)
+      (gives-choice target (eachPruned ds) (map (alts results) cs) (gives-all cs))
 
   pub emitted-pair : (cs : List Content)
-      → tidy (retyped target (prune known (choiceOf (map (inPairsOf pairs) cs)))) ≡ written (joinedOf (alts (resultsOf pairs known target)) cs)
+      → tidy (retyped target (prune known (choiceOf (map (inPairsOf pairs) cs))))
+      ≡ written (joinedOf (alts (resultsOf pairs known target)) cs)
   emitted-pair cs = gives-pair-content cs .tidied
 
   -- what is left of a pair's contents is none just where they have no alternatives
-  pub pair-none : (cs : List Content) → isNone (prune known (choiceOf (map (inPairsOf pairs) cs))) ≡ not (any (hasAlts (hasLeft pairs known)) cs)
+  pub pair-none : (cs : List Content)
+      → isNone (prune known (choiceOf (map (inPairsOf pairs) cs))) ≡ not (any (hasAlts (hasLeft pairs known)) cs)
   pair-none cs = gives-pair-content cs .none-if ∙ all-productive pairs known target cs
 
   -- the contents of some pairs
@@ -349,7 +403,8 @@ module _ (pairs : ℕ → List ℕ) (known : List ℕ) (target : ℕ → ℕ) wh
     unfolding keep
     all-kept [] h = refl
     all-kept (p ∷ ps) h =
-        keep-yes notNone (left p) (map left ps) (ap not (pair-none (contents p)) ∙ ap (λ b. not (not b)) (h p (List·Memᴰ·head refl)))
+        keep-yes notNone (left p) (map left ps)
+        (ap not (pair-none (contents p)) ∙ ap (λ b. not (not b)) (h p (List·Memᴰ·head refl)))
         ∙ ap (λ (l : List Content). left p ∷ l) (all-kept ps (λ q m. h q (List·Memᴰ·tail m)))
 
     pub emitted-rule : (ps : List A) → ((p : A) → List·Memᴰ p ps → any (hasAlts (hasLeft pairs known)) (contents p) ≡ true)

@@ -1,11 +1,12 @@
--- The steps of widening by a united table's own rules, with no table between. A pair stands by its first rule, and its contents are
--- those of its rules, in order.
+-- The steps of widening by a united table's own rules, with no table between. A pair stands by its first rule, and its contents
+-- are those of its rules, in order.
 --   newly-fruitful  the pairs that a round of Reduce finds fruitful: those whose contents have alternatives
 --   newly-reached   the pairs that a round finds reached: those met in the contents of the reached ones
 --   left-rules      the rules that reducing the normal form leaves: one for each pair that is left
---   emitted-merge   the tidied choice of the contents of some rules left, result types for pairs: what the alternatives of all the
---                   source contents of those pairs make, in order
--- and by it local-content, set-content, the tidied contents of the local and of the single-type form, and set-met, the pairs met in a set.
+--   emitted-merge   the tidied choice of the contents of some rules left, result types for pairs: what the alternatives of all
+--                   the source contents of those pairs make, in order
+--   local-content   so of the rule of a label in the local form
+--   set-content     so of a set in the single-type form, and set-met: the pairs met in a set
 use Prim.Native.Nat.{ℕ}
 use mathlib.Core.Bool.{Bool, true}
 use mathlib.Core.List.{List, map, map-map, List·Memᴰ, Memᴰ·map}
@@ -106,8 +107,9 @@ module _ (u : Table) where
   unfolding newlyReached
   newly-reached seen =
       ap (notKnown seen)
-      (ap (λ (rs : List Rule). joinedOf (λ (r : Rule). typesIn (r .content)) (keep (λ (r : Rule). isIn (r .type) seen) rs)) fruitful-rules
-      ∙ ap (joinedOf (λ (r : Rule). typesIn (r .content))) (keep-map ruleLeft (λ (r : Rule). isIn (r .type) seen) fruitfulPairs)
+      (ap (joinedOf (λ (r : Rule). typesIn (r .content)))
+      (ap (keep (λ (r : Rule). isIn (r .type) seen)) fruitful-rules
+      ∙ keep-map ruleLeft (λ (r : Rule). isIn (r .type) seen) fruitfulPairs)
       ∙ joined-map (λ (r : Rule). typesIn (r .content)) ruleLeft (keep (λ s. isIn (pairOf u s) seen) fruitfulPairs)
       ∙ met-in-pairs (pairsOf u) (fruitful (normalise u)) pairContents (keep (λ s. isIn (pairOf u s) seen) fruitfulPairs))
 
@@ -121,15 +123,16 @@ module _ (u : Table) where
         let q = pair-fits u p n w .0 f in
         let c = q .rule .content in
         let e = has-word known (inPairs u c) .1 (w, pair-words u c w .1 (q .word), forest-fruitful (normalise u) all) in
-        any-of (hasAlts (hasLeft (pairsOf u) known))
-        (Memᴰ·map (λ (r : Rule). r .content) (keep-mem (samePair s) (q .of-pair .of-table) (same-pair u s (q .rule) o (q .of-pair))))
+        let m = keep-mem (samePair s) (q .of-pair .of-table) (same-pair u s (q .rule) o (q .of-pair)) in
+        any-of (hasAlts (hasLeft (pairsOf u) known)) (Memᴰ·map (λ (r : Rule). r .content) m)
         (sym (word-met (pairsOf u) known c) ∙ e)
 
     pair-has : (s : Rule) → List·Memᴰ s fruitfulPairs
         → any (hasAlts (hasLeft (pairsOf u) (fruitful (normalise u)))) (pairContents s) ≡ true
     pair-has s m =
         let k = kept (λ r. isIn (pairOf u r) (fruitful (normalise u))) firstRules m in
-        let t = fruitful-is (normalise u) (normalise-listed u listed) (pairOf u s) .0 (in-mem (pairOf u s) (fruitful (normalise u)) (k .1)) in
+        let n = in-mem (pairOf u s) (fruitful (normalise u)) (k .1) in
+        let t = fruitful-is (normalise u) (normalise-listed u listed) (pairOf u s) .0 n in
         has-tree s (record { of-table = distinct-was samePair (u .rules) (k .0); numbered = refl }) (t .1)
 
     pub emitted-merge : (target : ℕ → ℕ) (test : Rule → Bool)
@@ -143,7 +146,9 @@ module _ (u : Table) where
         (ap (keep test) left-rules ∙ keep-map ruleLeft test pairsStanding)
         ∙ ap (λ (cs : List Content). tidy (choiceOf cs)) (map-map (λ (r : Rule). retyped target (r .content)) ruleLeft merged)
         ∙ emitted-rule (pairsOf u) (fruitful (normalise u)) target pairContents merged
-        (λ s m. pair-has s (kept (λ r. isIn (pairOf u r) (reached (withoutUnfruitful (normalise u)))) fruitfulPairs (kept (λ r. test (ruleLeft r)) pairsStanding m .0) .0))
+        (λ s m.
+        let n = kept (λ r. test (ruleLeft r)) pairsStanding m .0 in
+        pair-has s (kept (λ r. isIn (pairOf u r) (reached (withoutUnfruitful (normalise u)))) fruitfulPairs n .0))
 
     abbrev left : Table
     left = reduce (normalise u)
@@ -154,7 +159,8 @@ module _ (u : Table) where
         ≡ written
         (joinedOf
         (alts
-        (resultsOf (pairsOf u) (fruitful (normalise u)) (λ p. typeOfLabel (reduce (normalise u)) (labelOf (reduce (normalise u)) p))))
+        (resultsOf (pairsOf u) (fruitful (normalise u))
+        (λ p. typeOfLabel (reduce (normalise u)) (labelOf (reduce (normalise u)) p))))
         (joinedOf pairContents (keep (λ (s : Rule). eqb (s .label) l) pairsStanding)))
     unfolding ruleOfLabel
     local-content l = emitted-merge (λ p. typeOfLabel left (labelOf left p)) (λ (r : Rule). eqb (r .label) l)
@@ -173,7 +179,8 @@ module _ (u : Table) where
         (joinedOf pairContents (keep (λ r. isIn (pairOf u r) s) pairsStanding)))
     unfolding contentOfSet members
     set-content sets s =
-        emitted-merge (λ p. place sameNumbers (ofLabel left (typesMet left s) (labelOf left p)) sets) (λ (r : Rule). isIn (r .type) s)
+        emitted-merge (λ p. place sameNumbers (ofLabel left (typesMet left s) (labelOf left p)) sets)
+        (λ (r : Rule). isIn (r .type) s)
 
   -- the pairs met in a set
   pub set-met : (s : TypeSet)

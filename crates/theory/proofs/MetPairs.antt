@@ -1,4 +1,4 @@
--- The pairs that stand in what reducing leaves of source contents in normal form, left to right, straight from the source contents:
+-- The pairs that stand in what reducing leaves of source contents in normal form, left to right, from the source contents alone:
 --   met          typesIn (prune known (inPairsOf pairs c)) ≡ pairsMet (pairsLeft pairs known) c
 --   met-in-pair  of the choice of a pair's contents: those of each, joined
 --   met-in-pairs of some pairs: those of all their source contents in order
@@ -46,7 +46,7 @@ use Rattle.theory.proofs.Alternatives.{
   not-not,
 }
 use Rattle.theory.proofs.ChoiceLaws.{notNone, is-none, replace-choice, simplify-choice, word-choice}
-use Rattle.theory.proofs.EmittedContent.{joined-twice, markPair, pairsMarked, some-none, pruned-marked}
+use Rattle.theory.proofs.EmittedContent.{unless, joined-twice, markPair, pairsMarked, some-none, pruned-marked}
 
 -- none has no types: to drop it, or to put another content without types in its place, changes nothing
 types-of-none : (c : Content) → isNone c ≡ true → typesIn c ≡ []
@@ -67,20 +67,20 @@ kept-types (x ∷ xs) = go (isNone x) refl (kept-types xs)
     go false e ih = ap (joinedOf typesIn) (keep-yes notNone x xs (ap not e)) ∙ ap (λ (l : List ℕ). typesIn x ++ l) ih
 
 types-around : (f : Content → Content) → ((c : Content) → typesIn (f c) ≡ typesIn c) → (other : Content) → typesIn other ≡ []
-    → (x : Content) → typesIn (elim (isNone x) as (λ b. Content) [ true ↦ other | false ↦ f x ]) ≡ typesIn x
+    → (x : Content) → typesIn (unless (isNone x) other (f x)) ≡ typesIn x
 types-around f h other o x = go (isNone x) refl
   where
-    go : (b : Bool) → isNone x ≡ b → typesIn (elim b as (λ b. Content) [ true ↦ other | false ↦ f x ]) ≡ typesIn x
+    go : (b : Bool) → isNone x ≡ b → typesIn (unless b other (f x)) ≡ typesIn x
     go true e = o ∙ sym (types-of-none x e)
     go false e = h x
 
 types-sequence : (xs : List Content)
-    → typesIn (elim (any isNone xs) as (λ b. Content) [ true ↦ none | false ↦ sequence (operands xs) ])
+    → typesIn (unless (any isNone xs) none (sequence (operands xs)))
     ≡ onlyIf (not (any isNone xs)) (joinedOf typesIn xs)
 unfolding onlyIf typesIn
 types-sequence xs = go (any isNone xs)
   where
-    go : (b : Bool) → typesIn (elim b as (λ b. Content) [ true ↦ none | false ↦ sequence (operands xs) ]) ≡ onlyIf (not b) (joinedOf typesIn xs)
+    go : (b : Bool) → typesIn (unless b none (sequence (operands xs))) ≡ onlyIf (not b) (joinedOf typesIn xs)
     go true = refl
     go false = operands-types xs
 
@@ -97,7 +97,8 @@ module _ (pairs : ℕ → List ℕ) (known : List ℕ) where
   abbrev marked : ℕ → Content
   marked = pairsMarked pairs known
 
-  each-pair : (ps : List ℕ) → joinedOf typesIn (map simplify (map (λ c. replace c mark) (map type ps))) ≡ keep (λ p. isIn p known) ps
+  each-pair : (ps : List ℕ)
+      → joinedOf typesIn (map simplify (map (λ c. replace c mark) (map type ps))) ≡ keep (λ p. isIn p known) ps
   unfolding joinedOf typesIn simplify replace keep
   each-pair [] = refl
   each-pair (p ∷ ps) = go (isIn p known) (each-pair ps)
@@ -182,11 +183,13 @@ module _ (pairs : ℕ → List ℕ) (known : List ℕ) where
     word-met (oneOrMore c) = word-met c
     word-met (optional c) = refl
 
-    all-words-met : (cs : Contents) → haveWords known (replaceAll cs (λ k. choiceOf (map type (pairs k)))) ≡ allHaveAlts (hasLeft pairs known) cs
+    all-words-met : (cs : Contents)
+        → haveWords known (replaceAll cs (λ k. choiceOf (map type (pairs k)))) ≡ allHaveAlts (hasLeft pairs known) cs
     all-words-met []ᶜ = refl
     all-words-met (c ∷ᶜ cs) = ap₂ _&&_ (word-met c) (all-words-met cs)
 
-    one-word-met : (cs : Contents) → oneHasWord known (replaceAll cs (λ k. choiceOf (map type (pairs k)))) ≡ oneHasAlts (hasLeft pairs known) cs
+    one-word-met : (cs : Contents)
+        → oneHasWord known (replaceAll cs (λ k. choiceOf (map type (pairs k)))) ≡ oneHasAlts (hasLeft pairs known) cs
     one-word-met []ᶜ = refl
     one-word-met (c ∷ᶜ cs) = ap₂ _||_ (word-met c) (one-word-met cs)
 
