@@ -9,7 +9,7 @@
 --   alts-empty : isEmpty (alts results c) ≡ not (hasAlts (λ k. not (isEmpty (results k))) c)
 --   alts-plain : an alternative is no choice, and it is not none
 --   productive : isEmpty (alts (resultsOf pairs known target) c) ≡ not (hasAlts (hasLeft pairs known) c)
---   word-alts  : hasWord known c ≡ hasAlts (λ k. isIn k known) c
+--   word-alts  : hasWord known c ≡ hasAlts (λ k. isIn k known) c (so, productive-word, of a list of the types that have a pair left)
 --   alts-renamed, has-renamed, pairs-renamed : of a content with types in place of types (as the addition's are made distinct)
 use Prim.Native.Nat.{ℕ}
 use mathlib.Core.Bool.{Bool, true, false, not, _&&_, _||_, true≢false, false≢true}
@@ -300,6 +300,13 @@ module _ (known : List ℕ) where
     one-word-alts : (cs : Contents) → oneHasWord known cs ≡ oneHasAlts (λ k. isIn k known) cs
     one-word-alts []ᶜ = refl
     one-word-alts (c ∷ᶜ cs) = ap₂ _||_ (word-alts c) (one-word-alts cs)
+
+-- so there are none just where the content has no word of the source types that have a fruitful pair
+pub productive-word : (pairs : ℕ → List ℕ) (known : List ℕ) (target : ℕ → ℕ) (types : List ℕ)
+    → ((k : ℕ) → hasLeft pairs known k ≡ isIn k types) → (c : Content)
+    → isEmpty (alts (resultsOf pairs known target) c) ≡ not (hasWord types c)
+productive-word pairs known target types h c =
+    productive pairs known target c ∙ ap (λ has. not (hasAlts has c)) (fun-ext h) ∙ ap not (sym (word-alts types c))
 
 -- an alternative is what it gives to a choice, and is not none
 pub record Plain (x : Content) : Type 0 where

@@ -23,6 +23,7 @@ use mathlib.Core.List.{
   Forall₂·cons,
 }
 use mathlib.Core.Path.{_≡_, refl, sym, _∙_, ap, ap₂, subst, subst₂}
+use borrow.Author.Tests.{not-true}
 use Rattle.grammar.specs.Lists.{any, keep, distinct, joinedOf, isIn}
 use Rattle.grammar.specs.Content.{
   Content,
@@ -215,11 +216,7 @@ module _ (target : ℕ → ℕ) where
   none-of-kept : (ys : List Content) → ((y : Content) → List·Memᴰ y ys → notNone y ≡ true) → isNone (choiceOf ys) ≡ isEmpty ys
   unfolding isNone choiceOf
   none-of-kept [] h = refl
-  none-of-kept (y ∷ []) h = not-true-false (isNone y) (h y (List·Memᴰ·head refl))
-    where
-      not-true-false : (b : Bool) → not b ≡ true → b ≡ false
-      not-true-false true e = sym e
-      not-true-false false e = refl
+  none-of-kept (y ∷ []) h = not-true (isNone y) (h y (List·Memᴰ·head refl))
   none-of-kept (y ∷ z ∷ zs) h = refl
 
   none-next : (x : Content) (us : List Content) → Gives x us → (xs ws : List Content) → isEmpty (keep notNone xs) ≡ isEmpty ws
