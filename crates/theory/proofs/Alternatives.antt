@@ -9,7 +9,7 @@
 --   alts-empty : isEmpty (alts results c) ≡ not (hasAlts (λ k. not (isEmpty (results k))) c)
 --   alts-plain : an alternative is no choice, and it is not none
 --   productive : isEmpty (alts (resultsOf pairs known target) c) ≡ not (hasAlts (hasLeft pairs known) c)
---   word-alts  : hasWord known c ≡ hasAlts (λ k. isIn k known) c (so, productive-word, of a list of the types that have a pair left)
+--   word-alts  : hasWord known c ≡ hasAlts (λ k. isIn k known) c; so productive-word, of the list of types with a fruitful pair
 --   alts-renamed, has-renamed, pairs-renamed : of a content with types in place of types (as the addition's are made distinct)
 use Prim.Native.Nat.{ℕ}
 use mathlib.Core.Bool.{Bool, true, false, not, _&&_, _||_, true≢false, false≢true}

@@ -81,7 +81,7 @@ module _ (u : Table) where
         content = prune (fruitful (normalise u)) (choiceOf (map (inPairsOf (pairsOf u)) (pairContents s)));
       }
 
-  fruitful-rules : withoutUnfruitful (normalise u) .rules ≡ map ruleLeft fruitfulPairs
+  pub fruitful-rules : withoutUnfruitful (normalise u) .rules ≡ map ruleLeft fruitfulPairs
   unfolding withoutUnfruitful normalise ruleOfPair
   fruitful-rules =
       ap (map pruned) (keep-map (ruleOfPair u) (λ (r : Rule). isIn (r .type) (fruitful (normalise u))) firstRules)
