@@ -493,3 +493,20 @@ pub past-end : {A : Type 0} (xs : List A) (i : ℕ) → getElem? xs i ≡ nothin
 past-end [] i e = omega arith
 past-end (x ∷ xs) zero e = let z : _≡_ {A = ℕ} 0 1 = cc in absurd (omega arith)
 past-end (x ∷ xs) (suc i) e = let h = past-end xs i e in omega arith
+
+-- the distinct images
+pub distinct-map : {A B : Type 0} (f : A → B) (same : B → B → Bool) (xs : List A)
+    → distinct same (map f xs) ≡ map f (distinct (λ x y. same (f x) (f y)) xs)
+unfolding distinct
+distinct-map f same [] = refl
+distinct-map {A} {B} f same (x ∷ xs) =
+    ap (λ (l : List B). f x ∷ l)
+    (ap (keep (λ y. not (same (f x) y))) (distinct-map f same xs)
+    ∙ keep-map f (λ y. not (same (f x) y)) (distinct (λ x y. same (f x) (f y)) xs))
+
+-- all is kept where all pass the test
+pub keep-all : {A : Type 0} (test : A → Bool) (xs : List A) → ((x : A) → List·Memᴰ x xs → test x ≡ true) → keep test xs ≡ xs
+unfolding keep
+keep-all test [] h = refl
+keep-all {A} test (x ∷ xs) h =
+    keep-yes test x xs (h x (List·Memᴰ·head refl)) ∙ ap (λ (l : List A). x ∷ l) (keep-all test xs (λ y m. h y (List·Memᴰ·tail m)))

@@ -59,7 +59,7 @@ module _ {A : Type 0} (strict lax : A → Bool) (stricter : (x : A) → strict x
       rw (keep-no strict y ys (ap strict (sym e) ∙ p), keep-yes lax y ys (ap lax (sym e) ∙ q)) (omega arith)
   keep-less (List·Memᴰ·tail {x = y} {xs = ys} m) p q = fewer-at 1 y ys (keep-less m p q)
 
-keep-shorter : {A : Type 0} (test : A → Bool) (xs : List A) → length (keep test xs) ≤ length xs
+pub keep-shorter : {A : Type 0} (test : A → Bool) (xs : List A) → length (keep test xs) ≤ length xs
 unfolding keep
 keep-shorter test [] = omega arith
 keep-shorter test (x ∷ xs) = go (passes-or-fails (test x)) (keep-shorter test xs)

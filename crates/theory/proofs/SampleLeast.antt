@@ -1,0 +1,117 @@
+-- The sample of a document is the least table that lets it in, among single-type and among local tables:
+--     sample-lets-in       (SampleMembers) the sample lets in the document
+--     sample-single-type   it is single-type
+--     sample-least         every rival of either kind that lets in the document lets in all of the sample
+use Prim.Native.Nat.{ℕ, zero}
+use mathlib.Core.List.{List, [], _∷_, List·Memᴰ, List·Memᴰ·head, List·Memᴰ·tail, List·Memᴰ·eq-of-singleton, Forall₂, Forall₂·nil, Forall₂·cons}
+use mathlib.Core.Logic.{inl, inr}
+use mathlib.Core.Path.{_≡_, refl, sym, subst}
+use Rattle.grammar.specs.Names.{Name}
+use Rattle.grammar.specs.Tree.{Tree, node, Forest, []ᵗ, _∷ᵗ_}
+use Rattle.grammar.specs.Table.{Table, DistinctNames}
+use Rattle.grammar.specs.Derivation.{Fits, LetsIn}
+use Rattle.grammar.specs.Kinds.{Kind, OfKind}
+use Rattle.grammar.specs.Least.{LetsInAll}
+use Rattle.grammar.specs.Sample.{sample}
+use Rattle.theory.proofs.NameLaws.{name-refl}
+use Rattle.theory.proofs.Automaton.{AllAlive}
+use Rattle.theory.proofs.Merge.{Merge, Forth, Back, StartType}
+use Rattle.theory.proofs.LeastSingleType.{SingleTypeMerge, Arises}
+use Rattle.theory.proofs.TreeAutomaton.{treesOf, children, treeAutomaton, tree-alive, least-document}
+use Rattle.theory.proofs.VisitedTrees.{rootName, childrenOf, OneOfTrees}
+use Rattle.theory.proofs.SampleMerge.{sample-starts}
+use Rattle.theory.proofs.SampleMembers.{
+  Member,
+  Members,
+  members-none,
+  members-next,
+  member-names,
+  member-fits,
+  fits-member,
+  member-arises,
+  root-member,
+  start-member,
+}
+
+module _ (d : Tree) where
+  each-member : {w : List ℕ} {ts : Forest} → Members d w ts → Forall₂ (Member d) w (treesOf ts)
+  each-member members-none = Forall₂·nil
+  each-member (members-next m ms) = Forall₂·cons m (each-member ms)
+
+  all-alive : (u : List Tree) → AllAlive (treeAutomaton d) u
+  all-alive u t m = tree-alive d t
+
+  children-members : {w : List ℕ} (t : Tree) → Members d w (childrenOf t) → Forall₂ (Member d) w (children t)
+  children-members (node n ts) ms = each-member ms
+
+  listed : (ts : Forest) {t : Tree} → OneOfTrees ts t → List·Memᴰ t (treesOf ts)
+  listed []ᵗ o = absurd o
+  listed (s ∷ᵗ ts) (inl e) = List·Memᴰ·head e
+  listed (s ∷ᵗ ts) (inr o) = List·Memᴰ·tail (listed ts o)
+
+  child-listed : (s : Tree) {t : Tree} → OneOfTrees (childrenOf s) t → List·Memᴰ t (children s)
+  child-listed (node n ts) o = listed ts o
+
+  forward : (k : ℕ) (s : Tree) (u : List Tree) → Member d k s → u ≡ children s → Forth (treeAutomaton d) (sample d) (Member d) k s u
+  forward k s u m step =
+      let w = member-fits d m (rootName s) (name-refl (rootName s)) in
+      record {
+        word = w .word;
+        fits = w .fits;
+        members = subst (λ (v : List Tree). Forall₂ (Member d) (w .word) v) (sym step) (children-members s (w .members));
+      }
+
+  backward : (k : ℕ) (n : Name) (w : List ℕ) → Fits (sample d) k n w → Back (treeAutomaton d) (sample d) (Member d) k n w
+  backward k n w f =
+      let m = fits-member d k n w f in
+      record {
+        state = m .tree;
+        member = m .member;
+        named = m .named;
+        next = children (m .tree);
+        step = refl;
+        members = children-members (m .tree) (m .members);
+        alive = all-alive (children (m .tree));
+      }
+
+  only-start : (k : ℕ) → List·Memᴰ k (sample d .starts) → k ≡ zero
+  only-start k m = List·Memᴰ·eq-of-singleton (subst (λ (ks : List ℕ). List·Memᴰ k ks) (sample-starts d) m)
+
+  sample-merge : Merge (treeAutomaton d) (sample d) (Member d)
+  sample-merge =
+      record {
+        one-name = λ k r s a b. member-names d a b;
+        forward = forward;
+        backward = backward;
+        starts =
+            λ s e.
+            record {
+              type = zero;
+              of-table = subst (λ (ks : List ℕ). List·Memᴰ zero ks) (sym (sample-starts d)) (List·Memᴰ·head refl);
+              member = subst (λ (t : Tree). Member d zero t) (sym e) (root-member d);
+            };
+      }
+
+  arises : (k : ℕ) (n : Name) (w : List ℕ) → Fits (sample d) k n w → (l : ℕ) → List·Memᴰ l w → (t : Tree) → Member d l t
+      → Arises (treeAutomaton d) (sample d) (Member d) k t
+  arises k n w f l m t a =
+      let c = member-arises d k n w f l m t a in
+      record {
+        state = c .tree;
+        member = c .member;
+        next = children (c .tree);
+        step = refl;
+        alive = all-alive (children (c .tree));
+        within = child-listed (c .tree) (c .child);
+      }
+
+  single-merge : SingleTypeMerge (treeAutomaton d) (sample d) (Member d)
+  single-merge =
+      record {
+        merge = sample-merge;
+        arises = arises;
+        start-states = λ k m t a. start-member d (subst (λ (j : ℕ). Member d j t) (only-start k m) a);
+      }
+
+  pub sample-least : (kind : Kind) (H : Table) → DistinctNames H → OfKind kind H → LetsIn H d → LetsInAll H (LetsIn (sample d))
+  sample-least = least-document d single-merge
