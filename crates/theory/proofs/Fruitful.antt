@@ -57,7 +57,7 @@ use Rattle.theory.proofs.NameLaws.{name-refl}
 use Rattle.theory.proofs.SameWords.{AllIn, all-in-none, all-in-append}
 use Rattle.theory.proofs.SimplifyWords.{join}
 use Rattle.theory.proofs.Rounds.{not-known, rounds-hold, rounds-closed, closed-has}
-use Rattle.theory.proofs.TableConditions.{Labelled}
+use Rattle.theory.proofs.TableConditions.{Labelled, SomeTree}
 
 module _ (known : List ℕ) where
   -- a language has a word of known types
@@ -121,10 +121,6 @@ module _ (known : List ℕ) where
           (λ v. or-right (hasWord known c) (oneHasWord known cs) (one-has-word cs .1 (p .0, v, p .2)))
           (p .1),
     )
-
--- a type derives some tree
-abbrev pub SomeTree : Table → ℕ → Type 0
-SomeTree g k = (t : Tree) × Derives g k t
 
 pub some-forest : (g : Table) (w : List ℕ) → ((k : ℕ) → List·Memᴰ k w → SomeTree g k) → (ts : Forest) × DerivesAll g w ts
 some-forest g [] h = ([]ᵗ, derives-none)

@@ -42,9 +42,9 @@ use Rattle.theory.proofs.LeastMerge.{StartMember}
 use Rattle.theory.proofs.LeastLocal.{Reached, LocalMerge, least-local}
 use Rattle.theory.proofs.TableAutomaton.{Steps, typeName, tableAutomaton, label-of, fits-steps, table-accepts}
 use Rattle.theory.proofs.ReducedTable.{ReducedTable}
-use Rattle.theory.proofs.ReducedAutomaton.{rule-that-fits, type-alive, step-rules, step-alive, type-reached}
+use Rattle.theory.proofs.ReducedAutomaton.{type-alive, step-rules, step-alive, type-reached}
 use Rattle.theory.proofs.UsedLabelsDocuments.{used-below, used-differ, label-used}
-use Rattle.theory.proofs.TableConditions.{Labelled, HasRule}
+use Rattle.theory.proofs.TableConditions.{Labelled, HasRule, rule-that-fits}
 
 module _ (g : Table) where
   pub local-form-local : Local (localForm g)

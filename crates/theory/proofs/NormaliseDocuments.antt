@@ -5,7 +5,7 @@
 --     pair-derives           a type derives a node iff one of its pairs does in the normal form
 --     normalise-types        no two rules of the normal form have one type
 --     normalise-labels       the labels are g's, so (normalise-names) no two have equal names if no two of g's do
---     normalise-listed       each rule's label stays among the labels
+--     normalise-labelled       each rule's label stays among the labels
 --     normalise-contents     each type that stands in a content of the normal form has a rule there
 --     normalise-starts       and so has each start
 use Prim.Native.Nat.{ℕ, _<_}
@@ -335,9 +335,9 @@ module _ (g : Table) where
   unfolding normalise
   normalise-names h = h
 
-  pub normalise-listed : Labelled g → Labelled (normalise g)
+  pub normalise-labelled : Labelled g → Labelled (normalise g)
   unfolding normalise ruleOfPair
-  normalise-listed h r m =
+  normalise-labelled h r m =
       let (s, n, e) = normal-rule m in
       subst (λ (q : Rule). q .label < length (g .labels)) e (h s (distinct-was samePair (g .rules) n))
 

@@ -20,15 +20,7 @@ use Rattle.theory.proofs.ListLaws.{kept, keep-mem, in-mem, mem-in, join
 use Rattle.theory.proofs.SameWords.{StandsIn, types-of-word}
 use Rattle.theory.proofs.Rounds.{not-known, rounds-start, rounds-hold, rounds-closed, closed-has}
 use Rattle.theory.proofs.CarryDerivations.{carry-tree}
-use Rattle.theory.proofs.TableConditions.{HasRule}
-
-pub data ReachedFrom (g : Table) : ℕ → Type 0 where
-  from-start : {k : ℕ} → List·Memᴰ k (g .starts) → ReachedFrom g k
-  through : {r : Rule} {k : ℕ} → List·Memᴰ r (g .rules) → ReachedFrom g (r .type) → StandsIn k (r .content) → ReachedFrom g k
-
--- every type that stands in a content has a rule
-abbrev pub AllRuled : Table → Type 0
-AllRuled g = (r : Rule) (k : ℕ) → List·Memᴰ r (g .rules) → StandsIn k (r .content) → HasRule g k
+use Rattle.theory.proofs.TableConditions.{HasRule, Reaches, from-start, through, AllRuled}
 
 module _ (g : Table) where
   -- what a round finds: types, not known, that stand in the contents of known types
@@ -82,7 +74,7 @@ module _ (g : Table) where
         rounds-closed (newlyReached g) (map (λ (r : Rule). r .type) (g .rules)) (λ known k m. newly-found known k m .new)
         (λ known k m.
         let f = newly-found known k m in
-        let r = ruled (f .rule) k (f .of-table) (f .standing) in
+        let r = ruled (f .rule) (f .of-table) k (f .standing) in
         Memᴰ·cast (sym (r .of-type)) (Memᴰ·map (λ (r : Rule). r .type) (r .of-table)))
         (length (g .rules))
         (g .starts)
@@ -95,16 +87,16 @@ module _ (g : Table) where
         closed-has (newlyReached g) (reached g) k reached-closed
         (λ n. found-newly (reached g) k (record { rule = r; of-table = m; of-known = p; standing = s; new = n }))
 
-    reached-there : {k : ℕ} → ReachedFrom g k → List·Memᴰ k (reached g)
+    reached-there : {k : ℕ} → Reaches g k → List·Memᴰ k (reached g)
     unfolding reached
     reached-there (from-start {k = k} m) = rounds-start (newlyReached g) (length (g .rules)) (g .starts) k m
     reached-there (through {r = r} {k = k} m p s) = reached-on r k m (reached-there p) s
 
-    pub reached-is : (k : ℕ) → List·Memᴰ k (reached g) ↔ ReachedFrom g k
+    pub reached-is : (k : ℕ) → List·Memᴰ k (reached g) ↔ Reaches g k
     unfolding reached
     reached-is k = (
       λ m.
-          rounds-hold (newlyReached g) (ReachedFrom g)
+          rounds-hold (newlyReached g) (Reaches g)
           (λ known h l n.
           let f = newly-found known l n in
           through (f .of-table) (h (f .rule .type) (f .of-known)) (f .standing))
@@ -116,7 +108,7 @@ module _ (g : Table) where
       reached-there,
     )
 
-    pub reached-remains : {k : ℕ} → ReachedFrom g k → ReachedFrom (withoutUnreached g) k
+    pub reached-remains : {k : ℕ} → Reaches g k → Reaches (withoutUnreached g) k
     unfolding withoutUnreached
     reached-remains (from-start m) = from-start m
     reached-remains (through {r = r} m p s) = through (rule-remains r m (reached-there p)) (reached-remains p) s

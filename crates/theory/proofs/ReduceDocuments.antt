@@ -26,22 +26,12 @@ use Rattle.grammar.specs.Derivation.{Fits, Derives, derives, DerivesAll, LetsIn
 use Rattle.grammar.specs.Reduce.{prune, fruitful, withoutUnfruitful, reached, withoutUnreached, reduce}
 use Rattle.theory.proofs.ListLaws.{kept, keep-mem, in-mem, mem-in}
 use Rattle.theory.proofs.NoTwo.{no-two-keep, no-two-map}
-use Rattle.theory.proofs.SameWords.{StandsIn}
-use Rattle.theory.proofs.SimplifyWords.{prune-words, WordWith, prune-standing}
-use Rattle.theory.proofs.Fruitful.{SomeTree, tree-fruitful, forest-fruitful, fruitful-is}
+use Rattle.theory.proofs.SameWords.{StandsIn, WordWith}
+use Rattle.theory.proofs.SimplifyWords.{prune-words, prune-standing}
+use Rattle.theory.proofs.Fruitful.{tree-fruitful, forest-fruitful, fruitful-is}
 use Rattle.theory.proofs.CarryDerivations.{carry-tree}
-use Rattle.theory.proofs.Reached.{
-  ReachedFrom,
-  from-start,
-  AllRuled,
-  reached-is,
-  reached-on,
-  rule-remains,
-  rule-was,
-  reached-remains,
-  reached-trees,
-}
-use Rattle.theory.proofs.TableConditions.{Labelled, HasRule}
+use Rattle.theory.proofs.Reached.{reached-is, reached-on, rule-remains, rule-was, reached-remains, reached-trees}
+use Rattle.theory.proofs.TableConditions.{Labelled, HasRule, Reaches, from-start, SomeTree, AllRuled}
 
 pub reduce-labels : (g : Table) → reduce g .labels ≡ g .labels
 unfolding reduce withoutUnreached withoutUnfruitful
@@ -125,7 +115,7 @@ module _ (g : Table) where
 
   module _ (labelled : Labelled g) where
     fruitful-ruled : AllRuled (withoutUnfruitful g)
-    fruitful-ruled r k m s =
+    fruitful-ruled r m k s =
         let p = fruitful-standing r k m s .1 in
         rule-of (fruitful-is g labelled k .0 p .1) p
       where
@@ -192,7 +182,7 @@ module _ (g : Table) where
         let o = fruitful-was r (p .0) in
         reduce-tree (r .type) (Memᴰ·cast (sym (ap (λ (s : Rule). s .type) (o .of-rule))) (o .of-fruitful)) (p .1)
 
-    pub reduce-reached : (r : Rule) → List·Memᴰ r (reduce g .rules) → ReachedFrom (reduce g) (r .type)
+    pub reduce-reached : (r : Rule) → List·Memᴰ r (reduce g .rules) → Reaches (reduce g) (r .type)
     unfolding reduce
     reduce-reached r m =
         reached-remains (withoutUnfruitful g) fruitful-ruled
@@ -200,9 +190,9 @@ module _ (g : Table) where
 
     pub reduce-ruled : AllRuled (reduce g)
     unfolding reduce
-    reduce-ruled r k m s =
+    reduce-ruled r m k s =
         let p = reduce-was r m in
-        let o = fruitful-ruled r k (p .0) s in
+        let o = fruitful-ruled r (p .0) k s in
         let q = reached-on (withoutUnfruitful g) fruitful-ruled r k (p .0) (p .1) s in
         record {
           rule = o .rule;
@@ -210,9 +200,9 @@ module _ (g : Table) where
           of-type = o .of-type;
         }
 
-    pub reduce-standing : (r : Rule) (k : ℕ) → List·Memᴰ r (reduce g .rules) → StandsIn k (r .content)
+    pub reduce-standing : (r : Rule) → List·Memᴰ r (reduce g .rules) → (k : ℕ) → StandsIn k (r .content)
         → WordWith k (Word (r .content))
-    reduce-standing r k m s = fruitful-standing r k (reduce-was r m .0) s .0
+    reduce-standing r m k s = fruitful-standing r k (reduce-was r m .0) s .0
 
     pub reduce-labelled : Labelled (reduce g)
     reduce-labelled r m =

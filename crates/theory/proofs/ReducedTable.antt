@@ -7,25 +7,15 @@ use Rattle.grammar.specs.Content.{typesIn, Word}
 use Rattle.grammar.specs.Tree.{Tree}
 use Rattle.grammar.specs.Table.{Rule, Table, DistinctNames}
 use Rattle.grammar.specs.Derivation.{Derives}
-use Rattle.theory.proofs.TableConditions.{Labelled, OneRuleEach, HasRule}
-
--- reached from a start through the contents
-pub data Reaches (g : Table) : ℕ → Type 0 where
-  from-start : {k : ℕ} → List·Memᴰ k (g .starts) → Reaches g k
-  from-content : {k : ℕ} {r : Rule} → Reaches g (r .type) → List·Memᴰ r (g .rules) → List·Memᴰ k (typesIn (r .content)) → Reaches g k
-
--- a word of the rule's content in which the type stands
-pub record StandsInWord (r : Rule) (k : ℕ) : Type 0 where
-  pub word : List ℕ
-  pub of-content : Word (r .content) word
-  pub stands : List·Memᴰ k word
+use Rattle.theory.proofs.TableConditions.{Labelled, OneRuleEach, HasRule, Reaches, SomeTree, AllRuled}
+use Rattle.theory.proofs.SameWords.{WordWith}
 
 pub record ReducedTable (g : Table) : Type 0 where
   pub one-rule-each : OneRuleEach g
   pub labelled : Labelled g
   pub names : DistinctNames g
   pub start-rules : (k : ℕ) → List·Memᴰ k (g .starts) → HasRule g k
-  pub content-rules : (r : Rule) → List·Memᴰ r (g .rules) → (k : ℕ) → List·Memᴰ k (typesIn (r .content)) → HasRule g k
-  pub content-words : (r : Rule) → List·Memᴰ r (g .rules) → (k : ℕ) → List·Memᴰ k (typesIn (r .content)) → StandsInWord r k
-  pub derives-some : (r : Rule) → List·Memᴰ r (g .rules) → (t : Tree) × Derives g (r .type) t
+  pub content-rules : AllRuled g
+  pub content-words : (r : Rule) → List·Memᴰ r (g .rules) → (k : ℕ) → List·Memᴰ k (typesIn (r .content)) → WordWith k (Word (r .content))
+  pub derives-some : (r : Rule) → List·Memᴰ r (g .rules) → SomeTree g (r .type)
   pub reaches : (r : Rule) → List·Memᴰ r (g .rules) → Reaches g (r .type)

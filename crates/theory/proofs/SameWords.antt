@@ -159,6 +159,10 @@ choice-types (c ∷ d ∷ ds) = operands-types (c ∷ d ∷ ds)
 abbrev pub StandsIn : ℕ → Content → Type 0
 StandsIn k c = List·Memᴰ k (typesIn c)
 
+-- a word of the language in which the type stands
+abbrev pub WordWith : ℕ → Language → Type 0
+WordWith k L = (w : List ℕ) × L w × List·Memᴰ k w
+
 pub operands-type : (k : ℕ) (cs : List Content) → StandsIn k (choice (operands cs)) ↔ HoldsOfOne (StandsIn k) cs
 unfolding typesIn
 operands-type k cs = (

@@ -6,7 +6,7 @@
 --     sample-root        the root's path has type 0, the only start
 --     sample-names       no two labels of the sample have equal names
 --     sample-types       no two rules of the sample have one type
---     sample-listed      each rule's label is among the labels
+--     sample-labelled      each rule's label is among the labels
 use Prim.Native.Nat.{ℕ, zero, _<_}
 use native.Mathlib.Omega.{arith}
 use mathlib.Core.Bool.{Bool, true}
@@ -327,8 +327,8 @@ module _ (d : Tree) where
       (no-two-distinct oneVisit (λ u v. path-sym (u .path) (v .path)) seen)
       (λ u v m n e. path-types u v (first-was m) (first-was n) .0 e))
 
-  pub sample-listed : Labelled (sample d)
-  sample-listed r m =
+  pub sample-labelled : Labelled (sample d)
+  sample-labelled r m =
       let (v, n, e) = sample-rule m in
       let (x, at, s) = label-at v (first-was n) in
       subst (λ (q : Rule). q .label < length (sample d .labels)) e (at-below (sample d .labels) (ruleAt seen v .label) at)

@@ -61,7 +61,7 @@ use Rattle.theory.proofs.SampleMerge.{
   child-visited,
   sample-fits,
   sample-names,
-  sample-listed,
+  sample-labelled,
   sample-starts,
 }
 use Rattle.theory.proofs.Counted.{Counted, AllCounted, choice-counted}
@@ -241,7 +241,7 @@ module _ (lim : Limits) (classes : Classes) (agree : LimitsAgree lim) (d : Tree)
         starts-differ = rw (sample-starts d);
         few-starts = rw (sample-starts d) (omega arith);
         rule-types = rule-below d;
-        listed = sample-listed d;
+        listed = sample-labelled d;
         content-types = content-below d;
         counted =
             content-counted d lim

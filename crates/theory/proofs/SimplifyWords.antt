@@ -71,6 +71,7 @@ use Rattle.theory.proofs.SameWords.{
   StandsIn,
   choice-word,
   operands-word,
+  WordWith,
 }
 
 none-is : (c : Content) → isNone c ≡ true → c ≡ none
@@ -311,13 +312,10 @@ mutual
 
 -- and each of its types stands in one
 module _ (k : ℕ) where
-  abbrev pub WordWith : Language → Type 0
-  WordWith L = (w : List ℕ) × L w × List·Memᴰ k w
-
-  front-with : (L M : Language) → WordWith L → SomeWord M → WordWith (Joined L M)
+  front-with : (L M : Language) → WordWith k L → SomeWord M → WordWith k (Joined L M)
   front-with L M p q = (p .0 ++ q .0, join L M (p .1) (q .1), Memᴰ·append-left (q .0) (p .2))
 
-  back-with : (L M : Language) → SomeWord L → WordWith M → WordWith (Joined L M)
+  back-with : (L M : Language) → SomeWord L → WordWith k M → WordWith k (Joined L M)
   back-with L M p q = (p .0 ++ q .0, join L M (p .1) (q .1), Memᴰ·append-right (p .0) (q .2))
 
   stands-in-none : StandsIn k none → ⊥
@@ -327,7 +325,7 @@ module _ (k : ℕ) where
   mutual
     unfolding typesIn typesInAll
 
-    pub clean-standing : {c : Content} → Clean c → StandsIn k c → WordWith (Word c)
+    pub clean-standing : {c : Content} → Clean c → StandsIn k c → WordWith k (Word c)
     clean-standing clean-empty m = elim m [ ]
     clean-standing (clean-type {k = l}) m = (l ∷ [], refl, m)
     clean-standing (clean-sequence a) m = standing-in-turn a m
@@ -343,7 +341,7 @@ module _ (k : ℕ) where
         front-with (Word c) (Repeated (Word c)) (clean-standing p m) ([], no-more)
     clean-standing (clean-optional p) m = let v = clean-standing p m in (v .0, inr (v .1), v .2)
 
-    standing-in-turn : {cs : Contents} → AllClean cs → List·Memᴰ k (typesInAll cs) → WordWith (InTurn cs)
+    standing-in-turn : {cs : Contents} → AllClean cs → List·Memᴰ k (typesInAll cs) → WordWith k (InTurn cs)
     standing-in-turn none-left m = elim m [ ]
     standing-in-turn (one-clean {c = c} {cs = cs} p a) m =
         ⊎-elim
@@ -351,7 +349,7 @@ module _ (k : ℕ) where
         (λ n. back-with (Word c) (InTurn cs) (clean-word p) (standing-in-turn a n))
         (List·Memᴰ·append-cases (typesIn c) m)
 
-    standing-of-one : {cs : Contents} → AllClean cs → List·Memᴰ k (typesInAll cs) → WordWith (OfOne cs)
+    standing-of-one : {cs : Contents} → AllClean cs → List·Memᴰ k (typesInAll cs) → WordWith k (OfOne cs)
     standing-of-one none-left m = elim m [ ]
     standing-of-one (one-clean {c = c} p a) m =
         ⊎-elim
@@ -360,10 +358,10 @@ module _ (k : ℕ) where
         (List·Memᴰ·append-cases (typesIn c) m)
 
   pub prune-standing : (known : List ℕ) (c : Content) → StandsIn k (prune known c)
-      → WordWith (Word (prune known c)) × List·Memᴰ k known
+      → WordWith k (Word (prune known c)) × List·Memᴰ k known
   prune-standing known c m = go (prune-clean known c)
     where
-      go : NoneOrClean (prune known c) → WordWith (Word (prune known c)) × List·Memᴰ k known
+      go : NoneOrClean (prune known c) → WordWith k (Word (prune known c)) × List·Memᴰ k known
       go (inl e) = absurd (stands-in-none (subst (StandsIn k) e m))
       go (inr p) =
           let v = clean-standing p m in

@@ -575,10 +575,10 @@ module _ (lim : Limits) (g : Table) where
               record {
                 state = r .rule .type;
                 member = record { set = t; at = at; listed = r .of-set };
-                next = v .word;
-                step = record { rule = r .rule; of-table = r .of-table; of-type = refl; word = v .of-content };
-                alive = word-alive (r .rule) (r .of-table) (v .of-content);
-                within = v .stands;
+                next = v .0;
+                step = record { rule = r .rule; of-table = r .of-table; of-type = refl; word = v .1 };
+                alive = word-alive (r .rule) (r .of-table) (v .1);
+                within = v .2;
               }
 
       start-states : (k : ℕ) → List·Memᴰ k (form .starts) → (s : ℕ) → Member k s → List·Memᴰ s (g .starts)

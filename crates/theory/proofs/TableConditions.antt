@@ -1,17 +1,18 @@
--- Conditions that the steps of widening ask of tables and keep, and that every table within the limits meets:
---     TypesBelow      within-below     every type is below the limit
---     Labelled    within-listed    each rule's label is among the labels
---     DistinctNames   within-names     no two labels have equal names
+-- Conditions that the steps of widening ask of tables and keep. Every table within the limits meets these:
+--     TypesBelow       within-below       every type is below the limit
+--     Labelled         within-labelled    each rule's label is among the labels
+--     DistinctNames    within-names       no two labels have equal names
+-- A table in normal form meets OneRuleEach: no type has two rules. And of a type in a table: HasRule, SomeTree, Reaches.
 use Prim.Native.Nat.{ℕ, _<_}
 use mathlib.Core.Bool.{Bool, true, _&&_}
-use mathlib.Core.List.{List·Memᴰ, List·Memᴰ·append-cases, List·Memᴰ·eq-of-singleton}
+use mathlib.Core.List.{List·Memᴰ, List·Memᴰ·append-cases, List·Memᴰ·eq-of-singleton, List}
 use mathlib.Core.Logic.{⊎-elim}
 use mathlib.Core.Path.{_≡_, subst, sym}
 use lib.ListN.{length}
 use lib.Dec.{leb}
 use borrow.Author.Tests.{ltb-true}
 use Rattle.grammar.specs.Limits.{Limits}
-use Rattle.grammar.specs.Names.{sameName, Classes}
+use Rattle.grammar.specs.Names.{sameName, Classes, Name}
 use Rattle.grammar.specs.Content.{
   Content,
   none,
@@ -36,6 +37,8 @@ use Rattle.theory.proofs.BoolLaws.{and-left, and-right}
 use Rattle.theory.proofs.ListLaws.{differ-at}
 use Rattle.theory.proofs.NameLaws.{name-sym}
 use Rattle.grammar.specs.Kinds.{NoTwoRules}
+use Rattle.grammar.specs.Tree.{Tree}
+use Rattle.grammar.specs.Derivation.{Fits, Derives, derives}
 
 pub record TypesBelow (lim : Limits) (g : Table) : Type 0 where
   pub starts : (k : ℕ) → List·Memᴰ k (g .starts) → k < lim .types
@@ -55,6 +58,25 @@ pub record HasRule (g : Table) (k : ℕ) : Type 0 where
   pub rule : Rule
   pub of-table : List·Memᴰ rule (g .rules)
   pub of-type : rule .type ≡ k
+
+-- each type that stands in a content has a rule
+abbrev pub AllRuled : Table → Type 0
+AllRuled g = (r : Rule) → List·Memᴰ r (g .rules) → (k : ℕ) → List·Memᴰ k (typesIn (r .content)) → HasRule g k
+
+abbrev pub rule-that-fits : {g : Table} {k : ℕ} {n : Name} {w : List ℕ} → Fits g k n w → HasRule g k
+rule-that-fits f = record { rule = f .rule; of-table = f .of-table; of-type = f .of-type }
+
+pub derived-rule : {g : Table} {k : ℕ} {t : Tree} → Derives g k t → HasRule g k
+derived-rule (derives f all) = rule-that-fits f
+
+-- the type derives some tree
+abbrev pub SomeTree : Table → ℕ → Type 0
+SomeTree g k = (t : Tree) × Derives g k t
+
+-- the type is reached from a start through the types that stand in contents
+pub data Reaches (g : Table) : ℕ → Type 0 where
+  from-start : {k : ℕ} → List·Memᴰ k (g .starts) → Reaches g k
+  through : {r : Rule} {k : ℕ} → List·Memᴰ r (g .rules) → Reaches g (r .type) → List·Memᴰ k (typesIn (r .content)) → Reaches g k
 
 -- the types of a proper content are below the limit
 abbrev counted : Limits → Contents → Bool
@@ -92,8 +114,8 @@ module _ (lim : Limits) (classes : Classes) (g : Table) (within : TableWithin li
         contents = λ r m. proper-below (r .content) lim (within .each-rule r m .content .proper);
       }
 
-  pub within-listed : Labelled g
-  within-listed r m = within .each-rule r m .label
+  pub within-labelled : Labelled g
+  within-labelled r m = within .each-rule r m .label
 
   pub within-names : DistinctNames g
   within-names i j m n p q e = differ-at sameName name-sym (g .labels) i j m n (within .labels-differ) p q e
