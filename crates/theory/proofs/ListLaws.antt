@@ -422,10 +422,13 @@ module _ {A : Type 0} where
       go false false e d ih = rw (e, d, keep) (omega arith)
 
   -- the element at a place, or else another
-  pub at-or-else : (xs : List A) (i : ℕ) (x : A) → i < length xs → getElem? xs i ≡ just (getD xs i x)
-  at-or-else [] i x h = absurd (omega arith)
-  at-or-else (y ∷ ys) zero x h = refl
-  at-or-else (y ∷ ys) (suc i) x h = at-or-else ys i x (omega arith)
+  pub at-else : (xs : List A) (i : ℕ) (d : A) {x : A} → getElem? xs i ≡ just x → getD xs i d ≡ x
+  at-else [] i d e = let z : _≡_ {A = ℕ} 0 1 = cc in absurd (omega arith)
+  at-else (x ∷ xs) zero d e = sym (just-eq e)
+  at-else (x ∷ xs) (suc i) d e = at-else xs i d e
+
+  pub at-or-else : (xs : List A) (i : ℕ) (d : A) → i < length xs → getElem? xs i ≡ just (getD xs i d)
+  at-or-else xs i d h = let (x, e) = below-at xs i h in e ∙ ap just (sym (at-else xs i d e))
 
 module _ {A B : Type 0} where
   -- mapped elements, by positions

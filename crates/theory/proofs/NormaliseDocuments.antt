@@ -40,9 +40,10 @@ use Rattle.grammar.specs.Normalise.{pairOf, pairsOf, inPairs, ruleOfPair, norma
 use Rattle.theory.proofs.BoolLaws.{and-left, and-right, and-intro}
 use Rattle.theory.proofs.ListLaws.{any-of, kept, keep-mem, distinct-was, distinct-has, joined-from, joined-mem}
 use Rattle.theory.proofs.WordLaws.{choice-words, Spells, spells-none, spells-next, replace-words}
-use Rattle.theory.proofs.PositionLaws.{place-same, same-place, no-two-map, no-two-weaken, no-two-distinct}
+use Rattle.theory.proofs.PositionLaws.{place-same, same-place}
 use Rattle.theory.proofs.ReplacedTypes.{choice-types, replace-types}
 use Rattle.theory.proofs.TableConditions.{Labelled, HasRule}
+use Rattle.theory.proofs.NoTwo.{no-two-map, no-two-weaken, no-two-distinct}
 
 -- Rules are of one pair when type and label are equal.
 pub one-pair : (r s : Rule) → (r .type ≡ s .type) × (r .label ≡ s .label) → samePair r s ≡ true

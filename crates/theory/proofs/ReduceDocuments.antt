@@ -235,7 +235,7 @@ module _ (Alike : ℕ → ℕ → ℕ → ℕ → Type 0) where
   unfolding reduce withoutUnreached withoutUnfruitful
   reduce-no-two g h =
       no-two-keep AlikeRules (λ (r : Rule). isIn (r .type) (reached (withoutUnfruitful g))) (withoutUnfruitful g .rules)
-      (no-two-map (pruned g) AlikeRules AlikeRules (λ r s a. a) (keep (λ (r : Rule). isIn (r .type) (fruitful g)) (g .rules))
+      (no-two-map (pruned g) AlikeRules (keep (λ (r : Rule). isIn (r .type) (fruitful g)) (g .rules))
       (no-two-keep AlikeRules (λ (r : Rule). isIn (r .type) (fruitful g)) (g .rules) h))
 
 pub reduce-one-rule : (g : Table) → NoTwoRules g (λ r s. r .type ≡ s .type) → NoTwoRules (reduce g) (λ r s. r .type ≡ s .type)

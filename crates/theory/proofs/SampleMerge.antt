@@ -50,7 +50,7 @@ use Rattle.theory.proofs.ListLaws.{
 }
 use Rattle.theory.proofs.NameLaws.{name-refl, name-sym, name-trans}
 use Rattle.theory.proofs.PathLaws.{SamePath, path-refl, path-sym, path-trans, path-parts}
-use Rattle.theory.proofs.PositionLaws.{place-same, same-place, no-two-map, no-two-weaken, no-two-distinct}
+use Rattle.theory.proofs.PositionLaws.{place-same, same-place}
 use Rattle.theory.proofs.WordLaws.{choice-words}
 use Rattle.theory.proofs.TableConditions.{Labelled}
 use Rattle.theory.proofs.VisitedTrees.{
@@ -64,6 +64,7 @@ use Rattle.theory.proofs.VisitedTrees.{
   Ends,
   stands-ends,
 }
+use Rattle.theory.proofs.NoTwo.{no-two-map, no-two-weaken, no-two-distinct}
 
 -- the sequence of some types has that one word
 turn-word : (ks w : List ℕ) → InTurn (operands (map type ks)) w ↔ (w ≡ ks)

@@ -62,18 +62,11 @@ use Rattle.theory.proofs.ListLaws.{
   numbers-at,
   numbers-below,
 }
-use Rattle.theory.proofs.PositionLaws.{
-  NoTwo,
-  at-joined,
-  no-two-append,
-  no-two-keep,
-  no-two-weaken,
-  no-two-distinct,
-  no-two-map,
-}
+use Rattle.theory.proofs.PositionLaws.{at-joined}
 use Rattle.theory.proofs.TableAutomaton.{label-of}
 use Rattle.theory.proofs.ReducedTable.{ReducedTable}
 use Rattle.theory.proofs.TableConditions.{HasRule}
+use Rattle.theory.proofs.NoTwo.{no-two-append, no-two-keep, no-two-map, no-two-weaken, no-two-distinct, NoTwo}
 
 -- the worklist
 module _ (g : Table) where

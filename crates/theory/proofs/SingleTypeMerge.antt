@@ -82,8 +82,10 @@ use Rattle.theory.proofs.ListLaws.{
   same-numbers,
   same-numbers-refl,
   numbers-below,
+  at-else,
+  at-map,
 }
-use Rattle.theory.proofs.PositionLaws.{at-front, at-else, map-at}
+use Rattle.theory.proofs.PositionLaws.{at-front}
 use Rattle.theory.proofs.NameLaws.{name-refl}
 use Rattle.theory.proofs.WordLaws.{choice-words, rename-words}
 use Rattle.theory.proofs.Standing.{word-stands}
@@ -266,7 +268,7 @@ module _ (lim : Limits) (g : Table) where
     rule-at : (i : ℕ) {r : Rule} → getElem? (form .rules) i ≡ just r
         → (s : TypeSet) × (getElem? sets i ≡ just s) × (ruleOfSet g sets s ≡ r)
     unfolding singleTypeForm
-    rule-at i e = map-at (ruleOfSet g sets) sets i e
+    rule-at i e = at-map (ruleOfSet g sets) sets i e
 
     pub single-type-form-place : (i : ℕ) {r : Rule} → getElem? (singleTypeForm lim g .rules) i ≡ just r → r .type ≡ i
     unfolding ruleOfSet

@@ -3,15 +3,14 @@
 --     type-accepts     a type accepts just what it derives
 --     table-accepts    the automaton accepts just what the table lets in
 --     table-kept       so a table that lets in all that this one lets in lets in all that the automaton accepts
-use Prim.Native.Nat.{ℕ, zero, suc, _<_}
-use native.Mathlib.Omega.{arith}
+use Prim.Native.Nat.{ℕ}
 use mathlib.Core.Bool.{Bool}
 use mathlib.Core.List.{List, [], _∷_, List·Memᴰ, List·Memᴰ·head, List·Memᴰ·not-nil}
 use mathlib.Core.Logic.{_↔_}
 use mathlib.Core.Option.{some as just}
 use mathlib.Core.Path.{_≡_, refl, sym, ap, subst}
 use lib.Dec.{eqb}
-use lib.ListN.{length, getElem?, getD}
+use lib.ListN.{getElem?, getD}
 use borrow.Author.Tests.{eqb-true, eq-eqb}
 use Rattle.grammar.specs.Lists.{keep}
 use Rattle.grammar.specs.Names.{Name, SameName}
@@ -19,10 +18,9 @@ use Rattle.grammar.specs.Content.{Word}
 use Rattle.grammar.specs.Tree.{Tree, Forest}
 use Rattle.grammar.specs.Table.{Rule, Table}
 use Rattle.grammar.specs.Derivation.{Fits, Derives, derives, DerivesAll, derives-none, derives-next, LetsIn}
-use Rattle.grammar.specs.Kinds.{NoTwoRules}
 use Rattle.grammar.specs.Least.{LetsInAll}
 use Rattle.grammar.specs.LocalForm.{labelOf}
-use Rattle.theory.proofs.ListLaws.{kept, keep-mem, below-at}
+use Rattle.theory.proofs.ListLaws.{kept, keep-mem, below-at, at-else}
 use Rattle.theory.proofs.KindLaws.{one-rule}
 use Rattle.theory.proofs.Automaton.{
   Automaton,
@@ -48,11 +46,6 @@ pub record Steps (g : Table) (k : ℕ) (w : List ℕ) : Type 0 where
 
 abbrev pub tableAutomaton : Table → Automaton ℕ
 tableAutomaton g = record { name = typeName g; Step = Steps g; Start = λ k. List·Memᴰ k (g .starts) }
-
-at-else : {A : Type 0} (xs : List A) (i : ℕ) (d : A) {x : A} → getElem? xs i ≡ just x → getD xs i d ≡ x
-at-else [] i d e = let z : _≡_ {A = ℕ} 0 1 = cc in absurd (omega arith)
-at-else (y ∷ ys) zero d e = cc
-at-else (y ∷ ys) (suc i) d e = at-else ys i d e
 
 module _ (g : Table) (one-each : OneRuleEach g) where
   pub label-of : (r : Rule) → List·Memᴰ r (g .rules) → labelOf g (r .type) ≡ r .label

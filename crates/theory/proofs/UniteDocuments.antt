@@ -39,12 +39,24 @@ use Rattle.grammar.specs.Table.{Rule, Table, Named, DistinctNames}
 use Rattle.grammar.specs.Derivation.{Fits, Derives, derives, DerivesAll, derives-none, derives-next, LetsIn}
 use Rattle.grammar.specs.Unite.{unitedLabels, shifted, added, unite}
 use Rattle.theory.proofs.BoolLaws.{not-both, passes-or-fails}
-use Rattle.theory.proofs.ListLaws.{any-of, any-found, keep-mem, kept, place-found, at-mem, at-below, below-at, just-eq}
+use Rattle.theory.proofs.ListLaws.{
+  any-of,
+  any-found,
+  keep-mem,
+  kept,
+  place-found,
+  at-mem,
+  at-below,
+  below-at,
+  just-eq,
+  at-else,
+}
 use Rattle.theory.proofs.NameLaws.{name-refl, name-sym, name-trans}
 use Rattle.theory.proofs.WordLaws.{rename-words}
-use Rattle.theory.proofs.PositionLaws.{at-joined, at-front, at-else, no-two-append, no-two-keep}
+use Rattle.theory.proofs.PositionLaws.{at-joined, at-front}
 use Rattle.theory.proofs.Standing.{word-stands}
 use Rattle.theory.proofs.TableConditions.{TypesBelow, Labelled}
+use Rattle.theory.proofs.NoTwo.{no-two-append, no-two-keep}
 
 module _ (lim : Limits) (old addition : Table) where
   abbrev united : Table
