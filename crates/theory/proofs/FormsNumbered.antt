@@ -29,8 +29,8 @@ use Rattle.theory.proofs.ListLaws.{
   numbers-length,
   place-at,
   keep-differ,
+  keep-shorter,
 }
-use Rattle.theory.proofs.Rounds.{keep-shorter}
 use Rattle.theory.proofs.ReplacedTypes.{choice-types, replace-types}
 use Rattle.theory.proofs.TableAutomaton.{label-of}
 use Rattle.theory.proofs.ReducedTable.{ReducedTable}

@@ -39,7 +39,6 @@ pub mod CarryDerivations
 pub mod Reached
 pub mod ReduceDocuments
 pub mod PathLaws
-pub mod PositionLaws
 pub mod NormaliseDocuments
 pub mod ReplacedTypes
 pub mod SampleMembers

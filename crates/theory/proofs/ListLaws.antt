@@ -1,7 +1,7 @@
 -- What the words of grammar's Lists mean, in terms of membership and positions.
 use Prim.Native.Nat.{ℕ, zero, suc, _+_, _≤_, _<_}
 use native.Mathlib.Omega.{arith}
-use mathlib.Core.Bool.{Bool, true, false, not, _&&_, _||_, true≢false, false≢true}
+use mathlib.Core.Bool.{Bool, true, false, not, _||_, false≢true}
 use mathlib.Core.List.{
   List,
   [],
@@ -41,8 +41,6 @@ use Rattle.grammar.specs.Lists.{
   numbersFrom,
   numbersBelow,
 }
-use Rattle.theory.proofs.BoolLaws.{and-left, and-right, and-intro, or-cases, or-left, or-right, not-both, passes-or-fails}
-use Rattle.theory.proofs.BoolLaws.{false-of}
 use Rattle.theory.proofs.BoolLaws.{
   and-left,
   and-right,
@@ -50,10 +48,11 @@ use Rattle.theory.proofs.BoolLaws.{
   or-cases,
   or-left,
   or-right,
-  or-false,
-  false-of,
   not-both,
   passes-or-fails,
+  same-test,
+  false-of,
+  or-false,
 }
 
 module _ {A : Type 0} where
@@ -142,6 +141,14 @@ module _ {A : Type 0} where
             (r .0, List·Memᴰ·tail (keep-mem (λ w. not (same z w)) (r .1) (ap not e)), r .2))
             (passes-or-fails (same z (r .0)))
 
+  -- of a test that decides equality: each element is among the distinct
+  pub distinct-mem : (same : A → A → Bool) → ((x y : A) → (same x y ≡ true) ↔ (x ≡ y)) → {x : A} {xs : List A} → List·Memᴰ x xs
+      → List·Memᴰ x (distinct same xs)
+  distinct-mem same decides {x} m =
+      let r =
+      distinct-has same (λ y. decides y y .1 refl) (λ y z w p q. decides y w .1 (decides y z .0 p ∙ decides z w .0 q)) m in
+      Memᴰ·cast (sym (decides (r .0) x .0 (r .2))) (r .1)
+
   -- positions
   pub at-mem : (xs : List A) (i : ℕ) {x : A} → getElem? xs i ≡ just x → List·Memᴰ x xs
   at-mem [] i e = absurd (no-thing e)
@@ -165,6 +172,14 @@ module _ {A : Type 0} where
   below-at (y ∷ ys) zero h = (y, refl)
   below-at (y ∷ ys) (suc i) h = below-at ys i (omega arith)
 
+  pub at-joined : (xs ys : List A) (i : ℕ) → i < length xs → getElem? (xs ++ ys) i ≡ getElem? xs i
+  at-joined [] ys i h = absurd (omega arith)
+  at-joined (x ∷ xs) ys zero h = refl
+  at-joined (x ∷ xs) ys (suc i) h = at-joined xs ys i (omega arith)
+
+  pub at-front : (xs ys : List A) (i : ℕ) {x : A} → getElem? xs i ≡ just x → getElem? (xs ++ ys) i ≡ just x
+  at-front xs ys i e = at-joined xs ys i (at-below xs i e) ∙ e
+
   pub just-eq : {x y : A} → _≡_ {A = Option A} (just x) (just y) → y ≡ x
   just-eq e = cc
 
@@ -185,6 +200,29 @@ module _ {A : Type 0} where
       go false q ih =
           let r = ih (rw q at e) in
           (r .0, rw (q, place) (r .1), r .2)
+
+  -- elements that are the same have one place, and elements found at one place are the same
+  module _ (same : A → A → Bool) (same-sym : (x y : A) → same x y ≡ true → same y x ≡ true)
+      (same-trans : (x y z : A) → same x y ≡ true → same y z ≡ true → same x z ≡ true) where
+    pub place-same : (x y : A) → same x y ≡ true → (xs : List A) → place same x xs ≡ place same y xs
+    unfolding place
+    place-same x y e [] = refl
+    place-same x y e (z ∷ zs) = go (same y z) refl (place-same x y e zs)
+      where
+        alike : same x z ≡ same y z
+        alike = same-test (same x z) (same y z) (same-trans y x z (same-sym x y e), same-trans x y z e)
+
+        go : (b : Bool) → same y z ≡ b → place same x zs ≡ place same y zs → place same x (z ∷ zs) ≡ place same y (z ∷ zs)
+        go true q ih = rw (alike ∙ q, q, place)
+        go false q ih = rw (alike ∙ q, q, place) (ap suc ih)
+
+    pub same-place : (x y : A) (xs : List A) → any (same x) xs ≡ true → any (same y) xs ≡ true → place same x xs ≡ place same y xs
+        → same x y ≡ true
+    same-place x y xs p q e =
+        let (u, at, xu) = place-found same x xs p in
+        let (v, bt, yv) = place-found same y xs q in
+        let w : u ≡ v = just-eq (sym bt ∙ subst (λ (i : ℕ). getElem? xs i ≡ just u) e at) in
+        same-trans x v y (subst (λ (z : A). same x z ≡ true) w xu) (same-sym y v yv)
 
   -- no two elements are the same, by positions
   module _ (same : A → A → Bool) (same-sym : (x y : A) → same x y ≡ true → same y x ≡ true) where
@@ -320,10 +358,18 @@ each-end {A} P xs x h p y m = ⊎-elim (h y) (only y) (List·Memᴰ·append-case
     only z (List·Memᴰ·head q) = subst P (sym q) p
     only z (List·Memᴰ·tail n) = elim n [ ]
 
+pub joined-append : {A B : Type 0} (f : A → List B) (xs ys : List A) → joinedOf f (xs ++ ys) ≡ joinedOf f xs ++ joinedOf f ys
+unfolding joinedOf
+joined-append f [] ys = refl
+joined-append {A} {B} f (x ∷ xs) ys =
+    ap (λ (zs : List B). f x ++ zs) (joined-append f xs ys) ∙ sym (append-assoc (f x) (joinedOf f xs) (joinedOf f ys))
+
 pub joined-end : {A B : Type 0} (f : A → List B) (xs : List A) (x : A) → joinedOf f (xs ++ (x ∷ [])) ≡ joinedOf f xs ++ f x
 unfolding joinedOf
-joined-end f [] x = append-nil (f x)
-joined-end {A} {B} f (y ∷ ys) x = ap (λ (l : List B). f y ++ l) (joined-end f ys x) ∙ sym (append-assoc (f y) (joinedOf f ys) (f x))
+joined-end {A} {B} f xs x = joined-append f xs (x ∷ []) ∙ ap (λ (l : List B). joinedOf f xs ++ l) (append-nil (f x))
+
+pub eqb-decides : (m n : ℕ) → (eqb m n ≡ true) ↔ (m ≡ n)
+eqb-decides m n = (eqb-true m n, eq-eqb m n)
 
 pub eqb-sym : (m n : ℕ) → eqb m n ≡ true → eqb n m ≡ true
 eqb-sym m n e = eq-eqb n m (sym (eqb-true m n e))
@@ -513,3 +559,12 @@ unfolding keep
 keep-all test [] h = refl
 keep-all {A} test (x ∷ xs) h =
     keep-yes test x xs (h x (List·Memᴰ·head refl)) ∙ ap (λ (l : List A). x ∷ l) (keep-all test xs (λ y m. h y (List·Memᴰ·tail m)))
+
+pub keep-shorter : {A : Type 0} (test : A → Bool) (xs : List A) → length (keep test xs) ≤ length xs
+unfolding keep
+keep-shorter test [] = omega arith
+keep-shorter test (x ∷ xs) = go (passes-or-fails (test x)) (keep-shorter test xs)
+  where
+    go : (test x ≡ true) ⊎ (test x ≡ false) → length (keep test xs) ≤ length xs → length (keep test (x ∷ xs)) ≤ length (x ∷ xs)
+    go (inl e) ih = rw (keep-yes test x xs e) (omega arith)
+    go (inr e) ih = rw (keep-no test x xs e) (omega arith)

@@ -2,7 +2,7 @@
 --     choice-types     those of each content, joined
 --     replace-types    those of what replaces each type, joined
 use Prim.Native.Nat.{ℕ}
-use mathlib.Core.List.{List, [], _∷_, _++_, append-assoc, append-nil}
+use mathlib.Core.List.{List, [], _∷_, _++_, append-nil}
 use mathlib.Core.Path.{_≡_, refl, sym, _∙_, ap}
 use Rattle.grammar.specs.Lists.{joinedOf}
 use Rattle.grammar.specs.Content.{
@@ -25,13 +25,7 @@ use Rattle.grammar.specs.Content.{
   replace,
   replaceAll,
 }
-
-module _ {A B : Type 0} (f : A → List B) where
-  pub joined-append : (xs ys : List A) → joinedOf f (xs ++ ys) ≡ joinedOf f xs ++ joinedOf f ys
-  unfolding joinedOf
-  joined-append [] ys = refl
-  joined-append (x ∷ xs) ys =
-      ap (λ (zs : List B). f x ++ zs) (joined-append xs ys) ∙ sym (append-assoc (f x) (joinedOf f xs) (joinedOf f ys))
+use Rattle.theory.proofs.ListLaws.{joined-append}
 
 operands-types : (cs : List Content) → typesInAll (operands cs) ≡ joinedOf typesIn cs
 unfolding operands typesInAll joinedOf

@@ -30,7 +30,17 @@ use borrow.Author.Tests.{eqb-true, eq-eqb, not-true}
 use Rattle.grammar.specs.Lists.{keep, distinct, isIn}
 use Rattle.grammar.specs.Reduce.{rounds, notKnown}
 use Rattle.theory.proofs.BoolLaws.{false-of, not-both, passes-or-fails}
-use Rattle.theory.proofs.ListLaws.{keep-yes, keep-no, kept, keep-mem, distinct-was, distinct-has, in-mem, mem-in}
+use Rattle.theory.proofs.ListLaws.{
+  keep-yes,
+  keep-no,
+  kept,
+  keep-mem,
+  distinct-was,
+  distinct-has,
+  in-mem,
+  mem-in,
+  keep-shorter,
+}
 use Rattle.theory.proofs.SameWords.{AllIn}
 
 -- a stricter test keeps fewer
@@ -58,15 +68,6 @@ module _ {A : Type 0} (strict lax : A → Bool) (stricter : (x : A) → strict x
       let h = keep-fewer ys in
       rw (keep-no strict y ys (ap strict (sym e) ∙ p), keep-yes lax y ys (ap lax (sym e) ∙ q)) (omega arith)
   keep-less (List·Memᴰ·tail {x = y} {xs = ys} m) p q = fewer-at 1 y ys (keep-less m p q)
-
-pub keep-shorter : {A : Type 0} (test : A → Bool) (xs : List A) → length (keep test xs) ≤ length xs
-unfolding keep
-keep-shorter test [] = omega arith
-keep-shorter test (x ∷ xs) = go (passes-or-fails (test x)) (keep-shorter test xs)
-  where
-    go : (test x ≡ true) ⊎ (test x ≡ false) → length (keep test xs) ≤ length xs → length (keep test (x ∷ xs)) ≤ length (x ∷ xs)
-    go (inl e) ih = rw (keep-yes test x xs e) (omega arith)
-    go (inr e) ih = rw (keep-no test x xs e) (omega arith)
 
 -- a number that is not among some
 absent : (k : ℕ) (ks : List ℕ) → (List·Memᴰ k ks → ⊥) → not (isIn k ks) ≡ true

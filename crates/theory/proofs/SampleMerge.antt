@@ -47,10 +47,11 @@ use Rattle.theory.proofs.ListLaws.{
   just-eq,
   same-numbers,
   same-numbers-refl,
+  place-same,
+  same-place,
 }
 use Rattle.theory.proofs.NameLaws.{name-refl, name-sym, name-trans}
 use Rattle.theory.proofs.PathLaws.{SamePath, path-refl, path-sym, path-trans, path-parts}
-use Rattle.theory.proofs.PositionLaws.{place-same, same-place}
 use Rattle.theory.proofs.WordLaws.{choice-words}
 use Rattle.theory.proofs.TableConditions.{Labelled}
 use Rattle.theory.proofs.VisitedTrees.{

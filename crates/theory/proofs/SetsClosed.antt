@@ -61,8 +61,8 @@ use Rattle.theory.proofs.ListLaws.{
   same-numbers-refl,
   numbers-at,
   numbers-below,
+  at-joined,
 }
-use Rattle.theory.proofs.PositionLaws.{at-joined}
 use Rattle.theory.proofs.TableAutomaton.{label-of}
 use Rattle.theory.proofs.ReducedTable.{ReducedTable}
 use Rattle.theory.proofs.TableConditions.{HasRule}

@@ -84,8 +84,8 @@ use Rattle.theory.proofs.ListLaws.{
   numbers-below,
   at-else,
   at-map,
+  at-front,
 }
-use Rattle.theory.proofs.PositionLaws.{at-front}
 use Rattle.theory.proofs.NameLaws.{name-refl}
 use Rattle.theory.proofs.WordLaws.{choice-words, rename-words}
 use Rattle.theory.proofs.Standing.{word-stands}

@@ -50,10 +50,11 @@ use Rattle.theory.proofs.ListLaws.{
   below-at,
   just-eq,
   at-else,
+  at-joined,
+  at-front,
 }
 use Rattle.theory.proofs.NameLaws.{name-refl, name-sym, name-trans}
 use Rattle.theory.proofs.WordLaws.{rename-words}
-use Rattle.theory.proofs.PositionLaws.{at-joined, at-front}
 use Rattle.theory.proofs.Standing.{word-stands}
 use Rattle.theory.proofs.TableConditions.{TypesBelow, Labelled}
 use Rattle.theory.proofs.NoTwo.{no-two-append, no-two-keep}
