@@ -24,7 +24,6 @@ use Rattle.grammar.specs.Tidy.{tidyTable}
 use Rattle.theory.proofs.BoolLaws.{or-false, false-of, not-both}
 use Rattle.theory.proofs.ListLaws.{any-of, at-mem, at-or-else, all-differ}
 use Rattle.theory.proofs.TableConditions.{Labelled}
-use Rattle.theory.proofs.ContentBytes.{content-bytes-injective}
 use Rattle.theory.proofs.TidyWords.{tidy-types}
 use Rattle.theory.proofs.TidyTable.{tidy-labels}
 use Rattle.theory.proofs.UsedLabelsDocuments.{used-below, used-labels-names, used-labels-labelled, used-labels-count}
@@ -195,7 +194,7 @@ module _ (lim : Limits) (classes : Classes) where
             type = sym (ap (λ (q : Rule). q .type) e);
             types =
                 λ k p.
-                tidy-types content-bytes-injective k (s .content) .0
+                tidy-types k (s .content) .0
                 (subst (λ (x : Content). List·Memᴰ k (typesIn x)) (sym c) p);
             counted = λ h. subst (Counted lim) c (tidy-counted lim (s .content) h);
           }

@@ -20,13 +20,12 @@ use mathlib.Core.List.{
   Memᴰ·append-left,
   Memᴰ·append-right,
   List·Memᴰ·append-cases,
-  Memᴰ·cast,
 }
 use mathlib.Core.Logic.{_↔_, _⊎_, inl, inr, ⊎-elim}
 use mathlib.Core.Path.{_≡_, refl, sym, _∙_, ap, subst}
 use lib.ListN.{length}
 use lib.Dec.{eqb}
-use borrow.Author.Tests.{eqb-true, eq-eqb, not-true}
+use borrow.Author.Tests.{not-true}
 use Rattle.grammar.specs.Lists.{keep, distinct, isIn}
 use Rattle.grammar.specs.Reduce.{rounds, notKnown}
 use Rattle.theory.proofs.BoolLaws.{false-of, not-both, passes-or-fails}
@@ -36,10 +35,11 @@ use Rattle.theory.proofs.ListLaws.{
   kept,
   keep-mem,
   distinct-was,
-  distinct-has,
   in-mem,
   mem-in,
   keep-shorter,
+  distinct-mem,
+  eqb-decides,
 }
 use Rattle.theory.proofs.SameWords.{AllIn}
 
@@ -88,9 +88,7 @@ not-known known types k = (there, back)
 
     back : List·Memᴰ k types × (List·Memᴰ k known → ⊥) → List·Memᴰ k (distinct eqb (keep (λ l. not (isIn l known)) types))
     back p =
-        let m = keep-mem (λ l. not (isIn l known)) (p .0) (absent k known (p .1)) in
-        let d = distinct-has eqb (λ l. eq-eqb l l refl) (λ l m n p q. eq-eqb l n (eqb-true l m p ∙ eqb-true m n q)) m in
-        Memᴰ·cast (sym (eqb-true (d .0) k (d .2))) (d .1)
+        distinct-mem eqb eqb-decides (keep-mem (λ l. not (isIn l known)) (p .0) (absent k known (p .1)))
 
 module _ (newly : List ℕ → List ℕ) where
   -- where a round adds nothing, what it would add if it were new is known

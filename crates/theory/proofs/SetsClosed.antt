@@ -47,7 +47,6 @@ use Rattle.theory.proofs.ListLaws.{
   keep-mem,
   keep-map,
   distinct-was,
-  distinct-has,
   at-mem,
   mem-at,
   at-below,
@@ -62,6 +61,8 @@ use Rattle.theory.proofs.ListLaws.{
   numbers-at,
   numbers-below,
   at-joined,
+  distinct-mem,
+  eqb-decides,
 }
 use Rattle.theory.proofs.TableAutomaton.{label-of}
 use Rattle.theory.proofs.ReducedTable.{ReducedTable}
@@ -184,13 +185,8 @@ set-met g s t = (there, back)
 
     back : OneLabelSet g (typesMet g s) t → List·Memᴰ t (setsMet g s)
     back o =
-        let (l, p, e) =
-        distinct-has eqb (λ n. eq-eqb n n refl)
-        (λ x y z p q. eq-eqb x z (eqb-true x y p ∙ eqb-true y z q))
-        (Memᴰ·map (labelOf g) (o .listed))
-        in
-        Memᴰ·cast (o .alike ∙ ap (ofLabel g (typesMet g s)) (sym (eqb-true l (labelOf g (o .type)) e)))
-        (Memᴰ·map (ofLabel g (typesMet g s)) p)
+        Memᴰ·cast (o .alike)
+        (Memᴰ·map (ofLabel g (typesMet g s)) (distinct-mem eqb eqb-decides (Memᴰ·map (labelOf g) (o .listed))))
 
 module _ (g : Table) (reduced : ReducedTable g) where
   pub label-below : {k : ℕ} → HasRule g k → labelOf g k < length (g .labels)

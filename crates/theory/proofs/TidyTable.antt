@@ -1,4 +1,4 @@
--- Tidying the contents of a table, where tidying keeps a content's words and the types that stand in it:
+-- Tidying the contents of a table:
 --     tidy-documents      the tidied table lets in what the table lets in
 --     tidy-local          it is local, tidy-single-type single-type, if the table is
 --     tidy-one-rule       each type has at most one rule if it has so in the table
@@ -6,19 +6,18 @@
 --     tidy-names          no two labels have equal names if so in the table
 --     tidy-labelled       the rules' labels are among the labels if so in the table
 use Prim.Native.Nat.{ℕ}
-use mathlib.Core.List.{List, List·Memᴰ}
 use mathlib.Core.Logic.{_↔_}
 use mathlib.Core.Path.{_≡_, refl, sym, _∙_, ap}
 use lib.ListN.{getElem?}
-use Rattle.grammar.specs.Content.{Content, Word, typesIn}
 use Rattle.grammar.specs.Tree.{Tree}
 use Rattle.grammar.specs.Table.{Table, DistinctNames}
 use Rattle.grammar.specs.Derivation.{LetsIn}
 use Rattle.grammar.specs.Kinds.{Local, SingleType}
-use Rattle.grammar.specs.Tidy.{tidy, tidyTable}
+use Rattle.grammar.specs.Tidy.{tidyTable}
 use Rattle.theory.proofs.ListLaws.{related-map}
 use Rattle.theory.proofs.SameRules.{SameRules, same-documents, same-local, same-single-type, same-one-rule, same-labelled}
 use Rattle.theory.proofs.TableConditions.{Labelled, OneRuleEach}
+use Rattle.theory.proofs.TidyWords.{tidy-words, tidy-types}
 
 module _ (g : Table) where
   pub tidy-labels : tidyTable g .labels ≡ g .labels
@@ -33,8 +32,6 @@ module _ (g : Table) where
   unfolding tidyTable
   tidy-names names = names
 
-module _ (tidy-words : (c : Content) (w : List ℕ) → Word (tidy c) w ↔ Word c w)
-    (tidy-types : (c : Content) (k : ℕ) → List·Memᴰ k (typesIn (tidy c)) ↔ List·Memᴰ k (typesIn c)) (g : Table) where
   same-rules : SameRules (λ l m. l ≡ m) g (tidyTable g)
   unfolding tidyTable
   same-rules =
@@ -49,7 +46,7 @@ module _ (tidy-words : (c : Content) (w : List ℕ) → Word (tidy c) w ↔ Word
               type = refl;
               label = refl;
               words = λ w. let e = tidy-words (r .content) w in (e .1, e .0);
-              types = λ k. let e = tidy-types (r .content) k in (e .1, e .0);
+              types = λ k. let e = tidy-types k (r .content) in (e .1, e .0);
             });
       }
 
