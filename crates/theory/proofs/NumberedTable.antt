@@ -11,7 +11,7 @@ use lib.ListN.{length, length-map, getD}
 use lib.Dec.{eqb, ltb}
 use borrow.Author.Tests.{ltb-false}
 use Rattle.grammar.specs.Lists.{any, allDistinct}
-use Rattle.grammar.specs.Limits.{Limits, standard}
+use Rattle.grammar.specs.Limits.{Limits, standard, LimitsAgree}
 use Rattle.grammar.specs.Names.{Name, sameName, Classes}
 use Rattle.grammar.specs.Content.{Content, typesIn, nesting}
 use Rattle.grammar.specs.Table.{Rule, Table, DistinctNames}
@@ -29,14 +29,7 @@ use Rattle.theory.proofs.TidyTable.{tidy-labels}
 use Rattle.theory.proofs.UsedLabelsDocuments.{used-below, used-labels-names, used-labels-labelled, used-labels-count}
 use Rattle.theory.proofs.Counted.{Counted, counted-proper, tidy-counted}
 
--- A file may have as many labels, starts and rules as types, and a content may name as many types as a node has children.
-pub record LimitsAgree (lim : Limits) : Type 0 where
-  pub labels : lim .types ≤ lim .labels
-  pub starts : lim .types ≤ lim .starts
-  pub rules : lim .types ≤ lim .rules
-  pub children : lim .children ≤ lim .operands
-
--- those of the paper do
+-- the limits of the paper agree
 pub standard-agree : LimitsAgree standard
 unfolding standard
 standard-agree = record { labels = omega arith; starts = omega arith; rules = omega arith; children = omega arith }

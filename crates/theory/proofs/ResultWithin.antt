@@ -10,7 +10,7 @@ use mathlib.Core.Bool.{false}
 use mathlib.Core.List.{List·Memᴰ}
 use mathlib.Core.Logic.{⊎-elim}
 use mathlib.Core.Path.{_≡_, sym, subst}
-use Rattle.grammar.specs.Limits.{Limits}
+use Rattle.grammar.specs.Limits.{Limits, LimitsAgree}
 use Rattle.grammar.specs.Names.{Name, Classes}
 use Rattle.grammar.specs.Tree.{Tree}
 use Rattle.grammar.specs.Table.{Table}
@@ -29,7 +29,6 @@ use Rattle.theory.proofs.ReducedUnion.{reduced-union}
 use Rattle.theory.proofs.WidenLeast.{unsized, widened}
 use Rattle.theory.proofs.CountedTables.{within-counted, union-counted, union-name}
 use Rattle.theory.proofs.NumberedTable.{
-  LimitsAgree,
   TableSmall,
   table-small,
   numbered-within,

@@ -8,29 +8,16 @@
 --     sample-types       no two rules of the sample have one type
 --     sample-labelled      each rule's label is among the labels
 use Prim.Native.Nat.{ℕ, zero, _<_}
-use native.Mathlib.Omega.{arith}
 use mathlib.Core.Bool.{Bool, true}
-use mathlib.Core.List.{
-  List,
-  [],
-  _∷_,
-  _++_,
-  map,
-  List·Memᴰ,
-  Memᴰ·map,
-  Memᴰ·of-map,
-  nil≢cons,
-  head-eq-of-cons-eq,
-  tail-eq-of-cons-eq,
-}
+use mathlib.Core.List.{List, [], _∷_, _++_, map, List·Memᴰ, Memᴰ·map, Memᴰ·of-map}
 use mathlib.Core.Logic.{_↔_}
 use mathlib.Core.Option.{some}
 use mathlib.Core.Path.{_≡_, refl, sym, _∙_, ap, subst}
 use lib.ListN.{length, getElem?}
-use Rattle.grammar.specs.Lists.{any, keep, distinct, place, sameNumbers}
+use Rattle.grammar.specs.Lists.{any, keep, distinct, place}
 use Rattle.grammar.specs.Names.{Name, sameName, SameName}
 use Rattle.grammar.specs.Content.{Content, type, Word, InTurn, operands, choiceOf}
-use Rattle.grammar.specs.ReadContent.{contentBytes, operandBytes, sameContent}
+use Rattle.grammar.specs.ReadContent.{sameContent}
 use Rattle.grammar.specs.Tree.{Tree, node}
 use Rattle.grammar.specs.Table.{Rule, Named, DistinctNames}
 use Rattle.grammar.specs.Derivation.{Fits}
@@ -45,10 +32,9 @@ use Rattle.theory.proofs.ListLaws.{
   place-found,
   at-below,
   just-eq,
-  same-numbers,
-  same-numbers-refl,
   place-same,
   same-place,
+  distinct-mem,
 }
 use Rattle.theory.proofs.NameLaws.{name-refl, name-sym, name-trans}
 use Rattle.theory.proofs.PathLaws.{SamePath, path-refl, path-sym, path-trans, path-parts}
@@ -66,6 +52,7 @@ use Rattle.theory.proofs.VisitedTrees.{
   stands-ends,
 }
 use Rattle.theory.proofs.NoTwo.{no-two-map, no-two-weaken, no-two-distinct}
+use Rattle.theory.proofs.ContentBytes.{same-content}
 
 -- the sequence of some types has that one word
 turn-word : (ks w : List ℕ) → InTurn (operands (map type ks)) w ↔ (w ≡ ks)
@@ -83,44 +70,6 @@ unfolding sequenceOf
 sequence-word [] w = (λ e. e, λ e. e)
 sequence-word (k ∷ []) w = (λ e. e, λ e. e)
 sequence-word (k ∷ l ∷ ls) w = turn-word (k ∷ l ∷ ls) w
-
--- byte-equal sequences of types are equal
-turn-bytes : (ks ls : List ℕ) → operandBytes (operands (map type ks)) ≡ operandBytes (operands (map type ls)) → ks ≡ ls
-unfolding operands operandBytes
-turn-bytes [] [] e = refl
-turn-bytes [] (l ∷ ls) e = absurd (nil≢cons e)
-turn-bytes (k ∷ ks) [] e = absurd (nil≢cons (sym e))
-turn-bytes (k ∷ ks) (l ∷ ls) e =
-    let t = tail-eq-of-cons-eq e in
-    let h = head-eq-of-cons-eq t in
-    let r = turn-bytes ks ls (tail-eq-of-cons-eq t) in
-    cc
-
-sequence-bytes : (ks ls : List ℕ) → contentBytes (sequenceOf ks) ≡ contentBytes (sequenceOf ls) → ks ≡ ls
-unfolding sequenceOf contentBytes operands
-sequence-bytes [] [] e = refl
-sequence-bytes [] (l ∷ []) e = let h = head-eq-of-cons-eq e in absurd (omega arith)
-sequence-bytes [] (l ∷ m ∷ ls) e = let h = head-eq-of-cons-eq e in absurd (omega arith)
-sequence-bytes (k ∷ []) [] e = let h = head-eq-of-cons-eq e in absurd (omega arith)
-sequence-bytes (k ∷ []) (l ∷ []) e = let h = head-eq-of-cons-eq (tail-eq-of-cons-eq e) in cc
-sequence-bytes (k ∷ []) (l ∷ m ∷ ls) e = let h = head-eq-of-cons-eq e in absurd (omega arith)
-sequence-bytes (k ∷ j ∷ ks) [] e = let h = head-eq-of-cons-eq e in absurd (omega arith)
-sequence-bytes (k ∷ j ∷ ks) (l ∷ []) e = let h = head-eq-of-cons-eq e in absurd (omega arith)
-sequence-bytes (k ∷ j ∷ ks) (l ∷ m ∷ ls) e = turn-bytes (k ∷ j ∷ ks) (l ∷ m ∷ ls) (tail-eq-of-cons-eq (tail-eq-of-cons-eq e))
-
-same-sequence : (ks ls : List ℕ) → sameContent (sequenceOf ks) (sequenceOf ls) ≡ true → ks ≡ ls
-unfolding sameContent
-same-sequence ks ls e =
-    sequence-bytes ks ls (same-numbers (contentBytes (sequenceOf ks)) (contentBytes (sequenceOf ls)) e)
-
-content-refl : (c : Content) → sameContent c c ≡ true
-unfolding sameContent
-content-refl c = same-numbers-refl (contentBytes c)
-
-content-trans : (a b c : Content) → sameContent a b ≡ true → sameContent b c ≡ true → sameContent a c ≡ true
-unfolding sameContent
-content-trans a b c e f =
-    subst (λ (z : List ℕ). sameNumbers (contentBytes a) z ≡ true) (same-numbers (contentBytes b) (contentBytes c) f) e
 
 -- a path of a visit ends with the visit's name
 pub path-ends : (d : Tree) (above : List Name) (v : Visit) → List·Memᴰ v (visits d above) → Ends (v .path) (v .name)
@@ -221,18 +170,12 @@ module _ (d : Tree) where
       back : ChildrenAt p w → Word (choiceOf (distinct sameContent sequences)) w
       back a =
           let v = a .visit in
-          let (c, l, s) =
-          distinct-has sameContent content-refl content-trans
-          (Memᴰ·map (childSequence seen) (keep-mem atPath (a .visited) (a .at-path))) in
-          let (u, m, e) = Memᴰ·of-map (childSequence seen) (keep atPath seen) (distinct-was sameContent sequences l) in
-          let q : childTypes u ≡ childTypes v =
-          same-sequence (childTypes u) (childTypes v)
-          (subst (λ (z : Content). sameContent z (childSequence seen v) ≡ true) (sym e) s) in
           choice-words (distinct sameContent sequences) w .1
           (record {
-            content = c;
-            listed = l;
-            word = subst (λ (z : Content). Word z w) e (sequence-word (childTypes u) w .1 (a .children ∙ sym q));
+            content = childSequence seen v;
+            listed =
+                distinct-mem sameContent same-content (Memᴰ·map (childSequence seen) (keep-mem atPath (a .visited) (a .at-path)));
+            word = sequence-word (childTypes v) w .1 (a .children);
           })
 
   -- the rules of the sample

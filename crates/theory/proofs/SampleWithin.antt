@@ -10,7 +10,7 @@ use lib.ListN.{length, length-map, getD}
 use lib.Dec.{eqb}
 use borrow.Author.Tests.{eq-eqb}
 use Rattle.grammar.specs.Lists.{any, keep, distinct, place, allDistinct, numbersBelow}
-use Rattle.grammar.specs.Limits.{Limits}
+use Rattle.grammar.specs.Limits.{Limits, LimitsAgree}
 use Rattle.grammar.specs.Names.{Name, sameName, SameName, Classes}
 use Rattle.grammar.specs.Content.{Content, type, typesIn, typesInAll, count, operands, choiceOf}
 use Rattle.grammar.specs.ReadContent.{sameContent}
@@ -66,7 +66,7 @@ use Rattle.theory.proofs.SampleMerge.{
 }
 use Rattle.theory.proofs.Counted.{Counted, AllCounted, choice-counted}
 use Rattle.theory.proofs.DocumentWithin.{DocumentWithin}
-use Rattle.theory.proofs.NumberedTable.{LimitsAgree, Numbered, table-small, numbered-within}
+use Rattle.theory.proofs.NumberedTable.{Numbered, table-small, numbered-within}
 
 -- the sequence of some types
 operands-count : (cs : List Content) → count (operands cs) ≡ length cs
