@@ -14,7 +14,7 @@ use lib.ListN.{length, getElem?, getD}
 use borrow.Author.Tests.{eqb-true, eq-eqb}
 use Rattle.grammar.specs.Lists.{any, keep, numbersBelow}
 use Rattle.grammar.specs.Names.{Name, SameName}
-use Rattle.grammar.specs.Content.{Content, type, Word, replace}
+use Rattle.grammar.specs.Content.{type, Word}
 use Rattle.grammar.specs.Table.{Rule, Table, Named, DistinctNames}
 use Rattle.grammar.specs.Derivation.{Fits, LetsIn}
 use Rattle.grammar.specs.Kinds.{Local}
@@ -36,7 +36,7 @@ use Rattle.theory.proofs.ListLaws.{
   related-map,
   related-turn,
 }
-use Rattle.theory.proofs.WordLaws.{choice-words, rename-words}
+use Rattle.theory.proofs.WordLaws.{merge-words}
 use Rattle.theory.proofs.Merge.{Forth, Back, StartType, accepted-let-in}
 use Rattle.theory.proofs.LeastMerge.{StartMember}
 use Rattle.theory.proofs.LeastLocal.{Reached, LocalMerge, least-local}
@@ -83,39 +83,31 @@ module _ (g : Table) where
     word : Word (rule .content) source
     renamed : w ≡ map merged source
 
-  alternative : Rule → Content
-  alternative r = replace (r .content) (λ k. type (merged k))
-
-  ofLabel : ℕ → List Rule
-  ofLabel l = keep (λ (r : Rule). eqb (r .label) l) (g .rules)
-
   merged-word : (l : ℕ) {w : List ℕ} → Word (ruleOfLabel g l .content) w → MergedWord l w
-  unfolding ruleOfLabel merged alternative ofLabel
+  unfolding ruleOfLabel merged
   merged-word l {w} v =
-      let o = choice-words (map alternative (ofLabel l)) w .0 v in
-      let a = Memᴰ·of-map alternative (ofLabel l) (o .listed) in
-      let k = kept (λ (r : Rule). eqb (r .label) l) (g .rules) (a .1) in
-      let u = rename-words merged (a .0 .content) w .0 (subst (λ (c : Content). Word c w) (sym (a .2)) (o .word)) in
+      let u = merge-words merged (keep (λ (r : Rule). eqb (r .label) l) (g .rules)) w .0 v in
+      let k = kept (λ (r : Rule). eqb (r .label) l) (g .rules) (u .listed) in
       record {
-        rule = a .0;
+        rule = u .rule;
         of-table = k .0;
-        of-label = eqb-true (a .0 .label) l (k .1);
+        of-label = eqb-true (u .rule .label) l (k .1);
         source = u .source;
-        word = u .in-language;
+        word = u .word;
         renamed = u .renamed;
       }
 
   word-merged : (r : Rule) → List·Memᴰ r (g .rules) → (u : List ℕ) → Word (r .content) u
       → Word (ruleOfLabel g (r .label) .content) (map merged u)
-  unfolding ruleOfLabel merged alternative ofLabel
+  unfolding ruleOfLabel merged
   word-merged r m u v =
-      choice-words (map alternative (ofLabel (r .label))) (map merged u) .1
+      merge-words merged (keep (λ (s : Rule). eqb (s .label) (r .label)) (g .rules)) (map merged u) .1
       (record {
-        content = alternative r;
-        listed =
-            Memᴰ·map alternative
-            (keep-mem (λ (s : Rule). eqb (s .label) (r .label)) m (eq-eqb (r .label) (r .label) refl));
-        word = rename-words merged (r .content) (map merged u) .1 (record { source = u; in-language = v; renamed = refl });
+        rule = r;
+        listed = keep-mem (λ (s : Rule). eqb (s .label) (r .label)) m (eq-eqb (r .label) (r .label) refl);
+        source = u;
+        word = v;
+        renamed = refl;
       })
 
 module _ (g : Table) (reduced : ReducedTable g) where

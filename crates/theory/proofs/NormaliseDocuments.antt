@@ -151,13 +151,13 @@ module _ (g : Table) where
       there : Word (choiceOfPairs k) w → (p : ℕ) × List·Memᴰ p (pairsOf g k) × (w ≡ p ∷ [])
       there v =
           let o = choice-words (map type (pairsOf g k)) w .0 v in
-          let (p, m, e) = Memᴰ·of-map type (pairsOf g k) (o .listed) in
-          (p, m, subst (λ (c : Content). Word c w) (sym e) (o .word))
+          let (p, m, e) = Memᴰ·of-map type (pairsOf g k) (o .1) in
+          (p, m, subst (λ (c : Content). Word c w) (sym e) (o .2))
 
       back : (p : ℕ) × List·Memᴰ p (pairsOf g k) × (w ≡ p ∷ []) → Word (choiceOfPairs k) w
       back t =
           choice-words (map type (pairsOf g k)) w .1
-          (record { content = type (t .0); listed = Memᴰ·map type (t .1); word = t .2 })
+          (type (t .0), Memᴰ·map type (t .1), t .2)
 
   spelled : {u w : List ℕ} → Spells (λ k. Word (choiceOfPairs k)) u w → InPairs u w
   spelled spells-none = pairwise-none
@@ -231,7 +231,7 @@ module _ (g : Table) where
       there f r m e =
           let v = subst (λ (q : Rule). Word (q .content) w) (sym e) (f .word) in
           let o = choice-words (contentsOf r) w .0 (subst (λ (c : Content). Word c w) (joined-content r) v) in
-          let (s, l, q, c) = listed-content r (o .listed) in
+          let (s, l, q, c) = listed-content r (o .1) in
           record {
             rule = s;
             of-pair =
@@ -242,7 +242,7 @@ module _ (g : Table) where
             of-name =
                 subst (λ (l : ℕ). Named g l n) (pair-label r s q)
                 (same-named (r .label) n .0 (subst (λ (q : Rule). Named (normalise g) (q .label) n) (sym e) (f .of-name)));
-            word = pair-words (s .content) w .0 (subst (λ (c : Content). Word c w) (sym c) (o .word));
+            word = pair-words (s .content) w .0 (subst (λ (c : Content). Word c w) (sym c) (o .2));
           }
 
       back : PairFits p n w → Fits (normalise g) p n w
@@ -257,11 +257,11 @@ module _ (g : Table) where
             word =
                 subst (λ (c : Content). Word c w) (sym (joined-content r))
                 (choice-words (contentsOf r) w .1
-                (record {
-                  content = inPairs g (s .content);
-                  listed = content-listed r s (f .of-pair .of-table) e;
-                  word = pair-words (s .content) w .1 (f .word);
-                }));
+                (
+                  inPairs g (s .content),
+                  content-listed r s (f .of-pair .of-table) e,
+                  pair-words (s .content) w .1 (f .word),
+                ));
           }
 
   -- a derivation of the normal form from a pair of a type is one of the table from the type

@@ -34,7 +34,7 @@ use Rattle.grammar.specs.Content.{
 }
 use Rattle.grammar.specs.Lists.{joinedOf}
 use Rattle.theory.proofs.ListLaws.{joined-from, joined-mem}
-use Rattle.theory.proofs.WordLaws.{one-of, of-one, choice-words}
+use Rattle.theory.proofs.WordLaws.{HoldsOfOne}
 
 -- every word of one language is a word of another
 abbrev pub Within : Language → Language → Type 0
@@ -127,22 +127,6 @@ mutual
       (λ p k m. Memᴰ·append-left (typesInAll cs) (types-of-word c w p k m))
       (λ q k m. Memᴰ·append-right (typesIn c) (types-of-one cs w q k m))
       v
-
--- a property holds of one of some contents
-abbrev pub HoldsOfOne : (Content → Type 0) → List Content → Type 0
-HoldsOfOne P cs = (c : Content) × List·Memᴰ c cs × P c
-
-pub choice-word : (w : List ℕ) (cs : List Content) → Word (choiceOf cs) w ↔ HoldsOfOne (λ c. Word c w) cs
-choice-word w cs = (
-  λ v. let o = choice-words cs w .0 v in (o .content, o .listed, o .word),
-  λ h. choice-words cs w .1 (record { content = h .0; listed = h .1; word = h .2 }),
-)
-
-pub operands-word : (w : List ℕ) (cs : List Content) → Word (choice (operands cs)) w ↔ HoldsOfOne (λ c. Word c w) cs
-operands-word w cs = (
-  λ v. let o = one-of cs v in (o .content, o .listed, o .word),
-  λ h. of-one cs (record { content = h .0; listed = h .1; word = h .2 }),
-)
 
 pub operands-types : (cs : List Content) → typesInAll (operands cs) ≡ joinedOf typesIn cs
 unfolding operands joinedOf typesInAll

@@ -158,25 +158,24 @@ module _ (d : Tree) where
       there : Word (choiceOf (distinct sameContent sequences)) w → ChildrenAt p w
       there x =
           let o = choice-words (distinct sameContent sequences) w .0 x in
-          let (v, m, e) = Memᴰ·of-map (childSequence seen) (keep atPath seen) (distinct-was sameContent sequences (o .listed)) in
+          let (v, m, e) = Memᴰ·of-map (childSequence seen) (keep atPath seen) (distinct-was sameContent sequences (o .1)) in
           let (n, s) = kept atPath seen m in
           record {
             visit = v;
             visited = n;
             at-path = s;
-            children = sequence-word (childTypes v) w .0 (subst (λ (c : Content). Word c w) (sym e) (o .word));
+            children = sequence-word (childTypes v) w .0 (subst (λ (c : Content). Word c w) (sym e) (o .2));
           }
 
       back : ChildrenAt p w → Word (choiceOf (distinct sameContent sequences)) w
       back a =
           let v = a .visit in
           choice-words (distinct sameContent sequences) w .1
-          (record {
-            content = childSequence seen v;
-            listed =
-                distinct-mem sameContent same-content (Memᴰ·map (childSequence seen) (keep-mem atPath (a .visited) (a .at-path)));
-            word = sequence-word (childTypes v) w .1 (a .children);
-          })
+          (
+            childSequence seen v,
+            distinct-mem sameContent same-content (Memᴰ·map (childSequence seen) (keep-mem atPath (a .visited) (a .at-path))),
+            sequence-word (childTypes v) w .1 (a .children),
+          )
 
   -- the rules of the sample
   abbrev oneVisit : Visit → Visit → Bool

@@ -58,7 +58,7 @@ use Rattle.grammar.specs.Content.{
 use Rattle.grammar.specs.Reduce.{isNone, simplify, simplifyAll, prune}
 use Rattle.theory.proofs.BoolLaws.{or-cases, not-both, false-of}
 use Rattle.theory.proofs.ListLaws.{any-of, kept, keep-mem, in-mem, mem-in}
-use Rattle.theory.proofs.WordLaws.{Spells, spells-none, spells-next, replace-words}
+use Rattle.theory.proofs.WordLaws.{Spells, spells-none, spells-next, replace-words, choice-words, operands-words}
 use Rattle.theory.proofs.SameWords.{
   SameWords,
   same-trans,
@@ -69,8 +69,6 @@ use Rattle.theory.proofs.SameWords.{
   all-in-none,
   all-in-append,
   StandsIn,
-  choice-word,
-  operands-word,
   WordWith,
 }
 
@@ -106,11 +104,11 @@ sequence-words cs false e w = Iff·rfl
 some-words : (cs : List Content) → SameWords (Word (choiceOf (keep (λ c. not (isNone c)) cs))) (OfOne (operands cs))
 some-words cs w = (
   λ v.
-      let h = choice-word w (keep (λ c. not (isNone c)) cs) .0 v in
-      operands-word w cs .1 (h .0, kept (λ c. not (isNone c)) cs (h .1) .0, h .2),
+      let h = choice-words (keep (λ c. not (isNone c)) cs) w .0 v in
+      operands-words cs w .1 (h .0, kept (λ c. not (isNone c)) cs (h .1) .0, h .2),
   λ v.
-      let h = operands-word w cs .0 v in
-      choice-word w (keep (λ c. not (isNone c)) cs) .1
+      let h = operands-words cs w .0 v in
+      choice-words (keep (λ c. not (isNone c)) cs) w .1
       (h .0, keep-mem (λ c. not (isNone c)) (h .1) (ap not (false-of (isNone (h .0)) (λ e. no-word (h .0) w e (h .2)))), h .2),
 )
 

@@ -87,12 +87,12 @@ use Rattle.theory.proofs.ListLaws.{
   at-front,
 }
 use Rattle.theory.proofs.NameLaws.{name-refl}
-use Rattle.theory.proofs.WordLaws.{choice-words, rename-words}
+use Rattle.theory.proofs.WordLaws.{merge-words}
 use Rattle.theory.proofs.Standing.{word-stands}
 use Rattle.theory.proofs.Automaton.{Automaton, AllAlive}
 use Rattle.theory.proofs.Merge.{Forth, Back, StartType, accepted-let-in}
 use Rattle.theory.proofs.LeastSingleType.{Arises, SingleTypeMerge, least-single-type}
-use Rattle.theory.proofs.TableAutomaton.{typeName, Steps, tableAutomaton, label-of, type-accepts, table-accepts}
+use Rattle.theory.proofs.TableAutomaton.{typeName, Steps, tableAutomaton, type-accepts, table-accepts}
 use Rattle.theory.proofs.ReducedTable.{ReducedTable}
 use Rattle.theory.proofs.SetsClosed.{
   OneLabelSet,
@@ -176,23 +176,19 @@ word-of-set g sets s w = (there, back)
   where
     there : Word (contentOfSet g sets s) w → WordOfSet g sets s w
     there v =
-        let o = choice-words (map (replaced g sets s) (members g s)) w .0 v in
-        let (r, m, e) = Memᴰ·of-map (replaced g sets s) (members g s) (o .listed) in
-        let p = member-rule g s r .0 m in
-        let q =
-        rename-words (setNumber g sets s) (r .content) w .0 (subst (λ (c : Content). Word c w) (sym e) (o .word))
-        in
-        record { rule = r; of-table = p .0; of-set = p .1; source = q .source; word = q .in-language; renamed = q .renamed }
+        let u = merge-words (setNumber g sets s) (members g s) w .0 v in
+        let p = member-rule g s (u .rule) .0 (u .listed) in
+        record { rule = u .rule; of-table = p .0; of-set = p .1; source = u .source; word = u .word; renamed = u .renamed }
 
     back : WordOfSet g sets s w → Word (contentOfSet g sets s) w
     back h =
-        choice-words (map (replaced g sets s) (members g s)) w .1
+        merge-words (setNumber g sets s) (members g s) w .1
         (record {
-          content = replaced g sets s (h .rule);
-          listed = Memᴰ·map (replaced g sets s) (member-rule g s (h .rule) .1 (h .of-table, h .of-set));
-          word =
-              rename-words (setNumber g sets s) (h .rule .content) w .1
-              (record { source = h .source; in-language = h .word; renamed = h .renamed });
+          rule = h .rule;
+          listed = member-rule g s (h .rule) .1 (h .of-table, h .of-set);
+          source = h .source;
+          word = h .word;
+          renamed = h .renamed;
         })
 
 -- A type that stands in a set's content is the number of the set of a type met.

@@ -46,14 +46,12 @@ use Rattle.theory.proofs.SameWords.{
   same-joined,
   same-repeated,
   same-either,
-  HoldsOfOne,
-  choice-word,
-  operands-word,
   StandsIn,
   choice-type,
   operands-type,
 }
 use Rattle.theory.proofs.ContentBytes.{same-content}
+use Rattle.theory.proofs.WordLaws.{HoldsOfOne, choice-words, operands-words}
 
 operands-listed : (cs : Contents) → operands (listOf cs) ≡ cs
 unfolding operands listOf
@@ -112,7 +110,7 @@ mutual
   tidy-words (type k) = λ w. Iff·rfl
   tidy-words (sequence cs) = λ w. tidy-in-turn cs w
   tidy-words (choice cs) =
-      λ w. Iff·trans (tidy-choice-has (λ c. Word c w) (choice-word w) (operands-word w) (tidyAll cs)) (tidy-of-one cs w)
+      λ w. Iff·trans (tidy-choice-has (λ c. Word c w) (λ cs. choice-words cs w) (λ cs. operands-words cs w) (tidyAll cs)) (tidy-of-one cs w)
   tidy-words (anyNumber c) = same-repeated (λ w. tidy-words c w)
   tidy-words (oneOrMore c) = same-joined (λ w. tidy-words c w) (same-repeated (λ w. tidy-words c w))
   tidy-words (optional c) = same-either (λ w. Iff·rfl) (λ w. tidy-words c w)
