@@ -52,9 +52,8 @@ use Rattle.grammar.specs.Table.{Rule, Table}
 use Rattle.grammar.specs.Derivation.{Derives, derives, DerivesAll, derives-none, derives-next}
 use Rattle.grammar.specs.Reduce.{hasWord, haveWords, oneHasWord, newlyFruitful, fruitful}
 use Rattle.theory.proofs.BoolLaws.{and-left, and-right, and-intro, or-cases, or-left, or-right}
-use Rattle.theory.proofs.ListLaws.{kept, keep-mem, in-mem, mem-in, below-at}
+use Rattle.theory.proofs.ListLaws.{kept, keep-mem, in-mem, mem-in, below-at, AllIn, all-in-none, all-in-append}
 use Rattle.theory.proofs.NameLaws.{name-refl}
-use Rattle.theory.proofs.SameWords.{AllIn, all-in-none, all-in-append}
 use Rattle.theory.proofs.SimplifyWords.{join}
 use Rattle.theory.proofs.Rounds.{not-known, rounds-hold, rounds-closed, closed-has}
 use Rattle.theory.proofs.TableConditions.{Labelled, SomeTree}

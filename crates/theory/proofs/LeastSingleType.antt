@@ -68,9 +68,9 @@ module _ {State : Type 0} {A : Automaton State} {G : Table} {Member : ℕ → St
             type = d .type;
             derived = d .derived;
             alone =
-                kind .contents (h .rule) (h .of-table) i (d .type) (word-stands (h .rule .content) (h .word) q)
+                kind .contents (h .rule) (h .of-table) i (d .type) (word-stands (h .rule .content) v (h .word) i q)
                 (subst (λ (r : Rule). List·Memᴰ (d .type) (typesIn (r .content))) (one-fitting H names kind h′ h)
-                (word-stands (h′ .rule .content) (h′ .word) (d .within)));
+                (word-stands (h′ .rule .content) _ (h′ .word) (d .type) (d .within)));
           }
 
   pub least-single-type : LetsInAll H (LetsIn G)

@@ -40,7 +40,6 @@ pub mod Reached
 pub mod ReduceDocuments
 pub mod PathLaws
 pub mod NormaliseDocuments
-pub mod ReplacedTypes
 pub mod SampleMembers
 pub mod SampleMerge
 pub mod TableConditions

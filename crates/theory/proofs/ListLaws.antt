@@ -280,6 +280,16 @@ pub mem-in : {n : ℕ} {ns : List ℕ} → List·Memᴰ n ns → isIn n ns ≡ t
 unfolding isIn
 mem-in {n} m = any-of (eqb n) m (eq-eqb n n refl)
 
+-- all numbers of one list are in another
+abbrev pub AllIn : List ℕ → List ℕ → Type 0
+AllIn ks w = (k : ℕ) → List·Memᴰ k w → List·Memᴰ k ks
+
+pub all-in-none : (ks : List ℕ) → AllIn ks []
+all-in-none ks k m = elim m [ ]
+
+pub all-in-append : (ks u v : List ℕ) → AllIn ks u → AllIn ks v → AllIn ks (u ++ v)
+all-in-append ks u v p q k m = ⊎-elim (λ n. p k n) (λ n. q k n) (List·Memᴰ·append-cases u m)
+
 pub same-numbers : (ms ns : List ℕ) → sameNumbers ms ns ≡ true → ms ≡ ns
 unfolding sameNumbers
 same-numbers [] [] e = refl

@@ -50,9 +50,9 @@ use Rattle.theory.proofs.ListLaws.{
   same-place,
 }
 use Rattle.theory.proofs.WordLaws.{choice-words, Spells, spells-none, spells-next, replace-words}
-use Rattle.theory.proofs.ReplacedTypes.{choice-types, replace-types}
 use Rattle.theory.proofs.TableConditions.{Labelled, HasRule}
 use Rattle.theory.proofs.NoTwo.{no-two-map, no-two-weaken, no-two-distinct}
+use Rattle.theory.proofs.Standing.{choice-types, replace-types}
 
 -- Rules are of one pair when type and label are equal.
 pub one-pair : (r s : Rule) → (r .type ≡ s .type) × (r .label ≡ s .label) → samePair r s ≡ true

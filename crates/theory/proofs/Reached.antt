@@ -17,10 +17,10 @@ use Rattle.grammar.specs.Table.{Rule, Table, Named}
 use Rattle.grammar.specs.Derivation.{Derives}
 use Rattle.grammar.specs.Reduce.{newlyReached, reached, withoutUnreached}
 use Rattle.theory.proofs.ListLaws.{kept, keep-mem, in-mem, mem-in, joined-from, joined-mem}
-use Rattle.theory.proofs.SameWords.{StandsIn, types-of-word}
 use Rattle.theory.proofs.Rounds.{not-known, rounds-start, rounds-hold, rounds-closed, closed-has}
 use Rattle.theory.proofs.CarryDerivations.{carry-tree}
-use Rattle.theory.proofs.TableConditions.{HasRule, Reaches, from-start, through, AllRuled}
+use Rattle.theory.proofs.TableConditions.{Reaches, from-start, through, AllRuled}
+use Rattle.theory.proofs.Standing.{StandsIn, word-stands}
 
 module _ (g : Table) where
   -- what a round finds: types, not known, that stand in the contents of known types
@@ -126,7 +126,7 @@ module _ (g : Table) where
               of-name = names-remain (f .rule .label) n .0 (f .of-name);
               word = f .word;
             },
-            λ x i. reached-on (f .rule) x (f .of-table) m (types-of-word (f .rule .content) w (f .word) x i),
+            λ x i. reached-on (f .rule) x (f .of-table) m (word-stands (f .rule .content) w (f .word) x i),
           ))
           d
           p,

@@ -26,12 +26,12 @@ use Rattle.grammar.specs.Derivation.{Fits, Derives, derives, DerivesAll, LetsIn
 use Rattle.grammar.specs.Reduce.{prune, fruitful, withoutUnfruitful, reached, withoutUnreached, reduce}
 use Rattle.theory.proofs.ListLaws.{kept, keep-mem, in-mem, mem-in}
 use Rattle.theory.proofs.NoTwo.{no-two-keep, no-two-map}
-use Rattle.theory.proofs.SameWords.{StandsIn, WordWith}
 use Rattle.theory.proofs.SimplifyWords.{prune-words, prune-standing}
 use Rattle.theory.proofs.Fruitful.{tree-fruitful, forest-fruitful, fruitful-is}
 use Rattle.theory.proofs.CarryDerivations.{carry-tree}
 use Rattle.theory.proofs.Reached.{reached-is, reached-on, rule-remains, rule-was, reached-remains, reached-trees}
 use Rattle.theory.proofs.TableConditions.{Labelled, HasRule, Reaches, from-start, SomeTree, AllRuled}
+use Rattle.theory.proofs.Standing.{StandsIn, WordWith}
 
 pub reduce-labels : (g : Table) → reduce g .labels ≡ g .labels
 unfolding reduce withoutUnreached withoutUnfruitful

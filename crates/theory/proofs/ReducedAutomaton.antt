@@ -28,8 +28,8 @@ module _ (g : Table) (reduced : ReducedTable g) where
 
   -- the types of a step have rules
   pub step-rules : {k : ℕ} {u : List ℕ} → Steps g k u → (j : ℕ) → List·Memᴰ j u → HasRule g j
-  step-rules step j at =
-      reduced .content-rules (step .rule) (step .of-table) j (word-stands (step .rule .content) (step .word) at)
+  step-rules {u = u} step j at =
+      reduced .content-rules (step .rule) (step .of-table) j (word-stands (step .rule .content) u (step .word) j at)
 
   pub step-alive : {k : ℕ} {u : List ℕ} → Steps g k u → AllAlive (tableAutomaton g) u
   step-alive step j at = type-alive (step-rules step j at)

@@ -8,7 +8,7 @@ use Rattle.grammar.specs.Tree.{Tree}
 use Rattle.grammar.specs.Table.{Rule, Table, DistinctNames}
 use Rattle.grammar.specs.Derivation.{Derives}
 use Rattle.theory.proofs.TableConditions.{Labelled, OneRuleEach, HasRule, Reaches, SomeTree, AllRuled}
-use Rattle.theory.proofs.SameWords.{WordWith}
+use Rattle.theory.proofs.Standing.{WordWith}
 
 pub record ReducedTable (g : Table) : Type 0 where
   pub one-rule-each : OneRuleEach g

@@ -40,8 +40,8 @@ use Rattle.theory.proofs.ListLaws.{
   keep-shorter,
   distinct-mem,
   eqb-decides,
+  AllIn,
 }
-use Rattle.theory.proofs.SameWords.{AllIn}
 
 -- a stricter test keeps fewer
 module _ {A : Type 0} (strict lax : A → Bool) (stricter : (x : A) → strict x ≡ true → lax x ≡ true) where

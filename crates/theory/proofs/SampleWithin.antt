@@ -52,7 +52,6 @@ use Rattle.theory.proofs.ListLaws.{
 use Rattle.theory.proofs.NameLaws.{name-refl}
 use Rattle.theory.proofs.PathLaws.{path-refl}
 use Rattle.theory.proofs.OutcomeLaws.{had-no-fault, given-eq}
-use Rattle.theory.proofs.ReplacedTypes.{choice-types}
 use Rattle.theory.proofs.UsedLabelsDocuments.{used-labels-count}
 use Rattle.theory.proofs.SampleMerge.{
   seen,
@@ -67,6 +66,7 @@ use Rattle.theory.proofs.SampleMerge.{
 use Rattle.theory.proofs.Counted.{Counted, AllCounted, choice-counted}
 use Rattle.theory.proofs.DocumentWithin.{DocumentWithin}
 use Rattle.theory.proofs.NumberedTable.{Numbered, table-small, numbered-within}
+use Rattle.theory.proofs.Standing.{choice-types}
 
 -- the sequence of some types
 operands-count : (cs : List Content) → count (operands cs) ≡ length cs

@@ -4,7 +4,7 @@
 --     simplify-clean    simplify c is none, or it is clean
 --     clean-word        a clean content has a word
 --     clean-standing    every type that stands in a clean content stands in a word of it (all types of a word of a content stand
---                       in the content: types-of-word of SameWords)
+--                       in the content: word-stands of Standing)
 --     prune-standing    every type that stands in a pruned content stands in a word of it, and is known
 use Prim.Native.Nat.{ℕ}
 use mathlib.Core.Bool.{Bool, true, false, not, false≢true}
@@ -57,20 +57,10 @@ use Rattle.grammar.specs.Content.{
 }
 use Rattle.grammar.specs.Reduce.{isNone, simplify, simplifyAll, prune}
 use Rattle.theory.proofs.BoolLaws.{or-cases, not-both, false-of}
-use Rattle.theory.proofs.ListLaws.{any-of, kept, keep-mem, in-mem, mem-in}
+use Rattle.theory.proofs.ListLaws.{any-of, kept, keep-mem, in-mem, mem-in, AllIn, all-in-none, all-in-append}
 use Rattle.theory.proofs.WordLaws.{Spells, spells-none, spells-next, replace-words, choice-words, operands-words}
-use Rattle.theory.proofs.SameWords.{
-  SameWords,
-  same-trans,
-  same-joined,
-  same-repeated,
-  same-either,
-  AllIn,
-  all-in-none,
-  all-in-append,
-  StandsIn,
-  WordWith,
-}
+use Rattle.theory.proofs.SameWords.{SameWords, same-trans, same-joined, same-repeated, same-either}
+use Rattle.theory.proofs.Standing.{StandsIn, WordWith}
 
 none-is : (c : Content) → isNone c ≡ true → c ≡ none
 unfolding isNone

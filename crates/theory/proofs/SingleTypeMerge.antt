@@ -12,10 +12,7 @@ use mathlib.Core.List.{
   List,
   [],
   _∷_,
-  _++_,
-  append-nil,
   map,
-  map-append,
   List·Memᴰ,
   List·Memᴰ·head,
   List·Memᴰ·tail,
@@ -30,30 +27,10 @@ use mathlib.Core.Logic.{_↔_}
 use mathlib.Core.Option.{some as just}
 use mathlib.Core.Path.{_≡_, refl, sym, _∙_, ap, subst}
 use lib.ListN.{length, length-map, getElem?, getD}
-use Rattle.grammar.specs.Lists.{place, joinedOf, sameNumbers}
+use Rattle.grammar.specs.Lists.{place, sameNumbers}
 use Rattle.grammar.specs.Limits.{Limits}
 use Rattle.grammar.specs.Names.{Name, SameName}
-use Rattle.grammar.specs.Content.{
-  Content,
-  none,
-  empty,
-  type,
-  sequence,
-  choice,
-  anyNumber,
-  oneOrMore,
-  optional,
-  Contents,
-  []ᶜ,
-  _∷ᶜ_,
-  Word,
-  typesIn,
-  typesInAll,
-  operands,
-  choiceOf,
-  replace,
-  replaceAll,
-}
+use Rattle.grammar.specs.Content.{type, Word, typesIn}
 use Rattle.grammar.specs.Table.{Rule, Table, Named, DistinctNames}
 use Rattle.grammar.specs.Derivation.{Fits, Derives, LetsIn}
 use Rattle.grammar.specs.Kinds.{Competing, SingleType}
@@ -78,7 +55,6 @@ use Rattle.theory.proofs.ListLaws.{
   below-at,
   just-eq,
   place-found,
-  joined-from,
   same-numbers,
   same-numbers-refl,
   numbers-below,
@@ -88,7 +64,7 @@ use Rattle.theory.proofs.ListLaws.{
 }
 use Rattle.theory.proofs.NameLaws.{name-refl}
 use Rattle.theory.proofs.WordLaws.{merge-words}
-use Rattle.theory.proofs.Standing.{word-stands}
+use Rattle.theory.proofs.Standing.{word-stands, merge-type}
 use Rattle.theory.proofs.Automaton.{Automaton, AllAlive}
 use Rattle.theory.proofs.Merge.{Forth, Back, StartType, accepted-let-in}
 use Rattle.theory.proofs.LeastSingleType.{Arises, SingleTypeMerge, least-single-type}
@@ -115,39 +91,6 @@ use Rattle.theory.proofs.SetsClosed.{
 }
 use Rattle.theory.proofs.TableConditions.{Labelled, OneRuleEach, HasRule}
 
--- the types that stand in a renamed content, and in a choice
-module _ (h : ℕ → ℕ) where
-  mutual
-    unfolding replace replaceAll typesIn typesInAll
-
-    renamed-types : (c : Content) → typesIn (replace c (λ k. type (h k))) ≡ map h (typesIn c)
-    renamed-types none = refl
-    renamed-types empty = refl
-    renamed-types (type k) = refl
-    renamed-types (sequence cs) = renamed-types-all cs
-    renamed-types (choice cs) = renamed-types-all cs
-    renamed-types (anyNumber c) = renamed-types c
-    renamed-types (oneOrMore c) = renamed-types c
-    renamed-types (optional c) = renamed-types c
-
-    renamed-types-all : (cs : Contents) → typesInAll (replaceAll cs (λ k. type (h k))) ≡ map h (typesInAll cs)
-    renamed-types-all []ᶜ = refl
-    renamed-types-all (c ∷ᶜ cs) =
-        ap (λ (l : List ℕ). l ++ typesInAll (replaceAll cs (λ k. type (h k)))) (renamed-types c)
-        ∙ ap (λ (l : List ℕ). map h (typesIn c) ++ l) (renamed-types-all cs)
-        ∙ sym (map-append h (typesIn c) (typesInAll cs))
-
-operands-types : (cs : List Content) → typesInAll (operands cs) ≡ joinedOf typesIn cs
-unfolding operands joinedOf typesInAll
-operands-types [] = refl
-operands-types (c ∷ cs) = ap (λ (l : List ℕ). typesIn c ++ l) (operands-types cs)
-
-choice-types : (cs : List Content) → typesIn (choiceOf cs) ≡ joinedOf typesIn cs
-unfolding choiceOf operands joinedOf typesIn
-choice-types [] = refl
-choice-types (c ∷ []) = sym (append-nil (typesIn c))
-choice-types (c ∷ d ∷ ds) = operands-types (c ∷ d ∷ ds)
-
 -- the first of a set with members
 first-member : (s : TypeSet) {k : ℕ} → List·Memᴰ k s → List·Memᴰ (getD s 0 0) s
 first-member [] m = elim m [ ]
@@ -156,10 +99,6 @@ first-member (k ∷ s) m = List·Memᴰ·head refl
 -- the number of the set of a type's label among those met in a set
 abbrev setNumber : Table → List TypeSet → TypeSet → ℕ → ℕ
 setNumber g sets s k = place sameNumbers (ofLabel g (typesMet g s) (labelOf g k)) sets
-
--- what the rule of a member gives to the content of a set
-abbrev replaced : Table → List TypeSet → TypeSet → Rule → Content
-replaced g sets s r = replace (r .content) (λ k. type (setNumber g sets s k))
 
 -- a word of a set's content: that of a member's rule, types replaced by the number of their set
 record WordOfSet (g : Table) (sets : List TypeSet) (s : TypeSet) (w : List ℕ) : Type 0 where
@@ -196,18 +135,9 @@ type-of-set : (g : Table) (sets : List TypeSet) (s : TypeSet) (k : ℕ) → List
     → (j : ℕ) × List·Memᴰ j (typesMet g s) × (setNumber g sets s j ≡ k)
 unfolding contentOfSet
 type-of-set g sets s k m =
-    let (c, n, p) =
-    joined-from typesIn (map (replaced g sets s) (members g s))
-    (subst (λ (l : List ℕ). List·Memᴰ k l) (choice-types (map (replaced g sets s) (members g s))) m)
-    in
-    let (r, q, e) = Memᴰ·of-map (replaced g sets s) (members g s) n in
-    let (j, o, d) =
-    Memᴰ·of-map (setNumber g sets s) (typesIn (r .content))
-    (subst (λ (l : List ℕ). List·Memᴰ k l) (renamed-types (setNumber g sets s) (r .content))
-    (subst (λ (c : Content). List·Memᴰ k (typesIn c)) (sym e) p))
-    in
+    let (r, q, j, o, e) = merge-type (setNumber g sets s) (members g s) k m in
     let (a, b) = member-rule g s r .0 q in
-    (j, type-met g s j .1 (record { rule = r; of-table = a; of-set = b; stands = o }), d)
+    (j, type-met g s j .1 (record { rule = r; of-table = a; of-set = b; stands = o }), e)
 
 -- the members of the i-th type: those of the i-th set
 pub record MemberOf (lim : Limits) (g : Table) (i k : ℕ) : Type 0 where
@@ -450,7 +380,7 @@ module _ (lim : Limits) (g : Table) where
             rule = v .rule;
             of-table = v .of-table;
             of-set = v .of-set;
-            stands = word-stands (v .rule .content) (v .word) m;
+            stands = word-stands (v .rule .content) (v .source) (v .word) j m;
           })
 
       renamed-members : {s : TypeSet} → List·Memᴰ s sets → (u : List ℕ)
@@ -466,8 +396,8 @@ module _ (lim : Limits) (g : Table) where
           (renamed-members m (v .source) (λ j n. word-met v n))
 
       word-alive : (r : Rule) → List·Memᴰ r (g .rules) → {u : List ℕ} → Word (r .content) u → AllAlive (tableAutomaton g) u
-      word-alive r m v k n =
-          let h = reduced .content-rules r m k (word-stands (r .content) v n) in
+      word-alive r m {u} v k n =
+          let h = reduced .content-rules r m k (word-stands (r .content) u v k n) in
           let (t, d) = reduced .derives-some (h .rule) (h .of-table) in
           record {
             tree = t;

@@ -41,17 +41,10 @@ use Rattle.grammar.specs.Content.{
 use Rattle.grammar.specs.ReadContent.{sameContent}
 use Rattle.grammar.specs.Tidy.{listOf, alternatives, tidy, tidyAll}
 use Rattle.theory.proofs.ListLaws.{distinct-was, joined-from, joined-mem, distinct-mem}
-use Rattle.theory.proofs.SameWords.{
-  SameWords,
-  same-joined,
-  same-repeated,
-  same-either,
-  StandsIn,
-  choice-type,
-  operands-type,
-}
+use Rattle.theory.proofs.SameWords.{SameWords, same-joined, same-repeated, same-either}
 use Rattle.theory.proofs.ContentBytes.{same-content}
 use Rattle.theory.proofs.WordLaws.{HoldsOfOne, choice-words, operands-words}
+use Rattle.theory.proofs.Standing.{StandsIn, operands-type, choice-type}
 
 operands-listed : (cs : Contents) → operands (listOf cs) ≡ cs
 unfolding operands listOf

@@ -227,7 +227,7 @@ module _ (lim : Limits) (old addition : Table) where
             omega arith
 
     fits-below : {k : ℕ} {n : Name} {w : List ℕ} → Fits old k n w → (l : ℕ) → List·Memᴰ l w → l < lim .types
-    fits-below f l m = below .contents (f .rule) (f .of-table) l (word-stands (f .rule .content) (f .word) m)
+    fits-below {w = w} f l m = below .contents (f .rule) (f .of-table) l (word-stands (f .rule .content) w (f .word) l m)
 
     mutual
       pub derives-old : {k : ℕ} {t : Tree} → Derives united k t → Labelled old → k < lim .types → Derives old k t
