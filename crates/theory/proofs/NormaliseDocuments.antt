@@ -22,6 +22,9 @@ use mathlib.Core.List.{
   Memᴰ·map,
   Memᴰ·of-map,
   List·Memᴰ·eq-of-singleton,
+  Forall₂,
+  Forall₂·nil,
+  Forall₂·cons,
 }
 use mathlib.Core.Logic.{_↔_}
 use mathlib.Core.Path.{_≡_, refl, sym, _∙_, ap, subst}
@@ -34,10 +37,8 @@ use Rattle.grammar.specs.Content.{Content, Word, type, choiceOf, typesIn}
 use Rattle.grammar.specs.Tree.{Tree, Forest}
 use Rattle.grammar.specs.Table.{Rule, Table, Named, DistinctNames}
 use Rattle.grammar.specs.Derivation.{Fits, Derives, derives, DerivesAll, derives-none, derives-next, LetsIn}
-use Rattle.grammar.specs.Kinds.{NoTwoRules}
 use Rattle.grammar.specs.KindTests.{samePair}
 use Rattle.grammar.specs.Normalise.{pairOf, pairsOf, inPairs, ruleOfPair, normalise}
-use Rattle.theory.proofs.BoolLaws.{and-left, and-right, and-intro}
 use Rattle.theory.proofs.ListLaws.{
   any-of,
   kept,
@@ -50,38 +51,20 @@ use Rattle.theory.proofs.ListLaws.{
   same-place,
 }
 use Rattle.theory.proofs.WordLaws.{choice-words, Spells, spells-none, spells-next, replace-words}
-use Rattle.theory.proofs.TableConditions.{Labelled, HasRule}
+use Rattle.theory.proofs.TableConditions.{Labelled, HasRule, AllRuled, OneRuleEach}
 use Rattle.theory.proofs.NoTwo.{no-two-map, no-two-weaken, no-two-distinct}
-use Rattle.theory.proofs.Standing.{choice-types, replace-types}
+use Rattle.theory.proofs.Standing.{choice-type, replace-type}
+use Rattle.theory.proofs.KindTests.{same-pair as pair-decides, same-pair-sym as pair-sym}
 
 -- Rules are of one pair when type and label are equal.
-pub one-pair : (r s : Rule) → (r .type ≡ s .type) × (r .label ≡ s .label) → samePair r s ≡ true
-unfolding samePair
-one-pair r s e =
-    and-intro (eqb (r .type) (s .type)) (eqb (r .label) (s .label)) (eq-eqb (r .type) (s .type) (e .0))
-    (eq-eqb (r .label) (s .label) (e .1))
-
-pub pair-type : (r s : Rule) → samePair r s ≡ true → r .type ≡ s .type
-unfolding samePair
-pair-type r s e = eqb-true (r .type) (s .type) (and-left (eqb (r .type) (s .type)) (eqb (r .label) (s .label)) e)
-
-pub pair-label : (r s : Rule) → samePair r s ≡ true → r .label ≡ s .label
-unfolding samePair
-pair-label r s e = eqb-true (r .label) (s .label) (and-right (eqb (r .type) (s .type)) (eqb (r .label) (s .label)) e)
-
 pub pair-refl : (r : Rule) → samePair r r ≡ true
-pair-refl r = one-pair r r (refl, refl)
-
-pub pair-sym : (r s : Rule) → samePair r s ≡ true → samePair s r ≡ true
-pair-sym r s e = one-pair s r (sym (pair-type r s e), sym (pair-label r s e))
+pair-refl r = pair-decides r r .1 (refl, refl)
 
 pub pair-trans : (r s t : Rule) → samePair r s ≡ true → samePair s t ≡ true → samePair r t ≡ true
-pair-trans r s t e f = one-pair r t (pair-type r s e ∙ pair-type s t f, pair-label r s e ∙ pair-label s t f)
-
--- two words of one length, related type by type
-pub data Pairwise (R : ℕ → ℕ → Type 0) : List ℕ → List ℕ → Type 0 where
-  pairwise-none : Pairwise R [] []
-  pairwise-next : {k l : ℕ} {u v : List ℕ} → R k l → Pairwise R u v → Pairwise R (k ∷ u) (l ∷ v)
+pair-trans r s t e f =
+    let (p, q) = pair-decides r s .0 e in
+    let (u, v) = pair-decides s t .0 f in
+    pair-decides r t .1 (p ∙ u, q ∙ v)
 
 module _ (g : Table) where
   -- the rule is of the table, and this is its pair
@@ -131,11 +114,11 @@ module _ (g : Table) where
           let (s, m, e) = firstOf (a .of-pair .of-table) in
           Memᴰ·cast (sym (a .of-pair .numbered) ∙ sym (pair-same s r e))
           (Memᴰ·map (pairOf g)
-          (keep-mem (λ (r : Rule). eqb (r .type) k) m (eq-eqb (s .type) k (pair-type s r e ∙ a .of-type))))
+          (keep-mem (λ (r : Rule). eqb (r .type) k) m (eq-eqb (s .type) k (pair-decides s r .0 e .0 ∙ a .of-type))))
 
   -- A word of a content in pairs is a word of the content, each type become one of its pairs.
   abbrev pub InPairs : List ℕ → List ℕ → Type 0
-  InPairs = Pairwise (λ k p. List·Memᴰ p (pairsOf g k))
+  InPairs = Forall₂ (λ k p. List·Memᴰ p (pairsOf g k))
 
   pub record PairWord (c : Content) (w : List ℕ) : Type 0 where
     pub source : List ℕ
@@ -160,14 +143,14 @@ module _ (g : Table) where
           (type (t .0), Memᴰ·map type (t .1), t .2)
 
   spelled : {u w : List ℕ} → Spells (λ k. Word (choiceOfPairs k)) u w → InPairs u w
-  spelled spells-none = pairwise-none
+  spelled spells-none = Forall₂·nil
   spelled (spells-next {k = k} {u = u} {v = v} {w = w} a s) =
       let (p, m, e) = one-letter k v .0 a in
-      subst (λ (z : List ℕ). InPairs (k ∷ u) (z ++ w)) (sym e) (pairwise-next m (spelled s))
+      subst (λ (z : List ℕ). InPairs (k ∷ u) (z ++ w)) (sym e) (Forall₂·cons m (spelled s))
 
   spell : {u w : List ℕ} → InPairs u w → Spells (λ k. Word (choiceOfPairs k)) u w
-  spell pairwise-none = spells-none
-  spell (pairwise-next {k = k} {l = p} m s) = spells-next (one-letter k (p ∷ []) .1 (p, m, refl)) (spell s)
+  spell Forall₂·nil = spells-none
+  spell (Forall₂·cons {a = k} {b = p} m s) = spells-next (one-letter k (p ∷ []) .1 (p, m, refl)) (spell s)
 
   pub pair-words : (c : Content) (w : List ℕ) → Word (inPairs g c) w ↔ PairWord c w
   unfolding inPairs
@@ -240,7 +223,7 @@ module _ (g : Table) where
                   numbered = sym (pair-same r s q) ∙ ap (λ (q : Rule). q .type) e ∙ f .of-type;
                 };
             of-name =
-                subst (λ (l : ℕ). Named g l n) (pair-label r s q)
+                subst (λ (l : ℕ). Named g l n) (pair-decides r s .0 q .1)
                 (same-named (r .label) n .0 (subst (λ (q : Rule). Named (normalise g) (q .label) n) (sym e) (f .of-name)));
             word = pair-words (s .content) w .0 (subst (λ (c : Content). Word c w) (sym c) (o .2));
           }
@@ -253,7 +236,7 @@ module _ (g : Table) where
             rule = ruleOfPair g r;
             of-table = rule-normal m;
             of-type = pair-same r s e ∙ f .of-pair .numbered;
-            of-name = same-named (r .label) n .1 (subst (λ (l : ℕ). Named g l n) (sym (pair-label r s e)) (f .of-name));
+            of-name = same-named (r .label) n .1 (subst (λ (l : ℕ). Named g l n) (sym (pair-decides r s .0 e .1)) (f .of-name));
             word =
                 subst (λ (c : Content). Word c w) (sym (joined-content r))
                 (choice-words (contentsOf r) w .1
@@ -274,15 +257,15 @@ module _ (g : Table) where
         (record {
           rule = a .rule;
           of-table = a .of-pair .of-table;
-          of-type = pair-type (a .rule) (b .rule) (same-pair (a .rule) (b .rule) (a .of-pair) (b .of-pair)) ∙ b .of-type;
+          of-type = pair-decides (a .rule) (b .rule) .0 (same-pair (a .rule) (b .rule) (a .of-pair) (b .of-pair)) .0 ∙ b .of-type;
           of-name = a .of-name;
           word = a .word .word;
         })
         (down-all ds (a .word .source) (a .word .paired))
 
     down-all : {w : List ℕ} {ts : Forest} → DerivesAll (normalise g) w ts → (u : List ℕ) → InPairs u w → DerivesAll g u ts
-    down-all derives-none u pairwise-none = derives-none
-    down-all (derives-next d ds) u (pairwise-next {k = k} {u = v} m a) = derives-next (down d k m) (down-all ds v a)
+    down-all derives-none u Forall₂·nil = derives-none
+    down-all (derives-next d ds) u (Forall₂·cons {a = k} {l₁ = v} m a) = derives-next (down d k m) (down-all ds v a)
 
   -- and each derivation of the table is one of the normal form from some pair
   mutual
@@ -304,11 +287,11 @@ module _ (g : Table) where
         )
 
     up-all : {u : List ℕ} {ts : Forest} → DerivesAll g u ts → (w : List ℕ) × InPairs u w × DerivesAll (normalise g) w ts
-    up-all derives-none = ([], pairwise-none, derives-none)
+    up-all derives-none = ([], Forall₂·nil, derives-none)
     up-all (derives-next d ds) =
         let (p, m, e) = up d in
         let (w, a, es) = up-all ds in
-        (p ∷ w, pairwise-next m a, derives-next e es)
+        (p ∷ w, Forall₂·cons m a, derives-next e es)
 
   pub pair-derives : (k : ℕ) (t : Tree) → Derives g k t ↔ ((p : ℕ) × List·Memᴰ p (pairsOf g k) × Derives (normalise g) p t)
   pair-derives k t = (up, λ a. down (a .2) k (a .1))
@@ -327,7 +310,7 @@ module _ (g : Table) where
           let (p, m, e) = pair-derives (l .start) d .0 (l .derived) in
           record { start = p; of-table = joined-mem (pairsOf g) (l .of-table) m; derived = e }
 
-  pub normalise-types : NoTwoRules (normalise g) (λ r s. r .type ≡ s .type)
+  pub normalise-types : OneRuleEach (normalise g)
   unfolding normalise
   normalise-types =
       no-two-map (ruleOfPair g) (λ r s. r .type ≡ s .type) (distinct samePair (g .rules))
@@ -374,30 +357,21 @@ module _ (g : Table) where
     where
       there : List·Memᴰ p (typesIn (inPairs g c)) → (k : ℕ) × List·Memᴰ k (typesIn c) × List·Memᴰ p (pairsOf g k)
       there m =
-          let (k, n, q) =
-          joined-from (λ k. typesIn (choiceOfPairs k)) (typesIn c)
-          (subst (λ (l : List ℕ). List·Memᴰ p l) (replace-types choiceOfPairs c) m) in
-          let (d, o, s) =
-          joined-from typesIn (map type (pairsOf g k))
-          (subst (λ (l : List ℕ). List·Memᴰ p l) (choice-types (map type (pairsOf g k))) q) in
+          let (k, n, q) = replace-type choiceOfPairs p c .0 m in
+          let (d, o, s) = choice-type p (map type (pairsOf g k)) .0 q in
           let (l, t, e) = Memᴰ·of-map type (pairsOf g k) o in
           (k, n, Memᴰ·cast (List·Memᴰ·eq-of-singleton (subst (λ (d : Content). List·Memᴰ p (typesIn d)) (sym e) s)) t)
 
       back : (k : ℕ) × List·Memᴰ k (typesIn c) × List·Memᴰ p (pairsOf g k) → List·Memᴰ p (typesIn (inPairs g c))
       back a =
-          subst (λ (l : List ℕ). List·Memᴰ p l) (sym (replace-types choiceOfPairs c))
-          (joined-mem (λ k. typesIn (choiceOfPairs k)) (a .1)
-          (subst (λ (l : List ℕ). List·Memᴰ p l) (sym (choice-types (map type (pairsOf g (a .0)))))
-          (joined-mem typesIn (Memᴰ·map type (a .2)) (List·Memᴰ·head refl))))
+          replace-type choiceOfPairs p c .1
+          (a .0, a .1, choice-type p (map type (pairsOf g (a .0))) .1 (type p, Memᴰ·map type (a .2), List·Memᴰ·head refl))
 
-  pub normalise-contents : (r : Rule) → List·Memᴰ r (normalise g .rules) → (p : ℕ) → List·Memᴰ p (typesIn (r .content))
-      → HasRule (normalise g) p
+  pub normalise-contents : AllRuled (normalise g)
   normalise-contents r m p n =
       let (s, o, e) = normal-rule m in
       let c : r .content ≡ choiceOf (contentsOf s) = sym (ap (λ (q : Rule). q .content) e) ∙ joined-content s in
-      let (d, l, q) =
-      joined-from typesIn (contentsOf s)
-      (subst (λ (z : List ℕ). List·Memᴰ p z) (ap typesIn c ∙ choice-types (contentsOf s)) n) in
+      let (d, l, q) = choice-type p (contentsOf s) .0 (subst (λ (z : Content). List·Memᴰ p (typesIn z)) c n) in
       let (t, a, b, f) = listed-content s l in
       let (k, h, i) = pair-stands (t .content) p .0 (subst (λ (z : Content). List·Memᴰ p (typesIn z)) (sym f) q) in
       pair-has-rule k p i

@@ -30,7 +30,7 @@ use Rattle.theory.proofs.SimplifyWords.{prune-words, prune-standing}
 use Rattle.theory.proofs.Fruitful.{tree-fruitful, forest-fruitful, fruitful-is}
 use Rattle.theory.proofs.CarryDerivations.{carry-tree}
 use Rattle.theory.proofs.Reached.{reached-is, reached-on, rule-remains, rule-was, reached-remains, reached-trees}
-use Rattle.theory.proofs.TableConditions.{Labelled, HasRule, Reaches, from-start, SomeTree, AllRuled}
+use Rattle.theory.proofs.TableConditions.{Labelled, HasRule, Reaches, from-start, SomeTree, AllRuled, OneRuleEach}
 use Rattle.theory.proofs.Standing.{StandsIn, WordWith}
 
 pub reduce-labels : (g : Table) → reduce g .labels ≡ g .labels
@@ -238,5 +238,5 @@ module _ (Alike : ℕ → ℕ → ℕ → ℕ → Type 0) where
       (no-two-map (pruned g) AlikeRules (keep (λ (r : Rule). isIn (r .type) (fruitful g)) (g .rules))
       (no-two-keep AlikeRules (λ (r : Rule). isIn (r .type) (fruitful g)) (g .rules) h))
 
-pub reduce-one-rule : (g : Table) → NoTwoRules g (λ r s. r .type ≡ s .type) → NoTwoRules (reduce g) (λ r s. r .type ≡ s .type)
+pub reduce-one-rule : (g : Table) → OneRuleEach g → OneRuleEach (reduce g)
 reduce-one-rule = reduce-no-two (λ k l m n. k ≡ m)

@@ -21,7 +21,6 @@ use Rattle.grammar.specs.ReadContent.{sameContent}
 use Rattle.grammar.specs.Tree.{Tree, node}
 use Rattle.grammar.specs.Table.{Rule, Named, DistinctNames}
 use Rattle.grammar.specs.Derivation.{Fits}
-use Rattle.grammar.specs.Kinds.{NoTwoRules}
 use Rattle.grammar.specs.Sample.{Visit, visits, samePath, pathsOf, namesOf, sequenceOf, childSequence, contentAt, ruleAt, sample}
 use Rattle.theory.proofs.ListLaws.{
   any-of,
@@ -39,7 +38,7 @@ use Rattle.theory.proofs.ListLaws.{
 use Rattle.theory.proofs.NameLaws.{name-refl, name-sym, name-trans}
 use Rattle.theory.proofs.PathLaws.{SamePath, path-refl, path-sym, path-trans, path-parts}
 use Rattle.theory.proofs.WordLaws.{choice-words}
-use Rattle.theory.proofs.TableConditions.{Labelled}
+use Rattle.theory.proofs.TableConditions.{Labelled, OneRuleEach}
 use Rattle.theory.proofs.VisitedTrees.{
   rootName,
   childrenOf,
@@ -263,7 +262,7 @@ module _ (d : Tree) where
   unfolding sample
   sample-names = no-two-distinct sameName name-sym (map (λ (v : Visit). v .name) seen)
 
-  pub sample-types : NoTwoRules (sample d) (λ r s. r .type ≡ s .type)
+  pub sample-types : OneRuleEach (sample d)
   unfolding sample
   sample-types =
       no-two-map (ruleAt seen) (λ r s. r .type ≡ s .type) firsts

@@ -39,7 +39,6 @@ use Rattle.theory.proofs.ListLaws.{
   any-of,
   kept,
   distinct-was,
-  joined-from,
   place-found,
   at-mem,
   at-below,
@@ -66,7 +65,7 @@ use Rattle.theory.proofs.SampleMerge.{
 use Rattle.theory.proofs.Counted.{Counted, AllCounted, choice-counted}
 use Rattle.theory.proofs.DocumentWithin.{DocumentWithin}
 use Rattle.theory.proofs.NumberedTable.{Numbered, table-small, numbered-within}
-use Rattle.theory.proofs.Standing.{choice-types}
+use Rattle.theory.proofs.Standing.{choice-type}
 
 -- the sequence of some types
 operands-count : (cs : List Content) → count (operands cs) ≡ length cs
@@ -171,9 +170,7 @@ module _ (d : Tree) where
       → k < length (sample d .rules)
   content-below r m k n =
       let (p, e) = content-is m in
-      let (c, l, o) =
-      joined-from typesIn (sequencesAt p)
-      (subst (λ (ks : List ℕ). List·Memᴰ k ks) (ap typesIn e ∙ choice-types (sequencesAt p)) n) in
+      let (c, l, o) = choice-type k (sequencesAt p) .0 (subst (λ (z : Content). List·Memᴰ k (typesIn z)) e n) in
       let (v, s, q) = content-from p l in
       let t : List·Memᴰ k (childTypes d v) =
       subst (λ (ks : List ℕ). List·Memᴰ k ks) (ap typesIn (sym q) ∙ sequence-types (childTypes d v)) o in
