@@ -8,6 +8,7 @@ pub mod KindTests
 pub mod ContentBytes
 pub mod FieldBytes
 pub mod PaperTheorem
+pub mod TreeParts
 pub mod Automaton
 pub mod Covering
 pub mod KindLaws

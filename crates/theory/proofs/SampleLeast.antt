@@ -17,7 +17,7 @@ use Rattle.theory.proofs.NameLaws.{name-refl}
 use Rattle.theory.proofs.Automaton.{AllAlive}
 use Rattle.theory.proofs.Merge.{Merge, Forth, Back, StartType}
 use Rattle.theory.proofs.LeastSingleType.{SingleTypeMerge, Arises}
-use Rattle.theory.proofs.TreeAutomaton.{treesOf, children, treeAutomaton, tree-alive, least-document}
+use Rattle.theory.proofs.TreeAutomaton.{treeAutomaton, tree-alive, least-document}
 use Rattle.theory.proofs.VisitedTrees.{rootName, childrenOf, OneOfTrees}
 use Rattle.theory.proofs.SampleMerge.{sample-starts}
 use Rattle.theory.proofs.SampleMembers.{
@@ -32,6 +32,7 @@ use Rattle.theory.proofs.SampleMembers.{
   root-member,
   start-member,
 }
+use Rattle.theory.proofs.TreeParts.{treesOf, children}
 
 module _ (d : Tree) where
   each-member : {w : List ℕ} {ts : Forest} → Members d w ts → Forall₂ (Member d) w (treesOf ts)
