@@ -3,11 +3,10 @@
 --     sample-single-type   it is single-type
 --     sample-least         every rival of either kind that lets in the document lets in all of the sample
 use Prim.Native.Nat.{ℕ, zero}
-use mathlib.Core.List.{List, [], _∷_, List·Memᴰ, List·Memᴰ·head, List·Memᴰ·tail, List·Memᴰ·eq-of-singleton, Forall₂, Forall₂·nil, Forall₂·cons}
-use mathlib.Core.Logic.{inl, inr}
+use mathlib.Core.List.{List, List·Memᴰ, List·Memᴰ·head, List·Memᴰ·eq-of-singleton, Forall₂}
 use mathlib.Core.Path.{_≡_, refl, sym, subst}
 use Rattle.grammar.specs.Names.{Name}
-use Rattle.grammar.specs.Tree.{Tree, node, Forest, []ᵗ, _∷ᵗ_}
+use Rattle.grammar.specs.Tree.{Tree}
 use Rattle.grammar.specs.Table.{Table, DistinctNames}
 use Rattle.grammar.specs.Derivation.{Fits, LetsIn}
 use Rattle.grammar.specs.Kinds.{Kind, OfKind}
@@ -15,16 +14,12 @@ use Rattle.grammar.specs.Least.{LetsInAll}
 use Rattle.grammar.specs.Sample.{sample}
 use Rattle.theory.proofs.NameLaws.{name-refl}
 use Rattle.theory.proofs.Automaton.{AllAlive}
-use Rattle.theory.proofs.Merge.{Merge, Forth, Back, StartType}
+use Rattle.theory.proofs.Merge.{Merge, Forth, Back}
 use Rattle.theory.proofs.LeastSingleType.{SingleTypeMerge, Arises}
 use Rattle.theory.proofs.TreeAutomaton.{treeAutomaton, tree-alive, least-document}
-use Rattle.theory.proofs.VisitedTrees.{rootName, childrenOf, OneOfTrees}
 use Rattle.theory.proofs.SampleMerge.{sample-starts}
 use Rattle.theory.proofs.SampleMembers.{
   Member,
-  Members,
-  members-none,
-  members-next,
   member-names,
   member-fits,
   fits-member,
@@ -32,26 +27,11 @@ use Rattle.theory.proofs.SampleMembers.{
   root-member,
   start-member,
 }
-use Rattle.theory.proofs.TreeParts.{treesOf, children}
+use Rattle.theory.proofs.TreeParts.{children, rootName}
 
 module _ (d : Tree) where
-  each-member : {w : List ℕ} {ts : Forest} → Members d w ts → Forall₂ (Member d) w (treesOf ts)
-  each-member members-none = Forall₂·nil
-  each-member (members-next m ms) = Forall₂·cons m (each-member ms)
-
   all-alive : (u : List Tree) → AllAlive (treeAutomaton d) u
   all-alive u t m = tree-alive d t
-
-  children-members : {w : List ℕ} (t : Tree) → Members d w (childrenOf t) → Forall₂ (Member d) w (children t)
-  children-members (node n ts) ms = each-member ms
-
-  listed : (ts : Forest) {t : Tree} → OneOfTrees ts t → List·Memᴰ t (treesOf ts)
-  listed []ᵗ o = absurd o
-  listed (s ∷ᵗ ts) (inl e) = List·Memᴰ·head e
-  listed (s ∷ᵗ ts) (inr o) = List·Memᴰ·tail (listed ts o)
-
-  child-listed : (s : Tree) {t : Tree} → OneOfTrees (childrenOf s) t → List·Memᴰ t (children s)
-  child-listed (node n ts) o = listed ts o
 
   forward : (k : ℕ) (s : Tree) (u : List Tree) → Member d k s → u ≡ children s → Forth (treeAutomaton d) (sample d) (Member d) k s u
   forward k s u m step =
@@ -59,7 +39,7 @@ module _ (d : Tree) where
       record {
         word = w .word;
         fits = w .fits;
-        members = subst (λ (v : List Tree). Forall₂ (Member d) (w .word) v) (sym step) (children-members s (w .members));
+        members = subst (λ (v : List Tree). Forall₂ (Member d) (w .word) v) (sym step) (w .members);
       }
 
   backward : (k : ℕ) (n : Name) (w : List ℕ) → Fits (sample d) k n w → Back (treeAutomaton d) (sample d) (Member d) k n w
@@ -71,7 +51,7 @@ module _ (d : Tree) where
         named = m .named;
         next = children (m .tree);
         step = refl;
-        members = children-members (m .tree) (m .members);
+        members = m .members;
         alive = all-alive (children (m .tree));
       }
 
@@ -103,7 +83,7 @@ module _ (d : Tree) where
         next = children (c .tree);
         step = refl;
         alive = all-alive (children (c .tree));
-        within = child-listed (c .tree) (c .child);
+        within = c .child;
       }
 
   single-merge : SingleTypeMerge (treeAutomaton d) (sample d) (Member d)

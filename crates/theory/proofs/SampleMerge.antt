@@ -39,19 +39,10 @@ use Rattle.theory.proofs.NameLaws.{name-refl, name-sym, name-trans}
 use Rattle.theory.proofs.PathLaws.{SamePath, path-refl, path-sym, path-trans, path-parts}
 use Rattle.theory.proofs.WordLaws.{choice-words}
 use Rattle.theory.proofs.TableConditions.{Labelled, OneRuleEach}
-use Rattle.theory.proofs.VisitedTrees.{
-  rootName,
-  childrenOf,
-  root-named,
-  visitOf,
-  stands-visit,
-  visit-stands,
-  stands-child,
-  Ends,
-  stands-ends,
-}
+use Rattle.theory.proofs.VisitedTrees.{root-named, visitOf, stands-visit, visit-stands, stands-child, Ends, stands-ends}
 use Rattle.theory.proofs.NoTwo.{no-two-map, no-two-weaken, no-two-distinct}
 use Rattle.theory.proofs.ContentBytes.{same-content}
+use Rattle.theory.proofs.TreeParts.{rootName, childrenOf}
 
 -- the sequence of some types has that one word
 turn-word : (ks w : List ℕ) → InTurn (operands (map type ks)) w ↔ (w ≡ ks)
