@@ -122,7 +122,7 @@ module _ (g : Table) (reduced : ReducedTable g) where
           starts-differ = keep-differ eqb isStart (numbersBelow used) (numbers-differ used);
           few-starts = let few = few-kept isStart used in omega arith;
           rule-types = λ r m. let b = local-rule-types r m in omega arith;
-          listed = local-form-labelled g;
+          labelled = local-form-labelled g;
           content-types = λ r m k n. let b = local-types r m k n in omega arith;
           counted = local-counted lim g counted;
         }
@@ -142,7 +142,7 @@ module _ (g : Table) (reduced : ReducedTable g) where
               let e = single-type-form-place lim g reduced i at in
               let b = at-below (singleTypeForm lim g .rules) i at in
               omega arith;
-          listed = single-type-form-labelled lim g reduced;
+          labelled = single-type-form-labelled lim g reduced;
           content-types = λ r m k n. let b = single-type-form-types lim g reduced few r m k n in omega arith;
           counted = single-type-counted lim g counted;
         }

@@ -25,9 +25,10 @@ use Rattle.theory.proofs.BoolLaws.{or-false, false-of, not-both}
 use Rattle.theory.proofs.ListLaws.{any-of, at-mem, at-or-else, all-differ}
 use Rattle.theory.proofs.TableConditions.{Labelled}
 use Rattle.theory.proofs.TidyWords.{tidy-types}
-use Rattle.theory.proofs.TidyTable.{tidy-labels}
+use Rattle.theory.proofs.TidyTable.{tidy-labels, tidy-labelled}
 use Rattle.theory.proofs.UsedLabelsDocuments.{used-below, used-labels-names, used-labels-labelled, used-labels-count}
 use Rattle.theory.proofs.Counted.{Counted, counted-proper, tidy-counted}
+use Rattle.theory.proofs.FinishedForm.{finished}
 
 -- the limits of the paper agree
 pub standard-agree : LimitsAgree standard
@@ -41,7 +42,7 @@ pub record Numbered (lim : Limits) (classes : Classes) (g : Table) : Type 0 wher
   pub starts-differ : allDistinct eqb (g .starts) ≡ true
   pub few-starts : length (g .starts) ≤ length (g .rules)
   pub rule-types : (r : Rule) → List·Memᴰ r (g .rules) → r .type < length (g .rules)
-  pub listed : Labelled g
+  pub labelled : Labelled g
   pub content-types : (r : Rule) → List·Memᴰ r (g .rules) → (k : ℕ) → List·Memᴰ k (typesIn (r .content)) → k < length (g .rules)
   pub counted : (r : Rule) → List·Memᴰ r (g .rules) → Counted lim (r .content)
 
@@ -98,7 +99,7 @@ module _ (lim : Limits) (classes : Classes) (agree : LimitsAgree lim) (g : Table
         each-rule =
             λ r m.
             let t = h .rule-types r m in
-            record { type = omega arith; label = h .listed r m; content = content r m };
+            record { type = omega arith; label = h .labelled r m; content = content r m };
         rules = omega arith;
         size = small .size;
       }
@@ -129,7 +130,7 @@ module _ (lim : Limits) (classes : Classes) where
       → ((r : Rule) → List·Memᴰ r (h .rules) → RuleLike lim r (g .rules))
       → ((n : Name) → List·Memᴰ n (h .labels) → List·Memᴰ n (g .labels)) → DistinctNames h → Labelled h
       → Numbered lim classes g → Numbered lim classes h
-  like-numbered g h starts rules like named differ listed n =
+  like-numbered g h starts rules like named differ labelled n =
       record {
         names = λ x m. n .names x (named x m);
         names-differ = differ;
@@ -142,7 +143,7 @@ module _ (lim : Limits) (classes : Classes) where
             let same = s .type in
             let below = n .rule-types (s .other) (s .of-table) in
             omega arith;
-        listed = listed;
+        labelled = labelled;
         content-types =
             λ r m k p. let s = like r m in rw rules (n .content-types (s .other) (s .of-table) k (s .types k p));
         counted = λ r m. let s = like r m in s .counted (n .counted (s .other) (s .of-table));
@@ -152,7 +153,7 @@ module _ (lim : Limits) (classes : Classes) where
   unfolding withUsedLabels
   used-numbered g n =
       like-numbered g (withUsedLabels g) refl (length-map (g .rules) _) like named (used-labels-names g (n .names-differ))
-      (used-labels-labelled g (n .listed)) n
+      (used-labels-labelled g (n .labelled)) n
     where
       like : (r : Rule) → List·Memᴰ r (withUsedLabels g .rules) → RuleLike lim r (g .rules)
       like r m =
@@ -175,7 +176,7 @@ module _ (lim : Limits) (classes : Classes) where
   tidy-numbered : (g : Table) → Numbered lim classes g → Numbered lim classes (tidyTable g)
   unfolding tidyTable
   tidy-numbered g n =
-      like-numbered g (tidyTable g) refl (length-map (g .rules) _) like (λ x m. m) (n .names-differ) listed n
+      like-numbered g (tidyTable g) refl (length-map (g .rules) _) like (λ x m. m) (n .names-differ) (tidy-labelled g (n .labelled)) n
     where
       like : (r : Rule) → List·Memᴰ r (tidyTable g .rules) → RuleLike lim r (g .rules)
       like r m =
@@ -192,18 +193,13 @@ module _ (lim : Limits) (classes : Classes) where
             counted = λ h. subst (Counted lim) c (tidy-counted lim (s .content) h);
           }
 
-      listed : Labelled (tidyTable g)
-      listed r m =
-          let (s, o, e) = Memᴰ·of-map _ (g .rules) m in
-          subst (λ (q : Rule). q .label < length (g .labels)) e (n .listed s o)
-
-  pub finished-numbered : (g : Table) → Numbered lim classes g → Numbered lim classes (tidyTable (withUsedLabels g))
+  pub finished-numbered : (g : Table) → Numbered lim classes g → Numbered lim classes (finished g)
   finished-numbered g n = tidy-numbered (withUsedLabels g) (used-numbered g n)
 
-pub finished-rules : (g : Table) → length (tidyTable (withUsedLabels g) .rules) ≡ length (g .rules)
+pub finished-rules : (g : Table) → length (finished g .rules) ≡ length (g .rules)
 unfolding tidyTable withUsedLabels
 finished-rules g = simp length-map
 
 -- of used labels there are no more than rules
-pub finished-labels : (g : Table) → length (tidyTable (withUsedLabels g) .labels) ≤ length (tidyTable (withUsedLabels g) .rules)
+pub finished-labels : (g : Table) → length (finished g .labels) ≤ length (finished g .rules)
 finished-labels g = rw (finished-rules g, tidy-labels (withUsedLabels g)) (used-labels-count g)

@@ -238,7 +238,7 @@ module _ (lim : Limits) (classes : Classes) (agree : LimitsAgree lim) (d : Tree)
         starts-differ = rw (sample-starts d);
         few-starts = rw (sample-starts d) (omega arith);
         rule-types = rule-below d;
-        listed = sample-labelled d;
+        labelled = sample-labelled d;
         content-types = content-below d;
         counted =
             content-counted d lim
