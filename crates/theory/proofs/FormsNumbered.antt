@@ -5,7 +5,7 @@ use Prim.Native.Nat.{ℕ, zero, _≤_, _<_}
 use native.Mathlib.Omega.{arith}
 use mathlib.Core.Bool.{Bool, true}
 use mathlib.Core.List.{List·Memᴰ, Memᴰ·of-map}
-use mathlib.Core.Path.{_≡_, sym, _∙_, ap, subst}
+use mathlib.Core.Path.{_≡_, sym, ap, subst}
 use lib.ListN.{length, length-append, length-map}
 use lib.Dec.{eqb}
 use Rattle.grammar.specs.Lists.{any, keep, allDistinct, numbersBelow}
@@ -30,10 +30,8 @@ use Rattle.theory.proofs.ListLaws.{
   keep-differ,
   keep-shorter,
 }
-use Rattle.theory.proofs.TableAutomaton.{label-of}
 use Rattle.theory.proofs.ReducedTable.{ReducedTable}
-use Rattle.theory.proofs.UsedLabelsDocuments.{label-used}
-use Rattle.theory.proofs.LocalMerge.{local-form-names, local-form-labelled}
+use Rattle.theory.proofs.LocalMerge.{local-form-names, local-form-labelled, merged, merged-at}
 use Rattle.theory.proofs.SetsClosed.{starts-first}
 use Rattle.theory.proofs.SingleTypeMerge.{
   single-type-form-labels,
@@ -65,10 +63,8 @@ module _ (g : Table) (reduced : ReducedTable g) where
   label-below l m = at-below (usedLabels g) (typeOfLabel g l) (place-at l (usedLabels g) m)
 
   merged-below : (k : ℕ) → HasRule g k → typeOfLabel g (labelOf g k) < length (usedLabels g)
-  merged-below k h =
-      let e = ap (labelOf g) (sym (h .of-type)) ∙ label-of g (reduced .one-rule-each) (h .rule) (h .of-table) in
-      subst (λ (l : ℕ). typeOfLabel g l < length (usedLabels g)) (sym e)
-      (label-below (h .rule .label) (label-used g (reduced .labelled) (h .rule) (h .of-table)))
+  unfolding merged
+  merged-below k h = at-below (usedLabels g) (merged g k) (merged-at g reduced h)
 
   local-rules : length (localForm g .rules) ≡ length (usedLabels g)
   unfolding localForm

@@ -40,7 +40,7 @@ use Rattle.theory.proofs.WordLaws.{merge-words}
 use Rattle.theory.proofs.Merge.{Forth, Back, StartType, accepted-let-in}
 use Rattle.theory.proofs.LeastMerge.{StartMember}
 use Rattle.theory.proofs.LeastLocal.{Reached, LocalMerge, least-local}
-use Rattle.theory.proofs.TableAutomaton.{Steps, typeName, tableAutomaton, label-of, fits-steps, table-accepts}
+use Rattle.theory.proofs.TableAutomaton.{Steps, typeName, tableAutomaton, label-of, fits-steps, table-accepts, label-rule}
 use Rattle.theory.proofs.ReducedTable.{ReducedTable}
 use Rattle.theory.proofs.ReducedAutomaton.{type-alive, step-rules, step-alive, type-reached}
 use Rattle.theory.proofs.UsedLabelsDocuments.{used-below, used-differ, label-used}
@@ -111,17 +111,12 @@ module _ (g : Table) where
       })
 
 module _ (g : Table) (reduced : ReducedTable g) where
-  -- the label of a type with a rule is that of its rule, and it is used
-  label-rule : {k : ℕ} (h : HasRule g k) → labelOf g k ≡ h .rule .label
-  label-rule h =
-      subst (λ (j : ℕ). labelOf g j ≡ h .rule .label) (h .of-type)
-      (label-of g (reduced .one-rule-each) (h .rule) (h .of-table))
-
-  merged-at : {k : ℕ} → HasRule g k → getElem? (usedLabels g) (merged g k) ≡ just (labelOf g k)
+  -- the label of a type with a rule is used
+  pub merged-at : {k : ℕ} → HasRule g k → getElem? (usedLabels g) (merged g k) ≡ just (labelOf g k)
   unfolding merged typeOfLabel
   merged-at {k} h =
       place-at (labelOf g k) (usedLabels g)
-      (subst (λ (l : ℕ). List·Memᴰ l (usedLabels g)) (sym (label-rule h))
+      (subst (λ (l : ℕ). List·Memᴰ l (usedLabels g)) (sym (label-rule g (reduced .one-rule-each) h))
       (label-used g (reduced .labelled) (h .rule) (h .of-table)))
 
   -- What fits a type fits the type that merges it.
@@ -131,7 +126,7 @@ module _ (g : Table) (reduced : ReducedTable g) where
       record {
         rule = ruleOfLabel g (f .rule .label);
         of-table = Memᴰ·map (ruleOfLabel g) (label-used g (reduced .labelled) (f .rule) (f .of-table));
-        of-type = ap (typeOfLabel g) (sym (label-rule (rule-that-fits f)));
+        of-type = ap (typeOfLabel g) (sym (label-rule g (reduced .one-rule-each) (rule-that-fits f)));
         of-name = record { name = f .of-name .name; listed = f .of-name .listed; same = f .of-name .same };
         word = word-merged g (f .rule) (f .of-table) u (f .word);
       }

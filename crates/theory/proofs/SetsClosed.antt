@@ -64,7 +64,7 @@ use Rattle.theory.proofs.ListLaws.{
   distinct-mem,
   eqb-decides,
 }
-use Rattle.theory.proofs.TableAutomaton.{label-of}
+use Rattle.theory.proofs.TableAutomaton.{label-rule}
 use Rattle.theory.proofs.ReducedTable.{ReducedTable}
 use Rattle.theory.proofs.TableConditions.{HasRule}
 use Rattle.theory.proofs.NoTwo.{no-two-append, no-two-keep, no-two-map, no-two-weaken, no-two-distinct, NoTwo}
@@ -192,7 +192,7 @@ module _ (g : Table) (reduced : ReducedTable g) where
   pub label-below : {k : ℕ} → HasRule g k → labelOf g k < length (g .labels)
   label-below h =
       subst (λ (l : ℕ). l < length (g .labels))
-      (sym (label-of g (reduced .one-rule-each) (h .rule) (h .of-table)) ∙ ap (labelOf g) (h .of-type))
+      (sym (label-rule g (reduced .one-rule-each) h))
       (reduced .labelled (h .rule) (h .of-table))
 
   pub of-label : (types : List ℕ) (l k : ℕ) → List·Memᴰ k (ofLabel g types l) ↔ InSet g types l k
@@ -206,12 +206,12 @@ module _ (g : Table) (reduced : ReducedTable g) where
       there m =
           let (r, n, e) = Memᴰ·of-map (λ (r : Rule). r .type) (keep test (g .rules)) m in
           let (p, t) = kept test (g .rules) n in
+          let h : HasRule g k = record { rule = r; of-table = p; of-type = e } in
           record {
-            has-rule = record { rule = r; of-table = p; of-type = e };
+            has-rule = h;
             listed = Memᴰ·cast (sym e) (in-mem (r .type) types (and-right (eqb (r .label) l) (isIn (r .type) types) t));
             label =
-                ap (labelOf g) (sym e)
-                ∙ label-of g (reduced .one-rule-each) r p
+                label-rule g (reduced .one-rule-each) h
                 ∙ eqb-true (r .label) l (and-left (eqb (r .label) l) (isIn (r .type) types) t);
           }
 
@@ -220,7 +220,7 @@ module _ (g : Table) (reduced : ReducedTable g) where
           let r = h .has-rule .rule in
           let e = h .has-rule .of-type in
           let m = h .has-rule .of-table in
-          let d : r .label ≡ l = sym (label-of g (reduced .one-rule-each) r m) ∙ ap (labelOf g) e ∙ h .label in
+          let d : r .label ≡ l = sym (label-rule g (reduced .one-rule-each) (h .has-rule)) ∙ h .label in
           Memᴰ·cast (sym e)
           (Memᴰ·map (λ (r : Rule). r .type)
           (keep-mem test m

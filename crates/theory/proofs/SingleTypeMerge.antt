@@ -8,21 +8,7 @@
 --     single-type-form-place     the i-th rule is that of type i
 --     single-type-form-length    there are as many rules as sets; starts and types in contents are below that (-starts, -types)
 use Prim.Native.Nat.{ℕ, _≤_, _<_}
-use mathlib.Core.List.{
-  List,
-  [],
-  _∷_,
-  map,
-  List·Memᴰ,
-  List·Memᴰ·head,
-  List·Memᴰ·tail,
-  Memᴰ·cast,
-  Memᴰ·map,
-  Memᴰ·of-map,
-  Forall₂,
-  Forall₂·nil,
-  Forall₂·cons,
-}
+use mathlib.Core.List.{List, [], _∷_, map, List·Memᴰ, List·Memᴰ·head, Memᴰ·cast, Memᴰ·map, Memᴰ·of-map, Forall₂}
 use mathlib.Core.Logic.{_↔_}
 use mathlib.Core.Option.{some as just}
 use mathlib.Core.Path.{_≡_, refl, sym, _∙_, ap, subst}
@@ -32,7 +18,7 @@ use Rattle.grammar.specs.Limits.{Limits}
 use Rattle.grammar.specs.Names.{Name, SameName}
 use Rattle.grammar.specs.Content.{type, Word, typesIn}
 use Rattle.grammar.specs.Table.{Rule, Table, Named, DistinctNames}
-use Rattle.grammar.specs.Derivation.{Fits, Derives, LetsIn}
+use Rattle.grammar.specs.Derivation.{Fits, LetsIn}
 use Rattle.grammar.specs.Kinds.{Competing, SingleType}
 use Rattle.grammar.specs.Least.{LetsInAll}
 use Rattle.grammar.specs.LocalForm.{labelOf}
@@ -61,14 +47,16 @@ use Rattle.theory.proofs.ListLaws.{
   at-else,
   at-map,
   at-front,
+  related-map,
+  related-turn,
 }
 use Rattle.theory.proofs.NameLaws.{name-refl}
 use Rattle.theory.proofs.WordLaws.{merge-words}
 use Rattle.theory.proofs.Standing.{word-stands, merge-type}
-use Rattle.theory.proofs.Automaton.{Automaton, AllAlive}
+use Rattle.theory.proofs.Automaton.{Automaton}
 use Rattle.theory.proofs.Merge.{Forth, Back, StartType, accepted-let-in}
 use Rattle.theory.proofs.LeastSingleType.{Arises, SingleTypeMerge, least-single-type}
-use Rattle.theory.proofs.TableAutomaton.{typeName, Steps, tableAutomaton, type-accepts, table-accepts}
+use Rattle.theory.proofs.TableAutomaton.{typeName, Steps, tableAutomaton, table-accepts}
 use Rattle.theory.proofs.ReducedTable.{ReducedTable}
 use Rattle.theory.proofs.SetsClosed.{
   OneLabelSet,
@@ -90,6 +78,7 @@ use Rattle.theory.proofs.SetsClosed.{
   each-set,
 }
 use Rattle.theory.proofs.TableConditions.{Labelled, OneRuleEach, HasRule}
+use Rattle.theory.proofs.ReducedAutomaton.{step-alive}
 
 -- the first of a set with members
 first-member : (s : TypeSet) {k : ℕ} → List·Memᴰ k s → List·Memᴰ (getD s 0 0) s
@@ -371,7 +360,7 @@ module _ (lim : Limits) (g : Table) where
                 word = word-of-set g sets (f .set) w .1 (f .word);
               }
 
-      -- types of a word of a member's rule: they are met, they are members of the sets that they are replaced by, and alive
+      -- types of a word of a member's rule: they are met, they are members of the sets that they are replaced by
       word-met : {s : TypeSet} {w : List ℕ} (v : WordOfSet g sets s w) {j : ℕ} → List·Memᴰ j (v .source)
           → List·Memᴰ j (typesMet g s)
       word-met {s} v {j} m =
@@ -383,28 +372,12 @@ module _ (lim : Limits) (g : Table) where
             stands = word-stands (v .rule .content) (v .source) (v .word) j m;
           })
 
-      renamed-members : {s : TypeSet} → List·Memᴰ s sets → (u : List ℕ)
-          → ((j : ℕ) → List·Memᴰ j u → List·Memᴰ j (typesMet g s)) → Forall₂ Member (map (setNumber g sets s) u) u
-      renamed-members m [] met = Forall₂·nil
-      renamed-members m (j ∷ u) met =
-          Forall₂·cons (met-member m (met j (List·Memᴰ·head refl))) (renamed-members m u (λ i n. met i (List·Memᴰ·tail n)))
-
       word-members : {s : TypeSet} → List·Memᴰ s sets → {w : List ℕ} (v : WordOfSet g sets s w)
           → Forall₂ Member w (v .source)
       word-members {s} m v =
           subst (λ (z : List ℕ). Forall₂ Member z (v .source)) (sym (v .renamed))
-          (renamed-members m (v .source) (λ j n. word-met v n))
-
-      word-alive : (r : Rule) → List·Memᴰ r (g .rules) → {u : List ℕ} → Word (r .content) u → AllAlive (tableAutomaton g) u
-      word-alive r m {u} v k n =
-          let h = reduced .content-rules r m k (word-stands (r .content) u v k n) in
-          let (t, d) = reduced .derives-some (h .rule) (h .of-table) in
-          record {
-            tree = t;
-            accepted =
-                type-accepts g (reduced .one-rule-each) (reduced .labelled) k t .1
-                (subst (λ (j : ℕ). Derives g j t) (h .of-type) d);
-          }
+          (related-turn {R = λ j i. Member i j} (λ j i p. p)
+          (related-map (setNumber g sets s) (v .source) (λ j n. met-member m (word-met v n))))
 
       abbrev automaton : Automaton ℕ
       automaton = tableAutomaton g
@@ -440,14 +413,17 @@ module _ (lim : Limits) (g : Table) where
       backward k n w f =
           let h = fits-set k n w .0 f in
           let v = h .word in
+          let step : Steps g (v .rule .type) (v .source) =
+          record { rule = v .rule; of-table = v .of-table; of-type = refl; word = v .word }
+          in
           record {
             state = v .rule .type;
             member = record { set = h .set; at = h .at; listed = v .of-set };
             named = h .named;
             next = v .source;
-            step = record { rule = v .rule; of-table = v .of-table; of-type = refl; word = v .word };
+            step = step;
             members = word-members (at-mem sets k (h .at)) v;
-            alive = word-alive (v .rule) (v .of-table) (v .word);
+            alive = step-alive g reduced step;
           }
 
       one-name : (k r s : ℕ) → Member k r → Member k s → SameName (typeName g r) (typeName g s)
@@ -500,12 +476,15 @@ module _ (lim : Limits) (g : Table) where
               → Arises automaton form Member k s
           from t at r =
               let v = reduced .content-words (r .rule) (r .of-table) s (r .stands) in
+              let step : Steps g (r .rule .type) (v .0) =
+              record { rule = r .rule; of-table = r .of-table; of-type = refl; word = v .1 }
+              in
               record {
                 state = r .rule .type;
                 member = record { set = t; at = at; listed = r .of-set };
                 next = v .0;
-                step = record { rule = r .rule; of-table = r .of-table; of-type = refl; word = v .1 };
-                alive = word-alive (r .rule) (r .of-table) (v .1);
+                step = step;
+                alive = step-alive g reduced step;
                 within = v .2;
               }
 

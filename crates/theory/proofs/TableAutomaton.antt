@@ -31,7 +31,7 @@ use Rattle.theory.proofs.Automaton.{
   accepts-next,
   AcceptsDocument,
 }
-use Rattle.theory.proofs.TableConditions.{Labelled, OneRuleEach}
+use Rattle.theory.proofs.TableConditions.{Labelled, OneRuleEach, HasRule}
 
 -- the name of a type: that of its one rule's label
 unfoldable pub typeName : Table → ℕ → Name
@@ -62,6 +62,9 @@ module _ (g : Table) (one-each : OneRuleEach g) where
           let k = kept of-type (g .rules) (subst (λ (l : List Rule). List·Memᴰ s l) (sym e) (List·Memᴰ·head refl)) in
           let same : s ≡ r = one-rule g (λ r s. r .type ≡ s .type) one-each s r (k .0) m (eqb-true (s .type) (r .type) (k .1)) in
           rw (e, labelOf) (ap (λ (q : Rule). q .label) same)
+
+  pub label-rule : {k : ℕ} (h : HasRule g k) → labelOf g k ≡ h .rule .label
+  label-rule h = subst (λ (j : ℕ). labelOf g j ≡ h .rule .label) (h .of-type) (label-of (h .rule) (h .of-table))
 
   pub type-name : (r : Rule) → List·Memᴰ r (g .rules) → {n : Name} → getElem? (g .labels) (r .label) ≡ just n → typeName g (r .type) ≡ n
   unfolding typeName
