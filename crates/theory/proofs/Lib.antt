@@ -42,7 +42,7 @@ pub mod ReduceDocuments
 pub mod PathLaws
 pub mod NormaliseDocuments
 pub mod SampleMembers
-pub mod SampleMerge
+pub mod SampleRules
 pub mod TableConditions
 pub mod UniteDocuments
 pub mod VisitedTrees

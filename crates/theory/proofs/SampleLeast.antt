@@ -17,7 +17,7 @@ use Rattle.theory.proofs.Automaton.{AllAlive}
 use Rattle.theory.proofs.Merge.{Merge, Forth, Back}
 use Rattle.theory.proofs.LeastSingleType.{SingleTypeMerge, Arises}
 use Rattle.theory.proofs.TreeAutomaton.{treeAutomaton, tree-alive, least-document}
-use Rattle.theory.proofs.SampleMerge.{sample-starts}
+use Rattle.theory.proofs.SampleRules.{sample-starts}
 use Rattle.theory.proofs.SampleMembers.{
   Member,
   member-names,

@@ -29,7 +29,7 @@ use Rattle.grammar.specs.Derivation.{Fits, Derives, derives, DerivesAll, derive
 use Rattle.grammar.specs.Sample.{Visit, rootNames, samePath, sample}
 use Rattle.theory.proofs.NameLaws.{name-refl}
 use Rattle.theory.proofs.PathLaws.{SamePath, path-sym, path-parts}
-use Rattle.theory.proofs.SampleMerge.{
+use Rattle.theory.proofs.SampleRules.{
   pathType,
   childTypes,
   path-type,

@@ -9,14 +9,14 @@
 --     sample-labelled      each rule's label is among the labels
 use Prim.Native.Nat.{ℕ, zero, _<_}
 use mathlib.Core.Bool.{Bool, true}
-use mathlib.Core.List.{List, [], _∷_, _++_, map, List·Memᴰ, Memᴰ·map, Memᴰ·of-map}
+use mathlib.Core.List.{List, [], _∷_, _++_, map, List·Memᴰ, Memᴰ·map, Memᴰ·of-map, Memᴰ·cast}
 use mathlib.Core.Logic.{_↔_}
 use mathlib.Core.Option.{some}
 use mathlib.Core.Path.{_≡_, refl, sym, _∙_, ap, subst}
 use lib.ListN.{length, getElem?}
 use Rattle.grammar.specs.Lists.{any, keep, distinct, place}
 use Rattle.grammar.specs.Names.{Name, sameName, SameName}
-use Rattle.grammar.specs.Content.{Content, type, Word, InTurn, operands, choiceOf}
+use Rattle.grammar.specs.Content.{Content, type, Word, InTurn, operands, choiceOf, typesIn, typesInAll}
 use Rattle.grammar.specs.ReadContent.{sameContent}
 use Rattle.grammar.specs.Tree.{Tree, node}
 use Rattle.grammar.specs.Table.{Rule, Named, DistinctNames}
@@ -43,6 +43,7 @@ use Rattle.theory.proofs.VisitedTrees.{root-named, visitOf, stands-visi
 use Rattle.theory.proofs.NoTwo.{no-two-map, no-two-weaken, no-two-distinct}
 use Rattle.theory.proofs.ContentBytes.{same-content}
 use Rattle.theory.proofs.TreeParts.{rootName, childrenOf}
+use Rattle.theory.proofs.Standing.{StandsIn, choice-type}
 
 -- the sequence of some types has that one word
 turn-word : (ks w : List ℕ) → InTurn (operands (map type ks)) w ↔ (w ≡ ks)
@@ -60,6 +61,18 @@ unfolding sequenceOf
 sequence-word [] w = (λ e. e, λ e. e)
 sequence-word (k ∷ []) w = (λ e. e, λ e. e)
 sequence-word (k ∷ l ∷ ls) w = turn-word (k ∷ l ∷ ls) w
+
+-- and those types stand in it
+turn-types : (ks : List ℕ) → typesInAll (operands (map type ks)) ≡ ks
+unfolding typesInAll operands
+turn-types [] = refl
+turn-types (k ∷ ks) = ap (λ (l : List ℕ). k ∷ l) (turn-types ks)
+
+sequence-types : (ks : List ℕ) → typesIn (sequenceOf ks) ≡ ks
+unfolding sequenceOf typesIn
+sequence-types [] = refl
+sequence-types (k ∷ []) = refl
+sequence-types (k ∷ l ∷ ls) = turn-types (k ∷ l ∷ ls)
 
 -- a path of a visit ends with the visit's name
 pub path-ends : (d : Tree) (above : List Name) (v : Visit) → List·Memᴰ v (visits d above) → Ends (v .path) (v .name)
@@ -87,7 +100,7 @@ module _ (d : Tree) where
   abbrev pub childTypes : Visit → List ℕ
   childTypes v = map (λ n. pathType (v .path ++ (n ∷ []))) (v .children)
 
-  path-found : (v : Visit) → List·Memᴰ v seen → any (samePath (v .path)) (pathsOf seen) ≡ true
+  pub path-found : (v : Visit) → List·Memᴰ v seen → any (samePath (v .path)) (pathsOf seen) ≡ true
   unfolding pathsOf
   path-found v m =
       let (p, n, e) = distinct-has samePath path-refl path-trans (Memᴰ·map (λ (v : Visit). v .path) m) in
@@ -135,9 +148,32 @@ module _ (d : Tree) where
     pub at-path : SamePath p (visit .path)
     pub children : w ≡ childTypes visit
 
-  content-words : (p : List Name) (w : List ℕ) → Word (contentAt seen p) w ↔ ChildrenAt p w
-  unfolding contentAt
-  content-words p w = (there, back)
+  -- a visit at the path whose children's types make the sequence
+  pub record SequenceAt (p : List Name) (c : Content) : Type 0 where
+    pub visit : Visit
+    pub visited : List·Memᴰ visit seen
+    pub at-path : SamePath p (visit .path)
+    pub sequence : sequenceOf (childTypes visit) ≡ c
+
+  -- the contents that the content at a path is the choice of
+  pub sequencesAt : List Name → List Content
+  sequencesAt p = distinct sameContent (map (childSequence seen) (keep (λ (v : Visit). samePath p (v .path)) seen))
+
+  pub content-at : (p : List Name) → contentAt seen p ≡ choiceOf (sequencesAt p)
+  unfolding contentAt sequencesAt
+  content-at p = refl
+
+  pub sequence-at : (p : List Name) (c : Content) → List·Memᴰ c (sequencesAt p) ↔ SequenceAt p c
+  unfolding sequencesAt childSequence
+  sequence-at p c = (
+    λ m.
+        let (v, n, e) = Memᴰ·of-map (childSequence seen) (keep atPath seen) (distinct-was sameContent sequences m) in
+        let (o, s) = kept atPath seen n in
+        record { visit = v; visited = o; at-path = s; sequence = e },
+    λ s.
+        Memᴰ·cast (sym (s .sequence))
+        (distinct-mem sameContent same-content (Memᴰ·map (childSequence seen) (keep-mem atPath (s .visited) (s .at-path)))),
+  )
     where
       atPath : Visit → Bool
       atPath v = samePath p (v .path)
@@ -145,30 +181,46 @@ module _ (d : Tree) where
       sequences : List Content
       sequences = map (childSequence seen) (keep atPath seen)
 
-      there : Word (choiceOf (distinct sameContent sequences)) w → ChildrenAt p w
-      there x =
-          let o = choice-words (distinct sameContent sequences) w .0 x in
-          let (v, m, e) = Memᴰ·of-map (childSequence seen) (keep atPath seen) (distinct-was sameContent sequences (o .1)) in
-          let (n, s) = kept atPath seen m in
-          record {
-            visit = v;
-            visited = n;
-            at-path = s;
-            children = sequence-word (childTypes v) w .0 (subst (λ (c : Content). Word c w) (sym e) (o .2));
-          }
+  content-words : (p : List Name) (w : List ℕ) → Word (contentAt seen p) w ↔ ChildrenAt p w
+  content-words p w = (
+    λ x.
+        let (c, l, v) = choice-words (sequencesAt p) w .0 (subst (λ (c : Content). Word c w) (content-at p) x) in
+        let s = sequence-at p c .0 l in
+        record {
+          visit = s .visit;
+          visited = s .visited;
+          at-path = s .at-path;
+          children = sequence-word (childTypes (s .visit)) w .0 (subst (λ (c : Content). Word c w) (sym (s .sequence)) v);
+        },
+    λ a.
+        let c = sequenceOf (childTypes (a .visit)) in
+        let s : SequenceAt p c = record { visit = a .visit; visited = a .visited; at-path = a .at-path; sequence = refl } in
+        subst (λ (c : Content). Word c w) (sym (content-at p))
+        (choice-words (sequencesAt p) w .1
+        (c, sequence-at p c .1 s, sequence-word (childTypes (a .visit)) w .1 (a .children))),
+  )
 
-      back : ChildrenAt p w → Word (choiceOf (distinct sameContent sequences)) w
-      back a =
-          let v = a .visit in
-          choice-words (distinct sameContent sequences) w .1
-          (
-            childSequence seen v,
-            distinct-mem sameContent same-content (Memᴰ·map (childSequence seen) (keep-mem atPath (a .visited) (a .at-path))),
-            sequence-word (childTypes v) w .1 (a .children),
-          )
+  -- the types that stand in the content at a path are those of children of visits there
+  pub record ChildAt (p : List Name) (k : ℕ) : Type 0 where
+    pub visit : Visit
+    pub visited : List·Memᴰ visit seen
+    pub at-path : SamePath p (visit .path)
+    pub name : Name
+    pub child : List·Memᴰ name (visit .children)
+    pub of-type : pathType (visit .path ++ (name ∷ [])) ≡ k
+
+  pub content-type : (p : List Name) (k : ℕ) → StandsIn k (contentAt seen p) → ChildAt p k
+  content-type p k m =
+      let (c, l, n) = choice-type k (sequencesAt p) .0 (subst (StandsIn k) (content-at p) m) in
+      let s = sequence-at p c .0 l in
+      let v = s .visit in
+      let (x, y, z) =
+      Memᴰ·of-map (λ x. pathType (v .path ++ (x ∷ []))) (v .children)
+      (subst (λ (ks : List ℕ). List·Memᴰ k ks) (ap typesIn (sym (s .sequence)) ∙ sequence-types (childTypes v)) n) in
+      record { visit = v; visited = s .visited; at-path = s .at-path; name = x; child = y; of-type = z }
 
   -- the rules of the sample
-  abbrev oneVisit : Visit → Visit → Bool
+  abbrev pub oneVisit : Visit → Visit → Bool
   oneVisit u v = samePath (u .path) (v .path)
 
   abbrev firsts : List Visit
@@ -181,9 +233,9 @@ module _ (d : Tree) where
   first-at m =
       distinct-has oneVisit (λ v. path-refl (v .path)) (λ u v w. path-trans (u .path) (v .path) (w .path)) m
 
-  sample-rule : {r : Rule} → List·Memᴰ r (sample d .rules) → (v : Visit) × List·Memᴰ v firsts × (ruleAt seen v ≡ r)
+  pub sample-rule : {r : Rule} → List·Memᴰ r (sample d .rules) → (v : Visit) × List·Memᴰ v seen × (ruleAt seen v ≡ r)
   unfolding sample
-  sample-rule m = Memᴰ·of-map (ruleAt seen) firsts m
+  sample-rule m = let (v, n, e) = Memᴰ·of-map (ruleAt seen) firsts m in (v, first-was n, e)
 
   rule-sample : {v : Visit} → List·Memᴰ v firsts → List·Memᴰ (ruleAt seen v) (sample d .rules)
   unfolding sample
@@ -195,7 +247,7 @@ module _ (d : Tree) where
   unfolding sample ruleAt
   label-at v m = place-found sameName (v .name) (namesOf seen) (name-found v m)
 
-  visit-named : (v : Visit) (n : Name) → List·Memᴰ v seen → Named (sample d) (ruleAt seen v .label) n ↔ SameName (v .name) n
+  pub visit-named : (v : Visit) (n : Name) → List·Memᴰ v seen → Named (sample d) (ruleAt seen v .label) n ↔ SameName (v .name) n
   visit-named v n m = (
     λ p.
         let (x, at, e) = label-at v m in
@@ -219,7 +271,7 @@ module _ (d : Tree) where
 
   pub sample-fits : (k : ℕ) (n : Name) (w : List ℕ) → Fits (sample d) k n w ↔ SampleFits k n w
   unfolding ruleAt
-  sample-fits k n w = (λ f. let (u, m, e) = sample-rule (f .of-table) in there f u (first-was m) e, back)
+  sample-fits k n w = (λ f. let (u, m, e) = sample-rule (f .of-table) in there f u m e, back)
     where
       there : (f : Fits (sample d) k n w) (u : Visit) → List·Memᴰ u seen → ruleAt seen u ≡ f .rule → SampleFits k n w
       there f u m e =
@@ -264,7 +316,7 @@ module _ (d : Tree) where
   pub sample-labelled : Labelled (sample d)
   sample-labelled r m =
       let (v, n, e) = sample-rule m in
-      let (x, at, s) = label-at v (first-was n) in
+      let (x, at, s) = label-at v n in
       subst (λ (q : Rule). q .label < length (sample d .labels)) e (at-below (sample d .labels) (ruleAt seen v .label) at)
 
   pub sample-starts : sample d .starts ≡ zero ∷ []
