@@ -23,6 +23,13 @@ one-rule g Alike no-two r s m n alike =
     let e = no-two (p .0) (q .0) r s (p .1) (q .1) alike in
     just-eq (sym (q .1) ∙ subst (λ (i : ℕ). getElem? (g .rules) i ≡ just r) e (p .1))
 
+-- Names of one label are equal.
+pub one-name : (g : Table) {i : ℕ} {m n : Name} → Named g i m → Named g i n → SameName m n
+one-name g {m = m} {n = n} p q =
+    name-trans m (q .name) n
+    (name-sym (q .name) m (subst (λ (x : Name). SameName x m) (just-eq (sym (q .listed) ∙ p .listed)) (p .same)))
+    (q .same)
+
 -- Labels with equal names are equal.
 pub one-label : (g : Table) → DistinctNames g → {i j : ℕ} {m n : Name} → Named g i m → Named g j n → SameName m n → i ≡ j
 one-label g names {i} {j} {m} {n} p q e =

@@ -3,21 +3,34 @@
 --     sample-single-type   it is single-type
 --     sample-least         every rival of either kind that lets in the document lets in all of the sample
 use Prim.Native.Nat.{ℕ, zero}
-use mathlib.Core.List.{List, List·Memᴰ, List·Memᴰ·head, List·Memᴰ·eq-of-singleton, Forall₂}
-use mathlib.Core.Path.{_≡_, refl, sym, subst}
+use mathlib.Core.List.{List, List·Memᴰ, List·Memᴰ·head, List·Memᴰ·eq-of-singleton, Forall₂, [], _∷_, _++_}
+use mathlib.Core.Path.{_≡_, refl, sym, subst, _∙_, ap}
 use Rattle.grammar.specs.Names.{Name}
 use Rattle.grammar.specs.Tree.{Tree}
-use Rattle.grammar.specs.Table.{Table, DistinctNames}
+use Rattle.grammar.specs.Table.{Table, DistinctNames, Rule, Named}
 use Rattle.grammar.specs.Derivation.{Fits, LetsIn}
-use Rattle.grammar.specs.Kinds.{Kind, OfKind}
+use Rattle.grammar.specs.Kinds.{Kind, OfKind, SingleType, NoneCompete}
 use Rattle.grammar.specs.Least.{LetsInAll}
-use Rattle.grammar.specs.Sample.{sample}
+use Rattle.grammar.specs.Sample.{sample, Visit, ruleAt, contentAt}
 use Rattle.theory.proofs.NameLaws.{name-refl}
 use Rattle.theory.proofs.Automaton.{AllAlive}
 use Rattle.theory.proofs.Merge.{Merge, Forth, Back}
 use Rattle.theory.proofs.LeastSingleType.{SingleTypeMerge, Arises}
 use Rattle.theory.proofs.TreeAutomaton.{treeAutomaton, tree-alive, least-document}
-use Rattle.theory.proofs.SampleRules.{sample-starts}
+use Rattle.theory.proofs.SampleRules.{
+  sample-starts,
+  seen,
+  pathType,
+  path-type,
+  path-types,
+  path-ends,
+  ends-agree,
+  child-visited,
+  sample-rule,
+  sample-types,
+  visit-named,
+  content-type,
+}
 use Rattle.theory.proofs.SampleMembers.{
   Member,
   member-names,
@@ -28,6 +41,9 @@ use Rattle.theory.proofs.SampleMembers.{
   start-member,
 }
 use Rattle.theory.proofs.TreeParts.{children, rootName}
+use Rattle.grammar.specs.Content.{typesIn}
+use Rattle.theory.proofs.PathLaws.{path-sym, path-trans, path-append}
+use Rattle.theory.proofs.KindLaws.{one-name}
 
 module _ (d : Tree) where
   all-alive : (u : List Tree) → AllAlive (treeAutomaton d) u
@@ -96,3 +112,45 @@ module _ (d : Tree) where
 
   pub sample-least : (kind : Kind) (H : Table) → DistinctNames H → OfKind kind H → LetsIn H d → LetsInAll H (LetsIn (sample d))
   sample-least = least-document d single-merge
+
+  -- the label of a rule of the type of a child's path has the child's name
+  child-named : (v : Visit) → List·Memᴰ v (seen d) → (n : Name) → List·Memᴰ n (v .children) → (r : Rule)
+      → List·Memᴰ r (sample d .rules) → r .type ≡ pathType d (v .path ++ (n ∷ [])) → Named (sample d) (r .label) n
+  unfolding ruleAt
+  child-named v m n c r o e =
+      let (u, p, same) = sample-rule d o in
+      let w = child-visited d v m n c in
+      let paths =
+      path-types d u (w .visit) p (w .visited) .0
+      (ap (λ (q : Rule). q .type) same ∙ e ∙ ap (pathType d) (sym (w .at-path))) in
+      subst (λ (q : Rule). Named (sample d) (q .label) n) same
+      (visit-named d u n p .1
+      (ends-agree (path-ends d [] u p) (record { above = v .path; ends = w .at-path }) paths))
+
+  -- Types that stand in one content and have rules with one label are types of equal paths.
+  none-compete : (p : List Name) → NoneCompete (sample d) (typesIn (contentAt (seen d) p))
+  none-compete p k l m n c =
+      let a = content-type d p k m in
+      let b = content-type d p l n in
+      let u = a .visit in
+      let v = b .visit in
+      let x = child-named u (a .visited) (a .name) (a .child) (c .rule₁) (c .of-table₁) (c .of-type₁ ∙ sym (a .of-type)) in
+      let y = child-named v (b .visited) (b .name) (b .child) (c .rule₂) (c .of-table₂) (c .of-type₂ ∙ sym (b .of-type)) in
+      let names = one-name (sample d) (subst (λ (i : ℕ). Named (sample d) i (a .name)) (c .one-label) x) y in
+      let above = path-trans (u .path) p (v .path) (path-sym p (u .path) (a .at-path)) (b .at-path) in
+      sym (a .of-type)
+      ∙ path-type d (u .path ++ (a .name ∷ [])) (v .path ++ (b .name ∷ []))
+      (path-append (u .path) (v .path) (a .name) (b .name) above names)
+      ∙ b .of-type
+
+  pub sample-single-type : SingleType (sample d)
+  unfolding ruleAt
+  sample-single-type =
+      record {
+        rules = λ i j r s p q e. sample-types d i j r s p q (e .0);
+        starts = λ k l m n c. only-start k m ∙ sym (only-start l n);
+        contents =
+            λ r m.
+            let (v, n, e) = sample-rule d m in
+            subst (λ (q : Rule). NoneCompete (sample d) (typesIn (q .content))) e (none-compete (v .path));
+      }
