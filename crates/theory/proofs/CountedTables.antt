@@ -33,7 +33,7 @@ module _ (lim : Limits) where
   within-counted classes g within r m = proper-counted (r .content) lim (within .each-rule r m .content .proper)
 
   -- rules made of rules by a step that keeps contents counted
-  map-counted : (f : Rule → Rule) (rs : List Rule) → ((r : Rule) → List·Memᴰ r rs → Counted lim (f r .content))
+  pub map-counted : (f : Rule → Rule) (rs : List Rule) → ((r : Rule) → List·Memᴰ r rs → Counted lim (f r .content))
       → RulesCounted (map f rs)
   map-counted f rs h r m =
       let (s, n, e) = Memᴰ·of-map f rs m in

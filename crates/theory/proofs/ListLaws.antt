@@ -510,6 +510,10 @@ module _ {A B : Type 0} where
     related-turn turn Forall₂·nil = Forall₂·nil
     related-turn turn (Forall₂·cons {a = x} {b = y} r rs) = Forall₂·cons (turn x y r) (related-turn turn rs)
 
+    pub related-length : {xs : List A} {ys : List B} → Forall₂ R xs ys → length xs ≡ length ys
+    related-length Forall₂·nil = refl
+    related-length (Forall₂·cons r rs) = ap suc (related-length rs)
+
     pub related-at : {xs : List A} {ys : List B} → Forall₂ R xs ys → (i : ℕ) {y : B} → getElem? ys i ≡ just y
         → (x : A) × (getElem? xs i ≡ just x) × R x y
     related-at Forall₂·nil i e = let z : _≡_ {A = ℕ} 0 1 = cc in absurd (omega arith)

@@ -32,9 +32,9 @@ module _ (g : Table) where
   unfolding tidyTable
   tidy-names names = names
 
-  same-rules : SameRules (λ l m. l ≡ m) g (tidyTable g)
+  pub tidy-same-rules : SameRules (λ l m. l ≡ m) g (tidyTable g)
   unfolding tidyTable
-  same-rules =
+  tidy-same-rules =
       record {
         names = λ l m e. ap (λ (i : ℕ). getElem? (g .labels) i) e;
         one-label = λ l m l′ m′ p q. (λ e. sym p ∙ e ∙ q, λ e. p ∙ e ∙ sym q);
@@ -51,16 +51,16 @@ module _ (g : Table) where
       }
 
   pub tidy-documents : (d : Tree) → LetsIn (tidyTable g) d ↔ LetsIn g d
-  tidy-documents = same-documents same-rules
+  tidy-documents = same-documents tidy-same-rules
 
   pub tidy-local : Local g → Local (tidyTable g)
-  tidy-local = same-local same-rules
+  tidy-local = same-local tidy-same-rules
 
   pub tidy-single-type : SingleType g → SingleType (tidyTable g)
-  tidy-single-type = same-single-type same-rules
+  tidy-single-type = same-single-type tidy-same-rules
 
   pub tidy-one-rule : OneRuleEach g → OneRuleEach (tidyTable g)
-  tidy-one-rule = same-one-rule same-rules
+  tidy-one-rule = same-one-rule tidy-same-rules
 
   pub tidy-labelled : Labelled g → Labelled (tidyTable g)
-  tidy-labelled = same-labelled same-rules
+  tidy-labelled = same-labelled tidy-same-rules

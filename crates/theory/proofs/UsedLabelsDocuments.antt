@@ -64,16 +64,16 @@ module _ (g : Table) where
   nameOf : ℕ → Name
   nameOf l = getD (g .labels) l []
 
-  abbrev Stands : ℕ → ℕ → Type 0
+  abbrev pub Stands : ℕ → ℕ → Type 0
   Stands l i = getElem? (usedLabels g) i ≡ just l
 
   name-at : (l i : ℕ) → Stands l i → getElem? (g .labels) l ≡ just (nameOf l)
   unfolding nameOf
   name-at l i p = at-or-else (g .labels) l [] (used-below (at-mem (usedLabels g) i p))
 
-  same-rules : Labelled g → SameRules Stands g (withUsedLabels g)
+  pub used-labels-same-rules : Labelled g → SameRules Stands g (withUsedLabels g)
   unfolding nameOf withUsedLabels
-  same-rules labelled =
+  used-labels-same-rules labelled =
       record {
         names = λ l i p. name-at l i p ∙ sym (map-at nameOf (usedLabels g) i p);
         one-label =
@@ -94,19 +94,19 @@ module _ (g : Table) where
       }
 
   pub used-labels-documents : Labelled g → (d : Tree) → LetsIn (withUsedLabels g) d ↔ LetsIn g d
-  used-labels-documents labelled = same-documents (same-rules labelled)
+  used-labels-documents labelled = same-documents (used-labels-same-rules labelled)
 
   pub used-labels-local : Labelled g → Local g → Local (withUsedLabels g)
-  used-labels-local labelled = same-local (same-rules labelled)
+  used-labels-local labelled = same-local (used-labels-same-rules labelled)
 
   pub used-labels-single-type : Labelled g → SingleType g → SingleType (withUsedLabels g)
-  used-labels-single-type labelled = same-single-type (same-rules labelled)
+  used-labels-single-type labelled = same-single-type (used-labels-same-rules labelled)
 
   pub used-labels-one-rule : Labelled g → OneRuleEach g → OneRuleEach (withUsedLabels g)
-  used-labels-one-rule labelled = same-one-rule (same-rules labelled)
+  used-labels-one-rule labelled = same-one-rule (used-labels-same-rules labelled)
 
   pub used-labels-labelled : Labelled g → Labelled (withUsedLabels g)
-  used-labels-labelled labelled = same-labelled (same-rules labelled) labelled
+  used-labels-labelled labelled = same-labelled (used-labels-same-rules labelled) labelled
 
   pub used-labels-names : DistinctNames g → DistinctNames (withUsedLabels g)
   unfolding nameOf withUsedLabels
