@@ -49,12 +49,14 @@ use Rattle.theory.proofs.ListLaws.{
   joined-mem,
   place-same,
   same-place,
+  related-turn,
 }
 use Rattle.theory.proofs.WordLaws.{choice-words, Spells, spells-none, spells-next, replace-words}
 use Rattle.theory.proofs.TableConditions.{Labelled, HasRule, AllRuled, OneRuleEach}
 use Rattle.theory.proofs.NoTwo.{no-two-map, no-two-weaken, no-two-distinct}
 use Rattle.theory.proofs.Standing.{choice-type, replace-type}
 use Rattle.theory.proofs.KindTests.{same-pair as pair-decides, same-pair-sym as pair-sym}
+use Rattle.theory.proofs.Covering.{covered-derived, WordsCovered}
 
 -- Rules are of one pair when type and label are equal.
 pub pair-refl : (r : Rule) → samePair r r ≡ true
@@ -248,24 +250,27 @@ module _ (g : Table) where
           }
 
   -- a derivation of the normal form from a pair of a type is one of the table from the type
-  mutual
-    down : {p : ℕ} {t : Tree} → Derives (normalise g) p t → (k : ℕ) → List·Memᴰ p (pairsOf g k) → Derives g k t
-    down (derives {k = p} {n = n} {w = w} f ds) k m =
-        let a = pair-fits p n w .0 f in
-        let b = pairs-of k p .0 m in
-        derives
-        (record {
-          rule = a .rule;
-          of-table = a .of-pair .of-table;
-          of-type = pair-decides (a .rule) (b .rule) .0 (same-pair (a .rule) (b .rule) (a .of-pair) (b .of-pair)) .0 ∙ b .of-type;
-          of-name = a .of-name;
-          word = a .word .word;
-        })
-        (down-all ds (a .word .source) (a .word .paired))
-
-    down-all : {w : List ℕ} {ts : Forest} → DerivesAll (normalise g) w ts → (u : List ℕ) → InPairs u w → DerivesAll g u ts
-    down-all derives-none u Forall₂·nil = derives-none
-    down-all (derives-next d ds) u (Forall₂·cons {a = k} {l₁ = v} m a) = derives-next (down d k m) (down-all ds v a)
+  down : {p : ℕ} {t : Tree} → Derives (normalise g) p t → (k : ℕ) → List·Memᴰ p (pairsOf g k) → Derives g k t
+  down = covered-derived {Cover = λ p k. List·Memᴰ p (pairsOf g k)} words
+    where
+      words : WordsCovered (normalise g) g (λ p k. List·Memᴰ p (pairsOf g k))
+      words p k n w m f =
+          let a = pair-fits p n w .0 f in
+          let b = pairs-of k p .0 m in
+          record {
+            word = a .word .source;
+            fits =
+                record {
+                  rule = a .rule;
+                  of-table = a .of-pair .of-table;
+                  of-type =
+                      pair-decides (a .rule) (b .rule) .0 (same-pair (a .rule) (b .rule) (a .of-pair) (b .of-pair)) .0
+                      ∙ b .of-type;
+                  of-name = a .of-name;
+                  word = a .word .word;
+                };
+            covers = related-turn (λ k p m. m) (a .word .paired);
+          }
 
   -- and each derivation of the table is one of the normal form from some pair
   mutual
