@@ -52,7 +52,7 @@ use Rattle.theory.proofs.ListLaws.{
   related-turn,
 }
 use Rattle.theory.proofs.WordLaws.{choice-words, Spells, spells-none, spells-next, replace-words}
-use Rattle.theory.proofs.TableConditions.{Labelled, HasRule, AllRuled, OneRuleEach}
+use Rattle.theory.proofs.TableConditions.{Labelled, HasRule, AllRuled, OneRuleEach, same-labels-named}
 use Rattle.theory.proofs.NoTwo.{no-two-map, no-two-weaken, no-two-distinct}
 use Rattle.theory.proofs.Standing.{choice-type, replace-type}
 use Rattle.theory.proofs.KindTests.{same-pair as pair-decides, same-pair-sym as pair-sym}
@@ -200,12 +200,9 @@ module _ (g : Table) where
     pub of-name : Named g (rule .label) n
     pub word : PairWord (rule .content) w
 
-  same-named : (l : ℕ) (n : Name) → Named (normalise g) l n ↔ Named g l n
+  pub normalise-labels : normalise g .labels ≡ g .labels
   unfolding normalise
-  same-named l n = (
-    λ p. record { name = p .name; listed = p .listed; same = p .same },
-    λ p. record { name = p .name; listed = p .listed; same = p .same },
-  )
+  normalise-labels = refl
 
   pub pair-fits : (p : ℕ) (n : Name) (w : List ℕ) → Fits (normalise g) p n w ↔ PairFits p n w
   unfolding ruleOfPair
@@ -226,7 +223,7 @@ module _ (g : Table) where
                 };
             of-name =
                 subst (λ (l : ℕ). Named g l n) (pair-decides r s .0 q .1)
-                (same-named (r .label) n .0 (subst (λ (q : Rule). Named (normalise g) (q .label) n) (sym e) (f .of-name)));
+                (same-labels-named normalise-labels (subst (λ (q : Rule). Named (normalise g) (q .label) n) (sym e) (f .of-name)));
             word = pair-words (s .content) w .0 (subst (λ (c : Content). Word c w) (sym c) (o .2));
           }
 
@@ -238,7 +235,7 @@ module _ (g : Table) where
             rule = ruleOfPair g r;
             of-table = rule-normal m;
             of-type = pair-same r s e ∙ f .of-pair .numbered;
-            of-name = same-named (r .label) n .1 (subst (λ (l : ℕ). Named g l n) (sym (pair-decides r s .0 e .1)) (f .of-name));
+            of-name = same-labels-named (sym normalise-labels) (subst (λ (l : ℕ). Named g l n) (sym (pair-decides r s .0 e .1)) (f .of-name));
             word =
                 subst (λ (c : Content). Word c w) (sym (joined-content r))
                 (choice-words (contentsOf r) w .1
@@ -324,10 +321,6 @@ module _ (g : Table) where
       (λ r s m n e.
       same-pair r s (record { of-table = distinct-was samePair (g .rules) m; numbered = e })
       (record { of-table = distinct-was samePair (g .rules) n; numbered = refl })))
-
-  pub normalise-labels : normalise g .labels ≡ g .labels
-  unfolding normalise
-  normalise-labels = refl
 
   pub normalise-names : DistinctNames g → DistinctNames (normalise g)
   unfolding normalise

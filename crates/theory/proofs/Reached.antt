@@ -7,19 +7,18 @@ use Prim.Native.Nat.{ℕ}
 use native.Mathlib.Omega.{arith}
 use mathlib.Core.List.{List, [], map, List·Memᴰ, Memᴰ·cast, Memᴰ·map}
 use mathlib.Core.Logic.{_↔_}
-use mathlib.Core.Path.{_≡_, sym}
+use mathlib.Core.Path.{_≡_, sym, refl}
 use lib.ListN.{length, length-map}
 use Rattle.grammar.specs.Lists.{keep, isIn, joinedOf}
 use Rattle.grammar.specs.Content.{typesIn}
-use Rattle.grammar.specs.Names.{Name}
 use Rattle.grammar.specs.Tree.{Tree}
-use Rattle.grammar.specs.Table.{Rule, Table, Named}
+use Rattle.grammar.specs.Table.{Rule, Table}
 use Rattle.grammar.specs.Derivation.{Derives}
 use Rattle.grammar.specs.Reduce.{newlyReached, reached, withoutUnreached}
 use Rattle.theory.proofs.ListLaws.{kept, keep-mem, in-mem, mem-in, joined-from, joined-mem}
 use Rattle.theory.proofs.Rounds.{not-known, rounds-start, rounds-hold, rounds-closed, closed-has}
 use Rattle.theory.proofs.CarryDerivations.{carry-tree}
-use Rattle.theory.proofs.TableConditions.{Reaches, from-start, through, AllRuled}
+use Rattle.theory.proofs.TableConditions.{Reaches, from-start, through, AllRuled, same-labels-named}
 use Rattle.theory.proofs.Standing.{StandsIn, word-stands}
 
 module _ (g : Table) where
@@ -60,12 +59,9 @@ module _ (g : Table) where
       let p = kept (λ (s : Rule). isIn (s .type) (reached g)) (g .rules) m in
       (p .0, in-mem (r .type) (reached g) (p .1))
 
-  pub names-remain : (l : ℕ) (n : Name) → Named g l n ↔ Named (withoutUnreached g) l n
+  labels-remain : g .labels ≡ withoutUnreached g .labels
   unfolding withoutUnreached
-  names-remain l n = (
-    λ m. record { name = m .name; listed = m .listed; same = m .same },
-    λ m. record { name = m .name; listed = m .listed; same = m .same },
-  )
+  labels-remain = refl
 
   module _ (ruled : AllRuled g) where
     reached-closed : newlyReached g (reached g) ≡ []
@@ -123,7 +119,7 @@ module _ (g : Table) where
               rule = f .rule;
               of-table = rule-remains (f .rule) (f .of-table) m;
               of-type = f .of-type;
-              of-name = names-remain (f .rule .label) n .0 (f .of-name);
+              of-name = same-labels-named labels-remain (f .of-name);
               word = f .word;
             },
             λ x i. reached-on (f .rule) x (f .of-table) m (word-stands (f .rule .content) w (f .word) x i),
@@ -137,7 +133,7 @@ module _ (g : Table) where
               rule = f .rule;
               of-table = rule-was (f .rule) (f .of-table) .0;
               of-type = f .of-type;
-              of-name = names-remain (f .rule .label) n .1 (f .of-name);
+              of-name = same-labels-named (sym labels-remain) (f .of-name);
               word = f .word;
             },
             λ x i. tt,

@@ -20,7 +20,7 @@ use Rattle.grammar.specs.Lists.{keep, isIn}
 use Rattle.grammar.specs.Names.{Name}
 use Rattle.grammar.specs.Content.{Content, Word}
 use Rattle.grammar.specs.Tree.{Tree, Forest}
-use Rattle.grammar.specs.Table.{Rule, Table, Named}
+use Rattle.grammar.specs.Table.{Rule, Table}
 use Rattle.grammar.specs.Kinds.{NoTwoRules}
 use Rattle.grammar.specs.Derivation.{Fits, Derives, derives, DerivesAll, LetsIn}
 use Rattle.grammar.specs.Reduce.{prune, fruitful, withoutUnfruitful, reached, withoutUnreached, reduce}
@@ -30,7 +30,16 @@ use Rattle.theory.proofs.SimplifyWords.{prune-words, prune-standing}
 use Rattle.theory.proofs.Fruitful.{tree-fruitful, forest-fruitful, fruitful-is}
 use Rattle.theory.proofs.CarryDerivations.{carry-tree}
 use Rattle.theory.proofs.Reached.{reached-is, reached-on, rule-remains, rule-was, reached-remains, reached-trees}
-use Rattle.theory.proofs.TableConditions.{Labelled, HasRule, Reaches, from-start, SomeTree, AllRuled, OneRuleEach}
+use Rattle.theory.proofs.TableConditions.{
+  Labelled,
+  HasRule,
+  Reaches,
+  from-start,
+  SomeTree,
+  AllRuled,
+  OneRuleEach,
+  same-labels-named,
+}
 use Rattle.theory.proofs.Standing.{StandsIn, WordWith}
 
 pub reduce-labels : (g : Table) → reduce g .labels ≡ g .labels
@@ -61,12 +70,9 @@ module _ (g : Table) where
       let p = kept (λ (s : Rule). isIn (s .type) (fruitful g)) (g .rules) (o .1) in
       record { rule = o .0; of-table = p .0; of-fruitful = in-mem (o .0 .type) (fruitful g) (p .1); of-rule = o .2 }
 
-  fruitful-names : (l : ℕ) (n : Name) → Named g l n ↔ Named (withoutUnfruitful g) l n
+  fruitful-labels : g .labels ≡ withoutUnfruitful g .labels
   unfolding withoutUnfruitful
-  fruitful-names l n = (
-    λ m. record { name = m .name; listed = m .listed; same = m .same },
-    λ m. record { name = m .name; listed = m .listed; same = m .same },
-  )
+  fruitful-labels = refl
 
   fruitful-trees : (k : ℕ) (t : Tree) → Derives g k t ↔ Derives (withoutUnfruitful g) k t
   fruitful-trees k t = (
@@ -80,7 +86,7 @@ module _ (g : Table) where
             rule = pruned (f .rule);
             of-table = fruitful-rule (f .rule) (f .of-table) (Memᴰ·cast (f .of-type) (tree-fruitful g (derives f a)));
             of-type = f .of-type;
-            of-name = fruitful-names (f .rule .label) n .0 (f .of-name);
+            of-name = same-labels-named fruitful-labels (f .of-name);
             word = prune-words (fruitful g) (f .rule .content) w .1 (f .word, forest-fruitful g a);
           }
 
@@ -92,7 +98,7 @@ module _ (g : Table) where
             rule = o .rule;
             of-table = o .of-table;
             of-type = ap (λ (r : Rule). r .type) (o .of-rule) ∙ f .of-type;
-            of-name = fruitful-names (o .rule .label) n .1 (rw (ap (λ (r : Rule). r .label) (o .of-rule)) (f .of-name));
+            of-name = same-labels-named {g = withoutUnfruitful g} (sym fruitful-labels) (rw (ap (λ (r : Rule). r .label) (o .of-rule)) (f .of-name));
             word = prune-words (fruitful g) (o .rule .content) w .0 v .0;
           }
 

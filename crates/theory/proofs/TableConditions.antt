@@ -8,7 +8,7 @@ use mathlib.Core.Bool.{Bool, true, _&&_}
 use mathlib.Core.List.{List·Memᴰ, List·Memᴰ·append-cases, List·Memᴰ·eq-of-singleton, List}
 use mathlib.Core.Logic.{⊎-elim}
 use mathlib.Core.Path.{_≡_, subst, sym}
-use lib.ListN.{length}
+use lib.ListN.{length, getElem?}
 use lib.Dec.{leb}
 use borrow.Author.Tests.{ltb-true}
 use Rattle.grammar.specs.Limits.{Limits}
@@ -31,7 +31,7 @@ use Rattle.grammar.specs.Content.{
   count,
 }
 use Rattle.grammar.specs.ReadContent.{isProper, areProper}
-use Rattle.grammar.specs.Table.{Rule, Table, DistinctNames}
+use Rattle.grammar.specs.Table.{Rule, Table, DistinctNames, Named}
 use Rattle.grammar.specs.WithinLimits.{TableWithin}
 use Rattle.theory.proofs.BoolLaws.{and-left, and-right}
 use Rattle.theory.proofs.ListLaws.{differ-at}
@@ -39,6 +39,7 @@ use Rattle.theory.proofs.NameLaws.{name-sym}
 use Rattle.grammar.specs.Kinds.{NoTwoRules}
 use Rattle.grammar.specs.Tree.{Tree}
 use Rattle.grammar.specs.Derivation.{Fits, Derives, derives}
+use mathlib.Core.Option.{some}
 
 pub record TypesBelow (lim : Limits) (g : Table) : Type 0 where
   pub starts : (k : ℕ) → List·Memᴰ k (g .starts) → k < lim .types
@@ -77,6 +78,11 @@ SomeTree g k = (t : Tree) × Derives g k t
 pub data Reaches (g : Table) : ℕ → Type 0 where
   from-start : {k : ℕ} → List·Memᴰ k (g .starts) → Reaches g k
   through : {r : Rule} {k : ℕ} → List·Memᴰ r (g .rules) → Reaches g (r .type) → List·Memᴰ k (typesIn (r .content)) → Reaches g k
+
+-- tables of the same labels have the same names
+pub same-labels-named : {g h : Table} {l : ℕ} {n : Name} → g .labels ≡ h .labels → Named g l n → Named h l n
+same-labels-named {l = l} e p =
+    record { name = p .name; listed = subst (λ (ns : List Name). getElem? ns l ≡ some (p .name)) e (p .listed); same = p .same }
 
 -- the types of a proper content are below the limit
 abbrev counted : Limits → Contents → Bool
