@@ -44,9 +44,10 @@ use Rattle.theory.proofs.Alternatives.{
   hasLeft,
   not-not,
 }
-use Rattle.theory.proofs.ChoiceLaws.{notNone, is-none, replace-choice, simplify-choice, word-choice}
+use Rattle.theory.proofs.ChoiceLaws.{notNone, replace-choice, simplify-choice, word-choice}
 use Rattle.theory.proofs.EmittedContent.{unless, joined-twice, markPair, pairsMarked, some-none, pruned-marked}
 use Rattle.theory.proofs.Standing.{operands-types, choice-types}
+use Rattle.theory.proofs.SimplifyWords.{is-none}
 
 -- none has no types: to drop it, or to put another content without types in its place, changes nothing
 types-of-none : (c : Content) → isNone c ≡ true → typesIn c ≡ []

@@ -62,19 +62,19 @@ use Rattle.theory.proofs.WordLaws.{Spells, spells-none, spells-next, re
 use Rattle.theory.proofs.SameWords.{SameWords, same-trans, same-joined, same-repeated, same-either}
 use Rattle.theory.proofs.Standing.{StandsIn, WordWith}
 
-none-is : (c : Content) → isNone c ≡ true → c ≡ none
+pub is-none : (c : Content) → isNone c ≡ true → c ≡ none
 unfolding isNone
-none-is none e = refl
-none-is empty e = absurd (false≢true e)
-none-is (type k) e = absurd (false≢true e)
-none-is (sequence cs) e = absurd (false≢true e)
-none-is (choice cs) e = absurd (false≢true e)
-none-is (anyNumber c) e = absurd (false≢true e)
-none-is (oneOrMore c) e = absurd (false≢true e)
-none-is (optional c) e = absurd (false≢true e)
+is-none none e = refl
+is-none empty e = absurd (false≢true e)
+is-none (type k) e = absurd (false≢true e)
+is-none (sequence cs) e = absurd (false≢true e)
+is-none (choice cs) e = absurd (false≢true e)
+is-none (anyNumber c) e = absurd (false≢true e)
+is-none (oneOrMore c) e = absurd (false≢true e)
+is-none (optional c) e = absurd (false≢true e)
 
 no-word : (c : Content) (w : List ℕ) → isNone c ≡ true → Word c w → ⊥
-no-word c w e v = subst (λ (d : Content). Word d w) (none-is c e) v
+no-word c w e v = subst (λ (d : Content). Word d w) (is-none c e) v
 
 none-in-turn : (cs : List Content) (w : List ℕ) → any isNone cs ≡ true → InTurn (operands cs) w → ⊥
 unfolding any operands
