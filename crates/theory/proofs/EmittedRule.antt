@@ -13,7 +13,7 @@ use mathlib.Core.List.{List, map, map-map, List·Memᴰ, Memᴰ·map}
 use mathlib.Core.Path.{_≡_, refl, sym, _∙_, ap, fun-ext}
 use lib.Dec.{eqb}
 use Rattle.grammar.specs.Lists.{any, keep, distinct, place, joinedOf, isIn, sameNumbers}
-use Rattle.grammar.specs.Content.{Content, type, typesIn, choiceOf}
+use Rattle.grammar.specs.Content.{Content, typesIn, choiceOf}
 use Rattle.grammar.specs.Tree.{Tree}
 use Rattle.grammar.specs.Table.{Rule, Table}
 use Rattle.grammar.specs.Derivation.{Derives, derives}

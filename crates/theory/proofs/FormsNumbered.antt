@@ -11,7 +11,7 @@ use lib.Dec.{eqb}
 use Rattle.grammar.specs.Lists.{any, keep, allDistinct, numbersBelow}
 use Rattle.grammar.specs.Limits.{Limits}
 use Rattle.grammar.specs.Names.{Name, Classes}
-use Rattle.grammar.specs.Content.{type, typesIn}
+use Rattle.grammar.specs.Content.{typesIn}
 use Rattle.grammar.specs.Table.{Rule, Table}
 use Rattle.grammar.specs.WithinLimits.{NameWithin}
 use Rattle.grammar.specs.Kinds.{Kind, local, singleType}

@@ -2,9 +2,9 @@
 --     has-word       hasWord known c is true just where a word of c has only known types
 --     fruitful-is    a type is among `fruitful g` just where it derives some tree in g
 -- the latter where every rule's label is a label of the table (`labelled`).
-use Prim.Native.Nat.{ℕ, _<_}
+use Prim.Native.Nat.{ℕ}
 use native.Mathlib.Omega.{arith}
-use mathlib.Core.Bool.{true, not, false≢true}
+use mathlib.Core.Bool.{true, false≢true}
 use mathlib.Core.List.{
   List,
   [],

@@ -5,9 +5,8 @@
 use Prim.Native.Nat.{ℕ}
 use mathlib.Core.List.{List, List·Memᴰ}
 use mathlib.Core.Path.{refl, subst}
-use Rattle.grammar.specs.Names.{Name}
 use Rattle.grammar.specs.Table.{Table}
-use Rattle.grammar.specs.Derivation.{Fits, Derives}
+use Rattle.grammar.specs.Derivation.{Derives}
 use Rattle.theory.proofs.Standing.{word-stands}
 use Rattle.theory.proofs.Automaton.{Alive, AllAlive}
 use Rattle.theory.proofs.LeastLocal.{Reached, at-start, by-step}

@@ -1,12 +1,9 @@
 -- What reducing a normalised table leaves: each type has one rule, derives some document and is reached from a start, and every type
 -- that stands in a content stands in some word of it.
 use Prim.Native.Nat.{ℕ}
-use mathlib.Core.List.{List, List·Memᴰ}
-use mathlib.Core.Path.{_≡_}
+use mathlib.Core.List.{List·Memᴰ}
 use Rattle.grammar.specs.Content.{typesIn, Word}
-use Rattle.grammar.specs.Tree.{Tree}
 use Rattle.grammar.specs.Table.{Rule, Table, DistinctNames}
-use Rattle.grammar.specs.Derivation.{Derives}
 use Rattle.theory.proofs.TableConditions.{Labelled, OneRuleEach, HasRule, Reaches, SomeTree, AllRuled}
 use Rattle.theory.proofs.Standing.{WordWith}
 

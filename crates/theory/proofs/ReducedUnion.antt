@@ -2,32 +2,19 @@
 --     reduced-union       ReducedTable (reducedUnion lim old addition)
 --     union-documents     LetsIn (reducedUnion lim old addition) d ↔ (LetsIn old d ⊎ LetsIn addition d)
 --     union-nothing       it has no start just where neither lets in a document
-use Prim.Native.Nat.{ℕ}
-use mathlib.Core.List.{List, [], List·Memᴰ}
+use mathlib.Core.List.{[]}
 use mathlib.Core.Logic.{_↔_, _⊎_, Iff·trans}
 use mathlib.Core.Path.{_≡_}
 use Rattle.grammar.specs.Limits.{Limits}
 use Rattle.grammar.specs.Names.{Classes}
 use Rattle.grammar.specs.Tree.{Tree}
-use Rattle.grammar.specs.Table.{Rule, Table, DistinctNames}
-use Rattle.grammar.specs.Derivation.{Derives, derives, LetsIn}
+use Rattle.grammar.specs.Table.{Table, DistinctNames}
+use Rattle.grammar.specs.Derivation.{LetsIn}
 use Rattle.grammar.specs.WithinLimits.{TableWithin}
 use Rattle.grammar.specs.Unite.{unite}
 use Rattle.grammar.specs.Normalise.{normalise}
-use Rattle.grammar.specs.Reduce.{reduce}
 use Rattle.grammar.specs.Widen.{reducedUnion}
-use Rattle.theory.proofs.TableConditions.{
-  Labelled,
-  within-below,
-  within-labelled,
-  within-names,
-  HasRule,
-  Reaches,
-  from-start,
-  through,
-  from-start as first,
-  derived-rule,
-}
+use Rattle.theory.proofs.TableConditions.{Labelled, within-below, within-labelled, within-names, derived-rule}
 use Rattle.theory.proofs.UniteDocuments.{unite-documents, unite-labelled, unite-names}
 use Rattle.theory.proofs.NormaliseDocuments.{normalise-documents, normalise-types, normalise-names, normalise-labelled}
 use Rattle.theory.proofs.ReduceDocuments.{

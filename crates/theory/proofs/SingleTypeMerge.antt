@@ -16,7 +16,7 @@ use lib.ListN.{length, length-map, getElem?, getD}
 use Rattle.grammar.specs.Lists.{place, sameNumbers}
 use Rattle.grammar.specs.Limits.{Limits}
 use Rattle.grammar.specs.Names.{Name, SameName}
-use Rattle.grammar.specs.Content.{type, Word, typesIn}
+use Rattle.grammar.specs.Content.{Word, typesIn}
 use Rattle.grammar.specs.Table.{Rule, Table, Named, DistinctNames}
 use Rattle.grammar.specs.Derivation.{Fits, LetsIn}
 use Rattle.grammar.specs.Kinds.{Competing, SingleType}

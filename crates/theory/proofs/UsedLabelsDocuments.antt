@@ -15,7 +15,7 @@ use mathlib.Core.Path.{_≡_, refl, sym, _∙_, ap, subst}
 use lib.Dec.{eqb}
 use lib.ListN.{length, getElem?, getD, length-map}
 use borrow.Author.Tests.{eqb-true, eq-eqb}
-use Rattle.grammar.specs.Lists.{any, keep, place, allDistinct, numbersBelow}
+use Rattle.grammar.specs.Lists.{any, keep, allDistinct, numbersBelow}
 use Rattle.grammar.specs.Names.{Name}
 use Rattle.grammar.specs.Tree.{Tree}
 use Rattle.grammar.specs.Table.{Rule, Table, DistinctNames}
