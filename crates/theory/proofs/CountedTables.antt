@@ -1,5 +1,6 @@
 -- Tables of counted contents: the steps of widening keep the contents counted, and the names among those of the two tables.
 --     union-counted    the contents of the reduced union, if those of both tables are counted
+--     map-counted      the contents of rules made of rules
 --     local-counted, single-type-counted    the contents of the forms of a table whose contents are
 --     union-name       a name of the reduced union is a name of one of the two tables
 use Prim.Native.Nat.{ℕ}

@@ -1,5 +1,5 @@
 -- A form of a table that is least of its kind stays so when only its used labels are kept and its contents are tidied.
---     finished-least : LeastForm kind g form → LeastForm kind g (tidyTable (withUsedLabels form))
+--     finished-least : LeastForm kind g form → LeastForm kind g (finished form)
 use mathlib.Core.Logic.{_↔_, Iff·trans}
 use Rattle.grammar.specs.Tree.{Tree}
 use Rattle.grammar.specs.Table.{Table, DistinctNames}

@@ -1,5 +1,7 @@
 -- What the kinds of tables say of rules and types, without positions.
 --     one-rule             where no two rules are alike, rules that are alike are equal
+--     one-name             names of one label are equal
+--     one-label            labels with equal names are equal, where no two labels have equal names
 --     one-fitting          in a single-type table, a type has one rule of a name
 --     local-compete        in a local table, types that have rules with one label are equal
 --     local-single-type    a local table is single-type

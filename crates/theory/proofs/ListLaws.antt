@@ -1,4 +1,12 @@
--- What the words of grammar's Lists mean, in terms of membership and positions.
+-- What the words of grammar's Lists mean, in terms of membership and positions. Of any lists:
+--     any-found, any-of, all-at, all-of, kept, keep-mem       tests of elements, and what is kept
+--     distinct-was, distinct-has, distinct-mem                the distinct elements
+--     at-mem, mem-at, at-below, below-at, at-joined, at-else  what stands at a place
+--     place-found, place-same, same-place                     the place of an element
+--     differ-at, all-differ, distinct-new, distinct-end       lists of which all elements are distinct
+--     joined-from, joined-mem, joined-append                  lists of lists, joined
+--     map-at, at-map, related-map, related-at, related-mem    images, and lists related element by element
+-- Of numbers: in-mem, mem-in, same-numbers, numbers-below, place-at, one-place, and AllIn (all of one list are in another).
 use Prim.Native.Nat.{ℕ, zero, suc, _+_, _≤_, _<_}
 use native.Mathlib.Omega.{arith}
 use mathlib.Core.Bool.{Bool, true, false, not, _||_, false≢true}

@@ -5,7 +5,7 @@
 --     pair-derives           a type derives a node iff one of its pairs does in the normal form
 --     normalise-types        no two rules of the normal form have one type
 --     normalise-labels       the labels are g's, so (normalise-names) no two have equal names if no two of g's do
---     normalise-labelled       each rule's label stays among the labels
+--     normalise-labelled     each rule's label stays among the labels
 --     normalise-contents     each type that stands in a content of the normal form has a rule there
 --     normalise-starts       and so has each start
 use Prim.Native.Nat.{ℕ, _<_}
@@ -238,8 +238,7 @@ module _ (g : Table) where
             of-name = same-labels-named (sym normalise-labels) (subst (λ (l : ℕ). Named g l n) (sym (pair-decides r s .0 e .1)) (f .of-name));
             word =
                 subst (λ (c : Content). Word c w) (sym (joined-content r))
-                (choice-words (contentsOf r) w .1
-                (
+                (choice-words (contentsOf r) w .1 (
                   inPairs g (s .content),
                   content-listed r s (f .of-pair .of-table) e,
                   pair-words (s .content) w .1 (f .word),

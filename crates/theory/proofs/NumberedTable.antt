@@ -1,7 +1,8 @@
 -- Tables as the forms and the sample give them: the types are numbers below the number of rules, and contents are counted.
 --     numbered-within      such a table, of no more labels than rules and not too large, is one that a file can hold
 --     finished-numbered    it stays such when only its used labels are kept and its contents are tidied
--- where a file may have as many labels, starts and rules as types (`LimitsAgree`).
+--     table-small          what not being too large says
+-- where the limits agree, as those of the paper do (`standard-agree`).
 use Prim.Native.Nat.{ℕ, _≤_, _<_}
 use native.Mathlib.Omega.{arith}
 use mathlib.Core.Bool.{Bool, true, false}

@@ -1,4 +1,4 @@
--- Languages of the same words, joined, repeated, and taken together: same-joined, same-repeated, same-either.
+-- Languages of the same words, joined, repeated, and taken together, have the same words: same-joined, same-repeated, same-either.
 use Prim.Native.Nat.{ℕ}
 use mathlib.Core.List.{List}
 use mathlib.Core.Logic.{_↔_, Iff·trans, _⊎_, inl, inr, ⊎-elim}

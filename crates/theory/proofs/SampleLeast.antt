@@ -1,7 +1,7 @@
 -- The sample of a document is the least table that lets it in, among single-type and among local tables:
---     sample-lets-in       (SampleMembers) the sample lets in the document
---     sample-single-type   it is single-type
---     sample-least         every rival of either kind that lets in the document lets in all of the sample
+--     sample-lets-in        (SampleMembers) the sample lets in the document
+--     sample-single-type    it is single-type
+--     sample-least          every rival of either kind that lets in the document lets in all of the sample
 use Prim.Native.Nat.{ℕ, zero}
 use mathlib.Core.List.{List, List·Memᴰ, List·Memᴰ·head, List·Memᴰ·eq-of-singleton, Forall₂, [], _∷_, _++_}
 use mathlib.Core.Path.{_≡_, refl, sym, subst, _∙_, ap}

@@ -1,12 +1,13 @@
 -- What the rules of a document's sample say, in terms of the document's visits:
 --     sample-fits        a type fits a node's name and children's types iff some visit at a path of that type has an equal name and
 --                        those children's types
+--     content-type       a type that stands in the content at a path is that of a child of a visit there
 --     path-types         visited paths have one type iff they are equal
 --     child-visited      each child's path is visited
 --     sample-root        the root's path has type 0, the only start
 --     sample-names       no two labels of the sample have equal names
 --     sample-types       no two rules of the sample have one type
---     sample-labelled      each rule's label is among the labels
+--     sample-labelled    each rule's label is among the labels
 use Prim.Native.Nat.{ℕ, zero, _<_}
 use mathlib.Core.Bool.{Bool, true}
 use mathlib.Core.List.{List, [], _∷_, _++_, map, List·Memᴰ, Memᴰ·map, Memᴰ·of-map, Memᴰ·cast}

@@ -1,4 +1,5 @@
 -- Simplifying keeps the words of a content, and leaves none nowhere inside it:
+--     is-none           what isNone tells
 --     simplify-words    Word (simplify c) w ↔ Word c w
 --     prune-words       Word (prune known c) w ↔ Word c w, and every type of w is known
 --     simplify-clean    simplify c is none, or it is clean

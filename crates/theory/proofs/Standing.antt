@@ -1,7 +1,8 @@
 -- The types that stand in contents:
 --     word-stands                      each type of a word of a content stands in the content
---     choice-types, operands-types     in the choice of some contents stand those of each, joined (choice-type, operands-type: of one)
+--     choice-types, operands-types     in the choice of some contents stand those of each, joined
 --     replace-types                    in a content whose types are replaced, those of what replaces each, joined
+--     choice-type, operands-type, replace-type    so one type stands in one of them
 --     merge-type                       in the choice of some rules' contents with types replaced by types, those of one, renamed
 use Prim.Native.Nat.{ℕ}
 use mathlib.Core.List.{

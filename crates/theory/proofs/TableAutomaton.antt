@@ -1,5 +1,6 @@
 -- The automaton of a table in which each type has at most one rule, with a label among the labels: its states are the types, and a
 -- type steps to the words of its rule's content.
+--     label-rule       the label of a type is that of its rule
 --     type-accepts     a type accepts just what it derives
 --     table-accepts    the automaton accepts just what the table lets in
 --     table-kept       so a table that lets in all that this one lets in lets in all that the automaton accepts

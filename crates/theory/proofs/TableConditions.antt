@@ -2,7 +2,8 @@
 --     TypesBelow       within-below       every type is below the limit
 --     Labelled         within-labelled    each rule's label is among the labels
 --     DistinctNames    within-names       no two labels have equal names
--- A table in normal form meets OneRuleEach: no type has two rules. And of a type in a table: HasRule, SomeTree, Reaches.
+-- A table in normal form meets these: OneRuleEach, no type has two rules; AllRuled, each type that stands in a content has a rule.
+-- Of one type of a table: HasRule, it has a rule; SomeTree, it derives some tree; Reaches, it is reached from a start.
 use Prim.Native.Nat.{ℕ, _<_}
 use mathlib.Core.Bool.{Bool, true, _&&_}
 use mathlib.Core.List.{List·Memᴰ, List·Memᴰ·append-cases, List·Memᴰ·eq-of-singleton, List}

@@ -1,4 +1,5 @@
 -- Tidying the contents of a table:
+--     tidy-same-rules     its rules are those of the table, up to equal words and types (SameRules), and so:
 --     tidy-documents      the tidied table lets in what the table lets in
 --     tidy-local          it is local, tidy-single-type single-type, if the table is
 --     tidy-one-rule       each type has at most one rule if it has so in the table

@@ -1,7 +1,7 @@
 -- Unite keeps the documents:
 --     unite-documents    where old's types are below the limit and rules' labels are among the labels, the united table lets in a
 --                        document iff the old table or the addition does
---     unite-labelled       each rule's label is among the united labels
+--     unite-labelled     each rule's label is among the united labels
 --     unite-names        no two of the united labels have equal names, if no two of old's do and no two of the addition's
 --     unite-apart        a rule of old and a rule of the addition never have one type in the united table
 use Prim.Native.Nat.{ℕ, _+_, _<_}

@@ -1,4 +1,5 @@
 -- Keeping only the used labels, of a table whose rules' labels are among its labels:
+--     used-labels-same-rules     its rules are those of the table, up to the numbers of labels (SameRules), and so:
 --     used-labels-documents      it lets in what the table lets in
 --     used-labels-local          it is local, used-labels-single-type single-type, if the table is
 --     used-labels-one-rule       each type has at most one rule if it has so in the table
