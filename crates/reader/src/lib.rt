@@ -1,2 +1,3 @@
 // File readers. Every byte string has the one answer that the written meaning gives it.
+pub mod names;
 pub mod numbers;
