@@ -1,2 +1,3 @@
 pub mod ClassTable
 pub mod NameReading
+pub mod FieldReading

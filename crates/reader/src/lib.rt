@@ -1,3 +1,4 @@
 // File readers. Every byte string has the one answer that the written meaning gives it.
+pub mod fields;
 pub mod names;
 pub mod numbers;
