@@ -4,5 +4,6 @@ pub mod PaperCases
 pub mod ListerExample
 pub mod Edges
 pub mod RefusalOrder
+pub mod Mistakes
 pub mod SampleExamples
 pub mod Numbers

@@ -52,6 +52,10 @@ pub p3 : readTable standard asciiClasses [] ≡ refused FieldPastEnd
 unfolding readTable standard
 p3 = refl
 
+pub p3-document : readDocument standard asciiClasses [] ≡ refused FieldPastEnd
+unfolding readDocument standard
+p3-document = refl
+
 pub e-reads : readTable standard asciiClasses eBytes ≡ given emptyTable
 unfolding readTable standard eBytes
 e-reads = refl

@@ -60,3 +60,6 @@ pub unless-decides : (a b : Bool) {A B : Type 0} → (a ≡ true) ↔ A → (b �
 unless-decides true b p q = (λ e y. p .0 refl, λ h. refl)
 unless-decides false b p q =
     (λ e y. absurd (not-both e (ap not (q .1 y))), λ h. ap not (false-of b (λ t. false≢true (p .1 (h (q .0 t))))))
+
+pub or-none : (a b : Bool) → a ≡ false → b ≡ false → (a || b) ≡ false
+or-none a b p q = rw (p, q)

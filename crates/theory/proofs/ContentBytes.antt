@@ -1,15 +1,18 @@
 -- Reading the bytes of a content gives the content back, and what is read was written so:
 --   expression-of : expressionOf (contentBytes c ++ rest) ≡ just (c, rest)
 --   expression-was : expressionOf bytes ≡ just (c, rest) → bytes ≡ contentBytes c ++ rest
--- So no content's bytes begin another's (`prefix-free`), and byte-equal contents are equal (`same-content`).
--- `expression-step` and the equations after it say what `expressionOf` is, operator by operator, with no bound on the walk.
+-- So no content's bytes begin another's, and byte-equal contents are equal:
+--   prefix-free : contentBytes c ++ r ≡ contentBytes d ++ s → (c ≡ d) × (r ≡ s)
+--   same-content : (sameContent c d ≡ true) ↔ (c ≡ d)
+-- `expression-step`, `operands-next` and the equations beside them say what `expressionOf` and `operandsOf` are, operator by operator,
+-- with no bound on the walk.
 use Prim.Native.Nat.{ℕ, zero, suc, _+_, _≤_, _<_}
 use native.Mathlib.Omega.{arith}
-use mathlib.Core.Bool.{Bool, true, false}
-use mathlib.Core.List.{List, [], _∷_, _++_, append-assoc, append-nil}
+use mathlib.Core.Bool.{true}
+use mathlib.Core.List.{List, [], _∷_, _++_, append-assoc}
 use mathlib.Core.Logic.{_↔_}
 use mathlib.Core.Option.{Option, none as nothing, some as just}
-use mathlib.Core.Path.{_≡_, refl, sym, _∙_, ap, ap₂, subst}
+use mathlib.Core.Path.{_≡_, refl, sym, _∙_, ap, ap₂}
 use lib.ListN.{length, length-append, getElem?}
 use Rattle.grammar.specs.Content.{
   Content,
@@ -116,7 +119,7 @@ found-from f (just p) b rest e =
     let q = same-found e in
     (p .0, rw (← (q .1)), q .0)
 
--- How a reader of one expression, and one of so many, must read.
+-- a reader of one expression, and one of so many, that finds only what was written
 abbrev ReadsOne : (List ℕ → Parsed Content) → Type 0
 ReadsOne one = (s : List ℕ) (c : Content) (rest : List ℕ) → one s ≡ just (c, rest) → s ≡ contentBytes c ++ rest
 
@@ -124,38 +127,41 @@ abbrev ReadsMany : (ℕ → List ℕ → Parsed Contents) → Type 0
 ReadsMany many =
     (k : ℕ) (s : List ℕ) (cs : Contents) (rest : List ℕ) → many k s ≡ just (cs, rest) → (k ≡ count cs) × (s ≡ operandBytes cs ++ rest)
 
-after-operator : (one : List ℕ → Parsed Content) (many : ℕ → List ℕ → Parsed Contents) → ReadsOne one → ReadsMany many
-    → (b : ℕ) (o : Option Operator) → getElem? operators b ≡ o
-    → (rest : List ℕ) (c : Content) (left : List ℕ) → afterOperator one many o rest ≡ just (c, left) → b ∷ rest ≡ contentBytes c ++ left
-after-operator one many h hs b nothing e rest c left q = let z : _≡_ {A = ℕ} 0 1 = cc in absurd (omega arith)
-after-operator one many h hs b (just (alone d)) e rest c left q =
-    let r = same-found q in
-    rw (← (r .0), operator-writes b (alone d) e, r .1)
-after-operator one many h hs b (just (numbered f)) e [] c left q = let z : _≡_ {A = ℕ} 0 1 = cc in absurd (omega arith)
-after-operator one many h hs b (just (numbered f)) e (k ∷ after) c left q =
-    let r = same-found q in
-    rw (← (r .0), operator-writes b (numbered f) e k, r .1)
-after-operator one many h hs b (just (counted f)) e [] c left q = let z : _≡_ {A = ℕ} 0 1 = cc in absurd (omega arith)
-after-operator one many h hs b (just (counted f)) e (k ∷ after) c left q =
-    let r = found-from f (many k after) c left q in
-    let w = operator-writes b (counted f) e (r .0) in
-    let v = hs k after (r .0) left (r .1) in
-    rw (← (r .2), w) (ap₂ (λ (m : ℕ) (l : List ℕ). b ∷ m ∷ l) (v .0) (v .1))
-after-operator one many h hs b (just (single f)) e rest c left q =
-    let r = found-from f (one rest) c left q in
-    let w = operator-writes b (single f) e (r .0) in
-    let v = h rest (r .0) left (r .1) in
-    rw (← (r .2), w) (ap (λ (l : List ℕ). b ∷ l) v)
+-- what such readers find after an operator, and after a first expression, was written so too
+module _ (one : List ℕ → Parsed Content) (many : ℕ → List ℕ → Parsed Contents) (h : ReadsOne one) (hs : ReadsMany many) where
+  after-operator : (b : ℕ) (o : Option Operator) → getElem? operators b ≡ o
+      → (rest : List ℕ) (c : Content) (left : List ℕ) → afterOperator one many o rest ≡ just (c, left)
+      → b ∷ rest ≡ contentBytes c ++ left
+  after-operator b nothing e rest c left q = let z : _≡_ {A = ℕ} 0 1 = cc in absurd (omega arith)
+  after-operator b (just (alone d)) e rest c left q =
+      let r = same-found q in
+      rw (← (r .0), operator-writes b (alone d) e, r .1)
+  after-operator b (just (numbered f)) e [] c left q = let z : _≡_ {A = ℕ} 0 1 = cc in absurd (omega arith)
+  after-operator b (just (numbered f)) e (k ∷ after) c left q =
+      let r = same-found q in
+      rw (← (r .0), operator-writes b (numbered f) e k, r .1)
+  after-operator b (just (counted f)) e [] c left q = let z : _≡_ {A = ℕ} 0 1 = cc in absurd (omega arith)
+  after-operator b (just (counted f)) e (k ∷ after) c left q =
+      let r = found-from f (many k after) c left q in
+      let w = operator-writes b (counted f) e (r .0) in
+      let v = hs k after (r .0) left (r .1) in
+      rw (← (r .2), w) (ap₂ (λ (m : ℕ) (l : List ℕ). b ∷ m ∷ l) (v .0) (v .1))
+  after-operator b (just (single f)) e rest c left q =
+      let r = found-from f (one rest) c left q in
+      let w = operator-writes b (single f) e (r .0) in
+      let v = h rest (r .0) left (r .1) in
+      rw (← (r .2), w) (ap (λ (l : List ℕ). b ∷ l) v)
 
-after-first : (one : List ℕ → Parsed Content) (many : ℕ → List ℕ → Parsed Contents) → ReadsOne one → ReadsMany many
-    → (k : ℕ) (s : List ℕ) (p : Parsed Content) → one s ≡ p
-    → (cs : Contents) (rest : List ℕ) → afterFirst many k p ≡ just (cs, rest) → (suc k ≡ count cs) × (s ≡ operandBytes cs ++ rest)
-unfolding contentBytes
-after-first one many h hs k s nothing e cs rest q = let z : _≡_ {A = ℕ} 0 1 = cc in absurd (omega arith)
-after-first one many h hs k s (just p) e cs rest q =
-    let r = found-from (λ ds. p .0 ∷ᶜ ds) (many k (p .1)) cs rest q in
-    let v = hs k (p .1) (r .0) rest (r .1) in
-    rw (← (r .2)) (ap suc (v .0), h s (p .0) (p .1) e ∙ ap (λ (l : List ℕ). contentBytes (p .0) ++ l) (v .1) ∙ sym (append-assoc (contentBytes (p .0)) (operandBytes (r .0)) rest))
+  after-first : (k : ℕ) (s : List ℕ) (p : Parsed Content) → one s ≡ p
+      → (cs : Contents) (rest : List ℕ) → afterFirst many k p ≡ just (cs, rest) → (suc k ≡ count cs) × (s ≡ operandBytes cs ++ rest)
+  unfolding contentBytes
+  after-first k s nothing e cs rest q = let z : _≡_ {A = ℕ} 0 1 = cc in absurd (omega arith)
+  after-first k s (just p) e cs rest q =
+      let r = found-from (λ ds. p .0 ∷ᶜ ds) (many k (p .1)) cs rest q in
+      let v = hs k (p .1) (r .0) rest (r .1) in
+      let after = ap (λ (l : List ℕ). contentBytes (p .0) ++ l) (v .1) in
+      let whole = h s (p .0) (p .1) e ∙ after ∙ sym (append-assoc (contentBytes (p .0)) (operandBytes (r .0)) rest) in
+      rw (← (r .2)) (ap suc (v .0), whole)
 
 mutual
   unfolding expressionWithin contentBytes
@@ -164,7 +170,20 @@ mutual
   within-was zero s c rest e = let z : _≡_ {A = ℕ} 0 1 = cc in absurd (omega arith)
   within-was (suc n) [] c rest e = let z : _≡_ {A = ℕ} 0 1 = cc in absurd (omega arith)
   within-was (suc n) (b ∷ s) c rest e =
-      after-operator (expressionWithin n) (operandsWithin n) (λ s′ c′ r q. within-was n s′ c′ r q) (λ k s′ cs r q. within-were n k s′ cs r q) b (getElem? operators b) refl s c rest (sym (within-step n b s) ∙ e)
+      let one : ReadsOne (expressionWithin n) = λ s′ c′ r q. within-was n s′ c′ r q in
+      let many : ReadsMany (operandsWithin n) = λ k′ s′ cs′ r q. within-were n k′ s′ cs′ r q in
+      after-operator
+      (expressionWithin n)
+      (operandsWithin n)
+      one
+      many
+      b
+      (getElem? operators b)
+      refl
+      s
+      c
+      rest
+      (sym (within-step n b s) ∙ e)
 
   pub within-were : (n : ℕ) → ReadsMany (operandsWithin n)
   within-were zero k s cs rest e = let z : _≡_ {A = ℕ} 0 1 = cc in absurd (omega arith)
@@ -172,7 +191,20 @@ mutual
       let q = same-found e in
       rw (← (q .0)) (refl, q .1)
   within-were (suc n) (suc k) s cs rest e =
-      after-first (expressionWithin n) (operandsWithin n) (λ s′ c′ r q. within-was n s′ c′ r q) (λ k s′ cs r q. within-were n k s′ cs r q) k s (expressionWithin n s) refl cs rest (sym (within-next n k s) ∙ e)
+      let one : ReadsOne (expressionWithin n) = λ s′ c′ r q. within-was n s′ c′ r q in
+      let many : ReadsMany (operandsWithin n) = λ k′ s′ cs′ r q. within-were n k′ s′ cs′ r q in
+      after-first
+      (expressionWithin n)
+      (operandsWithin n)
+      one
+      many
+      k
+      s
+      (expressionWithin n s)
+      refl
+      cs
+      rest
+      (sym (within-next n k s) ∙ e)
 
 -- a content has at least one byte
 pub content-has-bytes : (c : Content) → 1 ≤ length (contentBytes c)
@@ -194,16 +226,17 @@ shorter n s c rest e =
     omega arith
 
 -- readers that read alike what is shorter read alike after an operator, and after a first expression
-same-after : (one one′ : List ℕ → Parsed Content) (many many′ : ℕ → List ℕ → Parsed Contents) (o : Option Operator) (rest : List ℕ)
-    → one rest ≡ one′ rest → ((k : ℕ) (after : List ℕ) → length after < length rest → many k after ≡ many′ k after)
-    → afterOperator one many o rest ≡ afterOperator one′ many′ o rest
-same-after one one′ many many′ nothing rest h hs = refl
-same-after one one′ many many′ (just (alone c)) rest h hs = refl
-same-after one one′ many many′ (just (numbered f)) [] h hs = refl
-same-after one one′ many many′ (just (numbered f)) (k ∷ after) h hs = refl
-same-after one one′ many many′ (just (counted f)) [] h hs = refl
-same-after one one′ many many′ (just (counted f)) (k ∷ after) h hs = ap (found f) (hs k after (omega arith))
-same-after one one′ many many′ (just (single f)) rest h hs = ap (found f) h
+module _ (one one′ : List ℕ → Parsed Content) (many many′ : ℕ → List ℕ → Parsed Contents) where
+  same-after : (o : Option Operator) (rest : List ℕ) → one rest ≡ one′ rest
+      → ((k : ℕ) (after : List ℕ) → length after < length rest → many k after ≡ many′ k after)
+      → afterOperator one many o rest ≡ afterOperator one′ many′ o rest
+  same-after nothing rest h hs = refl
+  same-after (just (alone c)) rest h hs = refl
+  same-after (just (numbered f)) [] h hs = refl
+  same-after (just (numbered f)) (k ∷ after) h hs = refl
+  same-after (just (counted f)) [] h hs = refl
+  same-after (just (counted f)) (k ∷ after) h hs = ap (found f) (hs k after (omega arith))
+  same-after (just (single f)) rest h hs = ap (found f) h
 
 same-rest : (many many′ : ℕ → List ℕ → Parsed Contents) (k n : ℕ) (s : List ℕ) (p : Parsed Content) → expressionWithin n s ≡ p
     → ((rest : List ℕ) → length rest < length s → many k rest ≡ many′ k rest) → afterFirst many k p ≡ afterFirst many′ k p
@@ -241,7 +274,15 @@ mutual
   enough-many (suc n) (suc m) (suc k) s p q =
       within-next n k s
       ∙ ap (afterFirst (operandsWithin n) k) (enough n m s (omega arith) (omega arith))
-      ∙ same-rest (operandsWithin n) (operandsWithin m) k m s (expressionWithin m s) refl (λ rest h. enough-many n m k rest (omega arith) (omega arith))
+      ∙ same-rest
+      (operandsWithin n)
+      (operandsWithin m)
+      k
+      m
+      s
+      (expressionWithin m s)
+      refl
+      (λ rest h. enough-many n m k rest (omega arith) (omega arith))
       ∙ sym (within-next m k s)
 
 -- So the bound goes, here and in all that stands on this file.
@@ -262,7 +303,8 @@ pub expression-empty : expressionOf [] ≡ nothing
 unfolding expressionOf
 expression-empty = refl
 
-pub expression-step : (b : ℕ) (rest : List ℕ) → expressionOf (b ∷ rest) ≡ afterOperator expressionOf operandsOf (getElem? operators b) rest
+pub expression-step : (b : ℕ) (rest : List ℕ)
+    → expressionOf (b ∷ rest) ≡ afterOperator expressionOf operandsOf (getElem? operators b) rest
 expression-step b rest =
     sym (expression-within (suc (length rest)) (b ∷ rest) (omega arith))
     ∙ within-step (length rest) b rest
@@ -275,6 +317,19 @@ expression-step b rest =
     rest
     (expression-within (length rest) rest (omega arith))
     (λ k after h. operands-within (length rest) k after h)
+
+-- there are eight operators
+pub unknown-operator : (b : ℕ) → 8 ≤ b → getElem? operators b ≡ nothing
+unfolding operators
+unknown-operator zero h = absurd (omega arith)
+unknown-operator (suc zero) h = absurd (omega arith)
+unknown-operator (suc (suc zero)) h = absurd (omega arith)
+unknown-operator (suc (suc (suc zero))) h = absurd (omega arith)
+unknown-operator (suc (suc (suc (suc zero)))) h = absurd (omega arith)
+unknown-operator (suc (suc (suc (suc (suc zero))))) h = absurd (omega arith)
+unknown-operator (suc (suc (suc (suc (suc (suc zero)))))) h = absurd (omega arith)
+unknown-operator (suc (suc (suc (suc (suc (suc (suc zero))))))) h = absurd (omega arith)
+unknown-operator (suc (suc (suc (suc (suc (suc (suc (suc b)))))))) h = refl
 
 -- operator by operator
 module _ (b : ℕ) (rest : List ℕ) where
@@ -323,7 +378,8 @@ operands-next k bytes =
     ∙ ap (afterFirst operandsOf k) (expression-within (length bytes) bytes (omega arith))
 
 -- what is read was written so
-pub expression-was : (bytes : List ℕ) (c : Content) (rest : List ℕ) → expressionOf bytes ≡ just (c, rest) → bytes ≡ contentBytes c ++ rest
+pub expression-was : (bytes : List ℕ) (c : Content) (rest : List ℕ) → expressionOf bytes ≡ just (c, rest)
+    → bytes ≡ contentBytes c ++ rest
 unfolding expressionOf
 expression-was bytes c rest e = within-was (length bytes) bytes c rest e
 

@@ -1,7 +1,7 @@
 -- The fields of an input, with no bound on their number. A field that was written is read back:
 --   fields-of : fieldsOf (fieldBytes tag value ++ rest) ≡ (record { tag = tag; value = value } then fieldsOf rest)
 -- (The two length bytes of `fieldBytes` are numbers: they are bytes where the value has fewer than 65536, `length-bytes`.)
--- And what is read was written so, if the bytes are below 256: `fields-were`.
+-- And what is read was written so, if the bytes are below 256, and is as long in any case: `fields-were`.
 use Prim.Native.Nat.{ℕ, zero, suc, _+_, _*_, _/_, _%_, _≤_, _<_}
 use native.Mathlib.Omega.{arith}
 use mathlib.Core.Bool.{Bool, true, false}
@@ -104,39 +104,52 @@ fields-of tag value rest =
 pub length-bytes : (value : List ℕ) → length value < 65536 → (length value / 256 < 256) × (length value % 256 < 256)
 length-bytes value h = omega arith
 
+abbrev pub AreBytes : List ℕ → Type 0
+AreBytes bytes = (b : ℕ) → List·Memᴰ b bytes → b < 256
+
 -- a field at the front of some bytes, and the bytes after it
 pub record Front (bytes : List ℕ) (f : Field) (more : Fields) : Type 0 where
   pub rest : List ℕ
-  pub written : bytes ≡ fieldBytes (f .tag) (f .value) ++ rest
+  pub size : length bytes ≡ length (fieldBytes (f .tag) (f .value) ++ rest)
+  pub written : AreBytes bytes → bytes ≡ fieldBytes (f .tag) (f .value) ++ rest
   pub after : more ≡ fieldsOf rest
 
 -- what is read was written so
-pub fields-were : (bytes : List ℕ) (f : Field) (more : Fields) → ((b : ℕ) → List·Memᴰ b bytes → b < 256)
-    → fieldsOf bytes ≡ (f then more) → Front bytes f more
+pub fields-were : (bytes : List ℕ) (f : Field) (more : Fields) → fieldsOf bytes ≡ (f then more) → Front bytes f more
 unfolding fieldBytes
-fields-were [] f more small e = let z : _≡_ {A = ℕ} 0 1 = cc fields-empty in absurd (omega arith)
-fields-were (t ∷ []) f more small e = let z : _≡_ {A = ℕ} 0 1 = cc (fields-tag t) in absurd (omega arith)
-fields-were (t ∷ h ∷ []) f more small e = let z : _≡_ {A = ℕ} 0 1 = cc (fields-half t h) in absurd (omega arith)
-fields-were (t ∷ h ∷ l ∷ s) f more small e = go (leb (h * 256 + l) (length s)) refl
+fields-were [] f more e = let z : _≡_ {A = ℕ} 0 1 = cc fields-empty in absurd (omega arith)
+fields-were (t ∷ []) f more e = let z : _≡_ {A = ℕ} 0 1 = cc (fields-tag t) in absurd (omega arith)
+fields-were (t ∷ h ∷ []) f more e = let z : _≡_ {A = ℕ} 0 1 = cc (fields-half t h) in absurd (omega arith)
+fields-were (t ∷ h ∷ l ∷ s) f more e = go (leb (h * 256 + l) (length s)) refl
   where
+    value : List ℕ
+    value = take (h * 256 + l) s
+
+    rest : List ℕ
+    rest = drop (h * 256 + l) s
+
+    lengths : h * 256 + l ≤ length s → AreBytes (t ∷ h ∷ l ∷ s) → t ∷ h ∷ l ∷ s ≡ fieldBytes t value ++ rest
+    lengths k small =
+        let low = small l (List·Memᴰ·tail (List·Memᴰ·tail (List·Memᴰ·head refl))) in
+        let n = length-take-le (h * 256 + l) s k in
+        let high-is : h ≡ length value / 256 = omega arith in
+        let low-is : l ≡ length value % 256 = omega arith in
+        let whole = sym (take-append-drop (h * 256 + l) s) in
+        λ i. t ∷ high-is i ∷ low-is i ∷ whole i
+
     go : (b : Bool) → leb (h * 256 + l) (length s) ≡ b → Front (t ∷ h ∷ l ∷ s) f more
     go false q = let z : _≡_ {A = ℕ} 0 1 = cc (fields-past t h l s (leb-false (h * 256 + l) (length s) q)) in absurd (omega arith)
     go true q =
         let k = leb-true (h * 256 + l) (length s) q in
         let w = fields-front t h l s k in
-        let front : record { tag = t; value = take (h * 256 + l) s } ≡ f = cc in
-        let after : more ≡ fieldsOf (drop (h * 256 + l) s) = cc in
-        let whole = sym (take-append-drop (h * 256 + l) s) in
-        let low = small l (List·Memᴰ·tail (List·Memᴰ·tail (List·Memᴰ·head refl))) in
-        let n = length-take-le (h * 256 + l) s k in
-        let high-is : h ≡ length (take (h * 256 + l) s) / 256 = omega arith in
-        let low-is : l ≡ length (take (h * 256 + l) s) % 256 = omega arith in
-        let lengths : t ∷ h ∷ l ∷ s ≡ fieldBytes t (take (h * 256 + l) s) ++ drop (h * 256 + l) s =
-        λ i. t ∷ high-is i ∷ low-is i ∷ whole i in
+        let front : record { tag = t; value = value } ≡ f = cc in
+        let front-bytes = ap (λ (x : Field). fieldBytes (x .tag) (x .value) ++ rest) front in
+        let whole = ap length (sym (take-append-drop (h * 256 + l) s)) in
         record {
-          rest = drop (h * 256 + l) s;
-          written = lengths ∙ ap (λ (x : Field). fieldBytes (x .tag) (x .value) ++ drop (h * 256 + l) s) front;
-          after = after;
+          rest = rest;
+          size = ap (λ (n : ℕ). suc (suc (suc n))) whole ∙ ap length front-bytes;
+          written = λ small. lengths k small ∙ front-bytes;
+          after = cc;
         }
 
 pub fields-none : (bytes : List ℕ) → fieldsOf bytes ≡ noBytes → bytes ≡ []

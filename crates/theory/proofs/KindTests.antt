@@ -3,21 +3,21 @@
 --   is-local : (g : Table) → (isLocal g ≡ true) ↔ Local g
 --   is-single-type : (g : Table) → (isSingleType g ≡ true) ↔ SingleType g
 use Prim.Native.Nat.{ℕ}
-use mathlib.Core.Bool.{Bool, true, false, not, _&&_}
+use mathlib.Core.Bool.{Bool, true}
 use mathlib.Core.List.{List, List·Memᴰ}
 use mathlib.Core.Logic.{_↔_}
-use mathlib.Core.Path.{_≡_, refl, sym, _∙_, ap}
+use mathlib.Core.Path.{_≡_, sym}
 use lib.Dec.{eqb}
-use borrow.Author.Tests.{eqb-true, eq-eqb, not-true}
-use Rattle.grammar.specs.Lists.{any, all, allDistinct}
+use borrow.Author.Tests.{eqb-true, eq-eqb}
+use Rattle.grammar.specs.Lists.{allDistinct}
 use Rattle.grammar.specs.Content.{typesIn}
 use Rattle.grammar.specs.Table.{Rule, Table}
-use Rattle.grammar.specs.Kinds.{NoTwoRules, Local, Competing, NoneCompete, SingleType, Kind, local, singleType, OfKind}
+use Rattle.grammar.specs.Kinds.{NoTwoRules, Local, Competing, NoneCompete, SingleType}
 use Rattle.grammar.specs.KindTests.{sameLabel, samePair, isLocal, compete, noneCompete, isSingleType}
-use Rattle.theory.proofs.BoolLaws.{and-left, and-right, and-intro, and-decides, unless-decides}
-use Rattle.theory.proofs.ListLaws.{any-found, any-of, differ-at, all-differ, all-decides}
+use Rattle.theory.proofs.BoolLaws.{and-decides, unless-decides}
+use Rattle.theory.proofs.ListLaws.{differ-at, all-differ, any-decides, all-decides}
 
--- where a symmetric test of two rules is what they are to be, no two rules are that just where the rules are all distinct
+-- where a symmetric test decides whether two rules are alike: the rules are all distinct just where no two are alike
 module _ (same : Rule → Rule → Bool) (Alike : Rule → Rule → Type 0) (same-sym : (r s : Rule) → same r s ≡ true → same s r ≡ true)
     (alike : (r s : Rule) → (same r s ≡ true) ↔ Alike r s) where
   no-two : (g : Table) → (allDistinct same (g .rules) ≡ true) ↔ NoTwoRules g Alike
@@ -51,36 +51,38 @@ same-pair-sym : (r s : Rule) → samePair r s ≡ true → samePair s r ≡ true
 same-pair-sym r s e = let p = same-pair r s .0 e in same-pair s r .1 (sym (p .0), sym (p .1))
 
 -- two types have rules with one label
-pub compete-competing : (g : Table) (k l : ℕ) → compete g k l ≡ true → Competing g k l
+pub competing : (g : Table) (k l : ℕ) → (compete g k l ≡ true) ↔ Competing g k l
 unfolding compete
-compete-competing g k l e =
-    let a = any-found (λ (r : Rule). eqb (r .type) k && any (λ (s : Rule). eqb (s .type) l && sameLabel r s) (g .rules)) (g .rules) e in
-    let r : Rule = a .0 in
-    let rest : Rule → Bool = λ s. eqb (s .type) l && sameLabel r s in
-    let b = any-found rest (g .rules) (and-right (eqb (r .type) k) (any rest (g .rules)) (a .2)) in
-    let s : Rule = b .0 in
-    let c = and-decides (eqb (s .type) l) (sameLabel r s) (equal (s .type) l) (same-label r s) .0 (b .2) in
-    record {
-      rule₁ = r;
-      rule₂ = s;
-      of-table₁ = a .1;
-      of-table₂ = b .1;
-      of-type₁ = eqb-true (r .type) k (and-left (eqb (r .type) k) (any rest (g .rules)) (a .2));
-      of-type₂ = c .0;
-      one-label = c .1;
-    }
+competing g k l = (
+  λ e.
+      let r = d .0 e in
+      let s = r .2 .1 in
+      record {
+        rule₁ = r .0;
+        rule₂ = s .0;
+        of-table₁ = r .1;
+        of-table₂ = s .1;
+        of-type₁ = r .2 .0;
+        of-type₂ = s .2 .0;
+        one-label = s .2 .1;
+      },
+  λ h. d .1 (h .rule₁, h .of-table₁, (h .of-type₁, (h .rule₂, h .of-table₂, (h .of-type₂, h .one-label)))),
+)
+  where
+    Partner : Rule → Type 0
+    Partner r = (s : Rule) × List·Memᴰ s (g .rules) × ((s .type ≡ l) × (r .label ≡ s .label))
 
-pub competing-compete : (g : Table) (k l : ℕ) → Competing g k l → compete g k l ≡ true
-unfolding compete
-competing-compete g k l h =
-    let r : Rule = h .rule₁ in
-    let s : Rule = h .rule₂ in
-    let rest : Rule → Bool = λ s. eqb (s .type) l && sameLabel r s in
-    let b = and-decides (eqb (s .type) l) (sameLabel r s) (equal (s .type) l) (same-label r s) .1 (h .of-type₂, h .one-label) in
-    any-of
-    (λ (r : Rule). eqb (r .type) k && any (λ (s : Rule). eqb (s .type) l && sameLabel r s) (g .rules))
-    (h .of-table₁)
-    (and-intro (eqb (r .type) k) (any rest (g .rules)) (eq-eqb (r .type) k (h .of-type₁)) (any-of rest (h .of-table₂) b))
+    d : (compete g k l ≡ true) ↔ ((r : Rule) × List·Memᴰ r (g .rules) × ((r .type ≡ k) × Partner r))
+    d =
+        any-decides
+        _
+        (g .rules)
+        (λ r.
+        and-decides
+        _
+        _
+        (equal (r .type) k)
+        (any-decides _ (g .rules) (λ s. and-decides _ _ (equal (s .type) l) (same-label r s))))
 
 pub none-compete : (g : Table) (types : List ℕ) → (noneCompete g types ≡ true) ↔ NoneCompete g types
 unfolding noneCompete
@@ -95,7 +97,7 @@ none-compete g types = (λ e k l m n. d .0 e k m l n, λ h. d .1 (λ k m l n. h 
         all-decides
         _
         types
-        (λ l. unless-decides (eqb k l) (compete g k l) (equal k l) (compete-competing g k l, competing-compete g k l)))
+        (λ l. unless-decides (eqb k l) (compete g k l) (equal k l) (competing g k l)))
 
 pub is-single-type : (g : Table) → (isSingleType g ≡ true) ↔ SingleType g
 unfolding isSingleType

@@ -7,6 +7,8 @@ use mathlib.Core.List.{
   [],
   _∷_,
   _++_,
+  append-assoc,
+  append-nil,
   List·Memᴰ,
   List·Memᴰ·head,
   List·Memᴰ·tail,
@@ -35,7 +37,20 @@ use Rattle.grammar.specs.Lists.{
   numbersFrom,
   numbersBelow,
 }
-use Rattle.theory.proofs.BoolLaws.{and-left, and-right, and-intro, or-cases, or-left, or-right, false-of, not-both, passes-or-fails}
+use Rattle.theory.proofs.BoolLaws.{and-left, and-right, and-intro, or-cases, or-left, or-right, not-both, passes-or-fails}
+use Rattle.theory.proofs.BoolLaws.{false-of}
+use Rattle.theory.proofs.BoolLaws.{
+  and-left,
+  and-right,
+  and-intro,
+  or-cases,
+  or-left,
+  or-right,
+  or-false,
+  false-of,
+  not-both,
+  passes-or-fails,
+}
 
 module _ {A : Type 0} where
   pub any-found : (test : A → Bool) (xs : List A) → any test xs ≡ true → (x : A) × List·Memᴰ x xs × (test x ≡ true)
@@ -179,6 +194,7 @@ module _ {A : Type 0} where
         absurd (first-differs same z zs (and-left (not (any (same z) zs)) (allDistinct same zs) d) (at-mem zs i p) (subst (λ w. same w x ≡ true) (just-eq q) (same-sym x y e)))
     differ-at (z ∷ zs) (suc i) (suc j) x y d p q e = ap suc (differ-at zs i j x y (and-right (not (any (same z) zs)) (allDistinct same zs) d) p q e)
 
+  -- and the other way round
   pub all-differ : (same : A → A → Bool) (xs : List A)
       → ((i j : ℕ) (x y : A) → getElem? xs i ≡ just x → getElem? xs j ≡ just y → same x y ≡ true → i ≡ j)
       → allDistinct same xs ≡ true
@@ -237,7 +253,75 @@ unfolding sameNumbers
 same-numbers-refl [] = refl
 same-numbers-refl (n ∷ ns) = and-intro (eqb n n) (sameNumbers ns ns) (eq-eqb n n refl) (same-numbers-refl ns)
 
--- testing all elements decides the fact of every element, where the test of one decides its fact
-pub all-decides : {A : Type 0} {P : A → Type 0} (test : A → Bool) (xs : List A) → ((x : A) → (test x ≡ true) ↔ P x)
-    → (all test xs ≡ true) ↔ ((x : A) → List·Memᴰ x xs → P x)
-all-decides test xs d = (λ e x m. d x .0 (all-at test e m), λ h. all-of test xs (λ x m. d x .1 (h x m)))
+-- where the test of one element decides its fact: some element has it, every element has it
+module _ {A : Type 0} {P : A → Type 0} (test : A → Bool) (xs : List A) (decides : (x : A) → (test x ≡ true) ↔ P x) where
+  pub any-decides : (any test xs ≡ true) ↔ ((x : A) × List·Memᴰ x xs × P x)
+  any-decides = (
+    λ e.
+        let r = any-found test xs e in
+        (r .0, r .1, decides (r .0) .0 (r .2)),
+    λ r. any-of test (r .1) (decides (r .0) .1 (r .2)),
+  )
+
+  pub all-decides : (all test xs ≡ true) ↔ ((x : A) → List·Memᴰ x xs → P x)
+  all-decides = (λ e x m. decides x .0 (all-at test e m), λ h. all-of test xs (λ x m. decides x .1 (h x m)))
+
+-- an element at the end of distinct ones
+module _ {A : Type 0} (same : A → A → Bool) (same-sym : (x y : A) → same x y ≡ true → same y x ≡ true) where
+  apart : {x : A} {xs : List A} (y : A) (ys : List A) → List·Memᴰ x xs → allDistinct same (xs ++ y ∷ ys) ≡ true → same x y ≡ true → ⊥
+  unfolding allDistinct
+  apart y ys (List·Memᴰ·head {x = z} {xs = zs} q) d e =
+      let n = and-left (not (any (same z) (zs ++ y ∷ ys))) (allDistinct same (zs ++ y ∷ ys)) d in
+      not-both
+      (any-of (same z) (Memᴰ·append-right zs (List·Memᴰ·head refl)) (ap (λ (w : A). same w y) (sym q) ∙ e))
+      (not-true (any (same z) (zs ++ y ∷ ys)) n)
+  apart y ys (List·Memᴰ·tail {x = z} {xs = zs} m) d e =
+      apart y ys m (and-right (not (any (same z) (zs ++ y ∷ ys))) (allDistinct same (zs ++ y ∷ ys)) d) e
+
+  pub distinct-new : (xs : List A) (y : A) (ys : List A) → allDistinct same (xs ++ y ∷ ys) ≡ true → any (same y) xs ≡ false
+  distinct-new xs y ys d =
+      false-of (any (same y) xs) (λ e. let r = any-found (same y) xs e in apart y ys (r .1) d (same-sym y (r .0) (r .2)))
+
+  pub distinct-end : (xs : List A) (y : A) → allDistinct same xs ≡ true → any (same y) xs ≡ false → allDistinct same (xs ++ (y ∷ [])) ≡ true
+
+  pub distinct-end : (xs : List A) (y : A) → allDistinct same xs ≡ true → any (same y) xs ≡ false
+      → allDistinct same (xs ++ (y ∷ [])) ≡ true
+  unfolding allDistinct
+  distinct-end [] y d n = refl
+  distinct-end (x ∷ xs) y d n =
+      let p = or-false (same y x) (any (same y) xs) n in
+      let older = not-true (any (same x) xs) (and-left (not (any (same x) xs)) (allDistinct same xs) d) in
+      and-intro
+      (not (any (same x) (xs ++ (y ∷ []))))
+      (allDistinct same (xs ++ (y ∷ [])))
+      (ap not (false-of (any (same x) (xs ++ (y ∷ []))) (λ e. unlike older (p .0) e)))
+      (distinct-end xs y (and-right (not (any (same x) xs)) (allDistinct same xs) d) (p .1))
+    where
+      unlike : any (same x) xs ≡ false → same y x ≡ false → any (same x) (xs ++ (y ∷ [])) ≡ true → ⊥
+      unlike older newer e =
+          let r = any-found (same x) (xs ++ (y ∷ [])) e in
+          ⊎-elim
+          (λ m. not-both (any-of (same x) m (r .2)) older)
+          (λ m. not-both (same-sym x y (any-one (r .0) m (r .2))) newer)
+          (List·Memᴰ·append-cases xs (r .1))
+        where
+          any-one : (z : A) → List·Memᴰ z (y ∷ []) → same x z ≡ true → same x y ≡ true
+          any-one z (List·Memᴰ·head q) s = ap (same x) (sym q) ∙ s
+          any-one z (List·Memᴰ·tail m) s = elim m [ ]
+
+-- one element more at the end
+pub each-end : {A : Type 0} (P : A → Type 0) (xs : List A) (x : A) → ((y : A) → List·Memᴰ y xs → P y) → P x → (y : A)
+    → List·Memᴰ y (xs ++ (x ∷ [])) → P y
+each-end {A} P xs x h p y m = ⊎-elim (h y) (only y) (List·Memᴰ·append-cases xs m)
+  where
+    only : (z : A) → List·Memᴰ z (x ∷ []) → P z
+    only z (List·Memᴰ·head q) = subst P (sym q) p
+    only z (List·Memᴰ·tail n) = elim n [ ]
+
+pub joined-end : {A B : Type 0} (f : A → List B) (xs : List A) (x : A) → joinedOf f (xs ++ (x ∷ [])) ≡ joinedOf f xs ++ f x
+unfolding joinedOf
+joined-end f [] x = append-nil (f x)
+joined-end {A} {B} f (y ∷ ys) x = ap (λ (l : List B). f y ++ l) (joined-end f ys x) ∙ sym (append-assoc (f y) (joinedOf f ys) (f x))
+
+pub eqb-sym : (m n : ℕ) → eqb m n ≡ true → eqb n m ≡ true
+eqb-sym m n e = eq-eqb n m (sym (eqb-true m n e))

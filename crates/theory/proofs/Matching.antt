@@ -1,5 +1,5 @@
--- The test of a content recognises the words of the content: children, each given by the types that derive it, pass just where some
--- word picks a type of each child, in order.
+-- The test of a content recognises the words of the content: children, each given by the types that derive it, pass just where
+-- some word picks a type of each child, in order.
 --
 --   matches-words : (c : Content) → Recognises (matches c) (Word c)
 --
@@ -9,10 +9,9 @@ use native.Mathlib.Omega.{arith}
 use native.Mathlib.Nat.{le-refl}
 use mathlib.Core.Bool.{Bool, true, false, _&&_, _||_, false≢true}
 use mathlib.Core.List.{List, [], _∷_, _++_, List·Memᴰ}
-use mathlib.Core.Logic.{_⊎_, inl, inr, ⊎-elim}
-use mathlib.Core.Path.{_≡_, refl, sym, _∙_, ap, subst}
+use mathlib.Core.Logic.{_↔_, _⊎_, inl, inr, ⊎-elim}
+use mathlib.Core.Path.{_≡_, refl, sym, _∙_, ap}
 use lib.ListN.{length, length-append}
-use Rattle.grammar.specs.Lists.{isIn}
 use Rattle.grammar.specs.Content.{
   Content,
   none,
@@ -63,6 +62,9 @@ pub record Recognises (test : Test) (L : Language) : Type 0 where
   pub word-of : (us : List (List ℕ)) → test us ≡ true → Picked L us
   pub passes : (us : List (List ℕ)) (w : List ℕ) → L w → Picks us w → test us ≡ true
 
+pub recognised : {test : Test} {L : Language} → Recognises test L → (us : List (List ℕ)) → (test us ≡ true) ↔ Picked L us
+recognised p us = (p .word-of us, λ r. p .passes us (r .0) (r .1) (r .2))
+
 -- picking from joined children
 pub picks-join : {us vs : List (List ℕ)} {w z : List ℕ} → Picks us w → Picks vs z → Picks (us ++ vs) (w ++ z)
 picks-join picks-none q = q
@@ -76,18 +78,27 @@ pub record Parts (P Q : List (List ℕ) → Type 0) (us : List (List ℕ)) : Typ
   pub of-front : P front
   pub of-back : Q back
 
--- where a joined word picks, each of its parts picks from a part of the children
-pub picks-parts : {us : List (List ℕ)} (w z : List ℕ) → Picks us (w ++ z) → Parts (λ us. Picks us w) (λ us. Picks us z) us
-picks-parts {us} [] z p = record { front = []; back = us; joined = refl; of-front = picks-none; of-back = p }
-picks-parts (k ∷ w) z (picks-next {types = types} m p) =
-    let r = picks-parts w z p in
+all-behind : {P Q : List (List ℕ) → Type 0} (us : List (List ℕ)) → P [] → Q us → Parts P Q us
+all-behind us p q = record { front = []; back = us; joined = refl; of-front = p; of-back = q }
+
+one-more-in-front : {P P′ Q : List (List ℕ) → Type 0} (u : List ℕ) {us : List (List ℕ)}
+    → ((vs : List (List ℕ)) → P vs → P′ (u ∷ vs)) → Parts P Q us → Parts P′ Q (u ∷ us)
+one-more-in-front u h r =
     record {
-      front = types ∷ r .front;
+      front = u ∷ r .front;
       back = r .back;
-      joined = ap (λ us. types ∷ us) (r .joined);
-      of-front = picks-next m (r .of-front);
+      joined = ap (λ us. u ∷ us) (r .joined);
+      of-front = h (r .front) (r .of-front);
       of-back = r .of-back;
     }
+
+-- where a joined word picks, each of its parts picks from a part of the children
+abbrev pub PickInTurn : List ℕ → List ℕ → List (List ℕ) → Type 0
+PickInTurn w z us = Parts (λ us. Picks us w) (λ us. Picks us z) us
+
+pub picks-parts : {us : List (List ℕ)} (w z : List ℕ) → Picks us (w ++ z) → PickInTurn w z us
+picks-parts {us} [] z p = all-behind us picks-none p
+picks-parts (k ∷ w) z (picks-next {types = u} m p) = one-more-in-front u (λ us q. picks-next m q) (picks-parts w z p)
 
 -- the tests of nothing, of no children, of one child
 nothing-matches : Recognises (λ us. false) (λ w. ⊥)
@@ -97,7 +108,7 @@ pub no-children : Recognises (λ us. noChildren us) (λ w. w ≡ [])
 unfolding noChildren
 no-children = record { word-of = word; passes = λ us w e p. pass (rw e at p) }
   where
-    word : (us : List (List ℕ)) → noChildren us ≡ true → (w : List ℕ) × (w ≡ []) × Picks us w
+    word : (us : List (List ℕ)) → noChildren us ≡ true → Picked (λ w. w ≡ []) us
     word [] e = ([], refl, picks-none)
     word (u ∷ us) e = absurd (false≢true e)
 
@@ -108,7 +119,7 @@ pub one-child : (k : ℕ) → Recognises (λ us. oneChild k us) (λ w. w ≡ k �
 unfolding oneChild
 one-child k = record { word-of = word; passes = λ us w e p. pass (rw e at p) }
   where
-    word : (us : List (List ℕ)) → oneChild k us ≡ true → (w : List ℕ) × (w ≡ k ∷ []) × Picks us w
+    word : (us : List (List ℕ)) → oneChild k us ≡ true → Picked (λ w. w ≡ k ∷ []) us
     word [] e = absurd (false≢true e)
     word (u ∷ []) e = (k ∷ [], refl, picks-next (in-mem k u e) picks-none)
     word (u ∷ v ∷ vs) e = absurd (false≢true e)
@@ -132,38 +143,16 @@ PassInTurn first second us = Parts (λ us. first us ≡ true) (λ us. second us 
 
 in-turn-parts : (us : List (List ℕ)) (first second : Test) → inTurn us first second ≡ true → PassInTurn first second us
 unfolding inTurn
-in-turn-parts us first second e = go us first e
-  where
-    here : (us : List (List ℕ)) (first : Test) → (first [] && second us) ≡ true → PassInTurn first second us
-    here us first h =
-        record {
-          front = [];
-          back = us;
-          joined = refl;
-          of-front = and-left (first []) (second us) h;
-          of-back = and-right (first []) (second us) h;
-        }
-
-    later : (c : List ℕ) (cs : List (List ℕ)) (first : Test) → PassInTurn (λ us. first (c ∷ us)) second cs → PassInTurn first second (c ∷ cs)
-    later c cs first r =
-        record {
-          front = c ∷ r .front;
-          back = r .back;
-          joined = ap (λ us. c ∷ us) (r .joined);
-          of-front = r .of-front;
-          of-back = r .of-back;
-        }
-
-    go : (us : List (List ℕ)) (first : Test) → inTurn us first second ≡ true → PassInTurn first second us
-    go [] first e = here [] first e
-    go (c ∷ cs) first e =
-        ⊎-elim
-        (here (c ∷ cs) first)
-        (λ h. later c cs first (go cs (λ us. first (c ∷ us)) h))
-        (or-cases
-        (first [] && second (c ∷ cs))
-        (inTurn cs (λ us. first (c ∷ us)) second)
-        (sym (in-turn-next c cs first second) ∙ e))
+in-turn-parts [] first second e =
+    all-behind [] (and-left (first []) (second []) e) (and-right (first []) (second []) e)
+in-turn-parts (c ∷ cs) first second e =
+    ⊎-elim
+    (λ h. all-behind (c ∷ cs) (and-left (first []) (second (c ∷ cs)) h) (and-right (first []) (second (c ∷ cs)) h))
+    (λ h. one-more-in-front c (λ us q. q) (in-turn-parts cs (λ us. first (c ∷ us)) second h))
+    (or-cases
+    (first [] && second (c ∷ cs))
+    (inTurn cs (λ us. first (c ∷ us)) second)
+    (sym (in-turn-next c cs first second) ∙ e))
 
 parts-in-turn : (front back : List (List ℕ)) (first second : Test) → first front ≡ true → second back ≡ true
     → inTurn (front ++ back) first second ≡ true
@@ -182,13 +171,16 @@ parts-in-turn (c ∷ cs) back first second p q =
     (inTurn (cs ++ back) (λ us. first (c ∷ us)) second)
     (parts-in-turn cs back (λ us. first (c ∷ us)) second p q)
 
-joined-picked : {L M : Language} {us front back : List (List ℕ)} → us ≡ front ++ back → Picked L front → Picked M back → Picked (Joined L M) us
+-- the words that pick from two parts, joined
+joined-picked : {L M : Language} {us front back : List (List ℕ)} → us ≡ front ++ back → Picked L front → Picked M back
+    → Picked (Joined L M) us
 joined-picked e a b = (
   a .0 ++ b .0,
   record { front = a .0; back = b .0; joined = refl; front-in = a .1; back-in = b .1 },
   rw e (picks-join (a .2) (b .2)),
 )
 
+-- tests of two languages
 module _ {s t : Test} {L M : Language} (p : Recognises s L) (q : Recognises t M) where
   pub either : Recognises (λ us. s us || t us) (λ w. L w ⊎ M w)
   either =
@@ -215,7 +207,7 @@ module _ {s t : Test} {L M : Language} (p : Recognises s L) (q : Recognises t M)
           let r = in-turn-parts us s t e in
           joined-picked (r .joined) (p .word-of (r .front) (r .of-front)) (q .word-of (r .back) (r .of-back))
 
-      pass : {us : List (List ℕ)} {w : List ℕ} (j : Joined L M w) → Parts (λ us. Picks us (j .front)) (λ us. Picks us (j .back)) us → inTurn us s t ≡ true
+      pass : {us : List (List ℕ)} {w : List ℕ} (j : Joined L M w) → PickInTurn (j .front) (j .back) us → inTurn us s t ≡ true
       pass j r =
           rw
           (r .joined)
@@ -227,11 +219,11 @@ module _ {s t : Test} {L M : Language} (p : Recognises s L) (q : Recognises t M)
           (p .passes (r .front) (j .front) (j .front-in) (r .of-front))
           (q .passes (r .back) (j .back) (j .back-in) (r .of-back)))
 
--- zero or more parts, none of them empty
-module _ {test : Test} {L : Language} (p : Recognises test L) where
-  one-part-more : {w : List ℕ} → Joined L (Repeated L) w → Repeated L w
-  one-part-more j = rw (j .joined) (one-more (j .front-in) (j .back-in))
+pub joined-repeated : {L : Language} {w : List ℕ} → Joined L (Repeated L) w → Repeated L w
+joined-repeated j = rw (j .joined) (one-more (j .front-in) (j .back-in))
 
+-- A test passes repeated parts just where repeated words pick. Empty parts, which the test leaves out, change no word.
+module _ {test : Test} {L : Language} (p : Recognises test L) where
   repeated-word : (n : ℕ) (us : List (List ℕ)) → repeatedWithin n test us ≡ true → Picked (Repeated L) us
   unfolding repeatedWithin
   repeated-word zero [] e = ([], no-more, picks-none)
@@ -239,9 +231,10 @@ module _ {test : Test} {L : Language} (p : Recognises test L) where
   repeated-word (suc n) [] e = ([], no-more, picks-none)
   repeated-word (suc n) (c ∷ cs) e =
       let r = in-turn-parts cs (λ us. test (c ∷ us)) (repeatedWithin n test) e in
-      let j =
-      joined-picked (ap (λ us. c ∷ us) (r .joined)) (p .word-of (c ∷ r .front) (r .of-front)) (repeated-word n (r .back) (r .of-back)) in
-      (j .0, one-part-more (j .1), j .2)
+      let front = p .word-of (c ∷ r .front) (r .of-front) in
+      let back = repeated-word n (r .back) (r .of-back) in
+      let j = joined-picked (ap (λ us. c ∷ us) (r .joined)) front back in
+      (j .0, joined-repeated (j .1), j .2)
 
   no-part : (n : ℕ) {us : List (List ℕ)} → Picks us [] → repeatedWithin n test us ≡ true
   unfolding repeatedWithin
@@ -266,7 +259,8 @@ module _ {test : Test} {L : Language} (p : Recognises test L) where
       (p .passes (c ∷ r .front) (k ∷ w) l (picks-next m (r .of-front)))
       (rest n (r .back) (omega (arith, length-append (r .front) (r .back))) (r .of-back)))
 
-  repeated-passes : {w : List ℕ} → Repeated L w → (n : ℕ) (us : List (List ℕ)) → length us ≤ n → Picks us w → repeatedWithin n test us ≡ true
+  repeated-passes : {w : List ℕ} → Repeated L w → (n : ℕ) (us : List (List ℕ)) → length us ≤ n → Picks us w
+      → repeatedWithin n test us ≡ true
   repeated-passes no-more n us h q = no-part n q
   repeated-passes (one-more {u = []} l r) n us h q = repeated-passes r n us h q
   repeated-passes (one-more {u = k ∷ w} {v = z} l r) n us h q = next-part n w z h l (λ m vs i k. repeated-passes r m vs i k) q

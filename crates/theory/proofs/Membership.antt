@@ -11,10 +11,11 @@ use mathlib.Core.Bool.{Bool, true, false, _&&_, false≢true}
 use mathlib.Core.List.{List, [], _∷_, map, List·Memᴰ, Memᴰ·cast, Memᴰ·map, Memᴰ·of-map}
 use mathlib.Core.Logic.{_↔_}
 use mathlib.Core.Option.{Option, none as nothing, some as just}
-use mathlib.Core.Path.{_≡_, refl, sym, _∙_}
+use mathlib.Core.Path.{_≡_, refl, sym}
 use lib.ListN.{getElem?}
-use Rattle.grammar.specs.Lists.{any, keep, isIn}
-use Rattle.grammar.specs.Names.{Name, sameName}
+use Rattle.grammar.specs.Lists.{keep, isIn}
+use Rattle.grammar.specs.Names.{Name}
+use Rattle.grammar.specs.Content.{Word}
 use Rattle.grammar.specs.Tree.{Tree, node, Forest, []ᵗ, _∷ᵗ_}
 use Rattle.grammar.specs.Table.{Rule, Table, Named}
 use Rattle.grammar.specs.Derivation.{
@@ -27,22 +28,18 @@ use Rattle.grammar.specs.Derivation.{
   LetsIn,
 }
 use Rattle.grammar.specs.Membership.{matches, isNamed, typesOf, typesOfAll, letsIn}
-use Rattle.theory.proofs.BoolLaws.{and-left, and-right, and-intro, not-both}
+use Rattle.theory.proofs.BoolLaws.{and-decides, not-both}
 use Rattle.theory.proofs.ListLaws.{any-found, any-of, kept, keep-mem, in-mem, mem-in}
-use Rattle.theory.proofs.Matching.{Picks, picks-none, picks-next, matches-words}
+use Rattle.theory.proofs.Matching.{Picks, picks-none, picks-next, Picked, recognised, matches-words}
 
--- names of labels
-pub is-named : (g : Table) (label : ℕ) (n : Name) → isNamed g label n ≡ true → Named g label n
+-- a label has a name
+pub is-named : (g : Table) (label : ℕ) (n : Name) → (isNamed g label n ≡ true) ↔ Named g label n
 unfolding isNamed
-is-named g label n e = go (getElem? (g .labels) label) refl
+is-named g label n = (λ e. go e (getElem? (g .labels) label) refl, λ h. rw (h .listed, isNamed) (h .same))
   where
-    go : (m : Option Name) → getElem? (g .labels) label ≡ m → Named g label n
-    go nothing q = absurd (false≢true (rw (q, isNamed) at e))
-    go (just m) q = record { name = m; listed = q; same = rw (q, isNamed) at e }
-
-pub named-is : (g : Table) (label : ℕ) (n : Name) → Named g label n → isNamed g label n ≡ true
-unfolding isNamed
-named-is g label n h = rw (h .listed, isNamed) (h .same)
+    go : isNamed g label n ≡ true → (m : Option Name) → getElem? (g .labels) label ≡ m → Named g label n
+    go e nothing q = absurd (false≢true (rw (q, isNamed) at e))
+    go e (just m) q = record { name = m; listed = q; same = rw (q, isNamed) at e }
 
 -- the types of the rules that have this name and match these children
 abbrev fitting : Table → Name → List (List ℕ) → Rule → Bool
@@ -51,35 +48,22 @@ fitting g n us r = isNamed g (r .label) n && matches (r .content) us
 abbrev fittingTypes : Table → Name → List (List ℕ) → List ℕ
 fittingTypes g n us = map (λ (r : Rule). r .type) (keep (fitting g n us) (g .rules))
 
-fitting-fits : (g : Table) (n : Name) (us : List (List ℕ)) (k : ℕ) → List·Memᴰ k (fittingTypes g n us)
-    → (w : List ℕ) × Fits g k n w × Picks us w
+fitting-decides : (g : Table) (n : Name) (us : List (List ℕ)) (r : Rule)
+    → (fitting g n us r ≡ true) ↔ (Named g (r .label) n × Picked (Word (r .content)) us)
+fitting-decides g n us r = and-decides _ _ (is-named g (r .label) n) (recognised (matches-words (r .content)) us)
+
+fitting-fits : (g : Table) (n : Name) (us : List (List ℕ)) (k : ℕ) → List·Memᴰ k (fittingTypes g n us) → Picked (Fits g k n) us
 fitting-fits g n us k m =
     let a = Memᴰ·of-map (λ (r : Rule). r .type) (keep (fitting g n us) (g .rules)) m in
     let b = kept (fitting g n us) (g .rules) (a .1) in
-    let named = and-left (isNamed g (a .0 .label) n) (matches (a .0 .content) us) (b .1) in
-    let matching = and-right (isNamed g (a .0 .label) n) (matches (a .0 .content) us) (b .1) in
-    let c = matches-words (a .0 .content) .word-of us matching in (
-      c .0,
-      record {
-        rule = a .0;
-        of-table = b .0;
-        of-type = a .2;
-        of-name = is-named g (a .0 .label) n named;
-        word = c .1;
-      },
-      c .2,
-    )
+    let c = fitting-decides g n us (a .0) .0 (b .1) in
+    let w = c .1 in
+    (w .0, record { rule = a .0; of-table = b .0; of-type = a .2; of-name = c .0; word = w .1 }, w .2)
 
 fits-fitting : (g : Table) (n : Name) (us : List (List ℕ)) (k : ℕ) (w : List ℕ) → Fits g k n w → Picks us w
     → List·Memᴰ k (fittingTypes g n us)
 fits-fitting g n us k w f p =
-    let r : Rule = f .rule in
-    let passes =
-    and-intro
-    (isNamed g (r .label) n)
-    (matches (r .content) us)
-    (named-is g (r .label) n (f .of-name))
-    (matches-words (r .content) .passes us w (f .word) p) in
+    let passes = fitting-decides g n us (f .rule) .1 (f .of-name, (w, f .word, p)) in
     Memᴰ·cast (sym (f .of-type)) (Memᴰ·map (λ (r : Rule). r .type) (keep-mem (fitting g n us) (f .of-table) passes))
 
 -- the types of a tree derive it
