@@ -282,8 +282,6 @@ module _ {A : Type 0} (same : A → A → Bool) (same-sym : (x y : A) → same x
   distinct-new xs y ys d =
       false-of (any (same y) xs) (λ e. let r = any-found (same y) xs e in apart y ys (r .1) d (same-sym y (r .0) (r .2)))
 
-  pub distinct-end : (xs : List A) (y : A) → allDistinct same xs ≡ true → any (same y) xs ≡ false → allDistinct same (xs ++ (y ∷ [])) ≡ true
-
   pub distinct-end : (xs : List A) (y : A) → allDistinct same xs ≡ true → any (same y) xs ≡ false
       → allDistinct same (xs ++ (y ∷ [])) ≡ true
   unfolding allDistinct
