@@ -1,3 +1,9 @@
 pub mod ClassTable
 pub mod NameReading
 pub mod FieldReading
+pub mod AnswerLaws
+pub mod TableIndexLaws
+pub mod TableFaults
+pub mod LabelSearch
+pub mod IndexedFaults
+pub mod TableSteps

@@ -1,1 +1,2 @@
 pub mod FieldAt
+pub mod TableIndex
