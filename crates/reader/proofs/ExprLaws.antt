@@ -159,3 +159,113 @@ module _ (s : List ℕ) (at : ℕ) where
   -- Operator by operator.
   pub expr-past : length s ≤ at → exprAt s at ≡ nothing
   expr-past h = expr-none (ap expressionOf (drop-of-length-le s h) ∙ expression-empty)
+
+  module _ (inside : at < length s) where
+    pub expr-unknown : getElem? operators (getD s at 0) ≡ nothing → exprAt s at ≡ nothing
+    expr-unknown o =
+        expr-none (ap expressionOf (from-place s at inside) ∙ expression-unknown (getD s at 0) (drop (at + 1) s) o)
+
+    pub expr-alone : (c : Content) → getElem? operators (getD s at 0) ≡ just (alone c) → exprAt s at ≡ just (c upTo (at + 1))
+    expr-alone c o =
+        expr-some c (drop (at + 1) s) (ap expressionOf (from-place s at inside) ∙ expression-alone (getD s at 0) (drop (at + 1) s) c o)
+        ∙ ap (λ (n : ℕ). just (c upTo n)) (after-part s at 1 (omega arith))
+
+    pub expr-single : (f : Content → Content) → getElem? operators (getD s at 0) ≡ just (single f)
+        → exprAt s at ≡ placed f (exprAt s (at + 1))
+    unfolding exprAt
+    expr-single f o =
+        ap
+        (inFront (length s))
+        (ap expressionOf (from-place s at inside) ∙ expression-single (getD s at 0) (drop (at + 1) s) f o)
+        ∙ in-front f (length s) (expressionOf (drop (at + 1) s))
+
+  -- a type number or a count is missing
+  module _ (last : at + 1 ≡ length s) where
+    pub expr-unnumbered : (f : ℕ → Content) → getElem? operators (getD s at 0) ≡ just (numbered f) → exprAt s at ≡ nothing
+    expr-unnumbered f o = expr-none (ap expressionOf (last-place s at last) ∙ expression-unnumbered (getD s at 0) f o)
+
+    pub expr-uncounted : (f : Contents → Content) → getElem? operators (getD s at 0) ≡ just (counted f) → exprAt s at ≡ nothing
+    expr-uncounted f o = expr-none (ap expressionOf (last-place s at last) ∙ expression-uncounted (getD s at 0) f o)
+
+  pub expr-numbered : at + 1 < length s → (f : ℕ → Content) → getElem? operators (getD s at 0) ≡ just (numbered f)
+      → exprAt s at ≡ just (f (getD s (at + 1) 0) upTo (at + 2))
+  expr-numbered h f o =
+      let k = getD s (at + 1) 0 in
+      expr-some
+      (f k)
+      (drop (at + 2) s)
+      (ap expressionOf (from-place-two s at h) ∙ expression-numbered (getD s at 0) (drop (at + 2) s) f k o)
+      ∙ ap (λ (n : ℕ). just (f k upTo n)) (after-part s at 2 (omega arith))
+
+  -- expressions one after the other
+  pub exprs-none : exprsAt s at zero ≡ just ([]ᶜ upTo at)
+  unfolding exprsAt
+  exprs-none = refl
+
+  pub exprs-stop : (n : ℕ) → exprAt s at ≡ nothing → exprsAt s at (suc n) ≡ nothing
+  unfolding exprsAt
+  exprs-stop n e = rw (e, exprsAt)
+
+  pub exprs-more : (n : ℕ) (c : Content) (next : ℕ) → exprAt s at ≡ just (c upTo next)
+      → exprsAt s at (suc n) ≡ placed (λ cs. c ∷ᶜ cs) (exprsAt s next n)
+  unfolding exprsAt
+  exprs-more n c next e = rw (e, exprsAt)
+
+-- so many expressions from a place on are the operands at the front of the bytes from there on
+exprs-are : (n : ℕ) (s : List ℕ) (at : ℕ) → at ≤ length s → exprsAt s at n ≡ inFront (length s) (operandsOf n (drop at s))
+exprs-are zero s at h =
+    let l = length-drop at s in
+    let e : at ≡ length s - length (drop at s) = omega arith in
+    exprs-none s at ∙ ap (λ (n : ℕ). just ([]ᶜ upTo n)) e ∙ sym (ap (inFront (length s)) (operands-none (drop at s)))
+exprs-are (suc n) s at h = go (expressionOf (drop at s)) refl (λ next k. exprs-are n s next k)
+  where
+    go : (p : Parsed Content) → expressionOf (drop at s) ≡ p
+        → ((next : ℕ) → next ≤ length s → exprsAt s next n ≡ inFront (length s) (operandsOf n (drop next s)))
+        → exprsAt s at (suc n) ≡ inFront (length s) (operandsOf (suc n) (drop at s))
+    go nothing q others =
+        exprs-stop s at n (expr-none s at q)
+        ∙ sym (ap (inFront (length s)) (operands-next n (drop at s) ∙ ap (afterFirst operandsOf n) q))
+    go (just p) q others =
+        let w = written s at (contentBytes (p .0)) (p .1) h (expression-was (drop at s) (p .0) (p .1) q) in
+        let next = length s - length (p .1) in
+        exprs-more s at n (p .0) next (expr-some s at (p .0) (p .1) q)
+        ∙ ap (placed (λ cs. p .0 ∷ᶜ cs)) (others next (w .0 .inside))
+        ∙ sym (in-front (λ cs. p .0 ∷ᶜ cs) (length s) (operandsOf n (drop next s)))
+        ∙ ap (λ (rest : List ℕ). inFront (length s) (found (λ cs. p .0 ∷ᶜ cs) (operandsOf n rest))) (sym (w .1))
+        ∙ sym (ap (inFront (length s)) (operands-next n (drop at s) ∙ ap (afterFirst operandsOf n) q))
+
+module _ (s : List ℕ) (at : ℕ) where
+  pub expr-counted : at + 1 < length s → (f : Contents → Content) → getElem? operators (getD s at 0) ≡ just (counted f)
+      → exprAt s at ≡ placed f (exprsAt s (at + 2) (getD s (at + 1) 0))
+  unfolding exprAt
+  expr-counted h f o =
+      let k = getD s (at + 1) 0 in
+      ap
+      (inFront (length s))
+      (ap expressionOf (from-place-two s at h) ∙ expression-counted (getD s at 0) (drop (at + 2) s) f k o)
+      ∙ in-front f (length s) (operandsOf k (drop (at + 2) s))
+      ∙ ap (placed f) (sym (exprs-are k s (at + 2) (omega arith)))
+
+  pub exprs-written : (n : ℕ) (cs : Contents) (next : ℕ) → at ≤ length s → exprsAt s at n ≡ just (cs upTo next)
+      → (n ≡ count cs) × Written s at (operandBytes cs) next
+  exprs-written n cs next h e = go (operandsOf n (drop at s)) refl
+    where
+      go : (p : Parsed Contents) → operandsOf n (drop at s) ≡ p → (n ≡ count cs) × Written s at (operandBytes cs) next
+      go nothing q = let z : _≡_ {A = ℕ} 0 1 = cc (exprs-are n s at h, ap (inFront (length s)) q) in absurd (omega arith)
+      go (just p) q =
+          let b = operands-were n (drop at s) (p .0) (p .1) q in
+          let w = written s at (operandBytes (p .0)) (p .1) h (b .1) .0 in
+          let same = same-placed (sym (exprs-are n s at h ∙ ap (inFront (length s)) q) ∙ e) in
+          (
+            b .0 ∙ ap count (same .0),
+            subst (λ (n : ℕ). Written s at (operandBytes cs) n) (same .1)
+            (subst (λ (ds : Contents). Written s at (operandBytes ds) (length s - length (p .1))) (same .0) w),
+          )
+
+  pub exprs-of : (cs : Contents) (rest : List ℕ) → at ≤ length s → drop at s ≡ operandBytes cs ++ rest
+      → exprsAt s at (count cs) ≡ just (cs upTo (at + length (operandBytes cs)))
+  exprs-of cs rest h e =
+      let w = written s at (operandBytes cs) rest h e .0 in
+      exprs-are (count cs) s at h
+      ∙ ap (inFront (length s)) (ap (operandsOf (count cs)) e ∙ operands-of cs rest)
+      ∙ ap (λ (n : ℕ). just (cs upTo n)) (w .next-is)
