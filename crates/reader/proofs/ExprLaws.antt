@@ -2,11 +2,15 @@
 use Prim.Native.Nat.{ℕ, zero, suc, _+_, _-_, _≤_, _<_}
 use native.Mathlib.Omega.{arith}
 use native.Mathlib.Numerals.{add-one, add-two}
+use mathlib.Core.Bool.{Bool, true, false}
 use mathlib.Core.List.{List, [], _∷_, _++_, append-assoc}
+use mathlib.Core.Logic.{_⊎_, inl, inr}
 use mathlib.Core.Option.{Option, none as nothing, some as just}
 use mathlib.Core.Path.{_≡_, refl, sym, _∙_, ap, ap₂, subst}
 use lib.ListN.{length, getD, getElem?, take, drop, length-append, length-drop, drop-of-length-le}
+use lib.Dec.{ltb}
 use lib.Seq.{drop-cons, drop-drop, drop-append-seam, take-append-seam, take-at, drop-at, getD-drop}
+use borrow.Author.Tests.{ltb-true, ltb-false}
 use Rattle.grammar.specs.Content.{
   Content,
   none,
@@ -35,6 +39,7 @@ use Rattle.grammar.specs.ReadContent.{
   found,
   expressionOf,
 }
+use Rattle.theory.proofs.BoolLaws.{passes-or-fails}
 use Rattle.theory.proofs.ListLaws.{just-eq}
 use Rattle.theory.proofs.ContentBytes.{
   afterFirst,
@@ -269,3 +274,109 @@ module _ (s : List ℕ) (at : ℕ) where
       exprs-are (count cs) s at h
       ∙ ap (inFront (length s)) (ap (operandsOf (count cs)) e ∙ operands-of cs rest)
       ∙ ap (λ (n : ℕ). just (cs upTo n)) (w .next-is)
+
+  pub exprs-forward : (n : ℕ) (cs : Contents) (next : ℕ) → at ≤ length s → exprsAt s at n ≡ just (cs upTo next)
+      → (at ≤ next) × (next ≤ length s)
+  exprs-forward n cs next h e = let w = exprs-written n cs next h e .1 in omega arith
+
+  pub exprs-bytes : (n : ℕ) (cs : Contents) (next : ℕ) → at ≤ length s → exprsAt s at n ≡ just (cs upTo next)
+      → take (next - at) (drop at s) ≡ operandBytes cs
+  exprs-bytes n cs next h e =
+      let w = exprs-written n cs next h e .1 in
+      ap (take (next - at)) (w .bytes-from) ∙ take-at (operandBytes cs) (drop next s) (next - at) (omega arith)
+
+-- the operators by their numbers
+pub operator-none : getElem? operators 0 ≡ just (alone none)
+unfolding operators
+operator-none = refl
+
+pub operator-empty : getElem? operators 1 ≡ just (alone empty)
+unfolding operators
+operator-empty = refl
+
+pub operator-type : getElem? operators 2 ≡ just (numbered type)
+unfolding operators
+operator-type = refl
+
+pub operator-sequence : getElem? operators 3 ≡ just (counted sequence)
+unfolding operators
+operator-sequence = refl
+
+pub operator-choice : getElem? operators 4 ≡ just (counted choice)
+unfolding operators
+operator-choice = refl
+
+pub operator-any-number : getElem? operators 5 ≡ just (single anyNumber)
+unfolding operators
+operator-any-number = refl
+
+pub operator-one-or-more : getElem? operators 6 ≡ just (single oneOrMore)
+unfolding operators
+operator-one-or-more = refl
+
+pub operator-optional : getElem? operators 7 ≡ just (single optional)
+unfolding operators
+operator-optional = refl
+
+pub operator-unknown : (b : ℕ) → 7 < b → getElem? operators b ≡ nothing
+unfolding operators
+operator-unknown zero h = absurd (omega arith)
+operator-unknown (suc zero) h = absurd (omega arith)
+operator-unknown (suc (suc zero)) h = absurd (omega arith)
+operator-unknown (suc (suc (suc zero))) h = absurd (omega arith)
+operator-unknown (suc (suc (suc (suc zero)))) h = absurd (omega arith)
+operator-unknown (suc (suc (suc (suc (suc zero))))) h = absurd (omega arith)
+operator-unknown (suc (suc (suc (suc (suc (suc zero)))))) h = absurd (omega arith)
+operator-unknown (suc (suc (suc (suc (suc (suc (suc zero))))))) h = absurd (omega arith)
+operator-unknown (suc (suc (suc (suc (suc (suc (suc (suc b)))))))) h = refl
+
+-- Where a content is known to stand, its operator's byte says what it is and where its parts stand.
+module _ (s : List ℕ) (at : ℕ) (c : Content) (next : ℕ) (stands : exprAt s at ≡ just (c upTo next)) where
+  pub known-operator : getElem? operators (getD s at 0) ≡ nothing → ⊥
+  known-operator o =
+      let h = expr-forward s at c next stands in
+      let z : _≡_ {A = ℕ} 0 1 = cc (expr-unknown s at (omega arith) o) in
+      omega arith
+
+  pub alone-was : (d : Content) → getElem? operators (getD s at 0) ≡ just (alone d) → (d ≡ c) × (at + 1 ≡ next)
+  alone-was d o =
+      let h = expr-forward s at c next stands in
+      same-placed (sym (expr-alone s at (omega arith) d o) ∙ stands)
+
+  pub single-was : (f : Content → Content) → getElem? operators (getD s at 0) ≡ just (single f)
+      → (d : Content) × (exprAt s (at + 1) ≡ just (d upTo next)) × (f d ≡ c)
+  single-was f o =
+      let h = expr-forward s at c next stands in
+      placed-from f (exprAt s (at + 1)) c next (sym (expr-single s at (omega arith) f o) ∙ stands)
+
+  -- a type number or a count is there
+  pub numbered-more : (f : ℕ → Content) → getElem? operators (getD s at 0) ≡ just (numbered f) → at + 1 < length s
+  numbered-more f o = go (passes-or-fails (ltb (at + 1) (length s)))
+    where
+      go : (ltb (at + 1) (length s) ≡ true) ⊎ (ltb (at + 1) (length s) ≡ false) → at + 1 < length s
+      go (inl t) = ltb-true (at + 1) (length s) t
+      go (inr t) =
+          let h = expr-forward s at c next stands in
+          let l = ltb-false (at + 1) (length s) t in
+          let z : _≡_ {A = ℕ} 0 1 = cc (expr-unnumbered s at (omega arith) f o) in
+          absurd (omega arith)
+
+  pub counted-more : (f : Contents → Content) → getElem? operators (getD s at 0) ≡ just (counted f) → at + 1 < length s
+  counted-more f o = go (passes-or-fails (ltb (at + 1) (length s)))
+    where
+      go : (ltb (at + 1) (length s) ≡ true) ⊎ (ltb (at + 1) (length s) ≡ false) → at + 1 < length s
+      go (inl t) = ltb-true (at + 1) (length s) t
+      go (inr t) =
+          let h = expr-forward s at c next stands in
+          let l = ltb-false (at + 1) (length s) t in
+          let z : _≡_ {A = ℕ} 0 1 = cc (expr-uncounted s at (omega arith) f o) in
+          absurd (omega arith)
+
+  pub numbered-was : (f : ℕ → Content) → getElem? operators (getD s at 0) ≡ just (numbered f)
+      → (f (getD s (at + 1) 0) ≡ c) × (at + 2 ≡ next)
+  numbered-was f o = same-placed (sym (expr-numbered s at (numbered-more f o) f o) ∙ stands)
+
+  pub counted-was : (f : Contents → Content) → getElem? operators (getD s at 0) ≡ just (counted f)
+      → (cs : Contents) × (exprsAt s (at + 2) (getD s (at + 1) 0) ≡ just (cs upTo next)) × (f cs ≡ c)
+  counted-was f o =
+      placed-from f (exprsAt s (at + 2) (getD s (at + 1) 0)) c next (sym (expr-counted s at (counted-more f o) f o) ∙ stands)
