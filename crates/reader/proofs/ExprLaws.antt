@@ -260,11 +260,10 @@ module _ (s : List ℕ) (at : ℕ) where
       go (just p) q =
           let b = operands-were n (drop at s) (p .0) (p .1) q in
           let w = written s at (operandBytes (p .0)) (p .1) h (b .1) .0 in
-          let same = same-placed (sym (exprs-are n s at h ∙ ap (inFront (length s)) q) ∙ e) in
-          (
+          let same = same-placed (sym (exprs-are n s at h ∙ ap (inFront (length s)) q) ∙ e) in (
             b .0 ∙ ap count (same .0),
             subst (λ (n : ℕ). Written s at (operandBytes cs) n) (same .1)
-            (subst (λ (ds : Contents). Written s at (operandBytes ds) (length s - length (p .1))) (same .0) w),
+                (subst (λ (ds : Contents). Written s at (operandBytes ds) (length s - length (p .1))) (same .0) w),
           )
 
   pub exprs-of : (cs : Contents) (rest : List ℕ) → at ≤ length s → drop at s ≡ operandBytes cs ++ rest

@@ -1,1 +1,2 @@
 pub mod ExprAt
+pub mod Extents

@@ -1,2 +1,4 @@
 // File readers. Every byte string has the one answer that the written meaning gives it.
+pub mod contents;
+pub mod limits;
 pub mod numbers;
