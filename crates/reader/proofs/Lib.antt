@@ -1,1 +1,2 @@
 pub mod ExprLaws
+pub mod ExtentLaws
