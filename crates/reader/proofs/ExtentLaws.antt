@@ -11,7 +11,7 @@ use mathlib.Core.Option.{Option, none as nothing, some as just}
 use mathlib.Core.Path.{_≡_, refl, sym, _∙_, ap, ap₂, subst}
 use lib.ListN.{length, getD, getElem?, length-append}
 use lib.Dec.{leb, ltb, eqb}
-use borrow.Author.Tests.{le-leb, lt-leb, ltb-true, ltb-false}
+use borrow.Author.Tests.{le-leb, lt-leb, lt-ltb, le-ltb, ltb-true, ltb-false}
 use Rattle.grammar.specs.Limits.{Limits}
 use Rattle.grammar.specs.Content.{
   Content,
@@ -156,6 +156,52 @@ mutual
       let l = length-append (contentBytes c) (operandBytes cs) in
       omega arith
 
+-- an operator that adds a fault
+extent-fault : {A B : Type 0} (f : A → B) (ok : B → Bool) (deep : B → ℕ) (p : Option (Placed A))
+    → ((a : A) (n : ℕ) → p ≡ just (a upTo n) → ok (f a) ≡ false) → extentBy ok deep (placed f p) ≡ Nowhere
+extent-fault f ok deep nothing fault = refl
+extent-fault f ok deep (just e) fault = extent-no ok deep (f (e .content)) (e .next) (fault (e .content) (e .next) refl)
+
+-- a proper operand before others
+extent-after : (lim : Limits) (c : Content) (d : ℕ) → isProper lim c ≡ true → nesting c ≡ d → (p : Option (Placed Contents))
+    → extentBy (areProper lim) deepest (placed (λ cs. c ∷ᶜ cs) p) ≡ joinedOf d (extentBy (areProper lim) deepest p)
+unfolding areProper deepest
+extent-after lim c d ok deep nothing = refl
+extent-after lim c d ok deep (just e) = go (passes-or-fails (areProper lim (e .content)))
+  where
+    both : areProper lim (c ∷ᶜ e .content) ≡ areProper lim (e .content)
+    both = ap (λ (b : Bool). b && areProper lim (e .content)) ok
+
+    go : (areProper lim (e .content) ≡ true) ⊎ (areProper lim (e .content) ≡ false)
+        → extentBy (areProper lim) deepest (placed (λ cs. c ∷ᶜ cs) (just e)) ≡ joinedOf d (extentBy (areProper lim) deepest (just e))
+    go (inl t) =
+        extent-yes (areProper lim) deepest (c ∷ᶜ e .content) (e .next) (both ∙ t)
+        ∙ ap (λ (n : ℕ). Upto (e .next) (max n (deepest (e .content)))) deep
+        ∙ sym (ap (joinedOf d) (extent-yes (areProper lim) deepest (e .content) (e .next) t))
+    go (inr t) =
+        extent-no (areProper lim) deepest (c ∷ᶜ e .content) (e .next) (both ∙ t)
+        ∙ sym (ap (joinedOf d) (extent-no (areProper lim) deepest (e .content) (e .next) t))
+
+-- a sequence or a choice: an operator with a count
+record Counts (lim : Limits) (b : ℕ) : Type 0 where
+  operator : Contents → Content
+  numbered-so : getElem? operators b ≡ just (counted operator)
+  proper : (cs : Contents) → isProper lim (operator cs) ≡ (leb 2 (count cs) && leb (count cs) (lim .operands) && areProper lim cs)
+  nests : (cs : Contents) → nesting (operator cs) ≡ suc (deepest cs)
+
+counts : (lim : Limits) (b : ℕ) → 3 ≤ b → b ≤ 4 → Counts lim b
+unfolding isProper nesting
+counts lim b l h = go (b - 3) refl
+  where
+    go : (k : ℕ) → b - 3 ≡ k → Counts lim b
+    go zero e =
+        let q : b ≡ 3 = omega arith in
+        record { operator = sequence; numbered-so = ap (getElem? operators) q ∙ operator-sequence; proper = λ cs. refl; nests = λ cs. refl }
+    go (suc zero) e =
+        let q : b ≡ 4 = omega arith in
+        record { operator = choice; numbered-so = ap (getElem? operators) q ∙ operator-choice; proper = λ cs. refl; nests = λ cs. refl }
+    go (suc (suc k)) e = absurd (omega arith)
+
 module _ (lim : Limits) (s : List ℕ) (at : ℕ) where
   -- what the two answers mean
   pub proper-yes : (next d : ℕ) → properAt lim s at ≡ Upto next d
@@ -279,16 +325,175 @@ module _ (lim : Limits) (s : List ℕ) (at : ℕ) where
           let l = ltb-true (at + 1) (length s) p in
           rw (p, q, typeAt) (proper-fault (type (getD s (at + 1) 0)) (at + 2) (expr-numbered s at l type o) q)
 
+  -- a sequence or a choice
   module _ (low : 3 ≤ getD s at 0) (high : getD s at 0 ≤ 4) where
-    -- a count is missing
+    -- its count is missing
     pub proper-uncounted : at + 1 ≡ length s → properAt lim s at ≡ Nowhere
-    proper-uncounted h = go (getD s at 0 - 3) refl
+    proper-uncounted h =
+        let k = counts lim (getD s at 0) low high in
+        proper-none (expr-uncounted s at h (k .operator) (k .numbered-so))
+
+    -- its count is too small, whatever follows
+    pub proper-few : at + 1 < length s → getD s (at + 1) 0 < 2 → properAt lim s at ≡ Nowhere
+    unfolding properAt
+    proper-few h few =
+        let k = counts lim (getD s at 0) low high in
+        let n = getD s (at + 1) 0 in
+        ap (extentBy (isProper lim) nesting) (expr-counted s at h (k .operator) (k .numbered-so))
+        ∙ extent-fault (k .operator) (isProper lim) nesting (exprsAt s (at + 2) n) (λ cs next e. too-few cs (k .operator) (k .proper) (counted-so cs next e))
       where
-        go : (k : ℕ) → getD s at 0 - 3 ≡ k → properAt lim s at ≡ Nowhere
-        go zero e =
-            let b : getD s at 0 ≡ 3 = omega arith in
-            proper-none (expr-uncounted s at h sequence (ap (getElem? operators) b ∙ operator-sequence))
-        go (suc zero) e =
-            let b : getD s at 0 ≡ 4 = omega arith in
-            proper-none (expr-uncounted s at h choice (ap (getElem? operators) b ∙ operator-choice))
-        go (suc (suc k)) e = absurd (omega arith)
+        counted-so : (cs : Contents) (next : ℕ) → exprsAt s (at + 2) (getD s (at + 1) 0) ≡ just (cs upTo next) → count cs < 2
+        counted-so cs next e = let c = exprs-written s (at + 2) (getD s (at + 1) 0) cs next (omega arith) e .0 in omega arith
+
+        too-few : (cs : Contents) (f : Contents → Content)
+            → ((ds : Contents) → isProper lim (f ds) ≡ (leb 2 (count ds) && leb (count ds) (lim .operands) && areProper lim ds))
+            → count cs < 2 → isProper lim (f cs) ≡ false
+        too-few cs f so l = so cs ∙ ap (λ (b : Bool). b && leb (count cs) (lim .operands) && areProper lim cs) (lt-leb 2 (count cs) l)
+
+    pub proper-row : at + 1 < length s → 2 ≤ getD s (at + 1) 0 → getD s (at + 1) 0 ≤ lim .operands
+        → properAt lim s at ≡ deeperOf (properRowAt lim s (at + 2) (getD s (at + 1) 0))
+    unfolding properAt properRowAt
+    proper-row h few many =
+        let k = counts lim (getD s at 0) low high in
+        let n = getD s (at + 1) 0 in
+        ap (extentBy (isProper lim) nesting) (expr-counted s at h (k .operator) (k .numbered-so))
+        ∙ extent-under
+        (k .operator)
+        (areProper lim)
+        (isProper lim)
+        deepest
+        nesting
+        (exprsAt s (at + 2) n)
+        (λ cs next e. no-fault cs (k .operator) (k .proper) (exprs-written s (at + 2) n cs next (omega arith) e .0))
+        (λ cs. k .nests cs ∙ sym (add-one (deepest cs)))
+      where
+        no-fault : (cs : Contents) (f : Contents → Content)
+            → ((ds : Contents) → isProper lim (f ds) ≡ (leb 2 (count ds) && leb (count ds) (lim .operands) && areProper lim ds))
+            → getD s (at + 1) 0 ≡ count cs → isProper lim (f cs) ≡ areProper lim cs
+        no-fault cs f so c =
+            so cs
+            ∙ ap₂
+            (λ (b d : Bool). b && d && areProper lim cs)
+            (le-leb 2 (count cs) (omega arith))
+            (le-leb (count cs) (lim .operands) (omega arith))
+
+  -- Operand by operand.
+  pub row-none : properRowAt lim s at zero ≡ Upto at 0
+  unfolding properRowAt areProper deepest
+  row-none = ap (extentBy (areProper lim) deepest) (exprs-none s at)
+
+  -- what follows does not matter where the first is not proper
+  pub row-stop : (n : ℕ) → properAt lim s at ≡ Nowhere → properRowAt lim s at (suc n) ≡ Nowhere
+  unfolding properRowAt areProper
+  row-stop n fault = go (exprAt s at) refl
+    where
+      go : (p : Option (Placed Content)) → exprAt s at ≡ p → properRowAt lim s at (suc n) ≡ Nowhere
+      go nothing e = ap (extentBy (areProper lim) deepest) (exprs-stop s at n e)
+      go (just e) q =
+          let f = proper-no fault (e .content) (e .next) q in
+          ap (extentBy (areProper lim) deepest) (exprs-more s at n (e .content) (e .next) q)
+          ∙ extent-fault (λ cs. e .content ∷ᶜ cs) (areProper lim) deepest (exprsAt s (e .next) n)
+          (λ cs next r. ap (λ (b : Bool). b && areProper lim cs) f)
+
+  pub row-more : (n next d : ℕ) → properAt lim s at ≡ Upto next d → properRowAt lim s at (suc n) ≡ joinedOf d (properRowAt lim s next n)
+  unfolding properRowAt areProper deepest
+  row-more n next d e =
+      let y = proper-yes next d e in
+      ap (extentBy (areProper lim) deepest) (exprs-more s at n (y .0) next (y .1))
+      ∙ extent-after lim (y .0) d (y .2) (y .3) (exprsAt s next n)
+
+-- The walk from the first byte settles how a content reads.
+module _ (lim : Limits) (s : List ℕ) where
+  -- what is asked of the one expression
+  asked : Content → Outcome Content
+  asked c = do
+    turnBack (not (isProper lim c)) BadContent
+    turnBack (ltb (lim .nesting) (nesting c)) NestedTooDeep
+    given c
+
+  read-by : (p : Parsed Content) → expressionOf s ≡ p → readContent lim s ≡ (whole p >>= asked)
+  unfolding readContent asked
+  read-by p e = ap (λ (q : Parsed Content). whole q >>= asked) e
+
+  asked-fault : (c : Content) → isProper lim c ≡ false → asked c ≡ refused BadContent
+  unfolding asked
+  asked-fault c e = rw e
+
+  asked-deep : (c : Content) → isProper lim c ≡ true → lim .nesting < nesting c → asked c ≡ refused NestedTooDeep
+  unfolding asked
+  asked-deep c e h = rw (e, lt-ltb (lim .nesting) (nesting c) h)
+
+  asked-fine : (c : Content) → isProper lim c ≡ true → nesting c ≤ lim .nesting → asked c ≡ given c
+  unfolding asked
+  asked-fine c e h = rw (e, le-ltb (lim .nesting) (nesting c) h)
+
+  -- the expression at the first byte, and whether bytes are left over
+  first-expr : (c : Content) (rest : List ℕ) → expressionOf s ≡ just (c, rest) → exprAt s 0 ≡ just (c upTo (length s - length rest))
+  unfolding exprAt
+  first-expr c rest e = ap (inFront (length s)) e
+
+  no-expr : expressionOf s ≡ nothing → exprAt s 0 ≡ nothing
+  unfolding exprAt
+  no-expr e = ap (inFront (length s)) e
+
+  left-over : (c : Content) (rest : List ℕ) → isProper lim c ≡ false → (whole (just (c, rest)) >>= asked) ≡ refused BadContent
+  left-over c [] e = asked-fault c e
+  left-over c (b ∷ rest) e = refl
+
+  pub read-none : properAt lim s 0 ≡ Nowhere → readContent lim s ≡ refused BadContent
+  read-none h = go (expressionOf s) refl
+    where
+      go : (p : Parsed Content) → expressionOf s ≡ p → readContent lim s ≡ refused BadContent
+      go nothing e = read-by nothing e
+      go (just p) e =
+          let f = proper-no lim s 0 h (p .0) (length s - length (p .1)) (first-expr (p .0) (p .1) e) in
+          read-by (just p) e ∙ left-over (p .0) (p .1) f
+
+  module _ (next d : ℕ) (h : properAt lim s 0 ≡ Upto next d) where
+    -- the content that was found, and what is left
+    found-first : (c : Content) × (rest : List ℕ) × (expressionOf s ≡ just (c, rest)) × (isProper lim c ≡ true) × (nesting c ≡ d) × (next + length rest ≡ length s)
+    found-first = go (expressionOf s) refl
+      where
+        go : (p : Parsed Content) → expressionOf s ≡ p
+            → (c : Content) × (rest : List ℕ) × (expressionOf s ≡ just (c, rest)) × (isProper lim c ≡ true) × (nesting c ≡ d) × (next + length rest ≡ length s)
+        go nothing e =
+            let y = proper-yes lim s 0 next d h in
+            let z : _≡_ {A = ℕ} 0 1 = cc (y .1, no-expr e) in
+            absurd (omega arith)
+        go (just p) e =
+            let y = proper-yes lim s 0 next d h in
+            let q = same-placed (sym (first-expr (p .0) (p .1) e) ∙ y .1) in
+            let l = ap length (expression-was s (p .0) (p .1) e) ∙ length-append (contentBytes (p .0)) (p .1) in
+            let n = q .1 in
+            (p .0, p .1, e, ap (isProper lim) (q .0) ∙ y .2, ap nesting (q .0) ∙ y .3, omega arith)
+
+    pub read-left : next < length s → readContent lim s ≡ refused BadContent
+    read-left more = go (f .1) (f .2) (f .5)
+      where
+        f : (c : Content) × (rest : List ℕ) × (expressionOf s ≡ just (c, rest)) × (isProper lim c ≡ true) × (nesting c ≡ d) × (next + length rest ≡ length s)
+        f = found-first
+
+        go : (rest : List ℕ) → expressionOf s ≡ just (f .0, rest) → next + length rest ≡ length s → readContent lim s ≡ refused BadContent
+        go [] e n = absurd (omega arith)
+        go (b ∷ rest) e n = read-by (just (f .0, b ∷ rest)) e
+
+    read-whole : length s ≤ next → (c : Content) × (isProper lim c ≡ true) × (nesting c ≡ d) × (readContent lim s ≡ asked c)
+    read-whole all = go (f .1) (f .2) (f .5)
+      where
+        f : (c : Content) × (rest : List ℕ) × (expressionOf s ≡ just (c, rest)) × (isProper lim c ≡ true) × (nesting c ≡ d) × (next + length rest ≡ length s)
+        f = found-first
+
+        go : (rest : List ℕ) → expressionOf s ≡ just (f .0, rest) → next + length rest ≡ length s
+            → (c : Content) × (isProper lim c ≡ true) × (nesting c ≡ d) × (readContent lim s ≡ asked c)
+        go [] e n = (f .0, f .3, f .4, read-by (just (f .0, [])) e)
+        go (b ∷ rest) e n = absurd (omega arith)
+
+    pub read-deep : length s ≤ next → lim .nesting < d → readContent lim s ≡ refused NestedTooDeep
+    read-deep all deep =
+        let w = read-whole all in
+        w .3 ∙ asked-deep (w .0) (w .1) (rw (w .2) deep)
+
+    pub read-fine : length s ≤ next → d ≤ lim .nesting → (c : Content) × (readContent lim s ≡ given c)
+    read-fine all deep =
+        let w = read-whole all in
+        (w .0, w .3 ∙ asked-fine (w .0) (w .1) (rw (w .2) deep))
