@@ -1,28 +1,29 @@
+-- `deeper` meets its contract: the variant's two numbers are those of the operands.
+use Prim.Native.Nat.{_<_}
+use native.Mathlib.Omega.{arith}
+use mathlib.Core.Path.{sym, ap, subst}
 use borrow.Author.Needs.{needs}
+use Rattle.reader.specs.Extents.{NestsBelow, deeperOf}
 use Rattle.reader.proofs.contents.deeper.Statement.{statement}
 use Rattle.reader.proofs.contents.deeper.Tie as tie
-use Rattle.reader.proofs.contents.deeper.Reads as reads
-use Rattle.reader.proofs.contents.deeper.Lts as lts
 
--- src/contents.rt:30:28
 enum-told : tie.Need-enum-told
 enum-told c = search needs
 
--- src/contents.rt:31:24
 enum-known-operands : tie.Need-enum-known-operands
 enum-known-operands c = search needs
 
--- src/contents.rt:33:22
 add-t5 : tie.Need-add-t5
-add-t5 c = ?
+add-t5 c =
+    let small : c .before .operands .given .0 .1 .0 < 1025 =
+    subst (NestsBelow 1025) (c .before .operands .given .1) (c .before .before .before .pre) in
+    omega arith
 
--- src/contents.rt:25:1
 returns : tie.Need-returns
 returns c = search needs
 
--- src/contents.rt:25:1
 returns-2 : tie.Need-returns-2
-returns-2 c = ?
+returns-2 c = sym (ap deeperOf (c .before .operands .given .1))
 
 pub deeper-spec : {M : Type 1} → statement M
 deeper-spec = tie.close (tie.spec enum-told enum-known-operands add-t5 returns returns-2)
