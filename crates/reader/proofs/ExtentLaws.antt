@@ -50,7 +50,7 @@ use Rattle.grammar.specs.declared.Refusal.the-variants.{BadContent, NestedTooDe
 use Rattle.theory.proofs.BoolLaws.{passes-or-fails, not-both}
 use Rattle.theory.proofs.ContentBytes.{expression-was, content-has-bytes}
 use Rattle.reader.specs.ExprAt.{Placed, _upTo_, placed, inFront, exprAt, exprsAt}
-use Rattle.reader.specs.Extents.{extentBy, properAt, properRowAt, typeAt, deeperOf, joinedOf, contentAnswer}
+use Rattle.reader.specs.Extents.{extentBy, NestsBelow, properAt, properRowAt, typeAt, deeperOf, joinedOf, contentAnswer}
 use Rattle.reader.specs.declared.contents.Extent.{Extent}
 use Rattle.reader.specs.declared.contents.Extent.the-variants.{Nowhere, Upto}
 use Rattle.reader.proofs.ExprLaws.{
@@ -241,6 +241,20 @@ module _ (lim : Limits) (s : List ℕ) (at : ℕ) where
       let e = y .3 in
       omega arith
 
+  pub proper-nests : (m : ℕ) → length s < m → NestsBelow m (properAt lim s at)
+  proper-nests m h = go (properAt lim s at) refl
+    where
+      go : (x : Extent) → properAt lim s at ≡ x → NestsBelow m x
+      go Nowhere e = tt
+      go (Upto next d) e = let w = proper-within next d e in omega arith
+
+  pub row-nests : (n m : ℕ) → at ≤ length s → length s < m → NestsBelow m (properRowAt lim s at n)
+  row-nests n m i h = go (properRowAt lim s at n) refl
+    where
+      go : (x : Extent) → properRowAt lim s at n ≡ x → NestsBelow m x
+      go Nowhere e = tt
+      go (Upto next d) e = let w = row-within i n next d e in omega arith
+
   -- Operator by operator.
   proper-none : exprAt s at ≡ nothing → properAt lim s at ≡ Nowhere
   unfolding properAt
@@ -383,9 +397,10 @@ module _ (lim : Limits) (s : List ℕ) (at : ℕ) where
   row-none = ap (extentBy (areProper lim) deepest) (exprs-none s at)
 
   -- what follows does not matter where the first is not proper
-  pub row-stop : (n : ℕ) → properAt lim s at ≡ Nowhere → properRowAt lim s at (suc n) ≡ Nowhere
+  pub row-stop : (n : ℕ) → 0 < n → properAt lim s at ≡ Nowhere → properRowAt lim s at n ≡ Nowhere
   unfolding properRowAt areProper
-  row-stop n fault = go (exprAt s at) refl
+  row-stop zero h fault = absurd (omega arith)
+  row-stop (suc n) h fault = go (exprAt s at) refl
     where
       go : (p : Option (Placed Content)) → exprAt s at ≡ p → properRowAt lim s at (suc n) ≡ Nowhere
       go nothing e = ap (extentBy (areProper lim) deepest) (exprs-stop s at n e)
@@ -395,12 +410,16 @@ module _ (lim : Limits) (s : List ℕ) (at : ℕ) where
           ∙ extent-fault (λ cs. e .content ∷ᶜ cs) (areProper lim) deepest (exprsAt s (e .next) n)
           (λ cs next r. ap (λ (b : Bool). b && areProper lim cs) f)
 
-  pub row-more : (n next d : ℕ) → properAt lim s at ≡ Upto next d → properRowAt lim s at (suc n) ≡ joinedOf d (properRowAt lim s next n)
+  pub row-more : (n next d : ℕ) → 0 < n → properAt lim s at ≡ Upto next d
+      → properRowAt lim s at n ≡ joinedOf d (properRowAt lim s next (n - 1))
   unfolding properRowAt areProper deepest
-  row-more n next d e =
+  row-more zero next d h e = absurd (omega arith)
+  row-more (suc n) next d h e =
       let y = proper-yes next d e in
+      let less : n ≡ suc n - 1 = omega arith in
       ap (extentBy (areProper lim) deepest) (exprs-more s at n (y .0) next (y .1))
       ∙ extent-after lim (y .0) d (y .2) (y .3) (exprsAt s next n)
+      ∙ ap (λ (k : ℕ). joinedOf d (properRowAt lim s next k)) less
 
 -- The walk from the first byte settles how a content reads.
 module _ (lim : Limits) (s : List ℕ) where

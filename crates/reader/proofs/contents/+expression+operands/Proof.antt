@@ -1,6 +1,28 @@
-use Prim.Native.Nat.{ℕ, _<_}
+use Prim.Native.Nat.{ℕ, _+_, _-_, _*_, _≤_, _<_}
+use native.Mathlib.Omega.{arith}
+use mathlib.Core.Path.{_≡_, sym, _∙_, ap, subst}
+use lib.ListN.{length, getD}
+use borrow.Author.Needs.{needs}
 use borrow.Fn.Kinds.{In}
 use borrow.Fn.PlainCycle.{Measures, is, falls, and}
+use Rattle.grammar.specs.Limits.{standard}
+use Rattle.reader.specs.Extents.{NestsBelow, deeperOf, joinedOf, properAt, properRowAt}
+use Rattle.reader.proofs.ExtentLaws.{
+  proper-within,
+  proper-nests,
+  row-nests,
+  proper-past,
+  proper-unknown,
+  proper-alone,
+  proper-type,
+  proper-single,
+  proper-uncounted,
+  proper-few,
+  proper-row,
+  row-none,
+  row-stop,
+  row-more,
+}
 use Rattle.reader.proofs.contents.expression.Reads as expression
 use Rattle.reader.proofs.contents.expression.Kinds as expression-kinds
 use Rattle.reader.proofs.contents.+expression+operands.Lts-expression as expression-lts
@@ -15,10 +37,10 @@ use Rattle.reader.proofs.contents.+expression+operands.{statement}
 use Rattle.reader.proofs.contents.+expression+operands.Tie.{close}
 
 abbrev μ-expression : Measures 1 expression-kinds.ps ℕ
-μ-expression κs a = ?
+μ-expression κs a = 2 * (length (a .0 .now) - a .1 .0)
 
 abbrev μ-operands : Measures 1 operands-kinds.ps ℕ
-μ-operands κs a = ?
+μ-operands κs a = 2 * (length (a .0 .now) - a .1 .0) + 1
 
 abbrev expression-at : ℕ → In 1 expression-kinds.ps
 expression-at t =
@@ -35,463 +57,159 @@ abbrev operands-below : ℕ → In 1 operands-kinds.ps
 operands-below t =
     and 1 operands-kinds.ps (falls 1 operands-kinds.ps _<_ μ-operands t) operands.Pre
 
--- src/contents.rt:78:9
-expression-returns : (t : ℕ) → expression-lts.Need-returns (
-  wide-reads.Asked,
-  wide-reads.Learnt,
-  type-number-reads.Asked,
-  type-number-reads.Learnt,
-  operands-below t,
-  operands.Post,
-  deeper-reads.Asked,
-  deeper-reads.Learnt,
-  expression-below t,
-  expression.Post,
-) (expression-at t) expression.Post
-expression-returns t c = ?
+abbrev expression-calls : ℕ → expression-lts.Claims
+expression-calls t =
+    (wide-reads.Asked, wide-reads.Learnt, type-number-reads.Asked, type-number-reads.Learnt, operands-below t, operands.Post, deeper-reads.Asked, deeper-reads.Learnt, expression-below t, expression.Post)
 
--- src/contents.rt:80:25
-expression-shared-slice-read-wide : (t : ℕ) → expression-lts.Need-shared-slice-read-wide (
-  wide-reads.Asked,
-  wide-reads.Learnt,
-  type-number-reads.Asked,
-  type-number-reads.Learnt,
-  operands-below t,
-  operands.Post,
-  deeper-reads.Asked,
-  deeper-reads.Learnt,
-  expression-below t,
-  expression.Post,
-) (expression-at t) expression.Post
-expression-shared-slice-read-wide t c = ?
+abbrev operands-calls : ℕ → operands-lts.Claims
+operands-calls t = (expression-below t, expression.Post, operands-below t, operands.Post, joined-reads.Asked, joined-reads.Learnt)
 
--- src/contents.rt:80:9
-expression-wide-requires : (t : ℕ) → expression-lts.Need-wide-requires (
-  wide-reads.Asked,
-  wide-reads.Learnt,
-  type-number-reads.Asked,
-  type-number-reads.Learnt,
-  operands-below t,
-  operands.Post,
-  deeper-reads.Asked,
-  deeper-reads.Learnt,
-  expression-below t,
-  expression.Post,
-) (expression-at t) expression.Post
-expression-wide-requires t c κs = ?
+expression-returns : (t : ℕ) → expression-lts.Need-returns (expression-calls t) (expression-at t) expression.Post
+expression-returns t c = 
+    let s = c .before .before .args .content .now in
+    let at = c .before .before .args .at in
+    sym (proper-past standard s at (c .if1 .taken))
 
--- src/contents.rt:86:35
-expression-add-type-number : (t : ℕ) → expression-lts.Need-add-type-number (
-  wide-reads.Asked,
-  wide-reads.Learnt,
-  type-number-reads.Asked,
-  type-number-reads.Learnt,
-  operands-below t,
-  operands.Post,
-  deeper-reads.Asked,
-  deeper-reads.Learnt,
-  expression-below t,
-  expression.Post,
-) (expression-at t) expression.Post
-expression-add-type-number t c = ?
+expression-shared-slice-read-wide : (t : ℕ) → expression-lts.Need-shared-slice-read-wide (expression-calls t) (expression-at t) expression.Post
+expression-shared-slice-read-wide t c = omega arith
 
--- src/contents.rt:86:14
-expression-type-number-requires : (t : ℕ) → expression-lts.Need-type-number-requires (
-  wide-reads.Asked,
-  wide-reads.Learnt,
-  type-number-reads.Asked,
-  type-number-reads.Learnt,
-  operands-below t,
-  operands.Post,
-  deeper-reads.Asked,
-  deeper-reads.Learnt,
-  expression-below t,
-  expression.Post,
-) (expression-at t) expression.Post
-expression-type-number-requires t c κs = ?
+expression-wide-requires : (t : ℕ) → expression-lts.Need-wide-requires (expression-calls t) (expression-at t) expression.Post
+expression-wide-requires t c κs = search needs
 
--- src/contents.rt:83:19
-expression-add-t12 : (t : ℕ) → expression-lts.Need-add-t12 (
-  wide-reads.Asked,
-  wide-reads.Learnt,
-  type-number-reads.Asked,
-  type-number-reads.Learnt,
-  operands-below t,
-  operands.Post,
-  deeper-reads.Asked,
-  deeper-reads.Learnt,
-  expression-below t,
-  expression.Post,
-) (expression-at t) expression.Post
-expression-add-t12 t c = ?
+expression-add-type-number : (t : ℕ) → expression-lts.Need-add-type-number (expression-calls t) (expression-at t) expression.Post
+expression-add-type-number t c = omega arith
 
--- src/contents.rt:88:33
-expression-add-if4 : (t : ℕ) → expression-lts.Need-add-if4 (
-  wide-reads.Asked,
-  wide-reads.Learnt,
-  type-number-reads.Asked,
-  type-number-reads.Learnt,
-  operands-below t,
-  operands.Post,
-  deeper-reads.Asked,
-  deeper-reads.Learnt,
-  expression-below t,
-  expression.Post,
-) (expression-at t) expression.Post
-expression-add-if4 t c = ?
+expression-type-number-requires : (t : ℕ) → expression-lts.Need-type-number-requires (expression-calls t) (expression-at t) expression.Post
+expression-type-number-requires t c κs = search needs
 
--- src/contents.rt:89:17
-expression-returns-2 : (t : ℕ) → expression-lts.Need-returns-2 (
-  wide-reads.Asked,
-  wide-reads.Learnt,
-  type-number-reads.Asked,
-  type-number-reads.Learnt,
-  operands-below t,
-  operands.Post,
-  deeper-reads.Asked,
-  deeper-reads.Learnt,
-  expression-below t,
-  expression.Post,
-) (expression-at t) expression.Post
-expression-returns-2 t c = ?
+expression-add-t12 : (t : ℕ) → expression-lts.Need-add-t12 (expression-calls t) (expression-at t) expression.Post
+expression-add-t12 t c = omega arith
 
--- src/contents.rt:91:38
-expression-add-wide : (t : ℕ) → expression-lts.Need-add-wide (
-  wide-reads.Asked,
-  wide-reads.Learnt,
-  type-number-reads.Asked,
-  type-number-reads.Learnt,
-  operands-below t,
-  operands.Post,
-  deeper-reads.Asked,
-  deeper-reads.Learnt,
-  expression-below t,
-  expression.Post,
-) (expression-at t) expression.Post
-expression-add-wide t c = ?
+expression-add-if4 : (t : ℕ) → expression-lts.Need-add-if4 (expression-calls t) (expression-at t) expression.Post
+expression-add-if4 t c = omega arith
 
--- src/contents.rt:91:30
-expression-shared-slice-read-wide-2 : (t : ℕ) → expression-lts.Need-shared-slice-read-wide-2 (
-  wide-reads.Asked,
-  wide-reads.Learnt,
-  type-number-reads.Asked,
-  type-number-reads.Learnt,
-  operands-below t,
-  operands.Post,
-  deeper-reads.Asked,
-  deeper-reads.Learnt,
-  expression-below t,
-  expression.Post,
-) (expression-at t) expression.Post
-expression-shared-slice-read-wide-2 t c = ?
+expression-returns-2 : (t : ℕ) → expression-lts.Need-returns-2 (expression-calls t) (expression-at t) expression.Post
+expression-returns-2 t c = 
+    let s = c .before .before .before .before .before .before .before .before .args .content .now in
+    let at = c .before .before .before .before .before .before .before .before .args .at in
+    sym (proper-uncounted standard s at (omega (arith, c .before .before .before .match .rest .1)) (omega arith) (omega arith))
 
--- src/contents.rt:91:17
-expression-wide-requires-2 : (t : ℕ) → expression-lts.Need-wide-requires-2 (
-  wide-reads.Asked,
-  wide-reads.Learnt,
-  type-number-reads.Asked,
-  type-number-reads.Learnt,
-  operands-below t,
-  operands.Post,
-  deeper-reads.Asked,
-  deeper-reads.Learnt,
-  expression-below t,
-  expression.Post,
-) (expression-at t) expression.Post
-expression-wide-requires-2 t c κs = ?
+expression-add-wide : (t : ℕ) → expression-lts.Need-add-wide (expression-calls t) (expression-at t) expression.Post
+expression-add-wide t c = omega arith
 
--- src/contents.rt:93:17
-expression-returns-3 : (t : ℕ) → expression-lts.Need-returns-3 (
-  wide-reads.Asked,
-  wide-reads.Learnt,
-  type-number-reads.Asked,
-  type-number-reads.Learnt,
-  operands-below t,
-  operands.Post,
-  deeper-reads.Asked,
-  deeper-reads.Learnt,
-  expression-below t,
-  expression.Post,
-) (expression-at t) expression.Post
-expression-returns-3 t c = ?
+expression-shared-slice-read-wide-2 : (t : ℕ) → expression-lts.Need-shared-slice-read-wide-2 (expression-calls t) (expression-at t) expression.Post
+expression-shared-slice-read-wide-2 t c = omega arith
 
--- src/contents.rt:95:38
-expression-add-operands : (t : ℕ) → expression-lts.Need-add-operands (
-  wide-reads.Asked,
-  wide-reads.Learnt,
-  type-number-reads.Asked,
-  type-number-reads.Learnt,
-  operands-below t,
-  operands.Post,
-  deeper-reads.Asked,
-  deeper-reads.Learnt,
-  expression-below t,
-  expression.Post,
-) (expression-at t) expression.Post
-expression-add-operands t c = ?
+expression-wide-requires-2 : (t : ℕ) → expression-lts.Need-wide-requires-2 (expression-calls t) (expression-at t) expression.Post
+expression-wide-requires-2 t c κs = search needs
 
--- src/contents.rt:95:20
-expression-operands-requires : (t : ℕ) → expression-lts.Need-operands-requires (
-  wide-reads.Asked,
-  wide-reads.Learnt,
-  type-number-reads.Asked,
-  type-number-reads.Learnt,
-  operands-below t,
-  operands.Post,
-  deeper-reads.Asked,
-  deeper-reads.Learnt,
-  expression-below t,
-  expression.Post,
-) (expression-at t) expression.Post
-expression-operands-requires t c κs = ?
+expression-returns-3 : (t : ℕ) → expression-lts.Need-returns-3 (expression-calls t) (expression-at t) expression.Post
+expression-returns-3 t c = 
+    let s = c .before .before .before .before .before .before .before .before .before .before .before .args .content .now in
+    let at = c .before .before .before .before .before .before .before .before .before .before .before .args .at in
+    sym (proper-few standard s at (omega (arith, c .before .before .before .before .before .before .match .rest .1)) (omega arith) (c .before .before .before .if4 .left) (omega arith))
 
--- src/contents.rt:95:13
-expression-deeper-requires : (t : ℕ) → expression-lts.Need-deeper-requires (
-  wide-reads.Asked,
-  wide-reads.Learnt,
-  type-number-reads.Asked,
-  type-number-reads.Learnt,
-  operands-below t,
-  operands.Post,
-  deeper-reads.Asked,
-  deeper-reads.Learnt,
-  expression-below t,
-  expression.Post,
-) (expression-at t) expression.Post
-expression-deeper-requires t c κs = ?
+expression-add-operands : (t : ℕ) → expression-lts.Need-add-operands (expression-calls t) (expression-at t) expression.Post
+expression-add-operands t c = omega arith
 
--- src/contents.rt:97:45
-expression-add-expression : (t : ℕ) → expression-lts.Need-add-expression (
-  wide-reads.Asked,
-  wide-reads.Learnt,
-  type-number-reads.Asked,
-  type-number-reads.Learnt,
-  operands-below t,
-  operands.Post,
-  deeper-reads.Asked,
-  deeper-reads.Learnt,
-  expression-below t,
-  expression.Post,
-) (expression-at t) expression.Post
-expression-add-expression t c = ?
+expression-operands-requires : (t : ℕ) → expression-lts.Need-operands-requires (expression-calls t) (expression-at t) expression.Post
+expression-operands-requires t c κs = (omega arith, omega arith)
 
--- src/contents.rt:97:25
-expression-expression-requires : (t : ℕ) → expression-lts.Need-expression-requires (
-  wide-reads.Asked,
-  wide-reads.Learnt,
-  type-number-reads.Asked,
-  type-number-reads.Learnt,
-  operands-below t,
-  operands.Post,
-  deeper-reads.Asked,
-  deeper-reads.Learnt,
-  expression-below t,
-  expression.Post,
-) (expression-at t) expression.Post
-expression-expression-requires t c κs = ?
+expression-deeper-requires : (t : ℕ) → expression-lts.Need-deeper-requires (expression-calls t) (expression-at t) expression.Post
+expression-deeper-requires t c κs = 
+    let s = c .before .before .before .before .before .before .before .before .before .before .before .before .args .content .now in
+    let at = c .before .before .before .before .before .before .before .before .before .before .before .before .args .at in
+    subst (NestsBelow 1025) (sym (c .operands .ensures)) (row-nests standard s (at + 2) _ 1025 (omega arith) (omega arith))
 
--- src/contents.rt:97:18
-expression-deeper-requires-2 : (t : ℕ) → expression-lts.Need-deeper-requires-2 (
-  wide-reads.Asked,
-  wide-reads.Learnt,
-  type-number-reads.Asked,
-  type-number-reads.Learnt,
-  operands-below t,
-  operands.Post,
-  deeper-reads.Asked,
-  deeper-reads.Learnt,
-  expression-below t,
-  expression.Post,
-) (expression-at t) expression.Post
-expression-deeper-requires-2 t c κs = ?
+expression-add-expression : (t : ℕ) → expression-lts.Need-add-expression (expression-calls t) (expression-at t) expression.Post
+expression-add-expression t c = omega arith
 
--- src/contents.rt:73:1
-expression-returns-4 : (t : ℕ) → expression-lts.Need-returns-4 (
-  wide-reads.Asked,
-  wide-reads.Learnt,
-  type-number-reads.Asked,
-  type-number-reads.Learnt,
-  operands-below t,
-  operands.Post,
-  deeper-reads.Asked,
-  deeper-reads.Learnt,
-  expression-below t,
-  expression.Post,
-) (expression-at t) expression.Post
-expression-returns-4 t c = ?
+expression-expression-requires : (t : ℕ) → expression-lts.Need-expression-requires (expression-calls t) (expression-at t) expression.Post
+expression-expression-requires t c κs = (omega arith, omega arith)
 
--- src/contents.rt:73:1
-expression-returns-5 : (t : ℕ) → expression-lts.Need-returns-5 (
-  wide-reads.Asked,
-  wide-reads.Learnt,
-  type-number-reads.Asked,
-  type-number-reads.Learnt,
-  operands-below t,
-  operands.Post,
-  deeper-reads.Asked,
-  deeper-reads.Learnt,
-  expression-below t,
-  expression.Post,
-) (expression-at t) expression.Post
-expression-returns-5 t c = ?
+expression-deeper-requires-2 : (t : ℕ) → expression-lts.Need-deeper-requires-2 (expression-calls t) (expression-at t) expression.Post
+expression-deeper-requires-2 t c κs = 
+    let s = c .before .before .before .before .before .before .before .before .before .args .content .now in
+    let at = c .before .before .before .before .before .before .before .before .before .args .at in
+    subst (NestsBelow 1025) (sym (c .expression .ensures)) (proper-nests standard s (at + 1) 1025 (omega arith))
 
--- src/contents.rt:73:1
-expression-returns-6 : (t : ℕ) → expression-lts.Need-returns-6 (
-  wide-reads.Asked,
-  wide-reads.Learnt,
-  type-number-reads.Asked,
-  type-number-reads.Learnt,
-  operands-below t,
-  operands.Post,
-  deeper-reads.Asked,
-  deeper-reads.Learnt,
-  expression-below t,
-  expression.Post,
-) (expression-at t) expression.Post
-expression-returns-6 t c = ?
+expression-returns-4 : (t : ℕ) → expression-lts.Need-returns-4 (expression-calls t) (expression-at t) expression.Post
+expression-returns-4 t c = 
+    let s = c .before .before .before .before .before .before .args .content .now in
+    let at = c .before .before .before .before .before .before .args .at in
+    c .type-number .ensures ∙ sym (proper-type standard s at (c .before .before .before .before .if1 .left) (sym (c .before .before .wide .ensures .0) ∙ c .before .match .keys1))
 
--- src/contents.rt:73:1
-expression-returns-7 : (t : ℕ) → expression-lts.Need-returns-7 (
-  wide-reads.Asked,
-  wide-reads.Learnt,
-  type-number-reads.Asked,
-  type-number-reads.Learnt,
-  operands-below t,
-  operands.Post,
-  deeper-reads.Asked,
-  deeper-reads.Learnt,
-  expression-below t,
-  expression.Post,
-) (expression-at t) expression.Post
-expression-returns-7 t c = ?
+expression-returns-5 : (t : ℕ) → expression-lts.Need-returns-5 (expression-calls t) (expression-at t) expression.Post
+expression-returns-5 t c = 
+    let s = c .before .before .before .before .before .before .args .content .now in
+    let at = c .before .before .before .before .before .before .args .at in
+    sym (proper-alone standard s at (c .before .before .before .before .if1 .left) (omega arith))
 
--- src/contents.rt:73:1
-expression-returns-8 : (t : ℕ) → expression-lts.Need-returns-8 (
-  wide-reads.Asked,
-  wide-reads.Learnt,
-  type-number-reads.Asked,
-  type-number-reads.Learnt,
-  operands-below t,
-  operands.Post,
-  deeper-reads.Asked,
-  deeper-reads.Learnt,
-  expression-below t,
-  expression.Post,
-) (expression-at t) expression.Post
-expression-returns-8 t c = ?
+expression-returns-6 : (t : ℕ) → expression-lts.Need-returns-6 (expression-calls t) (expression-at t) expression.Post
+unfolding standard
+expression-returns-6 t c = 
+    let s = c .before .before .before .before .before .before .before .before .before .before .before .before .before .args .content .now in
+    let at = c .before .before .before .before .before .before .before .before .before .before .before .before .before .args .at in
+    c .deeper .ensures
+    ∙ ap deeperOf (c .before .operands .ensures ∙ ap (properRowAt standard s (at + 2)) (c .before .before .before .wide2 .ensures .0))
+    ∙ sym (proper-row standard s at (omega (arith, c .before .before .before .before .before .before .before .before .match .rest .1)) (omega arith) (c .before .before .before .before .before .if4 .left) (omega arith) (omega arith))
 
--- src/contents.rt:108:9
-operands-returns : (t : ℕ) → operands-lts.Need-returns (
-  expression-below t,
-  expression.Post,
-  operands-below t,
-  operands.Post,
-  joined-reads.Asked,
-  joined-reads.Learnt,
-) (operands-at t) operands.Post
-operands-returns t c = ?
+expression-returns-7 : (t : ℕ) → expression-lts.Need-returns-7 (expression-calls t) (expression-at t) expression.Post
+expression-returns-7 t c = 
+    let s = c .before .before .before .before .before .before .before .before .before .before .args .content .now in
+    let at = c .before .before .before .before .before .before .before .before .before .before .args .at in
+    c .deeper2 .ensures ∙ ap deeperOf (c .before .expression .ensures) ∙ sym (proper-single standard s at (c .before .before .before .before .before .before .before .before .if1 .left) (omega arith) (omega arith))
 
--- src/contents.rt:113:11
-operands-expression-requires : (t : ℕ) → operands-lts.Need-expression-requires (
-  expression-below t,
-  expression.Post,
-  operands-below t,
-  operands.Post,
-  joined-reads.Asked,
-  joined-reads.Learnt,
-) (operands-at t) operands.Post
-operands-expression-requires t c κs = ?
+expression-returns-8 : (t : ℕ) → expression-lts.Need-returns-8 (expression-calls t) (expression-at t) expression.Post
+expression-returns-8 t c = 
+    let s = c .before .before .before .before .before .before .before .before .args .content .now in
+    let at = c .before .before .before .before .before .before .before .before .args .at in
+    sym (proper-unknown standard s at (c .before .before .before .before .before .before .if1 .left) (omega arith))
 
--- src/contents.rt:114:28
-operands-enum-told : (t : ℕ) → operands-lts.Need-enum-told (
-  expression-below t,
-  expression.Post,
-  operands-below t,
-  operands.Post,
-  joined-reads.Asked,
-  joined-reads.Learnt,
-) (operands-at t) operands.Post
-operands-enum-told t c = ?
+operands-returns : (t : ℕ) → operands-lts.Need-returns (operands-calls t) (operands-at t) operands.Post
+operands-returns t c = 
+    let s = c .before .before .args .content .now in
+    let at = c .before .before .args .at in
+    sym (ap (properRowAt standard s at) (c .if1 .taken) ∙ row-none standard s at)
 
--- src/contents.rt:115:24
-operands-enum-known-next : (t : ℕ) → operands-lts.Need-enum-known-next (
-  expression-below t,
-  expression.Post,
-  operands-below t,
-  operands.Post,
-  joined-reads.Asked,
-  joined-reads.Learnt,
-) (operands-at t) operands.Post
-operands-enum-known-next t c = ?
+operands-expression-requires : (t : ℕ) → operands-lts.Need-expression-requires (operands-calls t) (operands-at t) operands.Post
+operands-expression-requires t c κs = (omega arith, omega arith)
 
--- src/contents.rt:115:85
-operands-sub-operands : (t : ℕ) → operands-lts.Need-sub-operands (
-  expression-below t,
-  expression.Post,
-  operands-below t,
-  operands.Post,
-  joined-reads.Asked,
-  joined-reads.Learnt,
-) (operands-at t) operands.Post
-operands-sub-operands t c = ?
+operands-enum-told : (t : ℕ) → operands-lts.Need-enum-told (operands-calls t) (operands-at t) operands.Post
+operands-enum-told t c = search needs
 
--- src/contents.rt:115:61
-operands-operands-requires : (t : ℕ) → operands-lts.Need-operands-requires (
-  expression-below t,
-  expression.Post,
-  operands-below t,
-  operands.Post,
-  joined-reads.Asked,
-  joined-reads.Learnt,
-) (operands-at t) operands.Post
-operands-operands-requires t c κs = ?
+operands-enum-known-next : (t : ℕ) → operands-lts.Need-enum-known-next (operands-calls t) (operands-at t) operands.Post
+operands-enum-known-next t c = search needs
 
--- src/contents.rt:115:45
-operands-joined-requires : (t : ℕ) → operands-lts.Need-joined-requires (
-  expression-below t,
-  expression.Post,
-  operands-below t,
-  operands.Post,
-  joined-reads.Asked,
-  joined-reads.Learnt,
-) (operands-at t) operands.Post
-operands-joined-requires t c κs = ?
+operands-sub-operands : (t : ℕ) → operands-lts.Need-sub-operands (operands-calls t) (operands-at t) operands.Post
+operands-sub-operands t c = omega arith
 
--- src/contents.rt:103:1
-operands-returns-2 : (t : ℕ) → operands-lts.Need-returns-2 (
-  expression-below t,
-  expression.Post,
-  operands-below t,
-  operands.Post,
-  joined-reads.Asked,
-  joined-reads.Learnt,
-) (operands-at t) operands.Post
-operands-returns-2 t c = ?
+operands-operands-requires : (t : ℕ) → operands-lts.Need-operands-requires (operands-calls t) (operands-at t) operands.Post
+operands-operands-requires t c κs = 
+    let s = c .before .before .before .before .before .before .args .content .now in
+    let at = c .before .before .before .before .before .before .args .at in
+    let w = proper-within standard s at _ _ (sym (c .before .before .before .expression .ensures) ∙ c .before .next .given .1) in
+    (omega arith, omega arith)
 
--- src/contents.rt:103:1
-operands-returns-3 : (t : ℕ) → operands-lts.Need-returns-3 (
-  expression-below t,
-  expression.Post,
-  operands-below t,
-  operands.Post,
-  joined-reads.Asked,
-  joined-reads.Learnt,
-) (operands-at t) operands.Post
-operands-returns-3 t c = ?
+operands-joined-requires : (t : ℕ) → operands-lts.Need-joined-requires (operands-calls t) (operands-at t) operands.Post
+operands-joined-requires t c κs = search needs
+
+operands-returns-2 : (t : ℕ) → operands-lts.Need-returns-2 (operands-calls t) (operands-at t) operands.Post
+operands-returns-2 t c = 
+    let s = c .before .before .before .before .before .args .content .now in
+    let at = c .before .before .before .before .before .args .at in
+    sym (row-stop standard s at (c .before .before .before .before .before .args .count) (omega (arith, c .before .before .before .if1 .left)) (sym (c .before .before .expression .ensures) ∙ c .enum-told .given .1))
+
+operands-returns-3 : (t : ℕ) → operands-lts.Need-returns-3 (operands-calls t) (operands-at t) operands.Post
+operands-returns-3 t c = 
+    let s = c .before .before .before .before .before .before .before .before .args .content .now in
+    let at = c .before .before .before .before .before .before .before .before .args .at in
+    c .joined .ensures
+    ∙ ap (joinedOf _) (c .before .operands .ensures)
+    ∙ sym (row-more standard s at (c .before .before .before .before .before .before .before .before .args .count) _ _ (omega (arith, c .before .before .before .before .before .before .if1 .left)) (sym (c .before .before .before .before .before .expression .ensures) ∙ c .before .before .before .next .given .1))
 
 pub +expression+operands-spec : {M : Type 1} → statement M
-+expression+operands-spec = close μ-expression μ-operands (λ t. expression-lts.spec (
-  wide-reads.Asked,
-  wide-reads.Learnt,
-  type-number-reads.Asked,
-  type-number-reads.Learnt,
-  operands-below t,
-  operands.Post,
-  deeper-reads.Asked,
-  deeper-reads.Learnt,
-  expression-below t,
-  expression.Post,
-)
++expression+operands-spec = close μ-expression μ-operands (λ t. expression-lts.spec (expression-calls t)
     (expression-at t)
     expression.Post
     (expression-returns t)
@@ -517,14 +235,7 @@ pub +expression+operands-spec : {M : Type 1} → statement M
     (expression-returns-6 t)
     (expression-returns-7 t)
     (expression-returns-8 t))
-    λ t. operands-lts.spec (
-      expression-below t,
-      expression.Post,
-      operands-below t,
-      operands.Post,
-      joined-reads.Asked,
-      joined-reads.Learnt,
-    )
+    λ t. operands-lts.spec (operands-calls t)
     (operands-at t)
     operands.Post
     (operands-returns t)
