@@ -65,7 +65,7 @@ abbrev operands-calls : ℕ → operands-lts.Claims
 operands-calls t = (expression-below t, expression.Post, operands-below t, operands.Post, joined-reads.Asked, joined-reads.Learnt)
 
 expression-returns : (t : ℕ) → expression-lts.Need-returns (expression-calls t) (expression-at t) expression.Post
-expression-returns t c = 
+expression-returns t c =
     let s = c .before .before .args .content .now in
     let at = c .before .before .args .at in
     sym (proper-past standard s at (c .if1 .taken))
@@ -89,7 +89,7 @@ expression-add-if4 : (t : ℕ) → expression-lts.Need-add-if4 (expression-calls
 expression-add-if4 t c = omega arith
 
 expression-returns-2 : (t : ℕ) → expression-lts.Need-returns-2 (expression-calls t) (expression-at t) expression.Post
-expression-returns-2 t c = 
+expression-returns-2 t c =
     let s = c .before .before .before .before .before .before .before .before .args .content .now in
     let at = c .before .before .before .before .before .before .before .before .args .at in
     sym (proper-uncounted standard s at (omega (arith, c .before .before .before .match .rest .1)) (omega arith) (omega arith))
@@ -104,7 +104,7 @@ expression-wide-requires-2 : (t : ℕ) → expression-lts.Need-wide-requires-2 (
 expression-wide-requires-2 t c κs = search needs
 
 expression-returns-3 : (t : ℕ) → expression-lts.Need-returns-3 (expression-calls t) (expression-at t) expression.Post
-expression-returns-3 t c = 
+expression-returns-3 t c =
     let s = c .before .before .before .before .before .before .before .before .before .before .before .args .content .now in
     let at = c .before .before .before .before .before .before .before .before .before .before .before .args .at in
     sym (proper-few standard s at (omega (arith, c .before .before .before .before .before .before .match .rest .1)) (omega arith) (c .before .before .before .if4 .left) (omega arith))
@@ -116,7 +116,7 @@ expression-operands-requires : (t : ℕ) → expression-lts.Need-operands-requir
 expression-operands-requires t c κs = (omega arith, omega arith)
 
 expression-deeper-requires : (t : ℕ) → expression-lts.Need-deeper-requires (expression-calls t) (expression-at t) expression.Post
-expression-deeper-requires t c κs = 
+expression-deeper-requires t c κs =
     let s = c .before .before .before .before .before .before .before .before .before .before .before .before .args .content .now in
     let at = c .before .before .before .before .before .before .before .before .before .before .before .before .args .at in
     subst (NestsBelow 1025) (sym (c .operands .ensures)) (row-nests standard s (at + 2) _ 1025 (omega arith) (omega arith))
@@ -128,26 +128,26 @@ expression-expression-requires : (t : ℕ) → expression-lts.Need-expression-re
 expression-expression-requires t c κs = (omega arith, omega arith)
 
 expression-deeper-requires-2 : (t : ℕ) → expression-lts.Need-deeper-requires-2 (expression-calls t) (expression-at t) expression.Post
-expression-deeper-requires-2 t c κs = 
+expression-deeper-requires-2 t c κs =
     let s = c .before .before .before .before .before .before .before .before .before .args .content .now in
     let at = c .before .before .before .before .before .before .before .before .before .args .at in
     subst (NestsBelow 1025) (sym (c .expression .ensures)) (proper-nests standard s (at + 1) 1025 (omega arith))
 
 expression-returns-4 : (t : ℕ) → expression-lts.Need-returns-4 (expression-calls t) (expression-at t) expression.Post
-expression-returns-4 t c = 
+expression-returns-4 t c =
     let s = c .before .before .before .before .before .before .args .content .now in
     let at = c .before .before .before .before .before .before .args .at in
     c .type-number .ensures ∙ sym (proper-type standard s at (c .before .before .before .before .if1 .left) (sym (c .before .before .wide .ensures .0) ∙ c .before .match .keys1))
 
 expression-returns-5 : (t : ℕ) → expression-lts.Need-returns-5 (expression-calls t) (expression-at t) expression.Post
-expression-returns-5 t c = 
+expression-returns-5 t c =
     let s = c .before .before .before .before .before .before .args .content .now in
     let at = c .before .before .before .before .before .before .args .at in
     sym (proper-alone standard s at (c .before .before .before .before .if1 .left) (omega arith))
 
 expression-returns-6 : (t : ℕ) → expression-lts.Need-returns-6 (expression-calls t) (expression-at t) expression.Post
 unfolding standard
-expression-returns-6 t c = 
+expression-returns-6 t c =
     let s = c .before .before .before .before .before .before .before .before .before .before .before .before .before .args .content .now in
     let at = c .before .before .before .before .before .before .before .before .before .before .before .before .before .args .at in
     c .deeper .ensures
@@ -155,19 +155,19 @@ expression-returns-6 t c =
     ∙ sym (proper-row standard s at (omega (arith, c .before .before .before .before .before .before .before .before .match .rest .1)) (omega arith) (c .before .before .before .before .before .if4 .left) (omega arith) (omega arith))
 
 expression-returns-7 : (t : ℕ) → expression-lts.Need-returns-7 (expression-calls t) (expression-at t) expression.Post
-expression-returns-7 t c = 
+expression-returns-7 t c =
     let s = c .before .before .before .before .before .before .before .before .before .before .args .content .now in
     let at = c .before .before .before .before .before .before .before .before .before .before .args .at in
     c .deeper2 .ensures ∙ ap deeperOf (c .before .expression .ensures) ∙ sym (proper-single standard s at (c .before .before .before .before .before .before .before .before .if1 .left) (omega arith) (omega arith))
 
 expression-returns-8 : (t : ℕ) → expression-lts.Need-returns-8 (expression-calls t) (expression-at t) expression.Post
-expression-returns-8 t c = 
+expression-returns-8 t c =
     let s = c .before .before .before .before .before .before .before .before .args .content .now in
     let at = c .before .before .before .before .before .before .before .before .args .at in
     sym (proper-unknown standard s at (c .before .before .before .before .before .before .if1 .left) (omega arith))
 
 operands-returns : (t : ℕ) → operands-lts.Need-returns (operands-calls t) (operands-at t) operands.Post
-operands-returns t c = 
+operands-returns t c =
     let s = c .before .before .args .content .now in
     let at = c .before .before .args .at in
     sym (ap (properRowAt standard s at) (c .if1 .taken) ∙ row-none standard s at)
@@ -185,7 +185,7 @@ operands-sub-operands : (t : ℕ) → operands-lts.Need-sub-operands (operands-c
 operands-sub-operands t c = omega arith
 
 operands-operands-requires : (t : ℕ) → operands-lts.Need-operands-requires (operands-calls t) (operands-at t) operands.Post
-operands-operands-requires t c κs = 
+operands-operands-requires t c κs =
     let s = c .before .before .before .before .before .before .args .content .now in
     let at = c .before .before .before .before .before .before .args .at in
     let w = proper-within standard s at _ _ (sym (c .before .before .before .expression .ensures) ∙ c .before .next .given .1) in
@@ -195,13 +195,13 @@ operands-joined-requires : (t : ℕ) → operands-lts.Need-joined-requires (oper
 operands-joined-requires t c κs = search needs
 
 operands-returns-2 : (t : ℕ) → operands-lts.Need-returns-2 (operands-calls t) (operands-at t) operands.Post
-operands-returns-2 t c = 
+operands-returns-2 t c =
     let s = c .before .before .before .before .before .args .content .now in
     let at = c .before .before .before .before .before .args .at in
     sym (row-stop standard s at (c .before .before .before .before .before .args .count) (omega (arith, c .before .before .before .if1 .left)) (sym (c .before .before .expression .ensures) ∙ c .enum-told .given .1))
 
 operands-returns-3 : (t : ℕ) → operands-lts.Need-returns-3 (operands-calls t) (operands-at t) operands.Post
-operands-returns-3 t c = 
+operands-returns-3 t c =
     let s = c .before .before .before .before .before .before .before .before .args .content .now in
     let at = c .before .before .before .before .before .before .before .before .args .at in
     c .joined .ensures
