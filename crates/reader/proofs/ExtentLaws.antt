@@ -46,11 +46,13 @@ use Rattle.grammar.specs.ReadContent.{
   readContent,
 }
 use Rattle.grammar.specs.Outcome.{Outcome, given, refused, _>>=_, _>>_, turnBack}
+use Rattle.grammar.specs.declared.Refusal.{Refusal}
 use Rattle.grammar.specs.declared.Refusal.the-variants.{BadContent, NestedTooDeep}
 use Rattle.theory.proofs.BoolLaws.{passes-or-fails, not-both}
 use Rattle.theory.proofs.ContentBytes.{expression-was, content-has-bytes}
 use Rattle.reader.specs.ExprAt.{Placed, _upTo_, placed, inFront, exprAt, exprsAt}
 use Rattle.reader.specs.Extents.{extentBy, NestsBelow, properAt, properRowAt, typeAt, deeperOf, joinedOf, contentAnswer}
+use Rattle.reader.specs.declared.contents.ContentAnswer.the-variants.{Fine, Refused}
 use Rattle.reader.specs.declared.contents.Extent.{Extent}
 use Rattle.reader.specs.declared.contents.Extent.the-variants.{Nowhere, Upto}
 use Rattle.reader.proofs.ExprLaws.{
@@ -421,6 +423,15 @@ module _ (lim : Limits) (s : List ℕ) (at : ℕ) where
       ∙ extent-after lim (y .0) d (y .2) (y .3) (exprsAt s next n)
       ∙ ap (λ (k : ℕ). joinedOf d (properRowAt lim s next k)) less
 
+-- the content that was found from the first byte on, and what is left after it
+record First (lim : Limits) (s : List ℕ) (next d : ℕ) : Type 0 where
+  content : Content
+  rest : List ℕ
+  read : expressionOf s ≡ just (content, rest)
+  proper : isProper lim content ≡ true
+  deep : nesting content ≡ d
+  lengths : next + length rest ≡ length s
+
 -- The walk from the first byte settles how a content reads.
 module _ (lim : Limits) (s : List ℕ) where
   -- what is asked of the one expression
@@ -469,12 +480,10 @@ module _ (lim : Limits) (s : List ℕ) where
           read-by (just p) e ∙ left-over (p .0) (p .1) f
 
   module _ (next d : ℕ) (h : properAt lim s 0 ≡ Upto next d) where
-    -- the content that was found, and what is left
-    found-first : (c : Content) × (rest : List ℕ) × (expressionOf s ≡ just (c, rest)) × (isProper lim c ≡ true) × (nesting c ≡ d) × (next + length rest ≡ length s)
+    found-first : First lim s next d
     found-first = go (expressionOf s) refl
       where
-        go : (p : Parsed Content) → expressionOf s ≡ p
-            → (c : Content) × (rest : List ℕ) × (expressionOf s ≡ just (c, rest)) × (isProper lim c ≡ true) × (nesting c ≡ d) × (next + length rest ≡ length s)
+        go : (p : Parsed Content) → expressionOf s ≡ p → First lim s next d
         go nothing e =
             let y = proper-yes lim s 0 next d h in
             let z : _≡_ {A = ℕ} 0 1 = cc (y .1, no-expr e) in
@@ -484,28 +493,29 @@ module _ (lim : Limits) (s : List ℕ) where
             let q = same-placed (sym (first-expr (p .0) (p .1) e) ∙ y .1) in
             let l = ap length (expression-was s (p .0) (p .1) e) ∙ length-append (contentBytes (p .0)) (p .1) in
             let n = q .1 in
-            (p .0, p .1, e, ap (isProper lim) (q .0) ∙ y .2, ap nesting (q .0) ∙ y .3, omega arith)
+            record {
+              content = p .0;
+              rest = p .1;
+              read = e;
+              proper = ap (isProper lim) (q .0) ∙ y .2;
+              deep = ap nesting (q .0) ∙ y .3;
+              lengths = omega arith;
+            }
 
     pub read-left : next < length s → readContent lim s ≡ refused BadContent
-    read-left more = go (f .1) (f .2) (f .5)
+    read-left more = let f = found-first in go (f .content) (f .rest) (f .read) (f .lengths)
       where
-        f : (c : Content) × (rest : List ℕ) × (expressionOf s ≡ just (c, rest)) × (isProper lim c ≡ true) × (nesting c ≡ d) × (next + length rest ≡ length s)
-        f = found-first
-
-        go : (rest : List ℕ) → expressionOf s ≡ just (f .0, rest) → next + length rest ≡ length s → readContent lim s ≡ refused BadContent
-        go [] e n = absurd (omega arith)
-        go (b ∷ rest) e n = read-by (just (f .0, b ∷ rest)) e
+        go : (c : Content) (rest : List ℕ) → expressionOf s ≡ just (c, rest) → next + length rest ≡ length s
+            → readContent lim s ≡ refused BadContent
+        go c [] e n = absurd (omega arith)
+        go c (b ∷ rest) e n = read-by (just (c, b ∷ rest)) e
 
     read-whole : length s ≤ next → (c : Content) × (isProper lim c ≡ true) × (nesting c ≡ d) × (readContent lim s ≡ asked c)
-    read-whole all = go (f .1) (f .2) (f .5)
+    read-whole all = let f = found-first in (f .content, f .proper, f .deep, go (f .content) (f .rest) (f .read) (f .lengths))
       where
-        f : (c : Content) × (rest : List ℕ) × (expressionOf s ≡ just (c, rest)) × (isProper lim c ≡ true) × (nesting c ≡ d) × (next + length rest ≡ length s)
-        f = found-first
-
-        go : (rest : List ℕ) → expressionOf s ≡ just (f .0, rest) → next + length rest ≡ length s
-            → (c : Content) × (isProper lim c ≡ true) × (nesting c ≡ d) × (readContent lim s ≡ asked c)
-        go [] e n = (f .0, f .3, f .4, read-by (just (f .0, [])) e)
-        go (b ∷ rest) e n = absurd (omega arith)
+        go : (c : Content) (rest : List ℕ) → expressionOf s ≡ just (c, rest) → next + length rest ≡ length s → readContent lim s ≡ asked c
+        go c [] e n = read-by (just (c, [])) e
+        go c (b ∷ rest) e n = absurd (omega arith)
 
     pub read-deep : length s ≤ next → lim .nesting < d → readContent lim s ≡ refused NestedTooDeep
     read-deep all deep =
@@ -516,3 +526,12 @@ module _ (lim : Limits) (s : List ℕ) where
     read-fine all deep =
         let w = read-whole all in
         (w .0, w .3 ∙ asked-fine (w .0) (w .1) (rw (w .2) deep))
+
+-- what a caller learns from the answer
+pub fine-given : (o : Outcome Content) → contentAnswer o ≡ Fine → (c : Content) × (o ≡ given c)
+fine-given (refused r) e = let z : _≡_ {A = ℕ} 0 1 = cc in absurd (omega arith)
+fine-given (given c) e = (c, refl)
+
+pub refused-so : (o : Outcome Content) (r : Refusal) → contentAnswer o ≡ Refused r → o ≡ refused r
+refused-so (refused q) r e = cc
+refused-so (given c) r e = let z : _≡_ {A = ℕ} 0 1 = cc in absurd (omega arith)
