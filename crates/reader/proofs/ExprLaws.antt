@@ -7,9 +7,9 @@ use mathlib.Core.List.{List, [], _∷_, _++_, append-assoc}
 use mathlib.Core.Logic.{_⊎_, inl, inr}
 use mathlib.Core.Option.{Option, none as nothing, some as just}
 use mathlib.Core.Path.{_≡_, refl, sym, _∙_, ap, ap₂, subst}
-use lib.ListN.{length, getD, getElem?, take, drop, length-append, length-drop, drop-of-length-le}
+use lib.ListN.{length, getD, getElem?, take, drop, length-append, length-take, length-drop, drop-of-length-le, take-append-drop}
 use lib.Dec.{ltb}
-use lib.Seq.{drop-cons, drop-drop, drop-append-seam, take-append-seam, take-at, drop-at, getD-drop}
+use lib.Seq.{drop-cons, drop-drop, drop-append-seam, drop-append-le, drop-append-add, take-append-add, take-add, take-at, drop-at, length-take-le}
 use borrow.Author.Tests.{ltb-true, ltb-false}
 use Rattle.grammar.specs.Content.{
   Content,
@@ -470,3 +470,101 @@ pub exprs-end : (s : List ℕ) (at : ℕ) (cs : Contents) (next : ℕ) → exprs
 exprs-end s at cs next e =
     let p = same-placed (sym (exprs-none s at) ∙ e) in
     (sym (p .0), sym (p .1))
+
+-- Where the same bytes stand, the same content stands: with more bytes after or before them, or with later bytes cut off.
+part-of : (s : List ℕ) (at n : ℕ) → at ≤ length s → drop at (take (at + n) s) ≡ take n (drop at s)
+part-of s at n h = ap (drop at) (take-add at n s) ∙ drop-at (take at s) (take n (drop at s)) at (length-take-le at s h)
+
+written-longer : (p q : List ℕ) (at : ℕ) (bytes : List ℕ) (next : ℕ) → Written p at bytes next → Written (p ++ q) at bytes next
+written-longer p q at bytes next w =
+    let l = length-append p q in
+    let n = w .next-is in
+    let h = w .inside in
+    record {
+      bytes-from =
+        drop-append-le at p q (omega arith)
+        ∙ ap (λ (x : List ℕ). x ++ q) (w .bytes-from)
+        ∙ append-assoc bytes (drop next p) q
+        ∙ ap (λ (x : List ℕ). bytes ++ x) (sym (drop-append-le next p q h));
+      next-is = n;
+      inside = omega arith;
+    }
+
+written-shifted : (q p : List ℕ) (at : ℕ) (bytes : List ℕ) (next : ℕ) → Written p at bytes next
+    → Written (q ++ p) (length q + at) bytes (length q + next)
+written-shifted q p at bytes next w =
+    let l = length-append q p in
+    let n = w .next-is in
+    let h = w .inside in
+    record {
+      bytes-from =
+        drop-append-add q p at ∙ w .bytes-from ∙ ap (λ (x : List ℕ). bytes ++ x) (sym (drop-append-add q p next));
+      next-is = omega arith;
+      inside = omega arith;
+    }
+
+written-cut : (k : ℕ) (s : List ℕ) (at : ℕ) (bytes : List ℕ) (next : ℕ) → Written s at bytes next → next ≤ k
+    → Written (take k s) at bytes next
+written-cut k s at bytes next w h =
+    let n = w .next-is in
+    let i = w .inside in
+    let l = length-take k s in
+    let from-at : k ≡ at + (length bytes + (k - next)) = omega arith in
+    let from-next : next + (k - next) ≡ k = omega arith in
+    record {
+      bytes-from =
+        ap (λ (j : ℕ). drop at (take j s)) from-at
+        ∙ part-of s at (length bytes + (k - next)) (omega arith)
+        ∙ ap (take (length bytes + (k - next))) (w .bytes-from)
+        ∙ take-append-add bytes (drop next s) (k - next)
+        ∙ ap
+        (λ (x : List ℕ). bytes ++ x)
+        (sym (part-of s next (k - next) i) ∙ ap (λ (j : ℕ). drop next (take j s)) from-next);
+      next-is = n;
+      inside = omega arith;
+    }
+
+-- the same for what stands there: a part of some bytes, and bytes that are the same as far as it goes
+written-kept : (s t : List ℕ) (at : ℕ) (bytes : List ℕ) (next : ℕ) → Written s at bytes next → take next s ≡ take next t
+    → Written t at bytes next
+written-kept s t at bytes next w e =
+    subst (λ (l : List ℕ). Written l at bytes next) (take-append-drop next t)
+    (written-longer (take next t) (drop next t) at bytes next
+    (subst (λ (l : List ℕ). Written l at bytes next) e (written-cut next s at bytes next w (omega arith))))
+
+written-in : (t : List ℕ) (a k : ℕ) (at : ℕ) (bytes : List ℕ) (next : ℕ) → a ≤ length t → Written (take k (drop a t)) at bytes next
+    → Written t (a + at) bytes (a + next)
+written-in t a k at bytes next h w =
+    let all = take-append-drop a t in
+    let l = length-take-le a t h in
+    let v =
+        written-shifted (take a t) (drop a t) at bytes next
+        (subst (λ (x : List ℕ). Written x at bytes next) (take-append-drop k (drop a t))
+        (written-longer (take k (drop a t)) (drop k (drop a t)) at bytes next w)) in
+    subst (λ (x : List ℕ). Written x (a + at) bytes (a + next)) all
+    (subst (λ (n : ℕ). Written (take a t ++ drop a t) (n + at) bytes (n + next)) l v)
+
+module _ (s : List ℕ) (at : ℕ) where
+  pub written-expr : (c : Content) (next : ℕ) → Written s at (contentBytes c) next → exprAt s at ≡ just (c upTo next)
+  written-expr c next w = expr-of s at c (drop next s) (w .bytes-from) ∙ ap (λ (n : ℕ). just (c upTo n)) (sym (w .next-is))
+
+  pub written-exprs : (cs : Contents) (next : ℕ) → Written s at (operandBytes cs) next → exprsAt s at (count cs) ≡ just (cs upTo next)
+  written-exprs cs next w =
+      let n = w .next-is in
+      let i = w .inside in
+      exprs-of s at cs (drop next s) (omega arith) (w .bytes-from) ∙ ap (λ (n : ℕ). just (cs upTo n)) (sym n)
+
+pub expr-kept : (s t : List ℕ) (at : ℕ) (c : Content) (next : ℕ) → take next s ≡ take next t
+    → exprAt s at ≡ just (c upTo next) → exprAt t at ≡ just (c upTo next)
+expr-kept s t at c next same e = written-expr t at c next (written-kept s t at (contentBytes c) next (expr-written s at c next e) same)
+
+pub exprs-kept : (s t : List ℕ) (at n : ℕ) (cs : Contents) (next : ℕ) → at ≤ length s → take next s ≡ take next t
+    → exprsAt s at n ≡ just (cs upTo next) → exprsAt t at n ≡ just (cs upTo next)
+exprs-kept s t at n cs next h same e =
+    let w = exprs-written s at n cs next h e in
+    ap (exprsAt t at) (w .0) ∙ written-exprs t at cs next (written-kept s t at (operandBytes cs) next (w .1) same)
+
+pub expr-in : (t : List ℕ) (a k at : ℕ) (c : Content) (next : ℕ) → a ≤ length t → exprAt (take k (drop a t)) at ≡ just (c upTo next)
+    → exprAt t (a + at) ≡ just (c upTo (a + next))
+expr-in t a k at c next h e =
+    written-expr t (a + at) c (a + next) (written-in t a k at (contentBytes c) next h (expr-written (take k (drop a t)) at c next e))
