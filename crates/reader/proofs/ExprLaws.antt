@@ -1,7 +1,12 @@
--- Laws of `exprAt` and `exprsAt`.
+-- The laws of `exprAt` and `exprsAt`, by which every walk over the bytes of contents goes.
+-- What they are, operator by operator and operand by operand: `expr-past`, `expr-unknown`, `expr-alone`, `expr-numbered`, `expr-counted`,
+-- `expr-single` (`expr-unnumbered`, `expr-uncounted` where the bytes stop), `exprs-none`, `exprs-stop`, `exprs-more`.
+-- Where a content is known to stand: the place after it and its bytes (`expr-forward`, `expr-bytes`, `expr-written` and back, `written-expr`);
+-- what its operator's byte says (`alone-was`, `numbered-was`, `counted-was`, `single-was`); its parts by cases of the content (`expr-parts`);
+-- the first of so many (`exprs-first`, `exprs-end`). The same bytes elsewhere are the same content: `expr-kept`, `expr-in`.
 use Prim.Native.Nat.{ℕ, zero, suc, _+_, _-_, _≤_, _<_}
 use native.Mathlib.Omega.{arith}
-use native.Mathlib.Numerals.{add-one, add-two}
+use native.Mathlib.Numerals.{add-one}
 use mathlib.Core.Bool.{Bool, true, false}
 use mathlib.Core.List.{List, [], _∷_, _++_, append-assoc}
 use mathlib.Core.Logic.{_⊎_, inl, inr}
@@ -482,10 +487,10 @@ written-longer p q at bytes next w =
     let h = w .inside in
     record {
       bytes-from =
-        drop-append-le at p q (omega arith)
-        ∙ ap (λ (x : List ℕ). x ++ q) (w .bytes-from)
-        ∙ append-assoc bytes (drop next p) q
-        ∙ ap (λ (x : List ℕ). bytes ++ x) (sym (drop-append-le next p q h));
+          drop-append-le at p q (omega arith)
+          ∙ ap (λ (x : List ℕ). x ++ q) (w .bytes-from)
+          ∙ append-assoc bytes (drop next p) q
+          ∙ ap (λ (x : List ℕ). bytes ++ x) (sym (drop-append-le next p q h));
       next-is = n;
       inside = omega arith;
     }
@@ -498,7 +503,7 @@ written-shifted q p at bytes next w =
     let h = w .inside in
     record {
       bytes-from =
-        drop-append-add q p at ∙ w .bytes-from ∙ ap (λ (x : List ℕ). bytes ++ x) (sym (drop-append-add q p next));
+          drop-append-add q p at ∙ w .bytes-from ∙ ap (λ (x : List ℕ). bytes ++ x) (sym (drop-append-add q p next));
       next-is = omega arith;
       inside = omega arith;
     }
@@ -513,13 +518,13 @@ written-cut k s at bytes next w h =
     let from-next : next + (k - next) ≡ k = omega arith in
     record {
       bytes-from =
-        ap (λ (j : ℕ). drop at (take j s)) from-at
-        ∙ part-of s at (length bytes + (k - next)) (omega arith)
-        ∙ ap (take (length bytes + (k - next))) (w .bytes-from)
-        ∙ take-append-add bytes (drop next s) (k - next)
-        ∙ ap
-        (λ (x : List ℕ). bytes ++ x)
-        (sym (part-of s next (k - next) i) ∙ ap (λ (j : ℕ). drop next (take j s)) from-next);
+          ap (λ (j : ℕ). drop at (take j s)) from-at
+          ∙ part-of s at (length bytes + (k - next)) (omega arith)
+          ∙ ap (take (length bytes + (k - next))) (w .bytes-from)
+          ∙ take-append-add bytes (drop next s) (k - next)
+          ∙ ap
+          (λ (x : List ℕ). bytes ++ x)
+          (sym (part-of s next (k - next) i) ∙ ap (λ (j : ℕ). drop next (take j s)) from-next);
       next-is = n;
       inside = omega arith;
     }
@@ -538,9 +543,9 @@ written-in t a k at bytes next h w =
     let all = take-append-drop a t in
     let l = length-take-le a t h in
     let v =
-        written-shifted (take a t) (drop a t) at bytes next
-        (subst (λ (x : List ℕ). Written x at bytes next) (take-append-drop k (drop a t))
-        (written-longer (take k (drop a t)) (drop k (drop a t)) at bytes next w)) in
+    written-shifted (take a t) (drop a t) at bytes next
+    (subst (λ (x : List ℕ). Written x at bytes next) (take-append-drop k (drop a t))
+    (written-longer (take k (drop a t)) (drop k (drop a t)) at bytes next w)) in
     subst (λ (x : List ℕ). Written x (a + at) bytes (a + next)) all
     (subst (λ (n : ℕ). Written (take a t ++ drop a t) (n + at) bytes (n + next)) l v)
 

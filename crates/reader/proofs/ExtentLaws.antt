@@ -423,11 +423,18 @@ module _ (lim : Limits) (s : List ℕ) (at : ℕ) where
       ∙ extent-after lim (y .0) d (y .2) (y .3) (exprsAt s next n)
       ∙ ap (λ (k : ℕ). joinedOf d (properRowAt lim s next k)) less
 
+-- What later walks know of a content that was read: it stands from the first byte to the end, is proper and nests within the limit.
+pub record ReadAs (lim : Limits) (s : List ℕ) (c : Content) : Type 0 where
+  pub stands : exprAt s 0 ≡ just (c upTo length s)
+  pub proper : isProper lim c ≡ true
+  pub shallow : nesting c ≤ lim .nesting
+
 -- the content that was found from the first byte on, and what is left after it
 record First (lim : Limits) (s : List ℕ) (next d : ℕ) : Type 0 where
   content : Content
   rest : List ℕ
   read : expressionOf s ≡ just (content, rest)
+  stands : exprAt s 0 ≡ just (content upTo next)
   proper : isProper lim content ≡ true
   deep : nesting content ≡ d
   lengths : next + length rest ≡ length s
@@ -497,6 +504,7 @@ module _ (lim : Limits) (s : List ℕ) where
               content = p .0;
               rest = p .1;
               read = e;
+              stands = first-expr (p .0) (p .1) e ∙ ap (λ (n : ℕ). just (p .0 upTo n)) (q .1);
               proper = ap (isProper lim) (q .0) ∙ y .2;
               deep = ap nesting (q .0) ∙ y .3;
               lengths = omega arith;
@@ -510,22 +518,49 @@ module _ (lim : Limits) (s : List ℕ) where
         go c [] e n = absurd (omega arith)
         go c (b ∷ rest) e n = read-by (just (c, b ∷ rest)) e
 
-    read-whole : length s ≤ next → (c : Content) × (isProper lim c ≡ true) × (nesting c ≡ d) × (readContent lim s ≡ asked c)
-    read-whole all = let f = found-first in (f .content, f .proper, f .deep, go (f .content) (f .rest) (f .read) (f .lengths))
+    read-whole : (f : First lim s next d) → length s ≤ next → readContent lim s ≡ asked (f .content)
+    read-whole f all = go (f .rest) (f .read) (f .lengths)
       where
-        go : (c : Content) (rest : List ℕ) → expressionOf s ≡ just (c, rest) → next + length rest ≡ length s → readContent lim s ≡ asked c
-        go c [] e n = read-by (just (c, [])) e
-        go c (b ∷ rest) e n = absurd (omega arith)
+        go : (rest : List ℕ) → expressionOf s ≡ just (f .content, rest) → next + length rest ≡ length s → readContent lim s ≡ asked (f .content)
+        go [] e n = read-by (just (f .content, [])) e
+        go (b ∷ rest) e n = absurd (omega arith)
 
     pub read-deep : length s ≤ next → lim .nesting < d → readContent lim s ≡ refused NestedTooDeep
     read-deep all deep =
-        let w = read-whole all in
-        w .3 ∙ asked-deep (w .0) (w .1) (rw (w .2) deep)
+        let f = found-first in
+        read-whole f all ∙ asked-deep (f .content) (f .proper) (rw (f .deep) deep)
 
-    pub read-fine : length s ≤ next → d ≤ lim .nesting → (c : Content) × (readContent lim s ≡ given c)
+    pub read-fine : length s ≤ next → d ≤ lim .nesting → (c : Content) × (readContent lim s ≡ given c) × ReadAs lim s c
     read-fine all deep =
-        let w = read-whole all in
-        (w .0, w .3 ∙ asked-fine (w .0) (w .1) (rw (w .2) deep))
+        let f = found-first in
+        let w = proper-within lim s 0 next d h in
+        let end : next ≡ length s = omega arith in
+        let small : nesting (f .content) ≤ lim .nesting = rw (f .deep) deep in (
+          f .content,
+          read-whole f all ∙ asked-fine (f .content) (f .proper) small,
+          record { stands = f .stands ∙ ap (λ (n : ℕ). just (f .content upTo n)) end; proper = f .proper; shallow = small },
+        )
+
+pub read-as : (lim : Limits) (s : List ℕ) (c : Content) → readContent lim s ≡ given c → ReadAs lim s c
+read-as lim s c r = go (properAt lim s 0) refl
+  where
+    go : (x : Extent) → properAt lim s 0 ≡ x → ReadAs lim s c
+    go Nowhere e = let z : _≡_ {A = ℕ} 0 1 = cc (read-none lim s e) in absurd (omega arith)
+    go (Upto next d) e = by (passes-or-fails (ltb next (length s))) (passes-or-fails (ltb (lim .nesting) d))
+      where
+        by : (ltb next (length s) ≡ true) ⊎ (ltb next (length s) ≡ false) → (ltb (lim .nesting) d ≡ true) ⊎ (ltb (lim .nesting) d ≡ false)
+            → ReadAs lim s c
+        by (inl p) q =
+            let z : _≡_ {A = ℕ} 0 1 = cc (read-left lim s next d e (ltb-true next (length s) p)) in
+            absurd (omega arith)
+        by (inr p) (inl q) =
+            let all = ltb-false next (length s) p in
+            let z : _≡_ {A = ℕ} 0 1 = cc (read-deep lim s next d e all (ltb-true (lim .nesting) d q)) in
+            absurd (omega arith)
+        by (inr p) (inr q) =
+            let f = read-fine lim s next d e (ltb-false next (length s) p) (ltb-false (lim .nesting) d q) in
+            let same : f .0 ≡ c = cc in
+            subst (ReadAs lim s) same (f .2)
 
 -- what a caller learns from the answer
 pub fine-given : (o : Outcome Content) → contentAnswer o ≡ Fine → (c : Content) × (o ≡ given c)
