@@ -1,8 +1,11 @@
 -- The laws of `exprAt` and `exprsAt`, by which every walk over the bytes of contents goes.
--- What they are, operator by operator and operand by operand: `expr-past`, `expr-unknown`, `expr-alone`, `expr-numbered`, `expr-counted`,
+-- What they are, operator by operator and operand by operand: `expr-past`, `expr-unknown`, `expr-alone`, `expr-numbered`,
+-- `expr-counted`,
 -- `expr-single` (`expr-unnumbered`, `expr-uncounted` where the bytes stop), `exprs-none`, `exprs-stop`, `exprs-more`.
--- Where a content is known to stand: the place after it and its bytes (`expr-forward`, `expr-bytes`, `expr-written` and back, `written-expr`);
--- what its operator's byte says (`alone-was`, `numbered-was`, `counted-was`, `single-was`); its parts by cases of the content (`expr-parts`);
+-- Where a content is known to stand: the place after it and its bytes (`expr-forward`, `expr-bytes`, `expr-written` and back,
+-- `written-expr`);
+-- what its operator's byte says (`alone-was`, `numbered-was`, `counted-was`, `single-was`); its parts by cases of the content
+-- (`expr-parts`);
 -- the first of so many (`exprs-first`, `exprs-end`). The same bytes elsewhere are the same content: `expr-kept`, `expr-in`.
 use Prim.Native.Nat.{ℕ, zero, suc, _+_, _-_, _≤_, _<_}
 use native.Mathlib.Omega.{arith}
@@ -89,7 +92,8 @@ after-part : (s : List ℕ) (at n : ℕ) → at + n ≤ length s → length s - 
 after-part s at n h = let l = length-drop (at + n) s in omega arith
 
 -- one thing that stands at a place is another: both are equal, and so are the places after them
-pub same-placed : {A : Type 0} {a b : A} {m n : ℕ} → _≡_ {A = Option (Placed A)} (just (a upTo m)) (just (b upTo n)) → (a ≡ b) × (m ≡ n)
+pub same-placed : {A : Type 0} {a b : A} {m n : ℕ} → _≡_ {A = Option (Placed A)} (just (a upTo m)) (just (b upTo n))
+    → (a ≡ b) × (m ≡ n)
 same-placed {A} e =
     let q = just-eq e in
     (ap (λ (p : Placed A). p .content) (sym q), ap (λ (p : Placed A). p .next) (sym q))
@@ -130,7 +134,8 @@ module _ (s : List ℕ) (at : ℕ) where
   unfolding exprAt
   expr-none e = ap (inFront (length s)) e
 
-  expr-some : (c : Content) (rest : List ℕ) → expressionOf (drop at s) ≡ just (c, rest) → exprAt s at ≡ just (c upTo (length s - length rest))
+  expr-some : (c : Content) (rest : List ℕ) → expressionOf (drop at s) ≡ just (c, rest)
+      → exprAt s at ≡ just (c upTo (length s - length rest))
   unfolding exprAt
   expr-some c rest e = ap (inFront (length s)) e
 
@@ -462,7 +467,8 @@ pub record FirstAt (s : List ℕ) (at n : ℕ) (cs : Contents) (next : ℕ) : Ty
   pub first-at : exprAt s at ≡ just (first upTo middle)
   pub others-at : exprsAt s middle n ≡ just (others upTo next)
 
-pub exprs-first : (s : List ℕ) (at n : ℕ) (cs : Contents) (next : ℕ) → exprsAt s at (suc n) ≡ just (cs upTo next) → FirstAt s at n cs next
+pub exprs-first : (s : List ℕ) (at n : ℕ) (cs : Contents) (next : ℕ) → exprsAt s at (suc n) ≡ just (cs upTo next)
+    → FirstAt s at n cs next
 exprs-first s at n cs next e = go (exprAt s at) refl
   where
     go : (p : Option (Placed Content)) → exprAt s at ≡ p → FirstAt s at n cs next
@@ -471,7 +477,8 @@ exprs-first s at n cs next e = go (exprAt s at) refl
         let m = placed-from (λ ds. p .content ∷ᶜ ds) (exprsAt s (p .next) n) cs next (sym (exprs-more s at n (p .content) (p .next) q) ∙ e) in
         record { first = p .content; others = m .0; middle = p .next; both = sym (m .2); first-at = q; others-at = m .1 }
 
-pub exprs-end : (s : List ℕ) (at : ℕ) (cs : Contents) (next : ℕ) → exprsAt s at zero ≡ just (cs upTo next) → (cs ≡ []ᶜ) × (next ≡ at)
+pub exprs-end : (s : List ℕ) (at : ℕ) (cs : Contents) (next : ℕ) → exprsAt s at zero ≡ just (cs upTo next)
+    → (cs ≡ []ᶜ) × (next ≡ at)
 exprs-end s at cs next e =
     let p = same-placed (sym (exprs-none s at) ∙ e) in
     (sym (p .0), sym (p .1))
@@ -553,7 +560,8 @@ module _ (s : List ℕ) (at : ℕ) where
   pub written-expr : (c : Content) (next : ℕ) → Written s at (contentBytes c) next → exprAt s at ≡ just (c upTo next)
   written-expr c next w = expr-of s at c (drop next s) (w .bytes-from) ∙ ap (λ (n : ℕ). just (c upTo n)) (sym (w .next-is))
 
-  pub written-exprs : (cs : Contents) (next : ℕ) → Written s at (operandBytes cs) next → exprsAt s at (count cs) ≡ just (cs upTo next)
+  pub written-exprs : (cs : Contents) (next : ℕ) → Written s at (operandBytes cs) next
+      → exprsAt s at (count cs) ≡ just (cs upTo next)
   written-exprs cs next w =
       let n = w .next-is in
       let i = w .inside in

@@ -1,4 +1,5 @@
--- Laws of `properAt` and `properRowAt`, by which the walk over a content goes: what they are operator by operator and operand by operand,
+-- Laws of `properAt` and `properRowAt`, by which the walk over a content goes: what they are operator by operator and operand by
+-- operand,
 -- what their two answers mean (`proper-yes`, `proper-no`), and that they settle the reading of a content (`read-none`, `read-left`,
 -- `read-deep`, `read-fine`).
 use Prim.Native.Nat.{ℕ, zero, suc, _+_, _-_, _≤_, _<_, max}
@@ -91,7 +92,8 @@ module _ {A : Type 0} (proper : A → Bool) (deep : A → ℕ) where
   extent-no a n e = rw (e, extentBy)
 
   -- nothing proper stands there
-  extent-never : (p : Option (Placed A)) → ((a : A) (n : ℕ) → p ≡ just (a upTo n) → proper a ≡ false) → extentBy proper deep p ≡ Nowhere
+  extent-never : (p : Option (Placed A)) → ((a : A) (n : ℕ) → p ≡ just (a upTo n) → proper a ≡ false)
+      → extentBy proper deep p ≡ Nowhere
   extent-never nothing h = refl
   extent-never (just e) h = extent-no (e .content) (e .next) (h (e .content) (e .next) refl)
 
@@ -262,7 +264,8 @@ module _ (lim : Limits) (s : List ℕ) (at : ℕ) where
   unfolding properAt
   proper-none e = ap (extentBy (isProper lim) nesting) e
 
-  proper-some : (c : Content) (next : ℕ) → exprAt s at ≡ just (c upTo next) → isProper lim c ≡ true → properAt lim s at ≡ Upto next (nesting c)
+  proper-some : (c : Content) (next : ℕ) → exprAt s at ≡ just (c upTo next) → isProper lim c ≡ true
+      → properAt lim s at ≡ Upto next (nesting c)
   unfolding properAt
   proper-some c next e t = ap (extentBy (isProper lim) nesting) e ∙ extent-yes (isProper lim) nesting c next t
 
@@ -521,7 +524,8 @@ module _ (lim : Limits) (s : List ℕ) where
     read-whole : (f : First lim s next d) → length s ≤ next → readContent lim s ≡ asked (f .content)
     read-whole f all = go (f .rest) (f .read) (f .lengths)
       where
-        go : (rest : List ℕ) → expressionOf s ≡ just (f .content, rest) → next + length rest ≡ length s → readContent lim s ≡ asked (f .content)
+        go : (rest : List ℕ) → expressionOf s ≡ just (f .content, rest) → next + length rest ≡ length s
+            → readContent lim s ≡ asked (f .content)
         go [] e n = read-by (just (f .content, [])) e
         go (b ∷ rest) e n = absurd (omega arith)
 
@@ -548,7 +552,8 @@ read-as lim s c r = go (properAt lim s 0) refl
     go Nowhere e = let z : _≡_ {A = ℕ} 0 1 = cc (read-none lim s e) in absurd (omega arith)
     go (Upto next d) e = by (passes-or-fails (ltb next (length s))) (passes-or-fails (ltb (lim .nesting) d))
       where
-        by : (ltb next (length s) ≡ true) ⊎ (ltb next (length s) ≡ false) → (ltb (lim .nesting) d ≡ true) ⊎ (ltb (lim .nesting) d ≡ false)
+        by : (ltb next (length s) ≡ true) ⊎ (ltb next (length s) ≡ false)
+            → (ltb (lim .nesting) d ≡ true) ⊎ (ltb (lim .nesting) d ≡ false)
             → ReadAs lim s c
         by (inl p) q =
             let z : _≡_ {A = ℕ} 0 1 = cc (read-left lim s next d e (ltb-true next (length s) p)) in

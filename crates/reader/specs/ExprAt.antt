@@ -1,4 +1,5 @@
--- The expression that stands at a place of some bytes, and the place after it: every walk over the bytes of contents is stated with these.
+-- The expression that stands at a place of some bytes, and the place after it: every walk over the bytes of contents is stated
+-- with these.
 use Prim.Native.Nat.{ℕ, zero, suc, _-_}
 use mathlib.Core.List.{List}
 use mathlib.Core.Option.{Option, none as nothing, some as just}

@@ -1,4 +1,5 @@
--- What the walk over a content finds: where proper expressions end and how deep they nest. `Nowhere` says that no proper expression stands
+-- What the walk over a content finds: where proper expressions end and how deep they nest. `Nowhere` says that no proper
+-- expression stands
 -- there: either none at all, or one with a wrong count or a type out of range.
 use Prim.Native.Nat.{ℕ, _+_, _<_, max}
 use mathlib.Core.Bool.{Bool, true, false}

@@ -70,7 +70,7 @@ fn type_number(content: &[u8], at: usize) -> Extent
 }
 
 // The proper expression at a place.
-fn expression(content: &[u8], at: usize) -> Extent
+pub fn expression(content: &[u8], at: usize) -> Extent
     requires { ⌜ length (now content) ≤ 1024 ⌝ }
     ensures { λ r. ⌜ r ≡ properAt standard (now (content .entry)) at ⌝ }
 {

@@ -20,13 +20,15 @@ enum-known-next c = search needs
 returns : tie.Need-returns
 returns c =
     let s = c .before .before .before .before .before .before .args .content .now in
-    sym (ap contentAnswer (read-left standard s _ _ (sym (c .before .before .before .before .expression .ensures) ∙ c .before .before .next .given .1) (c .if1 .taken)))
+    let found = sym (c .before .before .before .before .expression .ensures) ∙ c .before .before .next .given .1 in
+    sym (ap contentAnswer (read-left standard s _ _ found (c .if1 .taken)))
 
 returns-2 : tie.Need-returns-2
 unfolding standard
 returns-2 c =
     let s = c .before .before .before .before .before .before .before .args .content .now in
-    sym (ap contentAnswer (read-deep standard s _ _ (sym (c .before .before .before .before .before .expression .ensures) ∙ c .before .before .before .next .given .1) (c .before .if1 .left) (c .if2 .taken)))
+    let found = sym (c .before .before .before .before .before .expression .ensures) ∙ c .before .before .before .next .given .1 in
+    sym (ap contentAnswer (read-deep standard s _ _ found (c .before .if1 .left) (c .if2 .taken)))
 
 returns-3 : tie.Need-returns-3
 returns-3 c =
@@ -37,8 +39,8 @@ returns-4 : tie.Need-returns-4
 unfolding standard
 returns-4 c =
     let s = c .before .before .before .before .before .before .before .args .content .now in
-    let fine = read-fine standard s _ _ (sym (c .before .before .before .before .before .expression .ensures) ∙ c .before .before .before .next .given .1) (c .before .if1 .left) (c .if2 .left) in
-    sym (ap contentAnswer (fine .1))
+    let found = sym (c .before .before .before .before .before .expression .ensures) ∙ c .before .before .before .next .given .1 in
+    sym (ap contentAnswer (read-fine standard s _ _ found (c .before .if1 .left) (c .if2 .left) .1))
 
 pub content-refusal-spec : {M : Type 1} → statement M
 content-refusal-spec =

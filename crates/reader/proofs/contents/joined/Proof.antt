@@ -9,12 +9,14 @@ use Rattle.reader.specs.declared.contents.Extent.the-variants.{Upto}
 use Rattle.reader.proofs.contents.joined.Statement.{statement}
 use Rattle.reader.proofs.contents.joined.Tie as tie
 
-first-deeper : (first : ℕ) (others : Extent) (next deep : ℕ) → others ≡ Upto next deep → deep < first → Upto next first ≡ joinedOf first others
+first-deeper : (first : ℕ) (others : Extent) (next deep : ℕ) → others ≡ Upto next deep → deep < first
+    → Upto next first ≡ joinedOf first others
 first-deeper first others next deep e h =
     let m : first ≡ max first deep = omega arith in
     ap (Upto next) m ∙ sym (ap (joinedOf first) e)
 
-others-deeper : (first : ℕ) (others : Extent) (next deep : ℕ) → others ≡ Upto next deep → first ≤ deep → Upto next deep ≡ joinedOf first others
+others-deeper : (first : ℕ) (others : Extent) (next deep : ℕ) → others ≡ Upto next deep → first ≤ deep
+    → Upto next deep ≡ joinedOf first others
 others-deeper first others next deep e h =
     let m : deep ≡ max first deep = omega arith in
     ap (Upto next) m ∙ sym (ap (joinedOf first) e)

@@ -38,11 +38,15 @@ add-t7 c = search needs
 
 returns-2 : tie.Need-returns-2
 unfolding standard
-returns-2 c = in-range standard _ _ (c .before .before .before .if1 .left) (subst (λ (n : ℕ). n < 64) (c .before .wide .ensures .0) (c .if2 .taken))
+returns-2 c =
+    let number = subst (λ (n : ℕ). n < 64) (c .before .wide .ensures .0) (c .if2 .taken) in
+    in-range standard _ _ (c .before .before .before .if1 .left) number
 
 returns-3 : tie.Need-returns-3
 unfolding standard
-returns-3 c = out-of-range standard _ _ (c .before .before .before .if1 .left) (subst (λ (n : ℕ). 64 ≤ n) (c .before .wide .ensures .0) (c .if2 .left))
+returns-3 c =
+    let number = subst (λ (n : ℕ). 64 ≤ n) (c .before .wide .ensures .0) (c .if2 .left) in
+    out-of-range standard _ _ (c .before .before .before .if1 .left) number
 
 pub type-number-spec : {M : Type 1} → statement M
 type-number-spec = tie.close (tie.spec returns shared-slice-read-wide wide-requires add-t7 returns-2 returns-3)
