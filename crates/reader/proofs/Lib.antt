@@ -1,6 +1,8 @@
 pub mod ClassTable
 pub mod NameReading
 pub mod FieldReading
+pub mod ExprLaws
+pub mod ExtentLaws
 pub mod AnswerLaws
 pub mod TableIndexLaws
 pub mod TableFaults

@@ -1,2 +1,4 @@
 pub mod FieldAt
+pub mod ExprAt
+pub mod Extents
 pub mod TableIndex

@@ -1,0 +1,136 @@
+// Contents: exactly one expression, of known operators, counts of 2 or more and types in range, that nests no deeper than allowed.
+use crate::limits::NESTING;
+use crate::limits::TYPES;
+use crate::numbers::wide;
+use grammar::Refusal;
+ghost use mathlib.Core.Path.{_≡_};
+ghost use Prim.Native.Nat.{_≤_};
+ghost use lib.ListN.{length};
+ghost use Rattle.grammar.specs.Limits.{standard};
+ghost use Rattle.grammar.specs.ReadContent.{readContent};
+ghost use Rattle.reader.specs.Extents.{NestsBelow, deeperOf, joinedOf, typeAt, properAt, properRowAt, contentAnswer};
+
+// Where proper expressions end and how deep they nest, or that none stand there.
+pub enum Extent {
+    Nowhere,
+    Upto { next: usize, nesting: usize },
+}
+
+pub enum ContentAnswer {
+    Fine,
+    Refused(Refusal),
+}
+
+// One operator above its operands.
+fn deeper(operands: Extent) -> Extent
+    requires { ⌜ NestsBelow 1025 operands ⌝ }
+    ensures { λ r. ⌜ r ≡ deeperOf operands ⌝ }
+{
+    match operands {
+        Extent::Nowhere => Extent::Nowhere,
+        Extent::Upto { next, nesting } => Extent::Upto {
+            next,
+            nesting: nesting + 1,
+        },
+    }
+}
+
+// A first operand that nests so deep, before the others.
+fn joined(first: usize, others: Extent) -> Extent
+    ensures { λ r. ⌜ r ≡ joinedOf first others ⌝ }
+{
+    match others {
+        Extent::Nowhere => Extent::Nowhere,
+        Extent::Upto { next, nesting } => {
+            if nesting < first {
+                return Extent::Upto {
+                    next,
+                    nesting: first,
+                };
+            }
+            Extent::Upto { next, nesting }
+        }
+    }
+}
+
+// The number of a type, in range.
+fn type_number(content: &[u8], at: usize) -> Extent
+    ensures { λ r. ⌜ r ≡ typeAt standard (now (content .entry)) at ⌝ }
+{
+    if content.len() <= at {
+        return Extent::Nowhere;
+    }
+    if wide(content[at]) < TYPES {
+        return Extent::Upto {
+            next: at + 1,
+            nesting: 1,
+        };
+    }
+    Extent::Nowhere
+}
+
+// The proper expression at a place.
+pub fn expression(content: &[u8], at: usize) -> Extent
+    requires { ⌜ length (now content) ≤ 1024 ⌝ }
+    ensures { λ r. ⌜ r ≡ properAt standard (now (content .entry)) at ⌝ }
+{
+    if content.len() <= at {
+        return Extent::Nowhere;
+    }
+    let operator = wide(content[at]);
+    match operator {
+        0..=1 => Extent::Upto {
+            next: at + 1,
+            nesting: 1,
+        },
+        2 => type_number(content, at + 1),
+        3..=4 => {
+            if content.len() <= at + 1 {
+                return Extent::Nowhere;
+            }
+            let count = wide(content[at + 1]);
+            if count < 2 {
+                return Extent::Nowhere;
+            }
+            deeper(operands(content, at + 2, count))
+        }
+        5..=7 => deeper(expression(content, at + 1)),
+        _ => Extent::Nowhere,
+    }
+}
+
+// So many proper expressions, one after the other.
+fn operands(content: &[u8], at: usize, count: usize) -> Extent
+    requires { ⌜ length (now content) ≤ 1024 ⌝ }
+    ensures { λ r. ⌜ r ≡ properRowAt standard (now (content .entry)) at count ⌝ }
+{
+    if count == 0 {
+        return Extent::Upto {
+            next: at,
+            nesting: 0,
+        };
+    }
+    match expression(content, at) {
+        Extent::Nowhere => Extent::Nowhere,
+        Extent::Upto { next, nesting } => { joined(nesting, operands(content, next, count - 1)) }
+    }
+}
+
+// Why a content is turned back, if it is. The nesting is looked at after the whole walk.
+pub fn content_refusal(content: &[u8]) -> ContentAnswer
+    requires { ⌜ length (now content) ≤ 1024 ⌝ }
+    ensures { λ r. ⌜ r ≡ contentAnswer (readContent standard (now (content .entry))) ⌝ }
+{
+    match expression(content, 0) {
+        Extent::Nowhere => ContentAnswer::Refused(Refusal::BadContent),
+        Extent::Upto { next, nesting } => {
+            if next < content.len() {
+                return ContentAnswer::Refused(Refusal::BadContent);
+            }
+            if NESTING < nesting {
+                return ContentAnswer::Refused(Refusal::NestedTooDeep);
+            }
+            ContentAnswer::Fine
+        }
+    }
+}
