@@ -9,3 +9,4 @@ pub mod TableFaults
 pub mod LabelSearch
 pub mod IndexedFaults
 pub mod TableSteps
+pub mod TableReading

@@ -1,12 +1,16 @@
 -- Where the labels, starts and rules of a table stand in its bytes.
 use Prim.Native.Nat.{ℕ, _-_, _≤_}
+use mathlib.Core.Bool.{not}
 use mathlib.Core.List.{List}
 use mathlib.Core.Option.{some as just}
 use mathlib.Core.Path.{_≡_}
 use lib.ListN.{length, getD, getElem?, take, drop}
 use Rattle.grammar.specs.Names.{Name}
 use Rattle.grammar.specs.Table.{Rule, Table}
-use Rattle.grammar.specs.Outcome.{Outcome, given}
+use Rattle.grammar.specs.Outcome.{Outcome, given, _>>_, turnBack}
+use Rattle.grammar.specs.Fields.{Fields}
+use Rattle.grammar.specs.ReadTable.{isEmpty, bytesLeft}
+use Rattle.grammar.specs.declared.Refusal.the-variants.{BadField, BytesAfterEnd}
 use Rattle.grammar.specs.Answers.{reading}
 use Rattle.grammar.specs.ReadContent.{contentBytes}
 use Rattle.reader.specs.declared.tables.TableIndex.{TableIndex}
@@ -86,3 +90,7 @@ pub record Indexed (s : List ℕ) (index : TableIndex) : Type 0 where
 pub record Reads (s : List ℕ) (o : Outcome Table) (r : TableRead) : Type 0 where
   pub answer : r .answer ≡ reading o
   pub index : (g : Table) → o ≡ given g → Indexes s (r .index) g
+
+-- what an end field says of the table read so far
+abbrev pub endOutcome : Table → (value : List ℕ) (rest : Fields) → Outcome Table
+endOutcome g value rest = turnBack (not (isEmpty value)) BadField >> (turnBack (bytesLeft rest) BytesAfterEnd >> given g)

@@ -4,52 +4,39 @@ use Rattle.reader.proofs.TableSteps.{refused-reads, label-room, label-r
 use borrow.Author.Needs.{needs}
 use Rattle.reader.proofs.tables.after_label.Statement.{statement}
 use Rattle.reader.proofs.tables.after_label.Tie as tie
-use Rattle.reader.proofs.tables.after_label.Reads as reads
-use Rattle.reader.proofs.tables.after_label.Lts as lts
-use Rattle.reader.proofs.tables.label_answer.Reads as label-answer-reads
 
--- src/tables.rt:90:11
 label-answer-requires : tie.Need-label-answer-requires
 label-answer-requires c κs = search needs
 
--- src/tables.rt:91:26
 enum-known-r : tie.Need-enum-known-r
 enum-known-r c = search needs
 
--- src/tables.rt:96:17
 enum-told : tie.Need-enum-told
 enum-told c = search needs
 
--- src/tables.rt:98:13
 mul-more : tie.Need-mul-more
 mul-more c = search needs
 
--- src/tables.rt:98:13
 element-write-more : tie.Need-element-write-more
 element-write-more c =
     let x = c .before .before .before .before .pre .1 .indexes in
     label-room x (c .before .before .before .before .pre .0) (sym (c .before .before .label-answer .ensures (c .before .before .before .before .pre .1 .table) x) ∙ c .enum-told .given .1)
 
--- src/tables.rt:99:13
 mul-more-2 : tie.Need-mul-more-2
 mul-more-2 c = search needs
 
--- src/tables.rt:99:13
 element-write-more-2 : tie.Need-element-write-more-2
 element-write-more-2 c =
     let x = c .before .before .before .before .pre .1 .indexes in
     label-room x (c .before .before .before .before .pre .0) (sym (c .before .before .label-answer .ensures (c .before .before .before .before .pre .1 .table) x) ∙ c .enum-told .given .1)
 
--- src/tables.rt:100:27
 add-more : tie.Need-add-more
 add-more c = search needs
 
--- src/tables.rt:86:1
 returns : tie.Need-returns
 returns c =
     λ g x. refused-reads _ _ _ (c .before .before .before .before .before .args .index) (sym (c .before .before .before .label-answer .ensures g x) ∙ c .before .r .given .1)
 
--- src/tables.rt:86:1
 returns-2 : tie.Need-returns-2
 returns-2 c =
     λ g x. label-reads x (c .before .before .before .before .pre .0) (sym (c .before .before .label-answer .ensures g x) ∙ c .enum-told .given .1)

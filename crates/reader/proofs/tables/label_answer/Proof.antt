@@ -12,12 +12,7 @@ use Rattle.reader.proofs.TableFaults.{label-unfit, label-misnamed, labe
 use borrow.Author.Needs.{needs}
 use Rattle.reader.proofs.tables.label_answer.Statement.{statement}
 use Rattle.reader.proofs.tables.label_answer.Tie as tie
-use Rattle.reader.proofs.tables.label_answer.Reads as reads
-use Rattle.reader.proofs.tables.label_answer.Lts as lts
-use Rattle.reader.proofs.names.is_name.Reads as is-name-reads
-use Rattle.reader.proofs.tables.repeated_label.Reads as repeated-label-reads
 
--- src/tables.rt:61:9
 returns : tie.Need-returns
 returns c =
     let s = c .before .before .before .args .s .now in
@@ -25,7 +20,6 @@ returns c =
     let to = c .before .before .before .args .to in
     λ g x. sym (unreadable _ BadField (label-unfit standard asciiClasses g (part s from to) (λ f. c .if1 .taken (x .starts ∙ f .no-starts))))
 
--- src/tables.rt:64:9
 returns-2 : tie.Need-returns-2
 returns-2 c =
     let s = c .before .before .before .before .before .args .s .now in
@@ -33,7 +27,6 @@ returns-2 c =
     let to = c .before .before .before .before .before .args .to in
     λ g x. sym (unreadable _ BadField (label-unfit standard asciiClasses g (part s from to) (λ f. c .if2 .taken (x .rules ∙ f .no-rules))))
 
--- src/tables.rt:67:9
 returns-3 : tie.Need-returns-3
 returns-3 c =
     let s = c .before .before .before .before .before .before .args .s .now in
@@ -41,11 +34,9 @@ returns-3 c =
     let to = c .before .before .before .before .before .before .args .to in
     λ g x. sym (unreadable _ BadField (label-unfit standard asciiClasses g (part s from to) (λ f. omega (arith, label-fitted x (c .before .before .before .before .before .before .pre .0) f, c .if3 .taken))))
 
--- src/tables.rt:69:15
 sub-if4 : tie.Need-sub-if4
 sub-if4 c = search needs
 
--- src/tables.rt:70:9
 returns-4 : tie.Need-returns-4
 returns-4 c =
     let s = c .before .before .before .before .before .before .before .args .s .now in
@@ -53,27 +44,21 @@ returns-4 c =
     let to = c .before .before .before .before .before .before .before .args .to in
     λ g x. sym (unreadable _ BadField (label-unfit standard asciiClasses g (part s from to) (λ f. omega (arith, label-fitted x (c .before .before .before .before .before .before .before .pre .0) f, c .if4 .taken))))
 
--- src/tables.rt:72:16
 sub-is-name : tie.Need-sub-is-name
 sub-is-name c = search needs
 
--- src/tables.rt:72:16
 part-is-name-start : tie.Need-part-is-name-start
 part-is-name-start c = search needs
 
--- src/tables.rt:72:16
 part-is-name-end : tie.Need-part-is-name-end
 part-is-name-end c = search needs
 
--- src/tables.rt:72:8
 is-name-requires : tie.Need-is-name-requires
 is-name-requires c κs = search needs
 
--- src/tables.rt:73:12
 repeated-label-requires : tie.Need-repeated-label-requires
 repeated-label-requires c κs = search needs
 
--- src/tables.rt:74:13
 returns-5 : tie.Need-returns-5
 returns-5 c =
     let s = c .before .before .before .before .before .before .before .before .before .before .before .before .args .s .now in
@@ -84,7 +69,6 @@ returns-5 c =
     (unreadable _ Repeated
     (label-repeated standard asciiClasses g (part s from to) (label-fits x (c .before .before .before .before .before .before .before .before .before .before .before .before .pre .0) (c .before .before .before .before .before .before .before .before .before .if1 .left) (c .before .before .before .before .before .before .before .if2 .left) (c .before .before .before .before .before .before .if3 .left) (c .before .before .before .before .before .if4 .left)) (sym (c .before .before .before .is-name .ensures) ∙ c .before .before .if5 .taken) (sym (c .before .repeated-label .ensures g x) ∙ c .if6 .taken)))
 
--- src/tables.rt:77:13
 returns-6 : tie.Need-returns-6
 unfolding standard
 returns-6 c =
@@ -96,7 +80,6 @@ returns-6 c =
     (unreadable _ TooMany
     (label-too-many standard asciiClasses g (part s from to) (label-fits x (c .before .before .before .before .before .before .before .before .before .before .before .before .before .before .pre .0) (c .before .before .before .before .before .before .before .before .before .before .before .if1 .left) (c .before .before .before .before .before .before .before .before .before .if2 .left) (c .before .before .before .before .before .before .before .before .if3 .left) (c .before .before .before .before .before .before .before .if4 .left)) (sym (c .before .before .before .before .before .is-name .ensures) ∙ c .before .before .before .before .if5 .taken) (sym (c .before .before .before .repeated-label .ensures g x) ∙ c .before .before .if6 .left) (omega (arith, x .labels, c .if7 .taken))))
 
--- src/tables.rt:56:1
 returns-7 : tie.Need-returns-7
 unfolding standard
 returns-7 c =
@@ -108,7 +91,6 @@ returns-7 c =
     (readable _ (withLabel g (part s from to))
     (label-fine standard asciiClasses g (part s from to) (label-fits x (c .before .before .before .before .before .before .before .before .before .before .before .before .before .before .pre .0) (c .before .before .before .before .before .before .before .before .before .before .before .if1 .left) (c .before .before .before .before .before .before .before .before .before .if2 .left) (c .before .before .before .before .before .before .before .before .if3 .left) (c .before .before .before .before .before .before .before .if4 .left)) (sym (c .before .before .before .before .before .is-name .ensures) ∙ c .before .before .before .before .if5 .taken) (sym (c .before .before .before .repeated-label .ensures g x) ∙ c .before .before .if6 .left) (omega (arith, x .labels, c .if7 .left))))
 
--- src/tables.rt:56:1
 returns-8 : tie.Need-returns-8
 returns-8 c =
     let s = c .before .before .before .before .before .before .before .before .before .before .args .s .now in

@@ -12,9 +12,6 @@ use Rattle.reader.proofs.LabelSearch.{label-passes, no-label-passes}
 use Rattle.reader.proofs.TableIndexLaws.{label-at}
 use Rattle.reader.proofs.tables.repeated_label.Statement.{statement}
 use Rattle.reader.proofs.tables.repeated_label.Tie as tie
-use Rattle.reader.proofs.tables.repeated_label.Reads as reads
-use Rattle.reader.proofs.tables.repeated_label.Lts as lts
-use Rattle.reader.proofs.names.same_name.Reads as same-name-reads
 
 abbrev Inv-loop : tie.InvT-loop
 Inv-loop s from to label-from label-to labels i₀ i =
