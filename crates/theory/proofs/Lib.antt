@@ -74,3 +74,4 @@ pub mod MarkedWords
 pub mod MarkedRun
 pub mod MarkedPass
 pub mod WideningTheorem
+pub mod WideningCorollaries
