@@ -8,19 +8,8 @@
 use Prim.Native.Nat.{ℕ, suc, _≤_, _<_}
 use native.Mathlib.Omega.{arith}
 use mathlib.Core.Bool.{Bool, true, false, not, _&&_}
-use mathlib.Core.List.{
-  List,
-  [],
-  _∷_,
-  List·Memᴰ,
-  List·Memᴰ·head,
-  List·Memᴰ·tail,
-  List·Memᴰ·cases-cons,
-  Memᴰ·append-left,
-  Memᴰ·append-right,
-}
-use mathlib.Core.Logic.{⊎-elim}
-use mathlib.Core.Path.{_≡_, refl, sym, ap, subst}
+use mathlib.Core.List.{List, [], _∷_, List·Memᴰ, List·Memᴰ·head, List·Memᴰ·tail, Memᴰ·append-left, Memᴰ·append-right}
+use mathlib.Core.Path.{_≡_, refl, ap}
 use lib.Dec.{leb}
 use borrow.Author.Tests.{leb-true, le-leb, lt-ltb}
 use Rattle.grammar.specs.Lists.{any, keep, distinct, joinedOf, isIn}
@@ -51,7 +40,7 @@ use Rattle.grammar.specs.Size.{widestChoice, widestOf}
 use Rattle.grammar.specs.Reduce.{isNone, simplify, simplifyAll, prune}
 use Rattle.grammar.specs.Tidy.{listOf, alternatives, tidy, tidyAll}
 use Rattle.theory.proofs.BoolLaws.{and-left, and-right, and-intro}
-use Rattle.theory.proofs.ListLaws.{kept, distinct-was, joined-from}
+use Rattle.theory.proofs.ListLaws.{kept, distinct-was, joined-from, Each, each-none, each-cons}
 
 abbrev mutual
   pub Counted : Limits → Content → Type 0
@@ -130,16 +119,10 @@ mutual
 module _ (lim : Limits) where
   -- each content of a list is counted
   abbrev pub EachCounted : List Content → Type 0
-  EachCounted cs = (c : Content) → List·Memᴰ c cs → Counted lim c
-
-  each-none : EachCounted []
-  each-none c m = elim m [ ]
-
-  each-cons : (c : Content) (cs : List Content) → Counted lim c → EachCounted cs → EachCounted (c ∷ cs)
-  each-cons c cs p h d m = ⊎-elim (λ e. subst (Counted lim) (sym e) p) (h d) (List·Memᴰ·cases-cons m)
+  EachCounted = Each (Counted lim)
 
   each-one : (c : Content) → Counted lim c → EachCounted (c ∷ [])
-  each-one c p = each-cons c [] p each-none
+  each-one c p = each-cons (Counted lim) c [] p (each-none (Counted lim))
 
   operands-counted : (cs : List Content) → EachCounted cs → AllCounted lim (operands cs)
   unfolding operands
@@ -148,8 +131,8 @@ module _ (lim : Limits) where
 
   listed-counted : (cs : Contents) → AllCounted lim cs → EachCounted (listOf cs)
   unfolding listOf
-  listed-counted []ᶜ h = each-none
-  listed-counted (c ∷ᶜ cs) h = each-cons c (listOf cs) (h .0) (listed-counted cs (h .1))
+  listed-counted []ᶜ h = each-none (Counted lim)
+  listed-counted (c ∷ᶜ cs) h = each-cons (Counted lim) c (listOf cs) (h .0) (listed-counted cs (h .1))
 
   pub choice-counted : (cs : List Content) → EachCounted cs → Counted lim (choiceOf cs)
   unfolding choiceOf operands count
@@ -222,9 +205,9 @@ module _ (lim : Limits) where
         unless-counted (isNone (simplify c)) empty (optional (simplify c)) tt (simplify-counted c h)
 
     pub each-simplified-counted : (cs : Contents) → AllCounted lim cs → EachCounted (simplifyAll cs)
-    each-simplified-counted []ᶜ h = each-none
+    each-simplified-counted []ᶜ h = each-none (Counted lim)
     each-simplified-counted (c ∷ᶜ cs) h =
-        each-cons (simplify c) (simplifyAll cs) (simplify-counted c (h .0)) (each-simplified-counted cs (h .1))
+        each-cons (Counted lim) (simplify c) (simplifyAll cs) (simplify-counted c (h .0)) (each-simplified-counted cs (h .1))
 
   pub prune-counted : (known : List ℕ) (c : Content) → Counted lim c → Counted lim (prune known c)
   unfolding prune
@@ -274,6 +257,6 @@ module _ (lim : Limits) where
     tidy-counted (optional c) h = tidy-counted c h
 
     pub each-tidied-counted : (cs : Contents) → AllCounted lim cs → EachCounted (tidyAll cs)
-    each-tidied-counted []ᶜ h = each-none
+    each-tidied-counted []ᶜ h = each-none (Counted lim)
     each-tidied-counted (c ∷ᶜ cs) h =
-        each-cons (tidy c) (tidyAll cs) (tidy-counted c (h .0)) (each-tidied-counted cs (h .1))
+        each-cons (Counted lim) (tidy c) (tidyAll cs) (tidy-counted c (h .0)) (each-tidied-counted cs (h .1))

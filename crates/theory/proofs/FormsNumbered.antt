@@ -26,9 +26,10 @@ use Rattle.theory.proofs.ListLaws.{
   numbers-below,
   numbers-differ,
   numbers-length,
-  place-at,
   keep-differ,
   keep-shorter,
+  place-of,
+  eqb-decides,
 }
 use Rattle.theory.proofs.ReducedTable.{ReducedTable}
 use Rattle.theory.proofs.LocalMerge.{local-form-names, local-form-labelled, merged, merged-at}
@@ -60,7 +61,7 @@ module _ (g : Table) (reduced : ReducedTable g) where
   -- the type of a used label is its place among them
   label-below : (l : ℕ) → List·Memᴰ l (usedLabels g) → typeOfLabel g l < length (usedLabels g)
   unfolding typeOfLabel
-  label-below l m = at-below (usedLabels g) (typeOfLabel g l) (place-at l (usedLabels g) m)
+  label-below l m = at-below (usedLabels g) (typeOfLabel g l) (place-of eqb eqb-decides m)
 
   merged-below : (k : ℕ) → HasRule g k → typeOfLabel g (labelOf g k) < length (usedLabels g)
   unfolding merged

@@ -2,11 +2,11 @@
 --     any-found, any-of, all-at, all-of, kept, keep-mem       tests of elements, and what is kept
 --     distinct-was, distinct-has, distinct-mem                the distinct elements
 --     at-mem, mem-at, at-below, below-at, at-joined, at-else  what stands at a place
---     place-found, place-same, same-place                     the place of an element
+--     place-found, place-of, place-same, same-place           the place of an element
 --     differ-at, all-differ, distinct-new, distinct-end       lists of which all elements are distinct
 --     joined-from, joined-mem, joined-append                  lists of lists, joined
 --     map-at, at-map, related-map, related-at, related-mem    images, and lists related element by element
--- Of numbers: in-mem, mem-in, same-numbers, numbers-below, place-at, one-place, and AllIn (all of one list are in another).
+-- Of numbers: in-mem, mem-in, same-numbers, numbers-below, one-place, and AllIn (all of one list are in another).
 use Prim.Native.Nat.{ℕ, zero, suc, _+_, _≤_, _<_}
 use native.Mathlib.Omega.{arith}
 use mathlib.Core.Bool.{Bool, true, false, not, _||_, false≢true}
@@ -209,6 +209,13 @@ module _ {A : Type 0} where
           let r = ih (rw q at e) in
           (r .0, rw (q, place) (r .1), r .2)
 
+  -- of a test that decides equality: an element that is listed stands at its place
+  pub place-of : (same : A → A → Bool) → ((x y : A) → (same x y ≡ true) ↔ (x ≡ y)) → {x : A} {xs : List A} → List·Memᴰ x xs
+      → getElem? xs (place same x xs) ≡ just x
+  place-of same decides {x} {xs} m =
+      let (y, at, e) = place-found same x xs (any-of (same x) m (decides x x .1 refl)) in
+      at ∙ ap {B = Option A} just (sym (decides x y .0 e))
+
   -- elements that are the same have one place, and elements found at one place are the same
   module _ (same : A → A → Bool) (same-sym : (x y : A) → same x y ≡ true → same y x ≡ true)
       (same-trans : (x y z : A) → same x y ≡ true → same y z ≡ true → same x z ≡ true) where
@@ -279,6 +286,24 @@ module _ {A B : Type 0} where
   joined-mem f {y = y} (List·Memᴰ·head {xs = zs} q) m = Memᴰ·append-left (joinedOf f zs) (subst (λ z. List·Memᴰ y (f z)) q m)
   joined-mem f (List·Memᴰ·tail {x = z} n) m = Memᴰ·append-right (f z) (joined-mem f n m)
 
+-- each element of a list has a property
+module _ {A : Type 0} (P : A → Type 0) where
+  abbrev pub Each : List A → Type 0
+  Each xs = (x : A) → List·Memᴰ x xs → P x
+
+  pub each-none : Each []
+  each-none x m = elim m [ ]
+
+  pub each-cons : (x : A) (xs : List A) → P x → Each xs → Each (x ∷ xs)
+  each-cons x xs p h y m = ⊎-elim (λ e. subst P (sym e) p) (h y) (List·Memᴰ·cases-cons m)
+
+  pub each-append : (xs ys : List A) → Each xs → Each ys → Each (xs ++ ys)
+  each-append xs ys p q y m = ⊎-elim (p y) (q y) (List·Memᴰ·append-cases xs m)
+
+  -- one element more at the end
+  pub each-end : (xs : List A) (x : A) → Each xs → P x → Each (xs ++ (x ∷ []))
+  each-end xs x h p = each-append xs (x ∷ []) h (each-cons x [] p each-none)
+
 -- numbers
 pub in-mem : (n : ℕ) (ns : List ℕ) → isIn n ns ≡ true → List·Memᴰ n ns
 unfolding isIn
@@ -290,13 +315,13 @@ mem-in {n} m = any-of (eqb n) m (eq-eqb n n refl)
 
 -- all numbers of one list are in another
 abbrev pub AllIn : List ℕ → List ℕ → Type 0
-AllIn ks w = (k : ℕ) → List·Memᴰ k w → List·Memᴰ k ks
+AllIn ks = Each (λ k. List·Memᴰ k ks)
 
 pub all-in-none : (ks : List ℕ) → AllIn ks []
-all-in-none ks k m = elim m [ ]
+all-in-none ks = each-none (λ k. List·Memᴰ k ks)
 
 pub all-in-append : (ks u v : List ℕ) → AllIn ks u → AllIn ks v → AllIn ks (u ++ v)
-all-in-append ks u v p q k m = ⊎-elim (λ n. p k n) (λ n. q k n) (List·Memᴰ·append-cases u m)
+all-in-append ks = each-append (λ k. List·Memᴰ k ks)
 
 pub same-numbers : (ms ns : List ℕ) → sameNumbers ms ns ≡ true → ms ≡ ns
 unfolding sameNumbers
@@ -312,6 +337,9 @@ pub same-numbers-refl : (ns : List ℕ) → sameNumbers ns ns ≡ true
 unfolding sameNumbers
 same-numbers-refl [] = refl
 same-numbers-refl (n ∷ ns) = and-intro (eqb n n) (sameNumbers ns ns) (eq-eqb n n refl) (same-numbers-refl ns)
+
+pub numbers-decide : (ms ns : List ℕ) → (sameNumbers ms ns ≡ true) ↔ (ms ≡ ns)
+numbers-decide ms ns = (same-numbers ms ns, λ e. rw e (same-numbers-refl ns))
 
 -- where the test of one element decides its fact: some element has it, every element has it
 module _ {A : Type 0} {P : A → Type 0} (test : A → Bool) (xs : List A) (decides : (x : A) → (test x ≡ true) ↔ P x) where
@@ -366,15 +394,6 @@ module _ {A : Type 0} (same : A → A → Bool) (same-sym : (x y : A) → same x
           any-one : (z : A) → List·Memᴰ z (y ∷ []) → same x z ≡ true → same x y ≡ true
           any-one z (List·Memᴰ·head q) s = ap (same x) (sym q) ∙ s
           any-one z (List·Memᴰ·tail m) s = elim m [ ]
-
--- one element more at the end
-pub each-end : {A : Type 0} (P : A → Type 0) (xs : List A) (x : A) → ((y : A) → List·Memᴰ y xs → P y) → P x → (y : A)
-    → List·Memᴰ y (xs ++ (x ∷ [])) → P y
-each-end {A} P xs x h p y m = ⊎-elim (h y) (only y) (List·Memᴰ·append-cases xs m)
-  where
-    only : (z : A) → List·Memᴰ z (x ∷ []) → P z
-    only z (List·Memᴰ·head q) = subst P (sym q) p
-    only z (List·Memᴰ·tail n) = elim n [ ]
 
 pub joined-append : {A B : Type 0} (f : A → List B) (xs ys : List A) → joinedOf f (xs ++ ys) ≡ joinedOf f xs ++ joinedOf f ys
 unfolding joinedOf
@@ -436,12 +455,6 @@ from-differ from (suc n) =
 pub numbers-differ : (n : ℕ) → allDistinct eqb (numbersBelow n) ≡ true
 unfolding numbersBelow
 numbers-differ n = from-differ zero n
-
--- a number that is listed stands at its place
-pub place-at : (n : ℕ) (ns : List ℕ) → List·Memᴰ n ns → getElem? ns (place eqb n ns) ≡ just n
-place-at n ns m =
-    let r = place-found eqb n ns (any-of (eqb n) m (eq-eqb n n refl)) in
-    r .1 ∙ ap {B = Option ℕ} just (sym (eqb-true n (r .0) (r .2)))
 
 pub one-place : (ns : List ℕ) (i j : ℕ) {m n : ℕ} → allDistinct eqb ns ≡ true → getElem? ns i ≡ just m → getElem? ns j ≡ just n → m ≡ n → i ≡ j
 one-place ns i j {m} {n} d p q e = differ-at eqb (λ x y t. eq-eqb y x (sym (eqb-true x y t))) ns i j m n d p q (eq-eqb m n e)

@@ -30,11 +30,12 @@ use Rattle.theory.proofs.ListLaws.{
   at-below,
   just-eq,
   numbers-below,
-  place-at,
   one-place,
   at-map,
   related-map,
   related-turn,
+  place-of,
+  eqb-decides,
 }
 use Rattle.theory.proofs.WordLaws.{merge-words}
 use Rattle.theory.proofs.Merge.{Forth, Back, StartType, accepted-let-in}
@@ -115,7 +116,7 @@ module _ (g : Table) (reduced : ReducedTable g) where
   pub merged-at : {k : ℕ} → HasRule g k → getElem? (usedLabels g) (merged g k) ≡ just (labelOf g k)
   unfolding merged typeOfLabel
   merged-at {k} h =
-      place-at (labelOf g k) (usedLabels g)
+      place-of eqb eqb-decides
       (subst (λ (l : ℕ). List·Memᴰ l (usedLabels g)) (sym (label-rule g (reduced .one-rule-each) h))
       (label-used g (reduced .labelled) (h .rule) (h .of-table)))
 

@@ -34,21 +34,19 @@ use Rattle.grammar.specs.SingleTypeForm.{
   singleTypeForm,
 }
 use Rattle.theory.proofs.ListLaws.{
-  any-of,
   at-mem,
   mem-at,
   at-below,
   below-at,
   just-eq,
-  place-found,
-  same-numbers,
-  same-numbers-refl,
   numbers-below,
   at-else,
   at-map,
   at-front,
   related-map,
   related-turn,
+  place-of,
+  numbers-decide,
 }
 use Rattle.theory.proofs.NameLaws.{name-refl}
 use Rattle.theory.proofs.WordLaws.{merge-words}
@@ -172,9 +170,7 @@ module _ (lim : Limits) (g : Table) where
   module _ (reduced : ReducedTable g) where
     -- A set that is found at a place is found there alone.
     number-at : {s : TypeSet} → List·Memᴰ s sets → getElem? sets (place sameNumbers s sets) ≡ just s
-    number-at {s} m =
-        let (t, at, e) = place-found sameNumbers s sets (any-of (sameNumbers s) m (same-numbers-refl s)) in
-        subst (λ (u : TypeSet). getElem? sets (place sameNumbers s sets) ≡ just u) (sym (same-numbers s t e)) at
+    number-at m = place-of sameNumbers numbers-decide m
 
     one-place : {s t : TypeSet} {i j : ℕ} → getElem? sets i ≡ just s → getElem? sets j ≡ just t → s ≡ t → i ≡ j
     one-place {s} {t} {i} {j} p q e = sets-distinct lim g reduced i j s t p q e

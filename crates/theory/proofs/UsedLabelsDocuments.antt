@@ -31,7 +31,6 @@ use Rattle.theory.proofs.ListLaws.{
   just-eq,
   numbers-below,
   numbers-differ,
-  place-at,
   one-place,
   keep-differ,
   keep-either,
@@ -39,6 +38,8 @@ use Rattle.theory.proofs.ListLaws.{
   map-at,
   at-map,
   related-map,
+  place-of,
+  eqb-decides,
 }
 use Rattle.theory.proofs.SameRules.{SameRules, same-documents, same-local, same-single-type, same-one-rule, same-labelled}
 use Rattle.theory.proofs.TableConditions.{Labelled, OneRuleEach}
@@ -88,7 +89,7 @@ module _ (g : Table) where
             (λ r m.
             record {
               type = refl;
-              label = place-at (r .label) (usedLabels g) (label-used labelled r m);
+              label = place-of eqb eqb-decides (label-used labelled r m);
               words = λ w. (λ v. v, λ v. v);
               types = λ k. (λ v. v, λ v. v);
             });
