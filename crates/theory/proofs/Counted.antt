@@ -7,11 +7,10 @@
 --     tidy-counted          or tidied
 use Prim.Native.Nat.{ℕ, suc, _≤_, _<_}
 use native.Mathlib.Omega.{arith}
-use mathlib.Core.Bool.{Bool, true, false, not, _&&_}
+use mathlib.Core.Bool.{Bool, true, false, not}
 use mathlib.Core.List.{List, [], _∷_, List·Memᴰ, List·Memᴰ·head, List·Memᴰ·tail, Memᴰ·append-left, Memᴰ·append-right}
 use mathlib.Core.Path.{_≡_, refl, ap}
-use lib.Dec.{leb}
-use borrow.Author.Tests.{leb-true, le-leb, lt-ltb}
+use borrow.Author.Tests.{lt-ltb}
 use Rattle.grammar.specs.Lists.{any, keep, distinct, joinedOf, isIn}
 use Rattle.grammar.specs.Limits.{Limits}
 use Rattle.grammar.specs.Content.{
@@ -41,6 +40,7 @@ use Rattle.grammar.specs.Reduce.{isNone, simplify, simplifyAll, prune}
 use Rattle.grammar.specs.Tidy.{listOf, alternatives, tidy, tidyAll}
 use Rattle.theory.proofs.BoolLaws.{and-left, and-right, and-intro}
 use Rattle.theory.proofs.ListLaws.{kept, distinct-was, joined-from, Each, each-none, each-cons}
+use Rattle.theory.proofs.ProperContents.{proper-operands}
 
 abbrev mutual
   pub Counted : Limits → Content → Type 0
@@ -65,16 +65,11 @@ mutual
   proper-counted empty lim e = tt
   proper-counted (type k) lim e = tt
   proper-counted (sequence cs) lim e =
-      let n = and-left (leb 2 (count cs) && leb (count cs) (lim .operands)) (areProper lim cs) e in (
-        leb-true 2 (count cs) (and-left (leb 2 (count cs)) (leb (count cs) (lim .operands)) n),
-        leb-true (count cs) (lim .operands) (and-right (leb 2 (count cs)) (leb (count cs) (lim .operands)) n),
-        all-proper-counted cs lim (and-right (leb 2 (count cs) && leb (count cs) (lim .operands)) (areProper lim cs) e),
-      )
+      let (some, few, proper) = proper-operands lim cs .0 e in
+      (some, few, all-proper-counted cs lim proper)
   proper-counted (choice cs) lim e =
-      let n = and-left (leb 2 (count cs) && leb (count cs) (lim .operands)) (areProper lim cs) e in (
-        leb-true 2 (count cs) (and-left (leb 2 (count cs)) (leb (count cs) (lim .operands)) n),
-        all-proper-counted cs lim (and-right (leb 2 (count cs) && leb (count cs) (lim .operands)) (areProper lim cs) e),
-      )
+      let (some, few, proper) = proper-operands lim cs .0 e in
+      (some, all-proper-counted cs lim proper)
   proper-counted (anyNumber c) lim e = proper-counted c lim e
   proper-counted (oneOrMore c) lim e = proper-counted c lim e
   proper-counted (optional c) lim e = proper-counted c lim e
@@ -94,16 +89,9 @@ mutual
   counted-proper none lim h w t = refl
   counted-proper empty lim h w t = refl
   counted-proper (type k) lim h w t = lt-ltb k (lim .types) (t k (List·Memᴰ·head refl))
-  counted-proper (sequence cs) lim h w t =
-      and-intro (leb 2 (count cs) && leb (count cs) (lim .operands)) (areProper lim cs)
-      (and-intro (leb 2 (count cs)) (leb (count cs) (lim .operands)) (le-leb 2 (count cs) (h .0))
-      (le-leb (count cs) (lim .operands) (h .1)))
-      (all-counted-proper cs lim (h .2) w t)
+  counted-proper (sequence cs) lim h w t = proper-operands lim cs .1 (h .0, h .1, all-counted-proper cs lim (h .2) w t)
   counted-proper (choice cs) lim h w t =
-      and-intro (leb 2 (count cs) && leb (count cs) (lim .operands)) (areProper lim cs)
-      (and-intro (leb 2 (count cs)) (leb (count cs) (lim .operands)) (le-leb 2 (count cs) (h .0))
-      (le-leb (count cs) (lim .operands) (omega arith)))
-      (all-counted-proper cs lim (h .1) (omega arith) t)
+      proper-operands lim cs .1 (h .0, omega arith, all-counted-proper cs lim (h .1) (omega arith) t)
   counted-proper (anyNumber c) lim h w t = counted-proper c lim h w t
   counted-proper (oneOrMore c) lim h w t = counted-proper c lim h w t
   counted-proper (optional c) lim h w t = counted-proper c lim h w t

@@ -43,6 +43,7 @@ pub mod PathLaws
 pub mod NormaliseDocuments
 pub mod SampleMembers
 pub mod SampleRules
+pub mod ProperContents
 pub mod TableConditions
 pub mod UniteDocuments
 pub mod VisitedTrees

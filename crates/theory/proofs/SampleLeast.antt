@@ -3,7 +3,7 @@
 --     sample-single-type    it is single-type
 --     sample-least          every rival of either kind that lets in the document lets in all of the sample
 use Prim.Native.Nat.{ℕ, zero}
-use mathlib.Core.List.{List, List·Memᴰ, List·Memᴰ·head, List·Memᴰ·eq-of-singleton, Forall₂, [], _∷_, _++_}
+use mathlib.Core.List.{List, List·Memᴰ, Forall₂, [], _∷_, _++_}
 use mathlib.Core.Path.{_≡_, refl, sym, subst, _∙_, ap}
 use Rattle.grammar.specs.Names.{Name}
 use Rattle.grammar.specs.Tree.{Tree}
@@ -18,7 +18,6 @@ use Rattle.theory.proofs.Merge.{Merge, Forth, Back}
 use Rattle.theory.proofs.LeastSingleType.{SingleTypeMerge, Arises}
 use Rattle.theory.proofs.TreeAutomaton.{treeAutomaton, tree-alive, least-document}
 use Rattle.theory.proofs.SampleRules.{
-  sample-starts,
   seen,
   pathType,
   path-type,
@@ -30,6 +29,7 @@ use Rattle.theory.proofs.SampleRules.{
   sample-types,
   visit-named,
   content-type,
+  sample-start,
 }
 use Rattle.theory.proofs.SampleMembers.{
   Member,
@@ -71,9 +71,6 @@ module _ (d : Tree) where
         alive = all-alive (children (m .tree));
       }
 
-  only-start : (k : ℕ) → List·Memᴰ k (sample d .starts) → k ≡ zero
-  only-start k m = List·Memᴰ·eq-of-singleton (subst (λ (ks : List ℕ). List·Memᴰ k ks) (sample-starts d) m)
-
   sample-merge : Merge (treeAutomaton d) (sample d) (Member d)
   sample-merge =
       record {
@@ -84,7 +81,7 @@ module _ (d : Tree) where
             λ s e.
             record {
               type = zero;
-              of-table = subst (λ (ks : List ℕ). List·Memᴰ zero ks) (sym (sample-starts d)) (List·Memᴰ·head refl);
+              of-table = sample-start d zero .1 refl;
               member = subst (λ (t : Tree). Member d zero t) (sym e) (root-member d);
             };
       }
@@ -107,7 +104,7 @@ module _ (d : Tree) where
       record {
         merge = sample-merge;
         arises = arises;
-        start-states = λ k m t a. start-member d (subst (λ (j : ℕ). Member d j t) (only-start k m) a);
+        start-states = λ k m t a. start-member d (subst (λ (j : ℕ). Member d j t) (sample-start d k .0 m) a);
       }
 
   pub sample-least : (kind : Kind) (H : Table) → DistinctNames H → OfKind kind H → LetsIn H d → LetsInAll H (LetsIn (sample d))
@@ -148,7 +145,7 @@ module _ (d : Tree) where
   sample-single-type =
       record {
         rules = λ i j r s p q e. sample-types d i j r s p q (e .0);
-        starts = λ k l m n c. only-start k m ∙ sym (only-start l n);
+        starts = λ k l m n c. sample-start d k .0 m ∙ sym (sample-start d l .0 n);
         contents =
             λ r m.
             let (v, n, e) = sample-rule d m in

@@ -39,7 +39,7 @@ use Rattle.theory.proofs.SampleRules.{
   path-ends,
   sample-fits,
   sample-root,
-  sample-starts,
+  sample-start,
 }
 use Rattle.theory.proofs.VisitedTrees.{
   StandsAt,
@@ -207,6 +207,6 @@ module _ (d : Tree) where
   sample-lets-in =
       record {
         start = zero;
-        of-table = subst (λ (z : List ℕ). List·Memᴰ zero z) (sym (sample-starts d)) (List·Memᴰ·head refl);
+        of-table = sample-start d zero .1 refl;
         derived = member-derives d root-member;
       }

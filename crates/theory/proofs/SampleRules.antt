@@ -10,7 +10,19 @@
 --     sample-labelled    each rule's label is among the labels
 use Prim.Native.Nat.{ℕ, zero, _<_}
 use mathlib.Core.Bool.{Bool, true}
-use mathlib.Core.List.{List, [], _∷_, _++_, map, List·Memᴰ, Memᴰ·map, Memᴰ·of-map, Memᴰ·cast}
+use mathlib.Core.List.{
+  List,
+  [],
+  _∷_,
+  _++_,
+  map,
+  List·Memᴰ,
+  Memᴰ·map,
+  Memᴰ·of-map,
+  Memᴰ·cast,
+  List·Memᴰ·eq-of-singleton,
+  List·Memᴰ·head,
+}
 use mathlib.Core.Logic.{_↔_}
 use mathlib.Core.Option.{some}
 use mathlib.Core.Path.{_≡_, refl, sym, _∙_, ap, subst}
@@ -323,6 +335,10 @@ module _ (d : Tree) where
   pub sample-starts : sample d .starts ≡ zero ∷ []
   unfolding sample
   sample-starts = refl
+
+  pub sample-start : (k : ℕ) → List·Memᴰ k (sample d .starts) ↔ (k ≡ zero)
+  unfolding sample
+  sample-start k = (λ m. List·Memᴰ·eq-of-singleton m, λ e. List·Memᴰ·head e)
 
 -- the root's path is the first
 pub sample-root : (d : Tree) → pathType d (rootName d ∷ []) ≡ zero

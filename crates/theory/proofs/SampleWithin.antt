@@ -4,7 +4,7 @@
 use Prim.Native.Nat.{ℕ, zero, suc, _≤_, _<_}
 use native.Mathlib.Omega.{arith}
 use mathlib.Core.Bool.{true}
-use mathlib.Core.List.{List, [], _∷_, _++_, map, List·Memᴰ, List·Memᴰ·head, List·Memᴰ·eq-of-singleton, Memᴰ·of-map}
+use mathlib.Core.List.{List, [], _∷_, _++_, map, List·Memᴰ, List·Memᴰ·head, Memᴰ·of-map}
 use mathlib.Core.Path.{_≡_, refl, sym, _∙_, ap, subst}
 use lib.ListN.{length, length-map, getD}
 use lib.Dec.{eqb}
@@ -54,6 +54,7 @@ use Rattle.theory.proofs.SampleRules.{
   content-at,
   sequencesAt,
   sequence-at,
+  sample-start,
 }
 use Rattle.theory.proofs.Counted.{Counted, AllCounted, choice-counted}
 use Rattle.theory.proofs.DocumentWithin.{DocumentWithin}
@@ -187,7 +188,7 @@ module _ (lim : Limits) (classes : Classes) (agree : LimitsAgree lim) (d : Tree)
         names-differ = sample-names d;
         start-types =
             λ k o.
-            let z = List·Memᴰ·eq-of-singleton (subst (λ (ks : List ℕ). List·Memᴰ k ks) (sample-starts d) o) in
+            let z = sample-start d k .0 o in
             omega arith;
         starts-differ = rw (sample-starts d);
         few-starts = rw (sample-starts d) (omega arith);
