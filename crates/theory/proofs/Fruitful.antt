@@ -53,10 +53,10 @@ use Rattle.grammar.specs.Derivation.{Derives, derives, DerivesAll, derives-none
 use Rattle.grammar.specs.Reduce.{hasWord, haveWords, oneHasWord, newlyFruitful, fruitful}
 use Rattle.theory.proofs.BoolLaws.{and-left, and-right, and-intro, or-cases, or-left, or-right}
 use Rattle.theory.proofs.ListLaws.{kept, keep-mem, in-mem, mem-in, below-at, AllIn, all-in-none, all-in-append}
-use Rattle.theory.proofs.NameLaws.{name-refl}
 use Rattle.theory.proofs.SimplifyWords.{join}
 use Rattle.theory.proofs.Rounds.{not-known, rounds-hold, rounds-closed, closed-has}
 use Rattle.theory.proofs.TableConditions.{Labelled, SomeTree}
+use Rattle.theory.proofs.NamedLabels.{label-named}
 
 module _ (known : List ℕ) where
   -- a language has a word of known types
@@ -204,7 +204,7 @@ module _ (g : Table) where
                 rule = f .rule;
                 of-table = f .of-table;
                 of-type = f .of-type;
-                of-name = record { name = name .0; listed = name .1; same = name-refl (name .0) };
+                of-name = label-named (name .1);
                 word = w .1;
               })
               (ts .1),

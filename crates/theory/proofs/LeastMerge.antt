@@ -12,7 +12,6 @@ use Rattle.grammar.specs.Derivation.{Fits, Derives, derives, DerivesAll, derive
 use Rattle.grammar.specs.Kinds.{Competing}
 use Rattle.grammar.specs.Least.{LetsInAll}
 use Rattle.theory.proofs.NameLaws.{name-sym, name-trans}
-use Rattle.theory.proofs.KindLaws.{one-label}
 use Rattle.theory.proofs.Automaton.{
   Automaton,
   Accepts,
@@ -28,6 +27,7 @@ use Rattle.theory.proofs.Merge.{Merge}
 use Rattle.theory.proofs.Covering.{StartCover, WordCover, covered-let-in}
 use Rattle.theory.proofs.TreeParts.{treesOf}
 use mathlib.Core.Logic.{⊎-elim}
+use Rattle.theory.proofs.NamedLabels.{one-label}
 
 -- a type of the word that derives the tree
 pub record DerivedIn (H : Table) (w : List ℕ) (t : Tree) : Type 0 where

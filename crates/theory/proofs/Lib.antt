@@ -1,6 +1,7 @@
 pub mod BoolLaws
 pub mod ListLaws
 pub mod NameLaws
+pub mod NamedLabels
 pub mod WordLaws
 pub mod Matching
 pub mod Membership

@@ -52,11 +52,12 @@ use Rattle.theory.proofs.ListLaws.{
   related-turn,
 }
 use Rattle.theory.proofs.WordLaws.{choice-words, Spells, spells-none, spells-next, replace-words}
-use Rattle.theory.proofs.TableConditions.{Labelled, HasRule, AllRuled, OneRuleEach, same-labels-named}
+use Rattle.theory.proofs.TableConditions.{Labelled, HasRule, AllRuled, OneRuleEach}
 use Rattle.theory.proofs.NoTwo.{no-two-map, no-two-weaken, no-two-distinct}
 use Rattle.theory.proofs.Standing.{choice-type, replace-type}
 use Rattle.theory.proofs.KindTests.{same-pair as pair-decides, same-pair-sym as pair-sym}
 use Rattle.theory.proofs.Covering.{covered-derived, WordsCovered}
+use Rattle.theory.proofs.NamedLabels.{same-labels-named}
 
 -- Rules are of one pair when type and label are equal.
 pub pair-refl : (r : Rule) → samePair r r ≡ true

@@ -18,8 +18,9 @@ use Rattle.grammar.specs.Reduce.{newlyReached, reached, withoutUnreached}
 use Rattle.theory.proofs.ListLaws.{kept, keep-mem, in-mem, mem-in, joined-from, joined-mem}
 use Rattle.theory.proofs.Rounds.{not-known, rounds-start, rounds-hold, rounds-closed, closed-has}
 use Rattle.theory.proofs.CarryDerivations.{carry-tree}
-use Rattle.theory.proofs.TableConditions.{Reaches, from-start, through, AllRuled, same-labels-named}
+use Rattle.theory.proofs.TableConditions.{Reaches, from-start, through, AllRuled}
 use Rattle.theory.proofs.Standing.{StandsIn, word-stands}
+use Rattle.theory.proofs.NamedLabels.{same-labels-named}
 
 module _ (g : Table) where
   -- what a round finds: types, not known, that stand in the contents of known types

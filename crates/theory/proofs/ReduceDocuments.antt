@@ -30,17 +30,9 @@ use Rattle.theory.proofs.SimplifyWords.{prune-words, prune-standing}
 use Rattle.theory.proofs.Fruitful.{tree-fruitful, forest-fruitful, fruitful-is}
 use Rattle.theory.proofs.CarryDerivations.{carry-tree}
 use Rattle.theory.proofs.Reached.{reached-is, reached-on, rule-remains, rule-was, reached-remains, reached-trees}
-use Rattle.theory.proofs.TableConditions.{
-  Labelled,
-  HasRule,
-  Reaches,
-  from-start,
-  SomeTree,
-  AllRuled,
-  OneRuleEach,
-  same-labels-named,
-}
+use Rattle.theory.proofs.TableConditions.{Labelled, HasRule, Reaches, from-start, SomeTree, AllRuled, OneRuleEach}
 use Rattle.theory.proofs.Standing.{StandsIn, WordWith}
+use Rattle.theory.proofs.NamedLabels.{same-labels-named}
 
 pub reduce-labels : (g : Table) → reduce g .labels ≡ g .labels
 unfolding reduce withoutUnreached withoutUnfruitful

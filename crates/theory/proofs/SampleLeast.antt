@@ -43,7 +43,7 @@ use Rattle.theory.proofs.SampleMembers.{
 use Rattle.theory.proofs.TreeParts.{children, rootName}
 use Rattle.grammar.specs.Content.{typesIn}
 use Rattle.theory.proofs.PathLaws.{path-sym, path-trans, path-append}
-use Rattle.theory.proofs.KindLaws.{one-name}
+use Rattle.theory.proofs.NamedLabels.{one-name}
 
 module _ (d : Tree) where
   all-alive : (u : List Tree) → AllAlive (treeAutomaton d) u
@@ -133,7 +133,7 @@ module _ (d : Tree) where
       let v = b .visit in
       let x = child-named u (a .visited) (a .name) (a .child) (c .rule₁) (c .of-table₁) (c .of-type₁ ∙ sym (a .of-type)) in
       let y = child-named v (b .visited) (b .name) (b .child) (c .rule₂) (c .of-table₂) (c .of-type₂ ∙ sym (b .of-type)) in
-      let names = one-name (sample d) (subst (λ (i : ℕ). Named (sample d) i (a .name)) (c .one-label) x) y in
+      let names = one-name (subst (λ (i : ℕ). Named (sample d) i (a .name)) (c .one-label) x) y in
       let above = path-trans (u .path) p (v .path) (path-sym p (u .path) (a .at-path)) (b .at-path) in
       sym (a .of-type)
       ∙ path-type d (u .path ++ (a .name ∷ [])) (v .path ++ (b .name ∷ []))

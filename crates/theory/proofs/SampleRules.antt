@@ -24,9 +24,8 @@ use mathlib.Core.List.{
   List·Memᴰ·head,
 }
 use mathlib.Core.Logic.{_↔_}
-use mathlib.Core.Option.{some}
 use mathlib.Core.Path.{_≡_, refl, sym, _∙_, ap, subst}
-use lib.ListN.{length, getElem?}
+use lib.ListN.{length}
 use Rattle.grammar.specs.Lists.{any, keep, distinct, place}
 use Rattle.grammar.specs.Names.{Name, sameName, SameName}
 use Rattle.grammar.specs.Content.{Content, type, Word, InTurn, operands, choiceOf, typesIn, typesInAll}
@@ -43,7 +42,6 @@ use Rattle.theory.proofs.ListLaws.{
   distinct-has,
   place-found,
   at-below,
-  just-eq,
   place-same,
   same-place,
   distinct-mem,
@@ -57,6 +55,7 @@ use Rattle.theory.proofs.NoTwo.{no-two-map, no-two-weaken, no-two-disti
 use Rattle.theory.proofs.ContentBytes.{same-content}
 use Rattle.theory.proofs.TreeParts.{rootName, childrenOf}
 use Rattle.theory.proofs.Standing.{StandsIn, choice-type}
+use Rattle.theory.proofs.NamedLabels.{one-name, same-named}
 
 -- the sequence of some types has that one word
 turn-word : (ks w : List ℕ) → InTurn (operands (map type ks)) w ↔ (w ≡ ks)
@@ -255,21 +254,14 @@ module _ (d : Tree) where
   rule-sample m = Memᴰ·map (ruleAt seen) m
 
   -- the label of a visit's rule has the visit's name
-  label-at : (v : Visit) → List·Memᴰ v seen
-      → (n : Name) × (getElem? (sample d .labels) (ruleAt seen v .label) ≡ some n) × SameName (v .name) n
+  own-name : (v : Visit) → List·Memᴰ v seen → Named (sample d) (ruleAt seen v .label) (v .name)
   unfolding sample ruleAt
-  label-at v m = place-found sameName (v .name) (namesOf seen) (name-found v m)
+  own-name v m =
+      let (n, at, e) = place-found sameName (v .name) (namesOf seen) (name-found v m) in
+      record { name = n; listed = at; same = name-sym (v .name) n e }
 
   pub visit-named : (v : Visit) (n : Name) → List·Memᴰ v seen → Named (sample d) (ruleAt seen v .label) n ↔ SameName (v .name) n
-  visit-named v n m = (
-    λ p.
-        let (x, at, e) = label-at v m in
-        let q = just-eq (sym at ∙ p .listed) in
-        name-trans (v .name) x n e (subst (λ (z : Name). SameName z n) q (p .same)),
-    λ e.
-        let (x, at, f) = label-at v m in
-        record { name = x; listed = at; same = name-trans x (v .name) n (name-sym (v .name) x f) e },
-  )
+  visit-named v n m = (one-name (own-name v m), same-named (own-name v m))
 
   -- a visit at a path of type k, with a name equal to n, whose children's types are w
   pub record SampleFits (k : ℕ) (n : Name) (w : List ℕ) : Type 0 where
@@ -329,8 +321,8 @@ module _ (d : Tree) where
   pub sample-labelled : Labelled (sample d)
   sample-labelled r m =
       let (v, n, e) = sample-rule m in
-      let (x, at, s) = label-at v n in
-      subst (λ (q : Rule). q .label < length (sample d .labels)) e (at-below (sample d .labels) (ruleAt seen v .label) at)
+      subst (λ (q : Rule). q .label < length (sample d .labels)) e
+      (at-below (sample d .labels) (ruleAt seen v .label) (own-name v n .listed))
 
   pub sample-starts : sample d .starts ≡ zero ∷ []
   unfolding sample

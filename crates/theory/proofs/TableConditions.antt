@@ -6,19 +6,18 @@
 -- Of one type of a table: HasRule, it has a rule; SomeTree, it derives some tree; Reaches, it is reached from a start.
 use Prim.Native.Nat.{ℕ, _<_}
 use mathlib.Core.List.{List·Memᴰ, List}
-use mathlib.Core.Path.{_≡_, subst}
-use lib.ListN.{length, getElem?}
+use mathlib.Core.Path.{_≡_}
+use lib.ListN.{length}
 use Rattle.grammar.specs.Limits.{Limits}
 use Rattle.grammar.specs.Names.{sameName, Classes, Name}
 use Rattle.grammar.specs.Content.{type, typesIn}
-use Rattle.grammar.specs.Table.{Rule, Table, DistinctNames, Named}
+use Rattle.grammar.specs.Table.{Rule, Table, DistinctNames}
 use Rattle.grammar.specs.WithinLimits.{TableWithin}
 use Rattle.theory.proofs.ListLaws.{differ-at}
 use Rattle.theory.proofs.NameLaws.{name-sym}
 use Rattle.grammar.specs.Kinds.{NoTwoRules}
 use Rattle.grammar.specs.Tree.{Tree}
 use Rattle.grammar.specs.Derivation.{Fits, Derives, derives}
-use mathlib.Core.Option.{some}
 use Rattle.theory.proofs.ProperContents.{proper-below}
 
 pub record TypesBelow (lim : Limits) (g : Table) : Type 0 where
@@ -58,11 +57,6 @@ SomeTree g k = (t : Tree) × Derives g k t
 pub data Reaches (g : Table) : ℕ → Type 0 where
   from-start : {k : ℕ} → List·Memᴰ k (g .starts) → Reaches g k
   through : {r : Rule} {k : ℕ} → List·Memᴰ r (g .rules) → Reaches g (r .type) → List·Memᴰ k (typesIn (r .content)) → Reaches g k
-
--- tables of the same labels have the same names
-pub same-labels-named : {g h : Table} {l : ℕ} {n : Name} → g .labels ≡ h .labels → Named g l n → Named h l n
-same-labels-named {l = l} e p =
-    record { name = p .name; listed = subst (λ (ns : List Name). getElem? ns l ≡ some (p .name)) e (p .listed); same = p .same }
 
 module _ (lim : Limits) (classes : Classes) (g : Table) (within : TableWithin lim classes g) where
   pub within-below : TypesBelow lim g

@@ -43,20 +43,20 @@ use Rattle.theory.proofs.ListLaws.{
   at-mem,
   at-below,
   below-at,
-  just-eq,
   at-else,
   at-joined,
   at-front,
   related-map,
   related-turn,
 }
-use Rattle.theory.proofs.NameLaws.{name-refl, name-sym, name-trans}
+use Rattle.theory.proofs.NameLaws.{name-refl, name-sym}
 use Rattle.theory.proofs.WordLaws.{rename-words}
 use Rattle.theory.proofs.Standing.{word-stands}
 use Rattle.theory.proofs.TableConditions.{TypesBelow, Labelled}
 use Rattle.theory.proofs.NoTwo.{no-two-append, no-two-keep}
 use Rattle.theory.proofs.Covering.{covered-derived, WordsCovered}
 use Rattle.theory.proofs.CarryDerivations.{carry-tree}
+use Rattle.theory.proofs.NamedLabels.{label-named, same-named, one-name}
 
 module _ (lim : Limits) (old addition : Table) where
   abbrev united : Table
@@ -101,12 +101,7 @@ module _ (lim : Limits) (old addition : Table) where
       }
 
   -- a label of the addition gets the number of an equal name
-  record Relabelled (r : Rule) (m : Name) : Type 0 where
-    pub name : Name
-    pub listed : getElem? (united .labels) (inUnited r .label) ≡ some name
-    pub same : SameName m name
-
-  relabelled : (r : Rule) (m : Name) → getElem? (addition .labels) (r .label) ≡ some m → Relabelled r m
+  relabelled : (r : Rule) (m : Name) → getElem? (addition .labels) (r .label) ≡ some m → Named united (inUnited r .label) m
   unfolding unite
   relabelled r m e =
       let found = added-name m (at-mem (addition .labels) (r .label) e) in
@@ -117,29 +112,17 @@ module _ (lim : Limits) (old addition : Table) where
             subst (λ (n : Name). getElem? (unitedLabels old addition) (place sameName n (unitedLabels old addition)) ≡ some y)
             (sym (at-else (addition .labels) (r .label) [] e))
             at;
-        same = same;
+        same = name-sym m y same;
       }
 
   added-named : (r : Rule) (n : Name) → Named addition (r .label) n → Named united (inUnited r .label) n
-  added-named r n p =
-      let q = relabelled r (p .name) (p .listed) in
-      record {
-        name = q .name;
-        listed = q .listed;
-        same = name-trans (q .name) (p .name) n (name-sym (p .name) (q .name) (q .same)) (p .same);
-      }
+  added-named r n p = same-named (relabelled r (p .name) (p .listed)) (p .same)
 
   named-added : (r : Rule) (n : Name) → r .label < length (addition .labels) → Named united (inUnited r .label) n
       → Named addition (r .label) n
   named-added r n h p =
       let (m, at) = below-at (addition .labels) (r .label) h in
-      let q = relabelled r m at in
-      let e = just-eq (sym (q .listed) ∙ p .listed) in
-      record {
-        name = m;
-        listed = at;
-        same = name-trans m (q .name) n (q .same) (subst (λ (l : Name). SameName l n) e (p .same));
-      }
+      same-named (label-named at) (one-name (relabelled r m at) p)
 
   -- a rule of the united table is a rule of old or of the addition
   rule-of : {r : Rule} → List·Memᴰ r (united .rules)
@@ -320,8 +303,7 @@ module _ (lim : Limits) (old addition : Table) where
       here : List·Memᴰ r (old .rules) → r .label < length (united .labels)
       here n =
           let (x, at) = below-at (old .labels) (r .label) (old-labelled r n) in
-          let p : Named old (r .label) x = record { name = x; listed = at; same = name-refl x } in
-          at-below (united .labels) (r .label) (old-named (r .label) x p .listed)
+          at-below (united .labels) (r .label) (old-named (r .label) x (label-named at) .listed)
 
       there : (s : Rule) → List·Memᴰ s (addition .rules) → inUnited s ≡ r → r .label < length (united .labels)
       there s n e =
