@@ -31,7 +31,6 @@ use Rattle.theory.proofs.ListLaws.{
   just-eq,
   numbers-below,
   one-place,
-  at-map,
   related-map,
   related-turn,
   place-of,
@@ -41,20 +40,28 @@ use Rattle.theory.proofs.WordLaws.{merge-words}
 use Rattle.theory.proofs.Merge.{Forth, Back, StartType, accepted-let-in}
 use Rattle.theory.proofs.LeastMerge.{StartMember}
 use Rattle.theory.proofs.LeastLocal.{Reached, LocalMerge, least-local}
-use Rattle.theory.proofs.TableAutomaton.{Steps, typeName, tableAutomaton, label-of, fits-steps, table-accepts, label-rule}
+use Rattle.theory.proofs.TableAutomaton.{
+  Steps,
+  typeName,
+  tableAutomaton,
+  label-of,
+  fits-steps,
+  table-accepts,
+  label-rule,
+  table-kept,
+}
 use Rattle.theory.proofs.ReducedTable.{ReducedTable}
 use Rattle.theory.proofs.ReducedAutomaton.{type-alive, step-rules, step-alive, type-reached}
 use Rattle.theory.proofs.UsedLabelsDocuments.{used-below, used-differ, label-used}
 use Rattle.theory.proofs.TableConditions.{Labelled, HasRule, rule-that-fits}
+use Rattle.theory.proofs.NoTwo.{no-two-map}
 
 module _ (g : Table) where
   pub local-form-local : Local (localForm g)
   unfolding localForm ruleOfLabel
-  local-form-local i j r s p q e =
-      let a = at-map (ruleOfLabel g) (usedLabels g) i p in
-      let b = at-map (ruleOfLabel g) (usedLabels g) j q in
-      one-place (usedLabels g) i j (used-differ g) (a .1) (b .1)
-      (ap (λ (t : Rule). t .label) (a .2) ∙ e ∙ sym (ap (λ (t : Rule). t .label) (b .2)))
+  local-form-local =
+      no-two-map (ruleOfLabel g) (λ r s. r .label ≡ s .label) (usedLabels g)
+      (λ i j l m p q e. one-place (usedLabels g) i j (used-differ g) p q e)
 
   pub local-form-names : DistinctNames g → DistinctNames (localForm g)
   unfolding localForm
@@ -260,4 +267,4 @@ module _ (g : Table) (reduced : ReducedTable g) where
   pub local-form-least : (H : Table) → DistinctNames H → Local H → LetsInAll H (LetsIn g) → LetsInAll H (LetsIn (localForm g))
   local-form-least H names local keeps =
       least-local local-form-merge H names local
-      (λ d a. keeps d (table-accepts g (reduced .one-rule-each) (reduced .labelled) d .0 a))
+      (table-kept g (reduced .one-rule-each) (reduced .labelled) H keeps)

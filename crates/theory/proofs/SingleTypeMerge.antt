@@ -54,7 +54,7 @@ use Rattle.theory.proofs.Standing.{word-stands, merge-type}
 use Rattle.theory.proofs.Automaton.{Automaton}
 use Rattle.theory.proofs.Merge.{Forth, Back, StartType, accepted-let-in}
 use Rattle.theory.proofs.LeastSingleType.{Arises, SingleTypeMerge, least-single-type}
-use Rattle.theory.proofs.TableAutomaton.{typeName, Steps, tableAutomaton, table-accepts}
+use Rattle.theory.proofs.TableAutomaton.{typeName, Steps, tableAutomaton, table-accepts, table-kept}
 use Rattle.theory.proofs.ReducedTable.{ReducedTable}
 use Rattle.theory.proofs.SetsClosed.{
   OneLabelSet,
@@ -507,4 +507,4 @@ module _ (lim : Limits) (g : Table) where
           → LetsInAll H (LetsIn (singleTypeForm lim g))
       single-type-form-least H names kind keeps =
           least-single-type single-type-form-merge H names kind
-          (λ d a. keeps d (table-accepts g (reduced .one-rule-each) (reduced .labelled) d .0 a))
+          (table-kept g (reduced .one-rule-each) (reduced .labelled) H keeps)

@@ -10,7 +10,7 @@ use mathlib.Core.Path.{_≡_}
 use lib.ListN.{length}
 use Rattle.grammar.specs.Limits.{Limits}
 use Rattle.grammar.specs.Names.{sameName, Classes, Name}
-use Rattle.grammar.specs.Content.{type, typesIn}
+use Rattle.grammar.specs.Content.{typesIn}
 use Rattle.grammar.specs.Table.{Rule, Table, DistinctNames}
 use Rattle.grammar.specs.WithinLimits.{TableWithin}
 use Rattle.theory.proofs.ListLaws.{differ-at}

@@ -12,12 +12,12 @@ use mathlib.Core.Bool.{true, false}
 use mathlib.Core.List.{List, [], _∷_, List·Memᴰ, List·Memᴰ·head, List·Memᴰ·tail}
 use mathlib.Core.Logic.{_↔_}
 use mathlib.Core.Option.{some as just}
-use mathlib.Core.Path.{_≡_, refl, sym, _∙_, ap, subst}
+use mathlib.Core.Path.{_≡_, refl, sym, _∙_, subst}
 use lib.Dec.{eqb}
 use lib.ListN.{length, getElem?, getD, length-map}
 use borrow.Author.Tests.{eqb-true, eq-eqb}
 use Rattle.grammar.specs.Lists.{any, keep, allDistinct, numbersBelow}
-use Rattle.grammar.specs.Names.{Name}
+use Rattle.grammar.specs.Names.{Name, SameName}
 use Rattle.grammar.specs.Tree.{Tree}
 use Rattle.grammar.specs.Table.{Rule, Table, DistinctNames}
 use Rattle.grammar.specs.Derivation.{LetsIn}
@@ -36,13 +36,13 @@ use Rattle.theory.proofs.ListLaws.{
   keep-either,
   at-or-else,
   map-at,
-  at-map,
   related-map,
   place-of,
   eqb-decides,
 }
 use Rattle.theory.proofs.SameRules.{SameRules, same-documents, same-local, same-single-type, same-one-rule, same-labelled}
 use Rattle.theory.proofs.TableConditions.{Labelled, OneRuleEach}
+use Rattle.theory.proofs.NoTwo.{no-two-map}
 
 -- the used labels: labels of rules, among the labels, each once
 module _ (g : Table) where
@@ -112,14 +112,10 @@ module _ (g : Table) where
 
   pub used-labels-names : DistinctNames g → DistinctNames (withUsedLabels g)
   unfolding nameOf withUsedLabels
-  used-labels-names names i j m n p q e =
-      let a = at-map nameOf (usedLabels g) i p in
-      let b = at-map nameOf (usedLabels g) j q in
-      one-place (usedLabels g) i j used-differ (a .1) (b .1)
-      (names (a .0) (b .0) m n
-      (name-at (a .0) i (a .1) ∙ ap just (a .2))
-      (name-at (b .0) j (b .1) ∙ ap just (b .2))
-      e)
+  used-labels-names names =
+      no-two-map nameOf SameName (usedLabels g)
+      (λ i j l m p q e.
+      one-place (usedLabels g) i j used-differ p q (names l m (nameOf l) (nameOf m) (name-at l i p) (name-at m j q) e))
 
 -- different numbers that are all one number are at most one
 at-most-one : (n : ℕ) (ns : List ℕ) → allDistinct eqb ns ≡ true → ((m : ℕ) → List·Memᴰ m ns → n ≡ m) → length ns ≤ 1
