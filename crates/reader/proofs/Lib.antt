@@ -10,3 +10,6 @@ pub mod LabelSearch
 pub mod IndexedFaults
 pub mod TableSteps
 pub mod TableReading
+pub mod WorkLaws
+pub mod LabelParts
+pub mod CallLaws

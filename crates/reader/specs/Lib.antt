@@ -2,3 +2,4 @@ pub mod FieldAt
 pub mod ExprAt
 pub mod Extents
 pub mod TableIndex
+pub mod ReaderCalls
