@@ -1,1 +1,3 @@
 pub mod FieldAt
+pub mod DocumentNodes
+pub mod DocumentSteps
