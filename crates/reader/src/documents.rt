@@ -26,13 +26,13 @@ const NODE_TAG: u8 = 0x30;
 const END_TAG: u8 = 0x3F;
 
 // For each open level, outermost first, how many nodes are still to come there.
-pub struct Levels {
+struct Levels {
     pub coming: [usize; 65],
     pub depth: usize,
 }
 
 // What the next field says.
-pub enum Step {
+enum Step {
     // A node: where its name begins and ends, and how many children it has.
     Node(usize, usize, usize),
     // The document ends here, with this answer.
