@@ -1,7 +1,7 @@
 -- What one field of a document says, by numbers: how many nodes are read, how many levels are open, how many bytes are left.
 --   ends : the end field's answer is `endAnswer`
 --   node-misfit, node-misnamed, node-misplaced, node-here : the cases of any other field
-use Prim.Native.Nat.{ℕ, zero, suc, _+_, _-_, _*_, _≤_, _<_}
+use Prim.Native.Nat.{ℕ, suc, _+_, _-_, _*_, _≤_, _<_}
 use native.Mathlib.Numerals.{add-one}
 use native.Mathlib.Omega.{arith}
 use mathlib.Core.Bool.{Bool, true, false, not, _&&_, _||_}
@@ -10,14 +10,25 @@ use mathlib.Core.Path.{_≡_, refl, sym, _∙_, ap, ap₂}
 use lib.Dec.{eqb, leb, ltb, eqb·suc-zero}
 use lib.ListN.{length, getD, take, drop, length-drop}
 use lib.Seq.{slice, slice-empty, slice-cons, length-take-le}
-use borrow.Author.Tests.{leb-true, leb-false, ltb-false, eqb-false, eq-eqb, ne-eqb, le-leb, lt-leb}
+use borrow.Author.Tests.{leb-true, leb-false, ltb-false, eqb-false, eq-eqb, ne-eqb, le-leb, lt-leb, lt-ltb, le-ltb}
 use Rattle.grammar.specs.Limits.{Limits, standard}
 use Rattle.grammar.specs.Names.{Classes, asciiClasses, isName}
-use Rattle.grammar.specs.Fields.{Field, Fields, noBytes, pastEnd, _then_, fieldsOf}
+use Rattle.grammar.specs.Fields.{Field, Fields, _then_, fieldsOf}
 use Rattle.grammar.specs.Outcome.{Outcome, given, refused, _>>=_, _>>_, turnBack}
 use Rattle.grammar.specs.ReadTable.{isEmpty, bytesLeft}
-use Rattle.grammar.specs.ReadDocument.{nodeTag, documentEndTag, Node, Opened, withNode, badNode, readNode, readNodeFields}
-use Rattle.grammar.specs.declared.Refusal.the-variants.{BadField, BadName, BadTree, BytesAfterEnd}
+use Rattle.grammar.specs.ReadDocument.{
+  nodeTag,
+  documentEndTag,
+  Node,
+  Opened,
+  nothingRead,
+  withNode,
+  badNode,
+  readNode,
+  readNodeFields,
+  readNodes,
+}
+use Rattle.grammar.specs.declared.Refusal.the-variants.{InputTooLong, BadField, BadName, BadTree, BytesAfterEnd}
 use Rattle.grammar.specs.declared.Reading.the-variants.{Readable, Refused as Unreadable}
 use Rattle.theory.proofs.BoolLaws.{or-false}
 use Rattle.theory.proofs.FieldBytes.{fields-empty, fields-tag, fields-half, fields-front, fields-past}
@@ -306,3 +317,19 @@ module _ (s : List ℕ) (from to : ℕ) (order : from ≤ to) (within : to ≤ l
         node-here p q =
             node-tried true p false (here false q)
             ∙ ap (λ (k : ℕ). restOf (withNode o (record { name = name; children = k })) rest) (sym counted)
+
+-- the length of the input comes first
+module _ (lim : Limits) (classes : Classes) (bytes : List ℕ) where
+  pub reads-long : lim .input < length bytes → readNodes lim classes bytes ≡ refused InputTooLong
+  unfolding readNodes
+  reads-long h =
+      ap
+      (λ (b : Bool). turnBack b InputTooLong >> readNodeFields lim classes nothingRead (fieldsOf bytes))
+      (lt-ltb (lim .input) (length bytes) h)
+
+  pub reads-short : length bytes ≤ lim .input → readNodes lim classes bytes ≡ readNodeFields lim classes nothingRead (fieldsOf bytes)
+  unfolding readNodes
+  reads-short h =
+      ap
+      (λ (b : Bool). turnBack b InputTooLong >> readNodeFields lim classes nothingRead (fieldsOf bytes))
+      (le-ltb (lim .input) (length bytes) h)

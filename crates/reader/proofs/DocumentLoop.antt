@@ -10,9 +10,9 @@ use lib.Dec.{ltb}
 use lib.ListN.{length, getD, take, drop, set, length-set, length-append}
 use lib.Seq.{getD-set-same, getD-set-other}
 use borrow.Author.Tests.{ltb-true, ltb-false}
-use Rattle.grammar.specs.Fields.{Fields, fieldsOf}
+use Rattle.grammar.specs.Fields.{fieldsOf}
 use Rattle.grammar.specs.Outcome.{Outcome}
-use Rattle.grammar.specs.ReadDocument.{Node, Opened, nothingRead, withNode, afterNode}
+use Rattle.grammar.specs.ReadDocument.{Node, Opened, nothingRead, withNode}
 use Rattle.grammar.specs.declared.Reading.{Reading}
 use Rattle.reader.specs.declared.documents.Levels.{Levels}
 use Rattle.reader.specs.declared.documents.Step.{Step}

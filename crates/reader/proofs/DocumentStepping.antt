@@ -1,9 +1,9 @@
 -- The field at a place, as a step of reading the document from there on.
-use Prim.Native.Nat.{ℕ, suc, _+_, _-_, _≤_, _<_}
+use Prim.Native.Nat.{ℕ, _-_, _≤_}
 use native.Mathlib.Omega.{arith}
-use mathlib.Core.Bool.{Bool, true, false}
+use mathlib.Core.Bool.{false}
 use mathlib.Core.List.{List}
-use mathlib.Core.Path.{_≡_, refl, sym, _∙_, ap}
+use mathlib.Core.Path.{_≡_, _∙_, ap}
 use lib.Dec.{eqb}
 use lib.ListN.{length, drop, length-drop}
 use lib.Seq.{slice, length-slice}
@@ -17,7 +17,7 @@ use Rattle.grammar.specs.declared.Refusal.the-variants.{FieldPastEnd}
 use Rattle.reader.specs.declared.documents.Step.{Step}
 use Rattle.reader.specs.declared.documents.Step.the-variants.{Node as NodeHere, Stop}
 use Rattle.reader.specs.DocumentNodes.{outcomeOf}
-use Rattle.reader.specs.DocumentSteps.{endAnswer, Sized, restOf, restWith, NodeStep, StepSays}
+use Rattle.reader.specs.DocumentSteps.{endAnswer, Sized, restOf, restWith, StepSays}
 use Rattle.reader.proofs.FieldReading.{FoundField}
 use Rattle.reader.proofs.DocumentFields.{ends}
 

@@ -5,4 +5,5 @@ pub mod OpenLevels
 pub mod DocumentFields
 pub mod DocumentStepping
 pub mod DocumentLoop
+pub mod DocumentTrees
 pub mod DocumentAnswers

@@ -2,12 +2,12 @@
 use Prim.Native.Nat.{ℕ, zero, suc, _+_, _-_, _≤_, _<_}
 use native.Mathlib.Numerals.{add-one}
 use native.Mathlib.Omega.{arith}
-use mathlib.Core.List.{List, [], _∷_}
-use mathlib.Core.Path.{_≡_, refl, sym, _∙_, ap, ap₂, subst}
+use mathlib.Core.List.{List, _∷_}
+use mathlib.Core.Path.{_≡_, refl, sym, _∙_, ap, ap₂}
 use lib.ListN.{length, getD, set, length-set}
 use lib.Seq.{getD-set-same, getD-set-other}
 use Rattle.grammar.specs.ReadDocument.{closed, afterNode}
-use Rattle.reader.specs.DocumentSteps.{openLevels, Open, Closed}
+use Rattle.reader.specs.DocumentSteps.{openLevels, Open}
 
 pub levels-length : (coming : List ℕ) (depth : ℕ) → length (openLevels coming depth) ≡ depth
 unfolding openLevels

@@ -1,10 +1,9 @@
 -- `documents::after_node` meets its contract: the innermost level has one node less to come, and the children are a level of their own.
-use Prim.Native.Nat.{ℕ, _-_, _<_}
+use Prim.Native.Nat.{_-_}
 use native.Mathlib.Omega.{arith}
 use mathlib.Core.Path.{_≡_, _∙_}
 use lib.ListN.{length, getD}
 use borrow.Author.Needs.{needs}
-use Rattle.reader.specs.DocumentSteps.{Open}
 use Rattle.reader.proofs.OpenLevels.{node-opens, inner, room-stored}
 use Rattle.reader.proofs.documents.after_node.Statement.{statement}
 use Rattle.reader.proofs.documents.after_node.Tie as tie

@@ -1,5 +1,4 @@
 -- `documents::bad_node` meets its contract: each test of the code is one of the definition's.
-use Prim.Native.Nat.{ℕ}
 use native.Mathlib.Omega.{arith}
 use borrow.Author.Tests.{le-leb, lt-leb, lt-ltb, le-ltb}
 use Rattle.grammar.specs.Limits.{standard}

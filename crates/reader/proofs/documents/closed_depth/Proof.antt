@@ -1,5 +1,5 @@
 -- `documents::closed_depth` meets its contract. The loop's invariant: closing the levels up to `d` is closing all.
-use Prim.Native.Nat.{_+_, _-_, _≤_}
+use Prim.Native.Nat.{_≤_}
 use native.Mathlib.Omega.{arith}
 use mathlib.Core.Path.{_≡_, refl, sym, _∙_, ap}
 use Rattle.grammar.specs.ReadDocument.{closed}

@@ -1,7 +1,6 @@
 -- `documents::node_of` meets its contract: each way through the code is a case of `readNode`.
 use native.Mathlib.Omega.{arith}
-use mathlib.Core.Path.{sym, _∙_, ap}
-use borrow.Author.Needs.{needs}
+use mathlib.Core.Path.{sym, _∙_}
 use Rattle.grammar.specs.Fields.{fieldsOf}
 use lib.ListN.{drop}
 use Rattle.reader.proofs.DocumentFields.{
@@ -15,11 +14,6 @@ use Rattle.reader.proofs.DocumentFields.{
 }
 use Rattle.reader.proofs.documents.node_of.Statement.{statement}
 use Rattle.reader.proofs.documents.node_of.Tie as tie
-use Rattle.reader.proofs.documents.node_of.Reads as reads
-use Rattle.reader.proofs.documents.node_of.Lts as lts
-use Rattle.reader.proofs.documents.bad_node.Reads as bad-node-reads
-use Rattle.reader.proofs.names.is_name.Reads as is-name-reads
-use Rattle.reader.proofs.numbers.wide.Reads as wide-reads
 
 returns : tie.Need-returns
 returns c =

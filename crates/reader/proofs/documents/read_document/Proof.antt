@@ -3,7 +3,7 @@ use native.Mathlib.Omega.{arith}
 use mathlib.Core.Path.{_∙_}
 use Rattle.grammar.specs.Limits.{standard}
 use Rattle.grammar.specs.Names.{asciiClasses}
-use Rattle.reader.proofs.DocumentAnswers.{reads-long, reads-short}
+use Rattle.reader.proofs.DocumentFields.{reads-long, reads-short}
 use Rattle.reader.proofs.documents.read_document.Statement.{statement}
 use Rattle.reader.proofs.documents.read_document.Tie as tie
 

@@ -1,5 +1,5 @@
 -- `documents::read_fields` meets its contract. The loop's invariant is `SoFar`; the measure is what is left of the input.
-use Prim.Native.Nat.{ℕ, _+_, _-_}
+use Prim.Native.Nat.{_-_}
 use native.Mathlib.Omega.{arith}
 use mathlib.Core.Path.{refl}
 use lib.ListN.{length, drop}

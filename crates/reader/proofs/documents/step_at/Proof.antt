@@ -2,7 +2,7 @@
 use native.Mathlib.Omega.{arith}
 use mathlib.Core.Path.{sym, _∙_, ap}
 use borrow.Author.Needs.{needs}
-use lib.ListN.{length, drop}
+use lib.ListN.{drop}
 use lib.Seq.{slice}
 use Rattle.grammar.specs.Fields.{fieldsOf}
 use Rattle.grammar.specs.declared.Reading.{Reading}
@@ -12,11 +12,6 @@ use Rattle.reader.proofs.FieldReading.{field-found, field-none, field-p
 use Rattle.reader.proofs.DocumentStepping.{stops-none, stops-past, stops-end, goes-with, says-also}
 use Rattle.reader.proofs.documents.step_at.Statement.{statement}
 use Rattle.reader.proofs.documents.step_at.Tie as tie
-use Rattle.reader.proofs.documents.step_at.Reads as reads
-use Rattle.reader.proofs.documents.step_at.Lts as lts
-use Rattle.reader.proofs.documents.end_answer.Reads as end-answer-reads
-use Rattle.reader.proofs.documents.node_of.Reads as node-of-reads
-use Rattle.reader.proofs.fields.field_at.Reads as field-at-reads
 
 sub-end-answer : tie.Need-sub-end-answer
 sub-end-answer c =
