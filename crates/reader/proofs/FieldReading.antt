@@ -2,19 +2,18 @@
 --   field-found : fieldAt s at ≡ Found tag from to → FoundField s at tag from to
 --   field-none : fieldAt s at ≡ NoBytes → (length s ≤ at) × (fieldsOf (drop at s) ≡ noBytes)
 --   field-past : fieldAt s at ≡ PastEnd → (at < length s) × (fieldsOf (drop at s) ≡ pastEnd)
-use Prim.Native.Nat.{ℕ, suc, _+_, _*_, _-_, _≤_, _<_}
+use Prim.Native.Nat.{ℕ, suc, _+_, _≤_, _<_}
 use native.Mathlib.Numerals.{add-one}
 use native.Mathlib.Omega.{arith}
 use mathlib.Core.Bool.{Bool, true, false}
-use mathlib.Core.List.{List, [], _∷_, _++_}
+use mathlib.Core.List.{List, [], _∷_}
 use mathlib.Core.Path.{_≡_, refl, sym, _∙_, ap, ap₂}
 use lib.Dec.{leb}
 use lib.ListN.{length, getD, take, drop, drop-of-length-le, length-drop}
 use lib.Seq.{drop-cons, drop-drop, take-add, drop-at, length-take-le, slice}
 use borrow.Author.Tests.{leb-true, leb-false, le-leb, lt-leb}
-use Rattle.grammar.specs.Fields.{Field, Fields, noBytes, pastEnd, _then_, fieldsOf}
+use Rattle.grammar.specs.Fields.{noBytes, pastEnd, _then_, fieldsOf}
 use Rattle.theory.proofs.FieldBytes.{fields-empty, fields-tag, fields-half, fields-front, fields-past}
-use Rattle.reader.specs.declared.fields.FieldAt.{FieldAt}
 use Rattle.reader.specs.declared.fields.FieldAt.the-variants.{Found, NoBytes, PastEnd}
 use Rattle.reader.specs.FieldAt.{fieldAt, sizeAt}
 

@@ -1,6 +1,5 @@
 // Names: which byte strings are names, and when two are equal.
 ghost use mathlib.Core.Path.{_≡_};
-ghost use Prim.Native.Nat.{_<_};
 ghost use lib.ListN.{getD};
 ghost use Rattle.grammar.specs.Names.{asciiClasses, isName, sameName};
 use crate::numbers::wide;

@@ -5,7 +5,7 @@ use mathlib.Core.Path.{_∙_, ap}
 use lib.ListN.{getD}
 use borrow.Author.Needs.{needs}
 use Rattle.grammar.specs.Names.{asciiClasses}
-use Rattle.reader.proofs.ClassTable.{held, held-is}
+use Rattle.reader.proofs.ClassTable.{held-is}
 use Rattle.reader.proofs.names.class_of.Statement.{statement}
 use Rattle.reader.proofs.names.class_of.Tie as tie
 

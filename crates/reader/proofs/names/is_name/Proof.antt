@@ -1,5 +1,5 @@
 -- `names::is_name` meets its contract. The loop's invariant: whether it is a name is whether all bytes from `i` on may stand there.
-use Prim.Native.Nat.{_+_, _-_}
+use Prim.Native.Nat.{_-_}
 use native.Mathlib.Omega.{arith}
 use mathlib.Core.Path.{_≡_, sym, _∙_}
 use lib.ListN.{length, drop}

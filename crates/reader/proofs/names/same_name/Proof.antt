@@ -1,5 +1,5 @@
 -- `names::same_name` meets its contract. The loop's invariant: the names are equal if they are so from `i` on.
-use Prim.Native.Nat.{_+_, _-_, _≤_}
+use Prim.Native.Nat.{_-_}
 use native.Mathlib.Omega.{arith}
 use mathlib.Core.Path.{_≡_, refl, sym, _∙_}
 use lib.ListN.{length, drop}
