@@ -11,7 +11,7 @@ use Rattle.grammar.specs.Table.{Table}
 use Rattle.grammar.specs.Outcome.{Outcome, given, refused, _>>=_, _>>_, turnBack, number}
 use Rattle.grammar.specs.Answers.{reading, numberAfter}
 use Rattle.grammar.specs.ReadTable.{readTable}
-use Rattle.grammar.specs.Calls.{Part, workTooShort, workAfter, partBytes, partOfLabel, tableReads, labelName}
+use Rattle.grammar.specs.Calls.{Part, workTooShort, workAfter, partBytes, partOfLabel, tableReads, documentReads, labelName}
 use Rattle.grammar.specs.declared.Refusal.{Refusal}
 use Rattle.grammar.specs.declared.Refusal.the-variants.{WorkTooShort, OutOfRange}
 use Rattle.grammar.specs.declared.Reading.{Reading}
@@ -20,9 +20,12 @@ use Rattle.theory.proofs.OutcomeLaws.{no-fault}
 use Rattle.reader.specs.declared.calls.LabelFound.{LabelFound}
 use Rattle.reader.specs.declared.calls.LabelFound.the-variants.{At, Refused as Unfound}
 use Rattle.reader.specs.declared.tables.TableRead.{TableRead}
+use Rattle.reader.specs.declared.documents.DocumentRead.{DocumentRead}
+use Rattle.reader.specs.DocumentNodes.{DocumentReads}
 use Rattle.reader.specs.TableIndex.{part, labelFrom, labelTo, Inside, Indexes, Reads}
-use Rattle.reader.specs.ReaderCalls.{TableAnswered, LabelAnswered, LabelSought, labelIn}
+use Rattle.reader.specs.ReaderCalls.{TableAnswered, DocumentAnswered, LabelAnswered, LabelSought, labelIn}
 use Rattle.reader.proofs.AnswerLaws.{fault, unreadable, was-readable, was-unreadable}
+use Rattle.reader.proofs.DocumentAnswers.{document-answer}
 use Rattle.reader.proofs.LabelParts.{are-bytes, label-part, label-unread, label-past, label-found}
 use Rattle.reader.proofs.TableIndexLaws.{label-at}
 use Rattle.reader.proofs.WorkLaws.{enough, too-short, work-kept}
@@ -44,6 +47,24 @@ module _ (table work : List ℕ) where
       → answer ≡ reading (readTable standard asciiClasses table) → TableAnswered table work left answer
   table-answered h left w answer a =
       record { answer-is = a ∙ ap reading (sym (table-reads-enough h)); work-left = w }
+
+module _ (document work : List ℕ) where
+  pub document-unanswered : length work < 16384 → DocumentAnswered document work work (Unreadable WorkTooShort)
+  unfolding documentReads
+  document-unanswered h =
+      record {
+        answer-is = sym (unreadable (documentReads standard asciiClasses document work) WorkTooShort (fault _ WorkTooShort _ (too-short work h)));
+        work-left = work-kept work h;
+      }
+
+  pub document-answered : 16384 ≤ length work → (left : List ℕ) → left ≡ workAfter standard work → (r : DocumentRead)
+      → DocumentReads document r → DocumentAnswered document work left (r .answer)
+  unfolding documentReads
+  document-answered h left w r d =
+      record {
+        answer-is = sym (ap reading (no-fault _ WorkTooShort _ (enough work h)) ∙ document-answer document r d);
+        work-left = w;
+      }
 
 -- looking for a label
 module _ (s : List ℕ) (o : Outcome Part) where

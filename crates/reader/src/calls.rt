@@ -7,7 +7,8 @@ ghost use Rattle.grammar.specs.Limits.{standard};
 ghost use Rattle.grammar.specs.Names.{asciiClasses};
 ghost use Rattle.grammar.specs.Outcome.{number};
 ghost use Rattle.grammar.specs.Calls.{workAfter};
-ghost use Rattle.reader.specs.ReaderCalls.{TableAnswered, LabelAnswered, LabelSought, labelIn};
+ghost use Rattle.reader.specs.ReaderCalls.{TableAnswered, DocumentAnswered, LabelAnswered, LabelSought, labelIn};
+use crate::documents::read_document;
 use crate::limits::WORDS;
 use crate::tables::read_table;
 use grammar::Reading;
@@ -70,6 +71,18 @@ pub fn table_reads(table: &[u8], work: &mut [u32]) -> Reading
     }
     clear_work(work);
     let read = read_table(table);
+    read.answer
+}
+
+// Does a document read?
+pub fn document_reads(document: &[u8], work: &mut [u32]) -> Reading
+    ensures { λ r. ⌜ DocumentAnswered (now (document .entry)) (now (work .entry)) (now (work .exit)) r ⌝ }
+{
+    if work.len() < WORDS {
+        return Reading::Refused(Refusal::WorkTooShort);
+    }
+    clear_work(work);
+    let read = read_document(document);
     read.answer
 }
 
