@@ -1,9 +1,9 @@
--- `tables::after_label` meets its contract.
+-- `labels::after_label` meets its contract.
 use mathlib.Core.Path.{sym, _∙_}
 use Rattle.reader.proofs.TableSteps.{refused-reads, label-room, label-reads}
 use borrow.Author.Needs.{needs}
-use Rattle.reader.proofs.tables.after_label.Statement.{statement}
-use Rattle.reader.proofs.tables.after_label.Tie as tie
+use Rattle.reader.proofs.labels.after_label.Statement.{statement}
+use Rattle.reader.proofs.labels.after_label.Tie as tie
 
 label-answer-requires : tie.Need-label-answer-requires
 label-answer-requires c κs = search needs
@@ -19,16 +19,16 @@ mul-more c = search needs
 
 element-write-more : tie.Need-element-write-more
 element-write-more c =
-    let x = c .before .before .before .before .pre .1 .indexes in
-    label-room x (c .before .before .before .before .pre .0) (sym (c .before .before .label-answer .ensures (c .before .before .before .before .pre .1 .table) x) ∙ c .enum-told .given .1)
+    let x = c .before .before .before .before .pre .indexed .indexes in
+    label-room x (c .before .before .before .before .pre .inside) (sym (c .before .before .label-answer .ensures (c .before .before .before .before .pre .indexed .table) x) ∙ c .enum-told .given .1)
 
 mul-more-2 : tie.Need-mul-more-2
 mul-more-2 c = search needs
 
 element-write-more-2 : tie.Need-element-write-more-2
 element-write-more-2 c =
-    let x = c .before .before .before .before .pre .1 .indexes in
-    label-room x (c .before .before .before .before .pre .0) (sym (c .before .before .label-answer .ensures (c .before .before .before .before .pre .1 .table) x) ∙ c .enum-told .given .1)
+    let x = c .before .before .before .before .pre .indexed .indexes in
+    label-room x (c .before .before .before .before .pre .inside) (sym (c .before .before .label-answer .ensures (c .before .before .before .before .pre .indexed .table) x) ∙ c .enum-told .given .1)
 
 add-more : tie.Need-add-more
 add-more c = search needs
@@ -39,7 +39,7 @@ returns c =
 
 returns-2 : tie.Need-returns-2
 returns-2 c =
-    λ g x. label-reads x (c .before .before .before .before .pre .0) (sym (c .before .before .label-answer .ensures g x) ∙ c .enum-told .given .1)
+    λ g x. label-reads x (c .before .before .before .before .pre .inside) (sym (c .before .before .label-answer .ensures g x) ∙ c .enum-told .given .1)
 
 pub after-label-spec : {M : Type 1} → statement M
 after-label-spec =

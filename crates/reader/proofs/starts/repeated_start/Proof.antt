@@ -1,4 +1,4 @@
--- `tables::repeated_start` meets its contract. The loop's invariant: no start before `i` is of the type.
+-- `starts::repeated_start` meets its contract. The loop's invariant: no start before `i` is of the type.
 use Prim.Native.Nat.{ℕ, _-_, _<_}
 use native.Mathlib.Omega.{arith}
 use borrow.Author.Count.{below-more}
@@ -9,8 +9,8 @@ use lib.Dec.{eqb}
 use lib.ListN.{getD}
 use Rattle.grammar.specs.Lists.{isIn}
 use Rattle.reader.proofs.LabelSearch.{start-passes, no-start-passes}
-use Rattle.reader.proofs.tables.repeated_start.Statement.{statement}
-use Rattle.reader.proofs.tables.repeated_start.Tie as tie
+use Rattle.reader.proofs.starts.repeated_start.Statement.{statement}
+use Rattle.reader.proofs.starts.repeated_start.Tie as tie
 
 abbrev Inv-loop : tie.InvT-loop
 Inv-loop s kind start-type starts i₀ i = (k : ℕ) → k < i → eqb kind (getD start-type k 0) ≡ false

@@ -1,4 +1,4 @@
--- `tables::repeated_label` meets its contract. The loop's invariant: no label before `i` has the name.
+-- `labels::repeated_label` meets its contract. The loop's invariant: no label before `i` has the name.
 use Prim.Native.Nat.{ℕ, _-_, _<_}
 use native.Mathlib.Omega.{arith}
 use borrow.Author.Count.{below-more}
@@ -10,8 +10,8 @@ use Rattle.reader.specs.TableIndex.{part}
 use Rattle.grammar.specs.Names.{sameName}
 use Rattle.reader.proofs.LabelSearch.{label-passes, no-label-passes}
 use Rattle.reader.proofs.TableIndexLaws.{label-at}
-use Rattle.reader.proofs.tables.repeated_label.Statement.{statement}
-use Rattle.reader.proofs.tables.repeated_label.Tie as tie
+use Rattle.reader.proofs.labels.repeated_label.Statement.{statement}
+use Rattle.reader.proofs.labels.repeated_label.Tie as tie
 
 abbrev Inv-loop : tie.InvT-loop
 Inv-loop s from to label-from label-to labels i₀ i =
@@ -24,34 +24,34 @@ loop-holds : tie.Need-loop-holds Inv-loop μ-loop
 loop-holds c = λ k h. absurd (omega arith)
 
 mul-f : tie.Need-mul-f Inv-loop μ-loop
-mul-f c = omega (arith, c .before .before .before .before .before .pre .1 .indexes .few-labels)
+mul-f c = omega (arith, c .before .before .before .before .before .pre .indexed .indexes .few-labels)
 
 array-read-f : tie.Need-array-read-f Inv-loop μ-loop
-array-read-f c = omega (arith, c .before .before .before .before .before .pre .1 .indexes .few-labels)
+array-read-f c = omega (arith, c .before .before .before .before .before .pre .indexed .indexes .few-labels)
 
 mul-t : tie.Need-mul-t Inv-loop μ-loop
-mul-t c = omega (arith, c .before .before .before .before .before .pre .1 .indexes .few-labels)
+mul-t c = omega (arith, c .before .before .before .before .before .pre .indexed .indexes .few-labels)
 
 array-read-t : tie.Need-array-read-t Inv-loop μ-loop
-array-read-t c = omega (arith, c .before .before .before .before .before .pre .1 .indexes .few-labels)
+array-read-t c = omega (arith, c .before .before .before .before .before .pre .indexed .indexes .few-labels)
 
 sub-same-name : tie.Need-sub-same-name Inv-loop μ-loop
-sub-same-name c = c .before .before .before .before .before .pre .0 .order
+sub-same-name c = c .before .before .before .before .before .pre .inside .order
 
 part-same-name-start : tie.Need-part-same-name-start Inv-loop μ-loop
-part-same-name-start c = c .before .before .before .before .before .pre .0 .order
+part-same-name-start c = c .before .before .before .before .before .pre .inside .order
 
 part-same-name-end : tie.Need-part-same-name-end Inv-loop μ-loop
-part-same-name-end c = c .before .before .before .before .before .pre .0 .within
+part-same-name-end c = c .before .before .before .before .before .pre .inside .within
 
 sub-same-name-2 : tie.Need-sub-same-name-2 Inv-loop μ-loop
-sub-same-name-2 c = label-at (c .before .before .before .before .before .before .pre .1 .indexes) (c .before .before .loop .i) (c .before .loop-test .taken) .2 .inside .order
+sub-same-name-2 c = label-at (c .before .before .before .before .before .before .pre .indexed .indexes) (c .before .before .loop .i) (c .before .loop-test .taken) .2 .inside .order
 
 part-same-name-start-2 : tie.Need-part-same-name-start-2 Inv-loop μ-loop
-part-same-name-start-2 c = label-at (c .before .before .before .before .before .before .pre .1 .indexes) (c .before .before .loop .i) (c .before .loop-test .taken) .2 .inside .order
+part-same-name-start-2 c = label-at (c .before .before .before .before .before .before .pre .indexed .indexes) (c .before .before .loop .i) (c .before .loop-test .taken) .2 .inside .order
 
 part-same-name-end-2 : tie.Need-part-same-name-end-2 Inv-loop μ-loop
-part-same-name-end-2 c = label-at (c .before .before .before .before .before .before .pre .1 .indexes) (c .before .before .loop .i) (c .before .loop-test .taken) .2 .inside .within
+part-same-name-end-2 c = label-at (c .before .before .before .before .before .before .pre .indexed .indexes) (c .before .before .loop .i) (c .before .loop-test .taken) .2 .inside .within
 
 same-name-requires : tie.Need-same-name-requires Inv-loop μ-loop
 same-name-requires c κs = tt
@@ -61,7 +61,7 @@ returns c =
     λ g x. sym (label-passes x (sameName (part (c .before .before .before .before .before .before .before .before .before .args .s .now) (c .before .before .before .before .before .before .before .before .before .args .from) (c .before .before .before .before .before .before .before .before .before .args .to))) (c .before .before .before .before .before .loop .i) (c .before .before .before .before .loop-test .taken) (sym (c .before .same-name .ensures) ∙ c .if1 .taken))
 
 add-i : tie.Need-add-i Inv-loop μ-loop
-add-i c = omega (arith, c .before .before .before .before .before .before .before .before .before .pre .1 .indexes .few-labels)
+add-i c = omega (arith, c .before .before .before .before .before .before .before .before .before .pre .indexed .indexes .few-labels)
 
 loop-less : tie.Need-loop-less Inv-loop μ-loop
 loop-less c = omega arith
