@@ -19,3 +19,4 @@ pub mod DocumentAnswers
 pub mod WorkLaws
 pub mod LabelParts
 pub mod CallLaws
+pub mod TableFound

@@ -1,6 +1,6 @@
 -- `labels::label_answer` meets its contract: each return is a case of the definition, in its order.
 use native.Mathlib.Omega.{arith}
-use mathlib.Core.Path.{_≡_, sym, _∙_}
+use mathlib.Core.Path.{sym, _∙_}
 use Rattle.grammar.specs.Limits.{standard}
 use Rattle.grammar.specs.Names.{asciiClasses}
 use Rattle.grammar.specs.ReadTable.{withLabel}
