@@ -1,8 +1,12 @@
 // File readers. Every byte string has the one answer that the written meaning gives it.
+pub mod calls;
 pub mod contents;
 pub mod documents;
 pub mod fields;
+pub mod labels;
 pub mod limits;
 pub mod names;
 pub mod numbers;
+pub mod rules;
+pub mod starts;
 pub mod tables;
