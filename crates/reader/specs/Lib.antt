@@ -4,6 +4,4 @@ pub mod Extents
 pub mod DocumentNodes
 pub mod DocumentSteps
 pub mod TableIndex
-pub mod DocumentNodes
-pub mod DocumentSteps
 pub mod ReaderCalls
