@@ -1,4 +1,6 @@
 // Cases, read from standard input, front to back.
+ghost use Prim.Native.Nat.{_≤_};
+ghost use lib.ListN.{length};
 use crate::answers::Told;
 use crate::answers::answer;
 use crate::fills::fill_output;
@@ -23,7 +25,9 @@ fn read_number() -> u32 {
 }
 
 // The next input: its length, then its bytes.
-fn read_input(space: &mut [u8]) -> usize {
+fn read_input(space: &mut [u8]) -> usize
+    ensures { λ r. ⌜ r ≤ length (now (space .exit)) ⌝ }
+{
     let length = read_number() as usize;
     if space.len() < length {
         return 0;
