@@ -4,6 +4,8 @@
     python3 generate.py --check DIR [--seed N] [--count M]    recomputes both and compares
     python3 generate.py --counts    [--seed N] [--count M]    cases per call and per refusal
     python3 generate.py --answer FILE                         the expected lines of any case file
+        with all four: --calls 1,2,3                          cases of these calls only
+        with --write and --check, in place of DIR: --cases FILE --expected FILE
     python3 generate.py --listings DIR                        lister cases: DIR/NN/old.tbl, new.doc,
                                                               expected.txt (a file may be missing)
 
@@ -1267,9 +1269,9 @@ def all_cases(seed, count):
     return cases.all[:made + count]
 
 
-def files(seed, count):
-    """cases.bin and expected.txt, and the cases."""
-    cases = all_cases(seed, count)
+def files(seed, count, calls):
+    """cases.bin and expected.txt, and the cases; of the cases only those of the calls asked for."""
+    cases = [case for case in all_cases(seed, count) if case.call in calls]
     for case in cases:
         assert max(len(case.first), len(case.second)) <= MOST_INPUT
         assert case.out_len <= MOST_OUTPUT and case.work_len <= MOST_WORK
@@ -1326,52 +1328,83 @@ def print_counts(cases, expected):
               + ' '.join('%4s' % (both[call, refusal] or '.') for refusal in range(16)))
 
 
+def first_difference(data, stored):
+    """Prints the first line in which the expected lines differ."""
+    lines, others = data.split(b'\n'), stored.split(b'\n')
+    for number in range(max(len(lines), len(others))):
+        pair = [some[number].decode('latin-1') if number < len(some) else 'no line'
+                for some in (lines, others)]
+        if pair[0] != pair[1]:
+            print('case %d: recomputed %s, stored %s' % (number, *pair))
+            return
+
+
+def write_files(pairs):
+    for path, data in pairs:
+        os.makedirs(os.path.dirname(os.path.abspath(path)), exist_ok=True)
+        with open(path, 'wb') as file:
+            file.write(data)
+
+
+def check_files(pairs):
+    """0 if every file holds its bytes, else 1."""
+    status = 0
+    for path, data in pairs:
+        stored = ref.file_or_nothing(path)
+        if stored != data:
+            print('%s differs' % path)
+            if data is pairs[1][1]:
+                first_difference(data, stored)
+            status = 1
+    return status
+
+
+def calls_named(text):
+    calls = tuple(int(word) for word in text.split(','))
+    if not set(calls) <= set(CALL_NAMES):
+        raise ValueError
+    return calls
+
+
+def places(options, directory):
+    """Where the case file and the expected lines are."""
+    return (options.cases or os.path.join(directory, 'cases.bin'),
+            options.expected or os.path.join(directory, 'expected.txt'))
+
+
 def main():
     parser = argparse.ArgumentParser(description='Cases for the second validator.')
-    parser.add_argument('--write', metavar='DIR')
-    parser.add_argument('--check', metavar='DIR')
+    parser.add_argument('--write', metavar='DIR', nargs='?', const='')
+    parser.add_argument('--check', metavar='DIR', nargs='?', const='')
     parser.add_argument('--counts', action='store_true')
     parser.add_argument('--answer', metavar='FILE')
     parser.add_argument('--listings', metavar='DIR')
+    parser.add_argument('--cases', metavar='FILE')
+    parser.add_argument('--expected', metavar='FILE')
+    parser.add_argument('--calls', metavar='N,N..', type=calls_named, default=tuple(CALL_NAMES))
     parser.add_argument('--seed', type=int, default=DEFAULT_SEED)
     parser.add_argument('--count', type=int, default=DEFAULT_COUNT)
     options = parser.parse_args()
+    if '' in (options.write, options.check) and not (options.cases and options.expected):
+        parser.error('a directory, or --cases and --expected')
     if options.listings:
         write_listings(options.listings)
     if options.answer:
         for case in cases_in(ref.file_or_nothing(options.answer)):
-            sys.stdout.write(expected_line(case))
-    if not (options.write or options.check or options.counts):
+            if case.call in options.calls:
+                sys.stdout.write(expected_line(case))
+    if options.write is None and options.check is None and not options.counts:
         if not (options.listings or options.answer):
             parser.error('nothing asked for')
         return 0
-    binary, expected, cases = files(options.seed, options.count)
+    binary, expected, cases = files(options.seed, options.count, options.calls)
     if options.counts:
         print_counts(cases, expected)
     status = 0
-    for directory, writes in ((options.write, True), (options.check, False)):
-        if not directory:
-            continue
-        if writes:
-            os.makedirs(directory, exist_ok=True)
-        for name, data in (('cases.bin', binary), ('expected.txt', expected)):
-            path = os.path.join(directory, name)
-            if writes:
-                with open(path, 'wb') as file:
-                    file.write(data)
-            else:
-                stored = ref.file_or_nothing(path)
-                if stored != data:
-                    print('%s differs' % path)
-                    if name == 'expected.txt':
-                        lines, others = data.split(b'\n'), stored.split(b'\n')
-                        for number in range(max(len(lines), len(others))):
-                            pair = [some[number].decode() if number < len(some) else 'no line'
-                                    for some in (lines, others)]
-                            if pair[0] != pair[1]:
-                                print('case %d: recomputed %s, stored %s' % (number, *pair))
-                                break
-                    status = 1
+    if options.write is not None:
+        write_files(list(zip(places(options, options.write), (binary, expected))))
+    if options.check is not None:
+        status = check_files(list(zip(places(options, options.check), (binary, expected))))
     if status == 0:
         print('%d cases, %d bytes' % (len(cases), len(binary)))
     return status

@@ -1,0 +1,85 @@
+// The answers of the calls, as numbers.
+ghost use mathlib.Core.Path.{_≡_};
+ghost use Rattle.grammar.specs.Answers.{readingNumbers};
+use crate::places::place_of;
+use crate::sums::byte_sum;
+use grammar::Reading;
+use reader::calls::document_reads;
+use reader::calls::label_name;
+use reader::calls::number_of;
+use reader::calls::table_reads;
+
+// A refusal's number or 0, the value, and the checksum of what was written or, for a name, of the part that came back.
+pub struct Told {
+    pub refusal: u32,
+    pub value: u64,
+    pub outsum: u32,
+}
+
+// The numbers of a reading call.
+fn of_reading(answer: Reading, outsum: u32) -> Told
+    ensures refusal { λ r. ⌜ r .refusal ≡ readingNumbers answer .refusal ⌝ }
+    ensures value { λ r. ⌜ r .value ≡ readingNumbers answer .value ⌝ }
+    ensures outsum { λ r. ⌜ r .outsum ≡ outsum ⌝ }
+{
+    match answer {
+        Reading::Readable => Told {
+            refusal: 0,
+            value: 1,
+            outsum: outsum,
+        },
+        Reading::Refused(r) => Told {
+            refusal: number_of(r),
+            value: 0,
+            outsum: outsum,
+        },
+    }
+}
+
+// The numbers of a name: where it stands, times 65,536, and its length.
+fn of_name(refusal: u32, table: &[u8], name: &[u8]) -> Told {
+    let outsum = byte_sum(name);
+    if refusal != 0 {
+        return Told {
+            refusal: refusal,
+            value: 0,
+            outsum: outsum,
+        };
+    }
+    let place = place_of(table, name);
+    Told {
+        refusal: refusal,
+        value: (place % 65536 * 65536 + name.len() % 65536) as u64,
+        outsum: outsum,
+    }
+}
+
+// The name of a label.
+fn label_told(table: &[u8], label: usize, work: &mut [u32]) -> Told {
+    let mut refusal: u32 = 0;
+    let name = label_name(table, label, work, &mut refusal);
+    of_name(refusal, table, name)
+}
+
+// Runs the call of this number on its inputs and lent slices.
+pub fn answer(
+    call: u8,
+    label: u32,
+    first: &[u8],
+    second: &[u8],
+    out: &mut [u8],
+    work: &mut [u32],
+) -> Told {
+    match call {
+        1 => of_reading(table_reads(first, work), byte_sum(out)),
+        2 => of_reading(document_reads(first, work), byte_sum(out)),
+        3 => label_told(first, label as usize, work),
+        // 4 lets_in(first, second, work), 5 is_local(first, work), 6 is_single_type(first, work): with crate validator
+        // 7 sample(first, out, work), 8 to 11 the widenings of first by second: with crate widening
+        _ => Told {
+            refusal: 99,
+            value: 0,
+            outsum: 0,
+        },
+    }
+}
