@@ -177,8 +177,7 @@ module _ {s : List ℕ} {index : TableIndex} {g : Table} (x : Indexes s index g)
 
     pub none-compete-at : noneCompete g types ≡ not (anyBelow (λ i. anyBelow (rivalsAt index set i) (index .rules)) (index .rules))
     none-compete-at =
-        same-test (noneCompete g types) (not (anyBelow rivalled (index .rules)))
-        (
+        same-test (noneCompete g types) (not (anyBelow rivalled (index .rules))) (
           λ e. not-of (false-of (anyBelow rivalled (index .rules)) (compete-of (none-compete g types .0 e))),
           λ e. none-compete g types .1 (rivals-of (not-true (anyBelow rivalled (index .rules)) e)),
         )

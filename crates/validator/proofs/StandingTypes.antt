@@ -159,8 +159,7 @@ module _ (bytes : List ℕ) (seen : List Bool) (types : List ℕ) (at : ℕ) (le
       go : After (getD bytes at 0) (drop (suc at) bytes) (left .others)
           → (at + 1 < length bytes) × ((k : ℕ) → k ≡ getD bytes (at + 1) 0 → k < length seen → Left bytes (set seen k true) types (at + 2))
       go (a-type n rest others p q r w) =
-          let s = second n rest q in
-          (
+          let s = second n rest q in (
             s .0,
             λ k same fits.
                 record {
@@ -181,8 +180,7 @@ module _ (bytes : List ℕ) (seen : List Bool) (types : List ℕ) (at : ℕ) (le
       go : After (getD bytes at 0) (drop (suc at) bytes) (left .others) → (at + 1 < length bytes) × Left bytes seen types (at + 2)
       go (a-type k rest others p q r w) = absurd (omega arith)
       go (a-count n rest p q r w) =
-          let s = second n rest r in
-          (
+          let s = second n rest r in (
             s .0,
             record {
               others = left .others;

@@ -32,8 +32,7 @@ shared-slice-read-wide-2 c =
 loop-again : tie.Need-loop-again Inv-loop μ-loop
 loop-again c =
     let loop = c .before .before .before .before .before .before .loop in
-    let k = c .wide2 .ensures in
-    (
+    let k = c .wide2 .ensures in (
       length-set (loop .types) _ _ ∙ loop .inv .0,
       λ d e. left-type _ _ _ (loop .at) (loop .inv .1 d e) (omega arith) (omega arith) .1 _ (k .0) (omega arith),
     )
@@ -47,8 +46,7 @@ loop-again-3 : tie.Need-loop-again-3 Inv-loop μ-loop
 loop-again-3 c =
     let loop = c .before .before .before .before .before .loop in
     let not-2 = c .before .match .rest .1 in
-    let operator = c .before .before .wide .ensures .0 in
-    (
+    let operator = c .before .before .wide .ensures .0 in (
       loop .inv .0,
       λ d e.
           left-alone _ _ _ (loop .at) (loop .inv .1 d e) (omega arith)

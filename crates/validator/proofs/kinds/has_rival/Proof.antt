@@ -19,17 +19,17 @@ and-none false b e = refl
 
 -- what the call for a second rule says, where the types are read as wider numbers
 module _ (among : List Bool) (k label l other second : ℕ) (r : Bool) (wide : second ≡ l) (is : r ≡ rivals k label l other (getD among second false))
-    where
-  rival : r ≡ rivals k label l other (getD among l false)
-  rival = is ∙ ap (λ (n : ℕ). rivals k label l other (getD among n false)) wide
+  where
+    rival : r ≡ rivals k label l other (getD among l false)
+    rival = is ∙ ap (λ (n : ℕ). rivals k label l other (getD among n false)) wide
 
-  rival-yes : (first : ℕ) → first ≡ k → getD among first false ≡ true → r ≡ true
-      → (getD among k false && rivals k label l other (getD among l false)) ≡ true
-  rival-yes first e t q =
-      and-intro (getD among k false) (rivals k label l other (getD among l false)) (ap (λ (n : ℕ). getD among n false) (sym e) ∙ t) (sym rival ∙ q)
+    rival-yes : (first : ℕ) → first ≡ k → getD among first false ≡ true → r ≡ true
+        → (getD among k false && rivals k label l other (getD among l false)) ≡ true
+    rival-yes first e t q =
+        and-intro (getD among k false) (rivals k label l other (getD among l false)) (ap (λ (n : ℕ). getD among n false) (sym e) ∙ t) (sym rival ∙ q)
 
-  rival-no : r ≡ false → rivals k label l other (getD among l false) ≡ false
-  rival-no q = sym rival ∙ q
+    rival-no : r ≡ false → rivals k label l other (getD among l false) ≡ false
+    rival-no q = sym rival ∙ q
 
 -- nothing is a rival of a rule whose type is not in the set
 out-of-set : (among : List Bool) (k first : ℕ) (others : Bool) → first ≡ k → getD among first false ≡ false

@@ -21,14 +21,13 @@ loop-again : tie.Need-loop-again Inv-loop μ-loop
 loop-again c =
     let loop = c .before .before .loop in
     let numbers = c .before .before .before .before .args .index .«start_type» in
-    let k = c .wide .ensures in
-    (
+    let k = c .wide .ensures in (
       length-set (loop .types) _ _ ∙ loop .inv .0,
       omega arith,
       subst
-      (λ (n : ℕ). SeenBelow (set (loop .types) n true) numbers (loop .i + 1))
-      (sym (k .0))
-      (seen-next (loop .types) numbers (loop .i) (loop .inv .2) (omega arith)),
+          (λ (n : ℕ). SeenBelow (set (loop .types) n true) numbers (loop .i + 1))
+          (sym (k .0))
+          (seen-next (loop .types) numbers (loop .i) (loop .inv .2) (omega arith)),
     )
 
 returns : tie.Need-returns Inv-loop μ-loop
