@@ -21,11 +21,11 @@ fn label_before(index: TableIndex, i: usize) -> bool
     requires { ⌜ i < 64 ⌝ }
     ensures { λ r. ⌜ r ≡ anyBelow (sameLabelAt index i) i ⌝ }
 {
-    let rule_label = index.rule_label;
-    let label = rule_label[i];
+    let labels = index.rule_label;
+    let label = labels[i];
     let mut j: usize = 0;
     while j < i {
-        if rule_label[j] == label {
+        if labels[j] == label {
             return true;
         }
         j += 1;
@@ -39,12 +39,12 @@ pub fn local_table(index: TableIndex) -> bool
     ensures { λ r. ⌜ ((s : List ℕ) (g : Table) → Indexes s index g → r ≡ isLocal g) ⌝ }
 {
     let rules = index.rules;
-    let mut i: usize = 0;
-    while i < rules {
-        if label_before(index, i) {
+    let mut later: usize = 0;
+    while later < rules {
+        if label_before(index, later) {
             return false;
         }
-        i += 1;
+        later += 1;
     }
     true
 }
@@ -130,8 +130,8 @@ fn start_types(index: TableIndex) -> [bool; 256]
     let mut types = [false; 256];
     let mut i: usize = 0;
     while i < starts {
-        let k = wide(start_type[i]);
-        types[k] = true;
+        let start = wide(start_type[i]);
+        types[start] = true;
         i += 1;
     }
     types
@@ -211,10 +211,10 @@ fn none_compete_in_any(table: &[u8], index: TableIndex) -> bool
     ensures { λ r. ⌜ ((g : Table) → Indexes (now (table .entry)) index g → r ≡ all (λ (rule : Rule). noneCompete g (typesIn (rule .content))) (g .rules)) ⌝ }
 {
     let rules = index.rules;
-    let mut i: usize = 0;
-    while i < rules {
-        if none_compete_in(table, index, i) {
-            i += 1;
+    let mut rule: usize = 0;
+    while rule < rules {
+        if none_compete_in(table, index, rule) {
+            rule += 1;
         } else {
             return false;
         }

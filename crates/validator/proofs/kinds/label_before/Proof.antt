@@ -13,10 +13,10 @@ use Rattle.validator.proofs.kinds.label_before.Statement.{statement}
 use Rattle.validator.proofs.kinds.label_before.Tie as tie
 
 abbrev Inv-loop : tie.InvT-loop
-Inv-loop i rule-label label j₀ j = (k : ℕ) → k < j → eqb label (getD rule-label k 0) ≡ false
+Inv-loop i labels label j₀ j = (k : ℕ) → k < j → eqb label (getD labels k 0) ≡ false
 
 abbrev μ-loop : tie.MeasureT-loop
-μ-loop i rule-label label j₀ j = i - j
+μ-loop i labels label j₀ j = i - j
 
 returns : tie.Need-returns Inv-loop μ-loop
 returns c =

@@ -1,4 +1,4 @@
--- `kinds::local_table` meets its contract. The loop's invariant: no rule before `i` has the label of an earlier one.
+-- `kinds::local_table` meets its contract. The loop's invariant: no rule before `later` has the label of an earlier one.
 use Prim.Native.Nat.{ℕ, _-_, _<_}
 use native.Mathlib.Omega.{arith}
 use borrow.Author.Count.{below-more}
@@ -11,10 +11,10 @@ use Rattle.validator.proofs.kinds.local_table.Statement.{statement}
 use Rattle.validator.proofs.kinds.local_table.Tie as tie
 
 abbrev Inv-loop : tie.InvT-loop
-Inv-loop index rules i₀ i = (k : ℕ) → k < i → anyBelow (sameLabelAt index k) k ≡ false
+Inv-loop index rules later₀ later = (k : ℕ) → k < later → anyBelow (sameLabelAt index k) k ≡ false
 
 abbrev μ-loop : tie.MeasureT-loop
-μ-loop index rules i₀ i = rules - i
+μ-loop index rules later₀ later = rules - later
 
 returns : tie.Need-returns Inv-loop μ-loop
 returns c =
@@ -27,13 +27,13 @@ returns c =
     (one-below
     (λ k. anyBelow (sameLabelAt index k) k)
     (index .rules)
-    (c .before .before .before .loop .i)
+    (c .before .before .before .loop .later)
     (c .before .before .loop-test .taken)
     (sym (c .before .label-before .ensures) ∙ c .if1 .taken)))
 
 loop-again : tie.Need-loop-again Inv-loop μ-loop
 loop-again c =
-    below-more _ (c .before .before .before .loop .i) (c .before .before .before .loop .inv) (sym (c .before .label-before .ensures) ∙ c .if1 .left)
+    below-more _ (c .before .before .before .loop .later) (c .before .before .before .loop .inv) (sym (c .before .label-before .ensures) ∙ c .if1 .left)
 
 returns-2 : tie.Need-returns-2 Inv-loop μ-loop
 returns-2 c =

@@ -1,4 +1,4 @@
--- `kinds::none_compete_in_any` meets its contract. The loop's invariant: the content of every rule before `i` passes.
+-- `kinds::none_compete_in_any` meets its contract. The loop's invariant: the content of every rule before `rule` passes.
 use Prim.Native.Nat.{ℕ, _-_, _<_}
 use native.Mathlib.Omega.{arith}
 use borrow.Author.Count.{below-more}
@@ -16,21 +16,21 @@ use Rattle.validator.proofs.kinds.none_compete_in_any.Statement.{statem
 use Rattle.validator.proofs.kinds.none_compete_in_any.Tie as tie
 
 abbrev Inv-loop : tie.InvT-loop
-Inv-loop table index rules i₀ i =
-    (k : ℕ) → k < i → (g : Table) (rule : Rule) → Indexes table index g → getElem? (g .rules) k ≡ some rule
-    → noneCompete g (typesIn (rule .content)) ≡ true
+Inv-loop table index rules rule₀ rule =
+    (k : ℕ) → k < rule → (g : Table) (r : Rule) → Indexes table index g → getElem? (g .rules) k ≡ some r
+    → noneCompete g (typesIn (r .content)) ≡ true
 
 abbrev μ-loop : tie.MeasureT-loop
-μ-loop table index rules i₀ i = rules - i
+μ-loop table index rules rule₀ rule = rules - rule
 
 loop-again : tie.Need-loop-again Inv-loop μ-loop
 loop-again c =
     let loop = c .before .before .before .loop in
-    below-more _ (loop .i) (loop .inv) (λ g rule x at-i. sym (c .before .none-compete-in .ensures g rule x at-i) ∙ c .if1 .taken)
+    below-more _ (loop .rule) (loop .inv) (λ g rule x at-i. sym (c .before .none-compete-in .ensures g rule x at-i) ∙ c .if1 .taken)
 
 returns : tie.Need-returns Inv-loop μ-loop
 returns c =
-    let i = c .before .before .before .loop .i in
+    let i = c .before .before .before .loop .rule in
     λ g x.
     let r = rule-at x i (c .before .before .loop-test .taken) in
     sym
