@@ -5,29 +5,29 @@
 --   none-compete-at : for a set that has just these types, noneCompete g is that no two rules are rivals whose types are in the set
 --   all-rules, one-rule : every rule passes a test where that of each number does
 --   pairs-repeated, starts-compete, then-contents : the three tests of isSingleType one after the other
-use Prim.Native.Nat.{ℕ, _<_, _≤_}
+use Prim.Native.Nat.{ℕ, _<_}
 use native.Mathlib.Omega.{arith}
 use mathlib.Core.Bool.{Bool, true, false, not, _&&_}
 use mathlib.Core.List.{List, List·Memᴰ}
-use mathlib.Core.Logic.{_↔_, _⊎_, inl, inr, ⊎-elim}
+use mathlib.Core.Logic.{⊎-elim}
 use mathlib.Core.Option.{some as just}
-use mathlib.Core.Path.{_≡_, refl, sym, _∙_, ap, ap₂}
+use mathlib.Core.Path.{_≡_, sym, _∙_, ap, ap₂}
 use lib.Dec.{eqb, ltb}
 use lib.ListN.{length, getD, getElem?}
 use borrow.Author.Tests.{eqb-true, eqb-false, eq-eqb, ne-eqb, ltb-true, ltb-false, not-true}
 use Rattle.grammar.specs.Lists.{all, allDistinct, isIn}
 use Rattle.grammar.specs.Content.{typesIn}
 use Rattle.grammar.specs.Table.{Rule, Table}
-use Rattle.grammar.specs.Kinds.{Competing, NoneCompete}
+use Rattle.grammar.specs.Kinds.{NoneCompete}
 use Rattle.grammar.specs.KindTests.{sameLabel, samePair, isLocal, noneCompete, isSingleType}
 use Rattle.theory.proofs.BoolLaws.{and-left, and-right, and-intro, false-of, not-both, passes-or-fails, same-test}
 use Rattle.theory.proofs.ListLaws.{differ-at, all-differ, mem-at, at-mem, at-below, below-at, in-mem, mem-in, eqb-sym, all-of, all-at}
 use Rattle.theory.proofs.KindTests.{none-compete}
 use Rattle.reader.specs.declared.tables.TableIndex.{TableIndex}
-use Rattle.reader.specs.TableIndex.{ruleType, ruleLabel, RuleAt, Indexes}
+use Rattle.reader.specs.TableIndex.{ruleType, ruleLabel, Indexes}
 use Rattle.reader.proofs.TableIndexLaws.{rule-at}
-use Rattle.validator.specs.RulesAt.{anyBelow, sameLabelAt, samePairAt, rivals, rivalsAt, Holds}
-use Rattle.validator.proofs.BelowLaws.{one-below, below-found, none-below}
+use Rattle.validator.specs.RulesAt.{anyBelow, sameLabelAt, samePairAt, rivalsAt, Holds}
+use Rattle.validator.proofs.BelowLaws.{one-below, below-found}
 
 not-of : {a : Bool} → a ≡ false → not a ≡ true
 not-of e = ap not e

@@ -1,6 +1,6 @@
 -- Sets of types as arrays of bools: none is in the first one (`none-seen`), putting one in adds it and nothing else (`seen-put`), and the
 -- starts put in one after the other are the starts of the table (`seen-first`, `seen-next`, `seen-starts`).
-use Prim.Native.Nat.{ℕ, zero, suc, _+_, _≤_, _<_}
+use Prim.Native.Nat.{ℕ, zero, suc, _+_, _<_}
 use native.Mathlib.Omega.{arith}
 use native.Mathlib.Numerals.{add-one}
 use mathlib.Core.Bool.{Bool, true, false, _||_}

@@ -5,7 +5,7 @@
 --   left-start : so it is at the front of a content's bytes, with no type seen
 --   left-type, left-count, left-alone : so it stays after each operator (2, the counted ones, the others)
 --   left-end : at the end the types seen are those that stand in the content
-use Prim.Native.Nat.{ℕ, zero, suc, _+_, _≤_, _<_}
+use Prim.Native.Nat.{ℕ, suc, _+_, _≤_, _<_}
 use native.Mathlib.Omega.{arith}
 use native.Mathlib.Numerals.{add-one, add-two}
 use mathlib.Core.Bool.{Bool, true, false, _||_}
@@ -15,23 +15,7 @@ use mathlib.Core.Path.{_≡_, refl, sym, _∙_, ap, subst}
 use lib.Dec.{eqb}
 use lib.ListN.{length, getD, set, drop, length-drop, drop-of-length-le}
 use lib.Seq.{drop-cons}
-use Rattle.grammar.specs.Content.{
-  Content,
-  none,
-  empty,
-  type,
-  sequence,
-  choice,
-  anyNumber,
-  oneOrMore,
-  optional,
-  Contents,
-  []ᶜ,
-  _∷ᶜ_,
-  count,
-  typesIn,
-  typesInAll,
-}
+use Rattle.grammar.specs.Content.{Content, none, empty, type, sequence, choice, anyNumber, oneOrMore, optional, Contents, []ᶜ, _∷ᶜ_, count, typesIn, typesInAll}
 use Rattle.grammar.specs.Lists.{isIn}
 use Rattle.grammar.specs.ReadContent.{contentBytes, operandBytes}
 use Rattle.validator.specs.RulesAt.{Holds}

@@ -1,7 +1,5 @@
 -- `kinds::none_compete_in` meets its contract.
-use native.Mathlib.Omega.{arith}
 use borrow.Author.Needs.{needs}
-use mathlib.Core.Path.{_≡_, sym}
 use Rattle.grammar.specs.Content.{typesIn}
 use Rattle.reader.proofs.TableIndexLaws.{rule-at}
 use Rattle.validator.proofs.kinds.none_compete_in.Statement.{statement}

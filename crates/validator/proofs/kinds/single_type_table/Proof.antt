@@ -1,6 +1,5 @@
 -- `kinds::single_type_table` meets its contract: the pairs, the starts, then the contents.
-use borrow.Author.Needs.{needs}
-use mathlib.Core.Path.{_≡_, sym, _∙_}
+use mathlib.Core.Path.{sym, _∙_}
 use Rattle.validator.proofs.IndexedKinds.{pairs-repeated, starts-compete, then-contents}
 use Rattle.validator.proofs.kinds.single_type_table.Statement.{statement}
 use Rattle.validator.proofs.kinds.single_type_table.Tie as tie

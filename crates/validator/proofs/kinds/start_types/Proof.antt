@@ -1,9 +1,9 @@
 -- `kinds::start_types` meets its contract. The loop's invariant: the types seen are the starts before `i`.
 use Prim.Native.Nat.{ℕ, _+_, _-_, _≤_}
 use native.Mathlib.Omega.{arith}
-use mathlib.Core.Bool.{Bool, true}
+use mathlib.Core.Bool.{true}
 use mathlib.Core.Path.{_≡_, refl, sym, _∙_, subst}
-use lib.ListN.{getD, set, length, length-set}
+use lib.ListN.{set, length, length-set}
 use Rattle.validator.proofs.SeenTypes.{SeenBelow, seen-first, seen-next, seen-starts}
 use Rattle.validator.proofs.kinds.start_types.Statement.{statement}
 use Rattle.validator.proofs.kinds.start_types.Tie as tie
