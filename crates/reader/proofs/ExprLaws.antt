@@ -1,20 +1,18 @@
 -- The laws of `exprAt` and `exprsAt`, by which every walk over the bytes of contents goes.
--- What they are, operator by operator and operand by operand: `expr-past`, `expr-unknown`, `expr-alone`, `expr-numbered`,
--- `expr-counted`,
--- `expr-single` (`expr-unnumbered`, `expr-uncounted` where the bytes stop), `exprs-none`, `exprs-stop`, `exprs-more`.
--- Where a content is known to stand: the place after it and its bytes (`expr-forward`, `expr-bytes`, `expr-written` and back,
--- `written-expr`);
--- what its operator's byte says (`alone-was`, `numbered-was`, `counted-was`, `single-was`); its parts by cases of the content
--- (`expr-parts`);
--- the first of so many (`exprs-first`, `exprs-end`). The same bytes elsewhere are the same content: `expr-kept`, `expr-in`.
+-- * What they are, operator by operator and operand by operand: `expr-past`, `expr-unknown`, `expr-alone`, `expr-numbered`,
+--   `expr-counted`, `expr-single` (`expr-unnumbered`, `expr-uncounted` where the bytes stop), `exprs-none`, `exprs-stop`, `exprs-more`.
+-- * Where a content is known to stand: the place after it (`expr-forward`) and its bytes (`expr-bytes`, `expr-written`, and back
+--   `written-expr`); what its operator's byte says (`alone-was`, `numbered-was`, `counted-was`, `single-was`); its parts by cases of
+--   the content (`expr-parts`); the first of so many (`exprs-first`, `exprs-end`).
+-- * The same bytes elsewhere are the same content: `expr-kept`, `exprs-kept`, `expr-in`.
 use Prim.Native.Nat.{ℕ, zero, suc, _+_, _-_, _≤_, _<_}
 use native.Mathlib.Omega.{arith}
 use native.Mathlib.Numerals.{add-one}
-use mathlib.Core.Bool.{Bool, true, false}
+use mathlib.Core.Bool.{true, false}
 use mathlib.Core.List.{List, [], _∷_, _++_, append-assoc}
 use mathlib.Core.Logic.{_⊎_, inl, inr}
 use mathlib.Core.Option.{Option, none as nothing, some as just}
-use mathlib.Core.Path.{_≡_, refl, sym, _∙_, ap, ap₂, subst}
+use mathlib.Core.Path.{_≡_, refl, sym, _∙_, ap, subst}
 use lib.ListN.{length, getD, getElem?, take, drop, length-append, length-take, length-drop, drop-of-length-le, take-append-drop}
 use lib.Dec.{ltb}
 use lib.Seq.{drop-cons, drop-drop, drop-append-seam, drop-append-le, drop-append-add, take-append-add, take-add, take-at, drop-at, length-take-le}
@@ -34,19 +32,7 @@ use Rattle.grammar.specs.Content.{
   _∷ᶜ_,
   count,
 }
-use Rattle.grammar.specs.ReadContent.{
-  contentBytes,
-  operandBytes,
-  Operator,
-  alone,
-  numbered,
-  counted,
-  single,
-  operators,
-  Parsed,
-  found,
-  expressionOf,
-}
+use Rattle.grammar.specs.ReadContent.{contentBytes, operandBytes, alone, numbered, counted, single, operators, Parsed, found, expressionOf}
 use Rattle.theory.proofs.BoolLaws.{passes-or-fails}
 use Rattle.theory.proofs.ListLaws.{just-eq}
 use Rattle.theory.proofs.ContentBytes.{
@@ -81,7 +67,8 @@ from-place-two s at h =
     ∙ ap (λ (l : List ℕ). getD s at 0 ∷ l) (from-place s (at + 1) h ∙ ap (λ (n : ℕ). getD s (at + 1) 0 ∷ drop n s) two)
 
 last-place : (s : List ℕ) (at : ℕ) → at + 1 ≡ length s → drop at s ≡ getD s at 0 ∷ []
-last-place s at h = from-place s at (omega arith) ∙ ap (λ (l : List ℕ). getD s at 0 ∷ l) (drop-of-length-le s {i = at + 1} (omega arith))
+last-place s at h =
+    from-place s at (omega arith) ∙ ap (λ (l : List ℕ). getD s at 0 ∷ l) (drop-of-length-le s {i = at + 1} (omega arith))
 
 in-front : {A B : Type 0} (f : A → B) (end : ℕ) (p : Parsed A) → inFront end (found f p) ≡ placed f (inFront end p)
 in-front f end nothing = refl
@@ -119,7 +106,10 @@ written s at bytes rest h e =
     let l = sym (length-drop at s) ∙ ap length e ∙ length-append bytes rest in
     let n : length s - length rest ≡ at + length bytes = omega arith in
     let r : rest ≡ drop (length s - length rest) s =
-    sym (drop-append-seam bytes rest) ∙ ap (drop (length bytes)) (sym e) ∙ drop-drop (length bytes) at s ∙ ap (λ (k : ℕ). drop k s) (sym n) in
+    sym (drop-append-seam bytes rest)
+    ∙ ap (drop (length bytes)) (sym e)
+    ∙ drop-drop (length bytes) at s
+    ∙ ap (λ (k : ℕ). drop k s) (sym n) in
     (record { bytes-from = e ∙ ap (λ (k : List ℕ). bytes ++ k) r; next-is = n; inside = omega arith }, r)
 
 -- a place with an expression is inside
@@ -359,27 +349,22 @@ module _ (s : List ℕ) (at : ℕ) (c : Content) (next : ℕ) (stands : exprAt s
       placed-from f (exprAt s (at + 1)) c next (sym (expr-single s at (omega arith) f o) ∙ stands)
 
   -- a type number or a count is there
-  pub numbered-more : (f : ℕ → Content) → getElem? operators (getD s at 0) ≡ just (numbered f) → at + 1 < length s
-  numbered-more f o = go (passes-or-fails (ltb (at + 1) (length s)))
+  more : (at + 1 ≡ length s → exprAt s at ≡ nothing) → at + 1 < length s
+  more stop = go (passes-or-fails (ltb (at + 1) (length s)))
     where
       go : (ltb (at + 1) (length s) ≡ true) ⊎ (ltb (at + 1) (length s) ≡ false) → at + 1 < length s
       go (inl t) = ltb-true (at + 1) (length s) t
       go (inr t) =
           let h = expr-forward s at c next stands in
           let l = ltb-false (at + 1) (length s) t in
-          let z : _≡_ {A = ℕ} 0 1 = cc (expr-unnumbered s at (omega arith) f o) in
+          let z : _≡_ {A = ℕ} 0 1 = cc (stop (omega arith)) in
           absurd (omega arith)
 
+  pub numbered-more : (f : ℕ → Content) → getElem? operators (getD s at 0) ≡ just (numbered f) → at + 1 < length s
+  numbered-more f o = more (λ last. expr-unnumbered s at last f o)
+
   pub counted-more : (f : Contents → Content) → getElem? operators (getD s at 0) ≡ just (counted f) → at + 1 < length s
-  counted-more f o = go (passes-or-fails (ltb (at + 1) (length s)))
-    where
-      go : (ltb (at + 1) (length s) ≡ true) ⊎ (ltb (at + 1) (length s) ≡ false) → at + 1 < length s
-      go (inl t) = ltb-true (at + 1) (length s) t
-      go (inr t) =
-          let h = expr-forward s at c next stands in
-          let l = ltb-false (at + 1) (length s) t in
-          let z : _≡_ {A = ℕ} 0 1 = cc (expr-uncounted s at (omega arith) f o) in
-          absurd (omega arith)
+  counted-more f o = more (λ last. expr-uncounted s at last f o)
 
   pub numbered-was : (f : ℕ → Content) → getElem? operators (getD s at 0) ≡ just (numbered f)
       → (f (getD s (at + 1) 0) ≡ c) × (at + 2 ≡ next)
@@ -474,7 +459,8 @@ exprs-first s at n cs next e = go (exprAt s at) refl
     go : (p : Option (Placed Content)) → exprAt s at ≡ p → FirstAt s at n cs next
     go nothing q = let z : _≡_ {A = ℕ} 0 1 = cc (exprs-stop s at n q) in absurd (omega arith)
     go (just p) q =
-        let m = placed-from (λ ds. p .content ∷ᶜ ds) (exprsAt s (p .next) n) cs next (sym (exprs-more s at n (p .content) (p .next) q) ∙ e) in
+        let both = sym (exprs-more s at n (p .content) (p .next) q) ∙ e in
+        let m = placed-from (λ ds. p .content ∷ᶜ ds) (exprsAt s (p .next) n) cs next both in
         record { first = p .content; others = m .0; middle = p .next; both = sym (m .2); first-at = q; others-at = m .1 }
 
 pub exprs-end : (s : List ℕ) (at : ℕ) (cs : Contents) (next : ℕ) → exprsAt s at zero ≡ just (cs upTo next)
@@ -569,7 +555,8 @@ module _ (s : List ℕ) (at : ℕ) where
 
 pub expr-kept : (s t : List ℕ) (at : ℕ) (c : Content) (next : ℕ) → take next s ≡ take next t
     → exprAt s at ≡ just (c upTo next) → exprAt t at ≡ just (c upTo next)
-expr-kept s t at c next same e = written-expr t at c next (written-kept s t at (contentBytes c) next (expr-written s at c next e) same)
+expr-kept s t at c next same e =
+    written-expr t at c next (written-kept s t at (contentBytes c) next (expr-written s at c next e) same)
 
 pub exprs-kept : (s t : List ℕ) (at n : ℕ) (cs : Contents) (next : ℕ) → at ≤ length s → take next s ≡ take next t
     → exprsAt s at n ≡ just (cs upTo next) → exprsAt t at n ≡ just (cs upTo next)
@@ -580,4 +567,5 @@ exprs-kept s t at n cs next h same e =
 pub expr-in : (t : List ℕ) (a k at : ℕ) (c : Content) (next : ℕ) → a ≤ length t → exprAt (take k (drop a t)) at ≡ just (c upTo next)
     → exprAt t (a + at) ≡ just (c upTo (a + next))
 expr-in t a k at c next h e =
-    written-expr t (a + at) c (a + next) (written-in t a k at (contentBytes c) next h (expr-written (take k (drop a t)) at c next e))
+    let w = expr-written (take k (drop a t)) at c next e in
+    written-expr t (a + at) c (a + next) (written-in t a k at (contentBytes c) next h w)

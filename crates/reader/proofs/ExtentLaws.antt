@@ -6,13 +6,13 @@ use Prim.Native.Nat.{ℕ, zero, suc, _+_, _-_, _≤_, _<_, max}
 use native.Mathlib.Omega.{arith}
 use native.Mathlib.Numerals.{add-one}
 use mathlib.Core.Bool.{Bool, true, false, _&&_, not}
-use mathlib.Core.List.{List, [], _∷_, _++_}
+use mathlib.Core.List.{List, [], _∷_}
 use mathlib.Core.Logic.{_⊎_, inl, inr}
 use mathlib.Core.Option.{Option, none as nothing, some as just}
 use mathlib.Core.Path.{_≡_, refl, sym, _∙_, ap, ap₂, subst}
 use lib.ListN.{length, getD, getElem?, length-append}
-use lib.Dec.{leb, ltb, eqb}
-use borrow.Author.Tests.{le-leb, lt-leb, lt-ltb, le-ltb, ltb-true, ltb-false}
+use lib.Dec.{leb, ltb}
+use borrow.Author.Tests.{leb-true, le-leb, lt-leb, lt-ltb, le-ltb, ltb-true, ltb-false}
 use Rattle.grammar.specs.Limits.{Limits}
 use Rattle.grammar.specs.Content.{
   Content,
@@ -31,57 +31,18 @@ use Rattle.grammar.specs.Content.{
   nesting,
   deepest,
 }
-use Rattle.grammar.specs.ReadContent.{
-  contentBytes,
-  operandBytes,
-  alone,
-  numbered,
-  counted,
-  single,
-  operators,
-  Parsed,
-  expressionOf,
-  isProper,
-  areProper,
-  whole,
-  readContent,
-}
+use Rattle.grammar.specs.ReadContent.{contentBytes, operandBytes, numbered, counted, single, operators, Parsed, expressionOf, isProper, areProper, whole, readContent}
 use Rattle.grammar.specs.Outcome.{Outcome, given, refused, _>>=_, _>>_, turnBack}
 use Rattle.grammar.specs.declared.Refusal.{Refusal}
 use Rattle.grammar.specs.declared.Refusal.the-variants.{BadContent, NestedTooDeep}
-use Rattle.theory.proofs.BoolLaws.{passes-or-fails, not-both}
+use Rattle.theory.proofs.BoolLaws.{and-left, and-right, passes-or-fails}
 use Rattle.theory.proofs.ContentBytes.{expression-was, content-has-bytes}
 use Rattle.reader.specs.ExprAt.{Placed, _upTo_, placed, inFront, exprAt, exprsAt}
 use Rattle.reader.specs.Extents.{extentBy, NestsBelow, properAt, properRowAt, typeAt, deeperOf, joinedOf, contentAnswer}
 use Rattle.reader.specs.declared.contents.ContentAnswer.the-variants.{Fine, Refused}
 use Rattle.reader.specs.declared.contents.Extent.{Extent}
 use Rattle.reader.specs.declared.contents.Extent.the-variants.{Nowhere, Upto}
-use Rattle.reader.proofs.ExprLaws.{
-  same-placed,
-  expr-written,
-  expr-forward,
-  expr-past,
-  expr-unknown,
-  expr-alone,
-  expr-single,
-  expr-numbered,
-  expr-unnumbered,
-  expr-counted,
-  expr-uncounted,
-  exprs-none,
-  exprs-stop,
-  exprs-more,
-  exprs-written,
-  operator-none,
-  operator-empty,
-  operator-type,
-  operator-sequence,
-  operator-choice,
-  operator-any-number,
-  operator-one-or-more,
-  operator-optional,
-  operator-unknown,
-}
+use Rattle.reader.proofs.ExprLaws.{same-placed, expr-written, expr-past, expr-unknown, expr-alone, expr-single, expr-numbered, expr-unnumbered, expr-counted, expr-uncounted, exprs-none, exprs-stop, exprs-more, exprs-written, operator-none, operator-empty, operator-type, operator-sequence, operator-choice, operator-any-number, operator-one-or-more, operator-optional, operator-unknown}
 
 -- What is found of anything that stands at a place.
 module _ {A : Type 0} (proper : A → Bool) (deep : A → ℕ) where
@@ -339,7 +300,8 @@ module _ (lim : Limits) (s : List ℕ) (at : ℕ) where
           rw (p, typeAt) (proper-none (expr-unnumbered s at (omega arith) type o))
       go (inl p) (inl q) =
           let l = ltb-true (at + 1) (length s) p in
-          rw (p, q, typeAt) (proper-some (type (getD s (at + 1) 0)) (at + 2) (expr-numbered s at l type o) q ∙ ap (λ (n : ℕ). Upto n 1) (sym two))
+          let found = proper-some (type (getD s (at + 1) 0)) (at + 2) (expr-numbered s at l type o) q in
+          rw (p, q, typeAt) (found ∙ ap (λ (n : ℕ). Upto n 1) (sym two))
       go (inl p) (inr q) =
           let l = ltb-true (at + 1) (length s) p in
           rw (p, q, typeAt) (proper-fault (type (getD s (at + 1) 0)) (at + 2) (expr-numbered s at l type o) q)
@@ -359,7 +321,12 @@ module _ (lim : Limits) (s : List ℕ) (at : ℕ) where
         let k = counts lim (getD s at 0) low high in
         let n = getD s (at + 1) 0 in
         ap (extentBy (isProper lim) nesting) (expr-counted s at h (k .operator) (k .numbered-so))
-        ∙ extent-fault (k .operator) (isProper lim) nesting (exprsAt s (at + 2) n) (λ cs next e. too-few cs (k .operator) (k .proper) (counted-so cs next e))
+        ∙ extent-fault
+        (k .operator)
+        (isProper lim)
+        nesting
+        (exprsAt s (at + 2) n)
+        (λ cs next e. too-few cs (k .operator) (k .proper) (counted-so cs next e))
       where
         counted-so : (cs : Contents) (next : ℕ) → exprsAt s (at + 2) (getD s (at + 1) 0) ≡ just (cs upTo next) → count cs < 2
         counted-so cs next e = let c = exprs-written s (at + 2) (getD s (at + 1) 0) cs next (omega arith) e .0 in omega arith
@@ -575,3 +542,30 @@ fine-given (given c) e = (c, refl)
 pub refused-so : (o : Outcome Content) (r : Refusal) → contentAnswer o ≡ Refused r → o ≡ refused r
 refused-so (refused q) r e = cc
 refused-so (given c) r e = let z : _≡_ {A = ℕ} 0 1 = cc in absurd (omega arith)
+
+-- what is known of the parts of a proper content
+pub proper-number : (lim : Limits) (k : ℕ) → isProper lim (type k) ≡ true → k < lim .types
+unfolding isProper
+proper-number lim k e = ltb-true k (lim .types) e
+
+pub proper-sequence : (lim : Limits) (cs : Contents) → isProper lim (sequence cs) ≡ true
+    → (2 ≤ count cs) × (count cs ≤ lim .operands) × (areProper lim cs ≡ true)
+unfolding isProper
+proper-sequence lim cs e =
+    let few = leb 2 (count cs) in
+    let many = leb (count cs) (lim .operands) in
+    let counts-so = and-left (few && many) (areProper lim cs) e in (
+      leb-true 2 (count cs) (and-left few many counts-so),
+      leb-true (count cs) (lim .operands) (and-right few many counts-so),
+      and-right (few && many) (areProper lim cs) e,
+    )
+
+pub proper-choice : (lim : Limits) (cs : Contents) → isProper lim (choice cs) ≡ true
+    → (2 ≤ count cs) × (count cs ≤ lim .operands) × (areProper lim cs ≡ true)
+unfolding isProper
+proper-choice lim cs e = proper-sequence lim cs e
+
+pub proper-first : (lim : Limits) (c : Content) (cs : Contents) → areProper lim (c ∷ᶜ cs) ≡ true
+    → (isProper lim c ≡ true) × (areProper lim cs ≡ true)
+unfolding areProper
+proper-first lim c cs e = (and-left (isProper lim c) (areProper lim cs) e, and-right (isProper lim c) (areProper lim cs) e)

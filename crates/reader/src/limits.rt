@@ -6,11 +6,11 @@ pub const WORDS: usize = 16384;
 pub const INPUT: usize = 32768;
 // Bytes of a name.
 pub const NAME: usize = 63;
-// Labels, starts and rules of a table.
+// Labels of a table.
 pub const LABELS: usize = 64;
-
+// Starts of a table.
 pub const STARTS: usize = 64;
-
+// Rules of a table.
 pub const RULES: usize = 64;
 // Types are the numbers below this.
 pub const TYPES: usize = 64;

@@ -1,6 +1,7 @@
--- Tests and the facts that they decide.
+-- Tests and the facts that they decide: and-left, and-right, and-intro, or-cases, or-left, or-right, or-false, and of tests made of
+-- tests and-decides, or-decides, unless-decides.
 use mathlib.Core.Bool.{Bool, true, false, not, _&&_, _||_, true≢false, false≢true}
-use mathlib.Core.Logic.{_↔_, _⊎_, inl, inr}
+use mathlib.Core.Logic.{_↔_, _⊎_, inl, inr, ⊎-elim}
 use mathlib.Core.Path.{_≡_, refl, sym, _∙_, ap}
 
 pub and-left : (a b : Bool) → (a && b) ≡ true → a ≡ true
@@ -63,3 +64,9 @@ unless-decides false b p q =
 
 pub or-none : (a b : Bool) → a ≡ false → b ≡ false → (a || b) ≡ false
 or-none a b p q = rw (p, q)
+
+pub or-decides : (a b : Bool) {A B : Type 0} → (a ≡ true) ↔ A → (b ≡ true) ↔ B → ((a || b) ≡ true) ↔ (A ⊎ B)
+or-decides a b p q = (
+  λ e. ⊎-elim (λ h. inl (p .0 h)) (λ h. inr (q .0 h)) (or-cases a b e),
+  λ h. ⊎-elim (λ x. or-left a b (p .1 x)) (λ y. or-right a b (q .1 y)) h,
+)

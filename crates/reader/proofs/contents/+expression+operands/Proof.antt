@@ -1,15 +1,14 @@
--- `expression` and `operands` meet their contracts. The measure of an expression is twice the bytes from its place on, that of
--- operands one more:
--- every call goes on past a byte, but the one for the first operand. Each return is a law of ExtentLaws.
-use Prim.Native.Nat.{ℕ, _+_, _-_, _*_, _≤_, _<_}
+-- `expression` and `operands` meet their contracts. The measure of an expression is twice the bytes from its place on, that of operands
+-- one more: every call goes on past a byte, but the one for the first operand. Each return is a law of ExtentLaws.
+use Prim.Native.Nat.{ℕ, _+_, _-_, _*_, _<_}
 use native.Mathlib.Omega.{arith}
-use mathlib.Core.Path.{_≡_, sym, _∙_, ap, subst}
-use lib.ListN.{length, getD}
+use mathlib.Core.Path.{sym, _∙_, ap, subst}
+use lib.ListN.{length}
 use borrow.Author.Needs.{needs}
 use borrow.Fn.Kinds.{In}
 use borrow.Fn.PlainCycle.{Measures, is, falls, and}
 use Rattle.grammar.specs.Limits.{standard}
-use Rattle.reader.specs.Extents.{NestsBelow, deeperOf, joinedOf, properAt, properRowAt}
+use Rattle.reader.specs.Extents.{NestsBelow, deeperOf, joinedOf, properRowAt}
 use Rattle.reader.proofs.ExtentLaws.{
   proper-within,
   proper-nests,

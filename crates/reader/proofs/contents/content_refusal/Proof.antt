@@ -1,5 +1,4 @@
 -- `content_refusal` meets its contract: what the walk from the first byte finds settles how the content reads.
-use native.Mathlib.Omega.{arith}
 use mathlib.Core.Path.{sym, _∙_, ap}
 use borrow.Author.Needs.{needs}
 use Rattle.grammar.specs.Limits.{standard}

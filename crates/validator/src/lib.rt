@@ -1,0 +1,1 @@
+// Membership and kind of tables and documents, over their readers.
