@@ -59,7 +59,7 @@ pub fn clear_work(work: &mut [u32])
     requires { ⌜ 16384 ≤ length (now work) ⌝ }
     ensures { λ r. ⌜ now (work .exit) ≡ workAfter standard (now (work .entry)) ⌝ }
 {
-    clear(&mut work[0..16384]);
+    clear(&mut work[0..WORDS]);
 }
 
 // Does a table read?
