@@ -1,3 +1,4 @@
 pub mod RowLaws
 pub mod KeptLaws
 pub mod FinishLaws
+pub mod WideLaws
