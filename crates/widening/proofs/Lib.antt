@@ -1,0 +1,2 @@
+pub mod ContentAtLaws
+pub mod ProductiveLaws

@@ -1,0 +1,2 @@
+pub mod ContentAt
+pub mod Walks
