@@ -1,0 +1,1 @@
+// Sets of small numbers as bits of 32-bit words.
