@@ -1,14 +1,14 @@
 -- Bits of numbers. Main statements: `bit-or` (a bit of x | y), `bit-one` (a bit of 1 << j), `bit-zero` (of 0), and `bits-differ`
 -- (two different numbers below 2 ^ n have a bit below n in which they differ).
-use Prim.Native.Nat.{ℕ, zero, suc, _+_, _*_, _/_, _%_, _^_, _≤_, _<_}
+use Prim.Native.Nat.{ℕ, zero, suc, _+_, _*_, _/_, _%_, _^_, _≤_, _<_, suc-le-suc}
 use mathlib.Core.Bool.{Bool, true, false, _||_, true≢false}
 use mathlib.Core.Path.{_≡_, refl, sym, ap, ap₂, _∙_, subst}
-use native.Mathlib.Nat.{div-one, zero-div, mod-lt, pow-suc, one-mul, zero-lt-suc, suc-add, zero-add, not-suc-le-zero, div-lt-iff-lt-mul, div-add-mod'}
+use native.Mathlib.Nat.{div-one, zero-div, mod-lt, pow-suc, one-mul, zero-lt-suc, suc-add, zero-add, not-suc-le-zero, div-lt-iff-lt-mul, le-refl}
 use native.Mathlib.Omega.{arith}
 use lib.Arith.{lt-one}
 use lib.Bits.{bitOr, or-shr, or-mod, shifted-half, shifted-even}
 use lib.Dec.{eqb, eqb·zero-suc, eqb·suc-zero, eqb·suc-suc}
-use lib.Pow.{shr-shr}
+use lib.Pow.{shr-shr, shl-exact}
 use borrow.Author.Tests.{eqb-true, eqb-false}
 use Rattle.sets.specs.Sets.{bitOf}
 
@@ -57,6 +57,10 @@ bit-one zero (suc k) = bit-next 1 k ∙ bit-zero k ∙ sym (eqb·suc-zero k)
 bit-one (suc j) zero = bit-first (2 ^ suc j) ∙ ap (λ (n : ℕ). eqb n 1) (even-power j) ∙ sym (eqb·zero-suc j)
 bit-one (suc j) (suc k) =
     bit-next (2 ^ suc j) k ∙ ap (λ (n : ℕ). bitOf n k) (half-power j) ∙ bit-one j k ∙ sym (eqb·suc-suc k j)
+
+-- what the code's 1 << k computes
+pub one-shifted : (k : ℕ) → k < 32 → 1 * 2 ^ k % 2 ^ 32 ≡ 2 ^ k
+one-shifted k h = shl-exact {a = 1} 1 k 32 (suc-le-suc (le-refl 1)) (omega arith) ∙ one-mul (2 ^ k)
 
 same-digit : (x y : ℕ) → x < 2 → y < 2 → eqb x 1 ≡ eqb y 1 → x ≡ y
 same-digit zero zero hx hy e = refl

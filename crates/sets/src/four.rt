@@ -47,10 +47,16 @@ impl Set4 {
     pub fn equal(self, other: Set4) -> bool
         ensures { λ r. ⌜ Compares (self .words) (other .words) r ⌝ }
     {
-        self.words[0] == other.words[0]
-            && self.words[1] == other.words[1]
-            && self.words[2] == other.words[2]
-            && self.words[3] == other.words[3]
+        if self.words[0] != other.words[0] {
+            return false;
+        }
+        if self.words[1] != other.words[1] {
+            return false;
+        }
+        if self.words[2] != other.words[2] {
+            return false;
+        }
+        self.words[3] == other.words[3]
     }
 
     pub fn is_empty(self) -> bool
