@@ -82,9 +82,12 @@ bits-differ (suc n) x y hx hy d = go (eqb (x % 2) (y % 2)) refl (bits-differ n (
     go : (b : Bool) → eqb (x % 2) (y % 2) ≡ b
         → ((x / 2 ≡ y / 2 → ⊥) → (k : ℕ) × (k < n) × (bitOf (x / 2) k ≡ bitOf (y / 2) k → ⊥))
         → (k : ℕ) × (k < suc n) × (bitOf x k ≡ bitOf y k → ⊥)
-    go false e later =
-        (0, zero-lt-suc n, λ q. eqb-false (x % 2) (y % 2) e
-          (same-digit (x % 2) (y % 2) (mod-lt x (zero-lt-suc 1)) (mod-lt y (zero-lt-suc 1)) (sym (bit-first x) ∙ q ∙ bit-first y)))
+    go false e later = (
+      0,
+      zero-lt-suc n,
+      λ q. eqb-false (x % 2) (y % 2) e
+          (same-digit (x % 2) (y % 2) (mod-lt x (zero-lt-suc 1)) (mod-lt y (zero-lt-suc 1)) (sym (bit-first x) ∙ q ∙ bit-first y)),
+    )
     go true e later =
         let low : x % 2 ≡ y % 2 = eqb-true (x % 2) (y % 2) e in
         let (k, below, apart) = later (λ h. d (omega arith)) in

@@ -39,8 +39,8 @@ four-loaded words base h =
     let w : (i : ℕ) → i < 4 → getD words (base + i) 0 ≡ getD (wordsAt words base 4) i 0 = λ i q. sym (word-of words base 4 i q) in
     let w0 : getD words base 0 ≡ getD (wordsAt words base 4) 0 0 = ap (λ (i : ℕ). getD words i 0) (sym (add-zero base)) ∙ w 0 (omega arith) in
     ap₂ (λ (x : ℕ) (l : List ℕ). x ∷ l) w0
-      (ap₂ (λ (x : ℕ) (l : List ℕ). x ∷ l) (w 1 (omega arith))
-      (ap₂ (λ (x y : ℕ). x ∷ y ∷ []) (w 2 (omega arith)) (w 3 (omega arith))))
+    (ap₂ (λ (x : ℕ) (l : List ℕ). x ∷ l) (w 1 (omega arith))
+    (ap₂ (λ (x y : ℕ). x ∷ y ∷ []) (w 2 (omega arith)) (w 3 (omega arith))))
     ∙ four-words (wordsAt words base 4) (length-words words base 4 h)
 
 pub four-stored : (words : List ℕ) (base : ℕ) (s : List ℕ) → base + 4 ≤ length words → length s ≡ 4
@@ -60,5 +60,5 @@ pub four-same : (a b : List ℕ) → length a ≡ 4 → length b ≡ 4 → getD 
 four-same a b p q ha hb e0 e1 e2 =
     record {
       same = λ t. let e3 = eqb-true (getD a 3 0) (getD b 3 0) t in sym (four-words a p) ∙ (cc) ∙ four-words b q;
-      differ = λ t. words-differ a b 3 (omega arith) ha hb (eqb-false (getD a 3 0) (getD b 3 0) t)
+      differ = λ t. words-differ a b 3 (omega arith) ha hb (eqb-false (getD a 3 0) (getD b 3 0) t);
     }

@@ -4,17 +4,18 @@
 -- `member-zeros`, `member-union`, and `same-words` (for words of 32 bits the same members mean the same words).
 use Prim.Native.Nat.{ℕ, zero, suc, _+_, _*_, _-_, _/_, _%_, _^_, _≤_, _<_}
 use mathlib.Core.Bool.{Bool, true, false, _||_, or-comm}
+use mathlib.Core.Logic.{_↔_}
 use mathlib.Core.List.{List, [], _∷_, _++_}
 use mathlib.Core.Path.{_≡_, refl, sym, ap, ap₂, _∙_, subst, fun-ext}
-use native.Mathlib.Nat.{zero-add, suc-add, le-refl}
+use native.Mathlib.Nat.{zero-add, suc-add, le-refl, mod-lt, zero-lt-suc}
 use native.Mathlib.Omega.{arith}
 use lib.Bits.{bitOr, or-zero-r}
-use lib.Dec.{eqb}
-use lib.ListN.{length, getD, set, take, drop, replicate, length-set, length-append, length-take, length-drop}
+use lib.Dec.{eqb, ltb}
+use lib.ListN.{length, getD, set, take, drop, replicate, length-set, length-append, length-take, length-drop, List·getD-eq-default}
 use lib.Seq.{getD-set-same, getD-set-other, getD-take, getD-drop, take-set-le, take-set-lt, drop-set-lt, drop-set-add, take-at, drop-at, length-take-le, ext-getD, take-append-le, drop-append-le, drop-drop, take-take, drop-append-add}
-use borrow.Author.Tests.{eqb-true, eqb-false, eq-eqb, ne-eqb}
-use Rattle.sets.proofs.BitLaws.{bit-or, bit-one, bit-zero, bits-differ}
-use Rattle.sets.specs.Sets.{bitOf, member, putAt, wordsAt, storeAt, unionOf, nothing, add, both}
+use borrow.Author.Tests.{eqb-true, eqb-false, eq-eqb, ne-eqb, ltb-true, ltb-false}
+use Rattle.sets.proofs.BitLaws.{bit-or, bit-one, bit-zero, bits-differ, one-shifted}
+use Rattle.sets.specs.Sets.{bitOf, member, putAt, wordsAt, storeAt, unionOf, nothing, add, both, Compares, Empties}
 
 -- ---- putting a number in
 
@@ -90,8 +91,8 @@ words-put words base k n h =
     ap (take n) (drop-set-add base words (k / 32) _)
     ∙ take-set-lt n (drop base words) (k / 32) _ h
     ∙ ap₂ (λ (i x : ℕ). set (wordsAt words base n) i (bitOr x (2 ^ (k % 32))))
-        (sym (zero-add (k / 32)))
-        (sym (ap (λ (i : ℕ). getD (wordsAt words base n) i 0) (zero-add (k / 32)) ∙ word-of words base n (k / 32) h))
+    (sym (zero-add (k / 32)))
+    (sym (ap (λ (i : ℕ). getD (wordsAt words base n) i 0) (zero-add (k / 32)) ∙ word-of words base n (k / 32) h))
 
 -- sets that stand before or after the word are kept
 pub words-put-before : (words : List ℕ) (base k other n : ℕ) → other + n ≤ base + k / 32
@@ -138,15 +139,15 @@ drop-store words base new n h q =
     ∙ ap (λ (m : ℕ). drop m words) e
 
 -- what is laid down stands there
-pub words-store : (words : List ℕ) (base : ℕ) (new : List ℕ) → base + length new ≤ length words
-    → wordsAt (storeAt words base new) base (length new) ≡ new
+pub words-store : (words : List ℕ) (base : ℕ) (new : List ℕ) (n : ℕ) → base + length new ≤ length words → length new ≡ n
+    → wordsAt (storeAt words base new) base n ≡ new
 unfolding wordsAt storeAt
-words-store words base new h =
+words-store words base new n h e =
     let front : length (take base words) ≡ base = length-take-le base words (omega arith) in
-    ap (take (length new))
-      (drop-append-le base (take base words ++ new) (drop (base + length new) words) (simp (length-append, length-take) (omega arith))
-      ∙ ap (λ (l : List ℕ). l ++ drop (base + length new) words) (drop-at (take base words) new base front))
-    ∙ take-at new (drop (base + length new) words) (length new) refl
+    ap (take n)
+    (drop-append-le base (take base words ++ new) (drop (base + length new) words) (simp (length-append, length-take) (omega arith))
+    ∙ ap (λ (l : List ℕ). l ++ drop (base + length new) words) (drop-at (take base words) new base front))
+    ∙ take-at new (drop (base + length new) words) n e
 
 -- the n words at a base lie within the first base + n
 words-of-take : (l : List ℕ) (base n : ℕ) → wordsAt (take (base + n) l) base n ≡ wordsAt l base n
@@ -191,7 +192,7 @@ pub member-union : (a b : List ℕ) (base : ℕ) → member (unionOf a b) base �
 unfolding member
 member-union a b base =
     fun-ext (λ k. ap (λ (x : ℕ). bitOf x (k % 32)) (word-union a b (base + k / 32))
-      ∙ bit-or (getD a (base + k / 32) 0) (getD b (base + k / 32) 0) (k % 32))
+    ∙ bit-or (getD a (base + k / 32) 0) (getD b (base + k / 32) 0) (k % 32))
 
 pub length-union : (a b : List ℕ) → length a ≡ length b → length (unionOf a b) ≡ length a
 unfolding unionOf
@@ -211,7 +212,7 @@ words-differ a b i h ha hb d =
     let word : 0 + k / 32 ≡ i = omega arith in
     let rest : k % 32 ≡ bit = omega arith in
     let at : (l : List ℕ) → bitOf (getD l (0 + k / 32) 0) (k % 32) ≡ bitOf (getD l i 0) bit
-        = λ l. ap₂ (λ (m n : ℕ). bitOf (getD l m 0) n) word rest in
+    = λ l. ap₂ (λ (m n : ℕ). bitOf (getD l m 0) n) word rest in
     (k, omega arith, λ q. apart (sym (at a) ∙ q ∙ at b))
 
 -- the same members mean the same words
@@ -224,3 +225,59 @@ same-words a b e ha hb q = ext-getD 0 a b e (λ i h. go i h (eqb (getD a i 0) (g
     go i h false t =
         let (k, below, apart) = words-differ a b i h (ha i) (hb i) (eqb-false (getD a i 0) (getD b i 0) t) in
         absurd (apart (ap (λ (p : ℕ → Bool). p k) q))
+
+-- a number past the words is in no set
+pub member-past : (words : List ℕ) (base k : ℕ) → length words ≤ base + k / 32 → member words base k ≡ false
+unfolding member
+member-past words base k h = ap (λ (x : ℕ). bitOf x (k % 32)) (List·getD-eq-default words 0 h) ∙ bit-zero (k % 32)
+
+-- sets of as many words that agree on the numbers which fit there are the same
+pub agree-below : (a b : List ℕ) → length a ≡ length b → ((k : ℕ) → k < 32 * length a → member a 0 k ≡ member b 0 k) → member a 0 ≡ member b 0
+agree-below a b e h = fun-ext (λ k. go k (ltb k (32 * length a)) refl)
+  where
+    go : (k : ℕ) (t : Bool) → ltb k (32 * length a) ≡ t → member a 0 k ≡ member b 0 k
+    go k true t = h k (ltb-true k (32 * length a) t)
+    go k false t =
+        let past : 32 * length a ≤ k = ltb-false k (32 * length a) t in
+        member-past a 0 k (omega arith) ∙ sym (member-past b 0 k (omega arith))
+
+-- a comparison decides whether two sets have the same members
+pub compares : {a b : List ℕ} {r : Bool} → Compares a b r → (r ≡ true) ↔ (member a 0 ≡ member b 0)
+compares {a} {b} {r} c = (λ e. ap (λ (l : List ℕ). member l 0) (c .same e), λ q. go r refl q)
+  where
+    go : (t : Bool) → r ≡ t → member a 0 ≡ member b 0 → r ≡ true
+    go true e q = e
+    go false e q = let (k, below, apart) = c .differ e in absurd (apart (ap (λ (p : ℕ → Bool). p k) q))
+
+-- a set is empty if it is the same as one of zeros
+pub empties : (a zeros : List ℕ) (n : ℕ) (r : Bool) → zeros ≡ replicate n 0 → Compares a zeros r → Empties a r
+empties a zeros n r z c =
+    let none : member zeros 0 ≡ nothing = ap (λ (l : List ℕ). member l 0) z ∙ member-zeros n 0 in
+    record {
+      none = λ e. ap (λ (l : List ℕ). member l 0) (c .same e) ∙ none;
+      one = λ e.
+          let (k, below, apart) = c .differ e in
+          (k, below, true-of (member a 0 k) (λ f. apart (f ∙ sym (ap (λ (p : ℕ → Bool). p k) none))));
+    }
+  where
+    true-of : (t : Bool) → (t ≡ false → ⊥) → t ≡ true
+    true-of true h = refl
+    true-of false h = absurd (h refl)
+
+-- ---- as the code computes
+
+pub put-code : (words : List ℕ) (base k : ℕ)
+    → set words (base + k / 32) (bitOr (getD words (base + k / 32) 0) (1 * 2 ^ (k % 32) % 2 ^ 32)) ≡ putAt words base k
+unfolding putAt
+put-code words base k =
+    ap (λ (x : ℕ). set words (base + k / 32) (bitOr (getD words (base + k / 32) 0) x)) (one-shifted (k % 32) (mod-lt k (zero-lt-suc 31)))
+
+-- at word 0
+pub has-first : (words : List ℕ) (k : ℕ) → eqb (getD words (k / 32) 0 / 2 ^ (k % 32) % 2) 1 ≡ member words 0 k
+unfolding member
+has-first words k = ap (λ (i : ℕ). bitOf (getD words i 0) (k % 32)) (sym (zero-add (k / 32)))
+
+pub put-first : (words : List ℕ) (k : ℕ)
+    → set words (k / 32) (bitOr (getD words (k / 32) 0) (1 * 2 ^ (k % 32) % 2 ^ 32)) ≡ putAt words 0 k
+put-first words k =
+    ap (λ (i : ℕ). set words i (bitOr (getD words i 0) (1 * 2 ^ (k % 32) % 2 ^ 32))) (sym (zero-add (k / 32))) ∙ put-code words 0 k

@@ -1,13 +1,15 @@
 -- How many numbers below n are in a set. Main statements: `size-add` (a new number below n makes it one more), `size-le` (it is at
 -- most n), `size-grows` (a larger set that has a number more has a larger size): n - size p n is a measure of what is still outside.
-use Prim.Native.Nat.{ℕ, zero, suc, _+_, _-_, _≤_, _<_, zero-le, suc-le-suc}
+use Prim.Native.Nat.{ℕ, zero, suc, _*_, _≤_, _<_, zero-le, suc-le-suc}
 use mathlib.Core.Bool.{Bool, true, false, _||_, true≢false, false≢true, or-false}
+use mathlib.Core.List.{List}
 use mathlib.Core.Path.{_≡_, refl, sym, ap, ap₂, _∙_, subst, fun-ext}
 use native.Mathlib.Nat.{le-refl, le-trans, le-suc, not-suc-le-zero}
 use native.Mathlib.Omega.{arith}
 use lib.Dec.{eqb}
+use lib.ListN.{length}
 use borrow.Author.Tests.{eqb-true, eqb-false, eq-eqb, ne-eqb}
-use Rattle.sets.specs.Sets.{size, add, nothing}
+use Rattle.sets.specs.Sets.{member, size, add, nothing, Compares}
 
 -- one number more looked at
 pub size-in : (p : ℕ → Bool) (n : ℕ) → p n ≡ true → size p (suc n) ≡ suc (size p n)
@@ -66,11 +68,12 @@ size-grows p q (suc n) k h l pk qk = here (eqb k n) refl (size-grows p q n k (λ
     later true false e f s = absurd (false≢true (sym f ∙ h n (le-refl (suc n)) e))
     later false true e f s = rw (size-out p n e, size-in q n f) (le-trans s (le-suc (size q n)))
     later false false e f s = rw (size-out p n e, size-out q n f) s
+
     here : (b : Bool) → eqb k n ≡ b → (k < n → p k ≡ false → q k ≡ true → size p n < size q n) → size p (suc n) < size q (suc n)
     here true e s =
         let at : k ≡ n = eqb-true k n e in
         rw (size-out p n (ap p (sym at) ∙ pk), size-in q n (ap q (sym at) ∙ qk))
-          (suc-le-suc (size-more p q n (λ j i. h j (le-trans i (le-suc n)))))
+        (suc-le-suc (size-more p q n (λ j i. h j (le-trans i (le-suc n)))))
     here false e s = let d = eqb-false k n e in later (p n) (q n) refl refl (s (omega arith) pk qk)
 
 -- a number other than k
@@ -88,6 +91,7 @@ size-add p (suc n) k l e = here (eqb k n) refl (size-add p n k)
     later : (b : Bool) → p n ≡ b → (n ≡ k → ⊥) → size (add k p) n ≡ suc (size p n) → size (add k p) (suc n) ≡ suc (size p (suc n))
     later true f d s = size-in (add k p) n (add-other p k n d ∙ f) ∙ ap suc s ∙ sym (ap suc (size-in p n f))
     later false f d s = size-out (add k p) n (add-other p k n d ∙ f) ∙ s ∙ sym (ap suc (size-out p n f))
+
     here : (b : Bool) → eqb k n ≡ b → (k < n → p k ≡ false → size (add k p) n ≡ suc (size p n)) → size (add k p) (suc n) ≡ suc (size p (suc n))
     here true f s =
         let at : k ≡ n = eqb-true k n f in
@@ -102,3 +106,17 @@ add-old p k e = fun-ext (λ j. go j (eqb j k) refl)
     go : (j : ℕ) (b : Bool) → eqb j k ≡ b → (eqb j k || p j) ≡ p j
     go j true h = rw h (sym (ap p (eqb-true j k h) ∙ e))
     go j false h = rw h refl
+
+-- a set that has all of another's members, and is not the same, has more
+pub size-compares : {a b : List ℕ} {r : Bool} → Compares a b r → ((j : ℕ) → member a 0 j ≡ true → member b 0 j ≡ true) → r ≡ false
+    → size (member a 0) (32 * length a) < size (member b 0) (32 * length a)
+size-compares {a} {b} c h e =
+    let (k, below, apart) = c .differ e in
+    go k below apart (member a 0 k) (member b 0 k) refl refl
+  where
+    go : (k : ℕ) → k < 32 * length a → (member a 0 k ≡ member b 0 k → ⊥) → (s t : Bool) → member a 0 k ≡ s → member b 0 k ≡ t
+        → size (member a 0) (32 * length a) < size (member b 0) (32 * length a)
+    go k below apart true true p q = absurd (apart (p ∙ sym q))
+    go k below apart true false p q = absurd (apart (p ∙ sym (h k p)))
+    go k below apart false true p q = size-grows (member a 0) (member b 0) (32 * length a) k (λ j l. h j) below p q
+    go k below apart false false p q = absurd (apart (p ∙ sym q))

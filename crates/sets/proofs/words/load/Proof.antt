@@ -1,70 +1,13 @@
+-- `load` reads the four words at the base.
 use borrow.Author.Needs.{needs}
+use Rattle.sets.proofs.FourWords.{four-loaded}
 use Rattle.sets.proofs.words.load.Statement.{statement}
 use Rattle.sets.proofs.words.load.Tie as tie
-use Rattle.sets.proofs.words.load.Reads as reads
-use Rattle.sets.proofs.words.load.Lts as lts
 
--- src/words.rt:32:13
-mul-t3 : tie.Need-mul-t3
-mul-t3 c = search needs
-
--- src/words.rt:32:13
-shared-slice-read-t5 : tie.Need-shared-slice-read-t5
-shared-slice-read-t5 c = search needs
-
--- src/words.rt:33:19
-add-t6 : tie.Need-add-t6
-add-t6 c = search needs
-
--- src/words.rt:33:13
-mul-t7 : tie.Need-mul-t7
-mul-t7 c = search needs
-
--- src/words.rt:33:13
-shared-slice-read-t9 : tie.Need-shared-slice-read-t9
-shared-slice-read-t9 c = search needs
-
--- src/words.rt:34:19
-add-t10 : tie.Need-add-t10
-add-t10 c = search needs
-
--- src/words.rt:34:13
-mul-t11 : tie.Need-mul-t11
-mul-t11 c = search needs
-
--- src/words.rt:34:13
-shared-slice-read-t13 : tie.Need-shared-slice-read-t13
-shared-slice-read-t13 c = search needs
-
--- src/words.rt:35:19
-add-t14 : tie.Need-add-t14
-add-t14 c = search needs
-
--- src/words.rt:35:13
-mul-t15 : tie.Need-mul-t15
-mul-t15 c = search needs
-
--- src/words.rt:35:13
-shared-slice-read-t17 : tie.Need-shared-slice-read-t17
-shared-slice-read-t17 c = search needs
-
--- src/words.rt:26:1
 returns : tie.Need-returns
-returns c = ?
+returns c =
+    let start = c .before .before .before .before in
+    four-loaded (start .args .words .now) (start .args .base) (start .pre)
 
 pub load-spec : {M : Type 1} → statement M
-load-spec =
-    tie.close
-    (tie.spec
-    mul-t3
-    shared-slice-read-t5
-    add-t6
-    mul-t7
-    shared-slice-read-t9
-    add-t10
-    mul-t11
-    shared-slice-read-t13
-    add-t14
-    mul-t15
-    shared-slice-read-t17
-    returns)
+load-spec = tie.close (tie.spec (λ c. search needs) (λ c. search needs) (λ c. search needs) (λ c. search needs) (λ c. search needs) (λ c. search needs) (λ c. search needs) (λ c. search needs) (λ c. search needs) (λ c. search needs) (λ c. search needs) returns)
