@@ -2,3 +2,5 @@ pub mod RowLaws
 pub mod KeptLaws
 pub mod FinishLaws
 pub mod WideLaws
+pub mod ContentAtLaws
+pub mod ProductiveLaws

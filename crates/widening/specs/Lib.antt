@@ -1,1 +1,3 @@
 pub mod Drafts
+pub mod ContentAt
+pub mod Walks
