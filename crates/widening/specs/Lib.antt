@@ -1,3 +1,4 @@
-pub mod Drafts
 pub mod ContentAt
 pub mod Walks
+pub mod Drafts
+pub mod Emitting
