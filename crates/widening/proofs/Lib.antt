@@ -1,2 +1,4 @@
 pub mod ContentAtLaws
 pub mod ProductiveLaws
+pub mod OnceLaws
+pub mod MetLaws

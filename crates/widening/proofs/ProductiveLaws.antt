@@ -100,3 +100,25 @@ module _ (test : ℕ → Bool) (s : List ℕ) (at : ℕ) where
       (exprs-more s at n (f .0) middle (f .1) ∙ ap (placed (λ cs. f .0 ∷ᶜ cs)) (o .1))
       ∙ ap (λ (p : Bool × Bool). just (p upTo next))
       (ap₂ (λ (b : Bool) (q : Bool × Bool). (b && q .0, b || q .1)) (f .2) (o .2))
+
+  -- the same as a walk meets them
+  pub has-around : (has : Bool) (next : ℕ) → at < length s → hasAt test s (at + 1) ≡ just (has upTo next) → 5 ≤ getD s at 0
+      → getD s at 0 ≤ 7 → (getD s at 0 ≡ 6 → ⊥) → hasAt test s at ≡ just (true upTo next)
+  has-around has next inside operand low high other = go (getD s at 0 - 5) refl
+    where
+      go : (k : ℕ) → getD s at 0 - 5 ≡ k → hasAt test s at ≡ just (true upTo next)
+      go zero e = has-any-number has next inside operand (omega arith)
+      go (suc zero) e = absurd (other (omega arith))
+      go (suc (suc k)) e = has-optional has next inside operand (omega arith)
+
+  pub row-next : (n : ℕ) (has : Bool) (middle : ℕ) (all one a o : Bool) (next : ℕ) → (n ≡ 0 → ⊥)
+      → hasAt test s at ≡ just (has upTo middle)
+      → hasRowAt test s middle (n - 1) ≡ just ((all, one) upTo next)
+      → a ≡ (has && all)
+      → o ≡ (has || one)
+      → hasRowAt test s at n ≡ just ((a, o) upTo next)
+  row-next n has middle all one a o next some h r p q =
+      let e : n ≡ suc (n - 1) = omega arith in
+      ap (hasRowAt test s at) e
+      ∙ row-more (n - 1) has middle all one next h r
+      ∙ ap₂ (λ (x y : Bool). just ((x, y) upTo next)) (sym p) (sym q)
