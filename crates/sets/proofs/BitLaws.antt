@@ -1,9 +1,9 @@
 -- Bits of numbers. Main statements: `bit-or` (a bit of x | y), `bit-one` (a bit of 1 << j), `bit-zero` (of 0), and `bits-differ`
 -- (two different numbers below 2 ^ n have a bit below n in which they differ).
-use Prim.Native.Nat.{ℕ, zero, suc, _+_, _*_, _/_, _%_, _^_, _≤_, _<_, suc-le-suc}
+use Prim.Native.Nat.{ℕ, zero, suc, _*_, _/_, _%_, _^_, _<_, suc-le-suc}
 use mathlib.Core.Bool.{Bool, true, false, _||_, true≢false}
-use mathlib.Core.Path.{_≡_, refl, sym, ap, ap₂, _∙_, subst}
-use native.Mathlib.Nat.{div-one, zero-div, mod-lt, pow-suc, one-mul, zero-lt-suc, suc-add, zero-add, not-suc-le-zero, div-lt-iff-lt-mul, le-refl}
+use mathlib.Core.Path.{_≡_, refl, sym, ap, _∙_}
+use native.Mathlib.Nat.{div-one, zero-div, mod-lt, pow-suc, one-mul, zero-lt-suc, suc-add, zero-add, le-refl}
 use native.Mathlib.Omega.{arith}
 use lib.Arith.{lt-one}
 use lib.Bits.{bitOr, or-shr, or-mod, shifted-half, shifted-even}

@@ -1,9 +1,9 @@
 -- Four words one by one, as the code of a set of four words reads and writes them. Main statements: `four-union`, `four-loaded`,
 -- `four-stored`, `four-differ` and `four-same` say that this is the union, the words at a base, the words after storing, and
 -- whether two sets are the same.
-use Prim.Native.Nat.{ℕ, suc, _+_, _*_, _/_, _^_, _≤_, _<_}
-use mathlib.Core.Bool.{Bool, true, false, true≢false, false≢true}
-use mathlib.Core.List.{List, [], _∷_, _++_}
+use Prim.Native.Nat.{ℕ, _+_, _^_, _≤_, _<_}
+use mathlib.Core.Bool.{false, false≢true}
+use mathlib.Core.List.{List, [], _∷_}
 use mathlib.Core.Path.{_≡_, refl, sym, ap, ap₂, _∙_}
 use native.Mathlib.Numerals.{add-one, add-two, add-three}
 use native.Mathlib.Nat.{add-zero}
@@ -14,7 +14,7 @@ use lib.ListN.{length, getD, set}
 use lib.Seq.{sets-eq}
 use borrow.Author.Tests.{eqb-true, eqb-false}
 use Rattle.sets.proofs.SetLaws.{length-words, word-of, words-differ}
-use Rattle.sets.specs.Sets.{member, wordsAt, storeAt, unionOf, Compares}
+use Rattle.sets.specs.Sets.{wordsAt, storeAt, unionOf, Compares}
 
 abbrev four : List ℕ → List ℕ
 four l = getD l 0 0 ∷ getD l 1 0 ∷ getD l 2 0 ∷ getD l 3 0 ∷ []

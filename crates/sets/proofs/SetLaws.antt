@@ -6,7 +6,7 @@ use Prim.Native.Nat.{ℕ, zero, suc, _+_, _*_, _-_, _/_, _%_, _^_, _≤_, _<_}
 use mathlib.Core.Bool.{Bool, true, false, _||_, or-comm}
 use mathlib.Core.Logic.{_↔_}
 use mathlib.Core.List.{List, [], _∷_, _++_}
-use mathlib.Core.Path.{_≡_, refl, sym, ap, ap₂, _∙_, subst, fun-ext}
+use mathlib.Core.Path.{_≡_, refl, sym, ap, ap₂, _∙_, fun-ext}
 use native.Mathlib.Nat.{zero-add, suc-add, le-refl, mod-lt, zero-lt-suc}
 use native.Mathlib.Omega.{arith}
 use lib.Bits.{bitOr, or-zero-r}
@@ -16,6 +16,23 @@ use lib.Seq.{getD-set-same, getD-set-other, getD-take, getD-drop, take-set-le, t
 use borrow.Author.Tests.{eqb-true, eqb-false, eq-eqb, ne-eqb, ltb-true, ltb-false}
 use Rattle.sets.proofs.BitLaws.{bit-or, bit-one, bit-zero, bits-differ, one-shifted}
 use Rattle.sets.specs.Sets.{bitOf, member, putAt, wordsAt, storeAt, unionOf, nothing, add, both, Compares, Empties}
+
+-- ---- one number more
+
+-- a number other than k
+pub add-other : (p : ℕ → Bool) (k j : ℕ) → (j ≡ k → ⊥) → add k p j ≡ p j
+add-other p k j d = ap (λ (b : Bool). b || p j) (ne-eqb j k d)
+
+pub add-itself : (p : ℕ → Bool) (k : ℕ) → add k p k ≡ true
+add-itself p k = ap (λ (b : Bool). b || p k) (eq-eqb k k refl)
+
+-- a number that is there already
+pub add-old : (p : ℕ → Bool) (k : ℕ) → p k ≡ true → add k p ≡ p
+add-old p k e = fun-ext (λ j. go j (eqb j k) refl)
+  where
+    go : (j : ℕ) (b : Bool) → eqb j k ≡ b → (eqb j k || p j) ≡ p j
+    go j true h = rw h (sym (ap p (eqb-true j k h) ∙ e))
+    go j false h = rw h refl
 
 -- ---- putting a number in
 
@@ -148,6 +165,12 @@ words-store words base new n h e =
     (drop-append-le base (take base words ++ new) (drop (base + length new) words) (simp (length-append, length-take) (omega arith))
     ∙ ap (λ (l : List ℕ). l ++ drop (base + length new) words) (drop-at (take base words) new base front))
     ∙ take-at new (drop (base + length new) words) n e
+
+pub member-store : (words : List ℕ) (base : ℕ) (new : List ℕ) (k : ℕ) → base + length new ≤ length words → k / 32 < length new
+    → member (storeAt words base new) base k ≡ member new 0 k
+member-store words base new k h q =
+    sym (member-words (storeAt words base new) base (length new) k q)
+    ∙ ap (λ (l : List ℕ). member l 0 k) (words-store words base new (length new) h refl)
 
 -- the n words at a base lie within the first base + n
 words-of-take : (l : List ℕ) (base n : ℕ) → wordsAt (take (base + n) l) base n ≡ wordsAt l base n

@@ -1,14 +1,15 @@
 -- How many numbers below n are in a set. Main statements: `size-add` (a new number below n makes it one more), `size-le` (it is at
 -- most n), `size-grows` (a larger set that has a number more has a larger size): n - size p n is a measure of what is still outside.
 use Prim.Native.Nat.{ℕ, zero, suc, _*_, _≤_, _<_, zero-le, suc-le-suc}
-use mathlib.Core.Bool.{Bool, true, false, _||_, true≢false, false≢true, or-false}
+use mathlib.Core.Bool.{Bool, true, false, false≢true}
 use mathlib.Core.List.{List}
-use mathlib.Core.Path.{_≡_, refl, sym, ap, ap₂, _∙_, subst, fun-ext}
+use mathlib.Core.Path.{_≡_, refl, sym, ap, _∙_}
 use native.Mathlib.Nat.{le-refl, le-trans, le-suc, not-suc-le-zero}
 use native.Mathlib.Omega.{arith}
 use lib.Dec.{eqb}
 use lib.ListN.{length}
-use borrow.Author.Tests.{eqb-true, eqb-false, eq-eqb, ne-eqb}
+use borrow.Author.Tests.{eqb-true, eqb-false}
+use Rattle.sets.proofs.SetLaws.{add-other, add-itself}
 use Rattle.sets.specs.Sets.{member, size, add, nothing, Compares}
 
 -- one number more looked at
@@ -76,13 +77,6 @@ size-grows p q (suc n) k h l pk qk = here (eqb k n) refl (size-grows p q n k (λ
         (suc-le-suc (size-more p q n (λ j i. h j (le-trans i (le-suc n)))))
     here false e s = let d = eqb-false k n e in later (p n) (q n) refl refl (s (omega arith) pk qk)
 
--- a number other than k
-pub add-other : (p : ℕ → Bool) (k j : ℕ) → (j ≡ k → ⊥) → add k p j ≡ p j
-add-other p k j d = ap (λ (b : Bool). b || p j) (ne-eqb j k d)
-
-pub add-itself : (p : ℕ → Bool) (k : ℕ) → add k p k ≡ true
-add-itself p k = ap (λ (b : Bool). b || p k) (eq-eqb k k refl)
-
 -- a new number below n
 pub size-add : (p : ℕ → Bool) (n k : ℕ) → k < n → p k ≡ false → size (add k p) n ≡ suc (size p n)
 size-add p zero k l e = absurd (not-suc-le-zero l)
@@ -98,14 +92,6 @@ size-add p (suc n) k l e = here (eqb k n) refl (size-add p n k)
         size-in (add k p) n (ap (add k p) (sym at) ∙ add-itself p k)
         ∙ ap suc (size-same (add k p) p n (λ j i. add-other p k j (λ q. omega arith)) ∙ sym (size-out p n (ap p (sym at) ∙ e)))
     here false f s = let d = eqb-false k n f in later (p n) refl (λ q. d (sym q)) (s (omega arith) e)
-
--- a number that is there already
-pub add-old : (p : ℕ → Bool) (k : ℕ) → p k ≡ true → add k p ≡ p
-add-old p k e = fun-ext (λ j. go j (eqb j k) refl)
-  where
-    go : (j : ℕ) (b : Bool) → eqb j k ≡ b → (eqb j k || p j) ≡ p j
-    go j true h = rw h (sym (ap p (eqb-true j k h) ∙ e))
-    go j false h = rw h refl
 
 -- a set that has all of another's members, and is not the same, has more
 pub size-compares : {a b : List ℕ} {r : Bool} → Compares a b r → ((j : ℕ) → member a 0 j ≡ true → member b 0 j ≡ true) → r ≡ false

@@ -74,3 +74,5 @@ pub mod Marked
 pub mod MarkedWords
 pub mod MarkedRun
 pub mod MarkedPass
+pub mod WideningTheorem
+pub mod WideningCorollaries

@@ -4,3 +4,5 @@ pub mod FinishLaws
 pub mod WideLaws
 pub mod ContentAtLaws
 pub mod ProductiveLaws
+pub mod OnceLaws
+pub mod MetLaws

@@ -1,8 +1,9 @@
 // The pairs that stand in a content once it is in normal form and reduced, left to right, each once. Read off the content of the
 // table itself: a sequence with an operand that has no alternatives has none.
+use crate::productive::both;
+use crate::productive::either;
 use reader::numbers::wide;
 ghost use mathlib.Core.Path.{_≡_};
-ghost use mathlib.Core.Bool.{_&&_, _||_};
 ghost use mathlib.Core.List.{List, [], _∷_};
 ghost use Prim.Native.Nat.{_-_, _≤_, _<_};
 ghost use lib.ListN.{length, take, drop};
@@ -64,24 +65,6 @@ pub fn append_part(list: &mut [u8], count: usize, numbers: &[u8], first: usize, 
         i += 1;
     }
     more
-}
-
-fn both(a: bool, b: bool) -> bool
-    ensures { λ r. ⌜ r ≡ (a && b) ⌝ }
-{
-    if a {
-        return b;
-    }
-    false
-}
-
-fn either(a: bool, b: bool) -> bool
-    ensures { λ r. ⌜ r ≡ (a || b) ⌝ }
-{
-    if a {
-        return true;
-    }
-    b
 }
 
 // The pairs met in the content at a place, added to the list. `from` and `pairs` give the pairs of each type.
