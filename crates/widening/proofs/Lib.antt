@@ -2,6 +2,7 @@ pub mod RowLaws
 pub mod KeptLaws
 pub mod FinishLaws
 pub mod WideLaws
+pub mod GatherLaws
 pub mod ContentAtLaws
 pub mod ProductiveLaws
 pub mod OnceLaws

@@ -67,7 +67,7 @@ pub record Added (before after : List ℕ) (base old : ℕ) (ds : List Content) 
   pub keeps : take old after ≡ take old before
 
 -- the answer of a gathering: these operands stand in the draft, and the source goes on at `next`; or they do not fit
-abbrev pub Gathers : List ℕ → List ℕ → ℕ → ℕ → ℕ → ℕ → List Content → Gathering → Type 0
+unfoldable pub Gathers : List ℕ → List ℕ → ℕ → ℕ → ℕ → ℕ → List Content → Gathering → Type 0
 Gathers before after base old limit next ds TooLarge = TooWide (limit - base) ds
 Gathers before after base old limit next ds (Upto n count end) = (n ≡ next) × Added before after base old ds limit count end
 

@@ -61,6 +61,6 @@ pub record Laid (before after : List ℕ) (start place n : ℕ) (cs : Contents) 
   pub keeps : take place after ≡ take place before
 
 -- the answer: these operands stand there, and the source goes on at `next`; or they do not fit
-abbrev pub Emits : List ℕ → List ℕ → ℕ → ℕ → ℕ → ℕ → Contents → Emitted → Type 0
+unfoldable pub Emits : List ℕ → List ℕ → ℕ → ℕ → ℕ → ℕ → Contents → Emitted → Type 0
 Emits before after start place n next cs TooLarge = Unfit (start + 1024 - place) cs
 Emits before after start place n next cs (Upto m end) = (m ≡ next) × Laid before after start place n cs end

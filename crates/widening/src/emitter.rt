@@ -1,9 +1,9 @@
 // From a source content to the tidied content of the result. The alternatives that the source content gives are gathered in the
 // draft, each once; their choice is the content. `types` is the set of the source types that have result types, and `from` and
 // `results` give the result types of each.
+use crate::drafts::Gathering;
 use crate::drafts::finish;
 use crate::drafts::settle;
-use crate::drafts::Gathering;
 use crate::productive::content_has;
 use crate::productive::row_has;
 use reader::numbers::wide;
@@ -36,7 +36,14 @@ fn byte_or_zero(bytes: &[u8], i: usize) -> usize
 }
 
 // The empty content as an alternative.
-fn gather_empty(draft: &mut [u8], base: usize, count: usize, end: usize, limit: usize, next: usize) -> Gathering
+fn gather_empty(
+    draft: &mut [u8],
+    base: usize,
+    count: usize,
+    end: usize,
+    limit: usize,
+    next: usize,
+) -> Gathering
     requires { ⌜ Room (now draft) base count end limit ⌝ }
     ensures { λ r. ⌜ ((q : Room (now (draft .entry)) base count end limit)
         → Gathers (now (draft .entry)) (now (draft .exit)) base end limit next (gathered (q .kept .list) (empty ∷ [])) r) ⌝ }
