@@ -67,12 +67,12 @@ gathers-then d d' d'' base old middle limit next ds (Upto n count end) h e g =
       },
     )
 
-pub nothing-added : (d : List ℕ) (base count end limit next : ℕ) (k : Kept d base count end) (xs : List Content) → end ≤ limit → xs ≡ []
-    → Gathers d d base end limit next (gathered (k .list) xs) (Upto next count end)
+pub nothing-added : (d : List ℕ) (base count end limit n next : ℕ) (k : Kept d base count end) (xs : List Content) → n ≡ next
+    → end ≤ limit → xs ≡ [] → Gathers d d base end limit next (gathered (k .list) xs) (Upto n count end)
 unfolding Gathers
-nothing-added d base count end limit next k xs h e =
+nothing-added d base count end limit n next k xs same-next h e =
     let same = ap (gathered (k .list)) e ∙ gather-nothing (k .list) (k .row .apart) in (
-      refl,
+      same-next,
       record {
         row = subst (λ (l : List Content). Row d base count l end) (sym same) (k .row);
         fits = h;
@@ -128,3 +128,14 @@ pub told-upto : (d d' : List ℕ) (base old limit next : ℕ) (ds : List Content
 unfolding Gathers
 told-upto d d' base old limit next ds r n count end e g =
     subst (λ (x : Gathering). Gathers d d' base old limit next ds x) e g
+
+pub gathers-as : (d d' : List ℕ) (base old limit n next : ℕ) (ds xs ys : List Content) (r : Gathering) → n ≡ next → xs ≡ ys
+    → Gathers d d' base old limit n (gathered ds xs) r → Gathers d d' base old limit next (gathered ds ys) r
+gathers-as d d' base old limit n next ds xs ys r e f g =
+    subst (λ (m : ℕ). Gathers d d' base old limit m (gathered ds ys) r) e
+    (subst (λ (l : List Content). Gathers d d' base old limit n (gathered ds l) r) f g)
+
+pub large-told : (d d' : List ℕ) (base old limit next : ℕ) (ds : List Content) → TooWide (limit - base) ds
+    → Gathers d d' base old limit next ds TooLarge
+unfolding Gathers
+large-told d d' base old limit next ds h = h

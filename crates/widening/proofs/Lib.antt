@@ -3,6 +3,8 @@ pub mod KeptLaws
 pub mod FinishLaws
 pub mod WideLaws
 pub mod GatherLaws
+pub mod SourceLaws
+pub mod EmitLaws
 pub mod ContentAtLaws
 pub mod ProductiveLaws
 pub mod OnceLaws

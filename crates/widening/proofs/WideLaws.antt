@@ -129,7 +129,7 @@ choice-many [] h = absurd (omega arith)
 choice-many (x ∷ []) h = absurd (omega arith)
 choice-many (x ∷ y ∷ ys) h = let n = count-list (x ∷ y ∷ ys) in omega arith
 
-one-long : (room : ℕ) (c : Content) → room < length (contentBytes c) → Unfit room (c ∷ᶜ []ᶜ)
+pub one-long : (room : ℕ) (c : Content) → room < length (contentBytes c) → Unfit room (c ∷ᶜ []ᶜ)
 unfolding operandBytes
 one-long room c h = let l = length-append (contentBytes c) [] in long (omega arith)
 

@@ -96,11 +96,11 @@ module _ (d results : List ℕ) (i base count end : ℕ) (h : end + 1 < length d
 
 gather-types-returns : (t : ℕ) → gather-types-lts.Need-returns (gather-types-calls t) (gather-types-at t) gather-types.Post
 gather-types-returns t c =
-    λ q. nothing-added _ _ _ _ _ _ (q .kept) _ (q .fits) (types-none _ _ _ (c .if1 .taken))
+    λ q. nothing-added _ _ _ _ _ _ _ (q .kept) _ refl (q .fits) (types-none _ _ _ (c .if1 .taken))
 
 gather-types-returns-2 : (t : ℕ) → gather-types-lts.Need-returns-2 (gather-types-calls t) (gather-types-at t) gather-types.Post
 gather-types-returns-2 t c =
-    λ q. nothing-added _ _ _ _ _ _ (q .kept) _ (q .fits) (types-past (c .before .before .before .before .args .results .now) _ _ (c .if2 .taken))
+    λ q. nothing-added _ _ _ _ _ _ _ (q .kept) _ refl (q .fits) (types-past (c .before .before .before .before .args .results .now) _ _ (c .if2 .taken))
 
 gather-types-slice-write-draft : (t : ℕ) → gather-types-lts.Need-slice-write-draft (gather-types-calls t) (gather-types-at t) gather-types.Post
 gather-types-slice-write-draft t c = omega arith
