@@ -86,3 +86,309 @@ fn gather_types(
         } => gather_types(results, i + 1, stop, draft, base, more, last, limit, next),
     }
 }
+
+// The alternatives that a sequence gives: one, or none if an operand has none.
+fn gather_sequence(
+    content: &[u8],
+    at: usize,
+    types: &[u32],
+    from: &[u8],
+    results: &[u8],
+    draft: &mut [u8],
+    base: usize,
+    count: usize,
+    end: usize,
+    limit: usize,
+) -> Gathering
+    requires { ⌜ (getD (now content) at 0 ≡ 3)
+        × Source (now content) at (now types) (now from) (now results) (now draft) base count end limit ⌝ }
+    ensures { λ r. ⌜ ((q : Source (now (content .entry)) at (now (types .entry)) (now (from .entry)) (now (results .entry))
+        (now (draft .entry)) base count end limit)
+        → Gathers (now (draft .entry)) (now (draft .exit)) base end limit (q .there .next)
+        (gathered (q .kept .list) (alts (listOf (now (from .entry)) (now (results .entry))) (q .there .content))) r) ⌝ }
+{
+    let n = wide(content[at + 1]);
+    let asked = row_has(content, at + 2, n, types, 0);
+    if asked.all {
+        draft[end] = 3;
+        draft[end + 1] = content[at + 1];
+        return match emit_row(
+            content,
+            at + 2,
+            n,
+            types,
+            from,
+            results,
+            draft,
+            end,
+            end + 2,
+        ) {
+            Emitted::TooLarge => Gathering::TooLarge,
+            Emitted::Upto { next, end: fresh } => settle(
+                draft,
+                base,
+                count,
+                end,
+                fresh,
+                limit,
+                next,
+            ),
+        };
+    }
+    Gathering::Upto {
+        next: asked.next,
+        count,
+        end,
+    }
+}
+
+// The alternatives that an operator of one operand gives.
+fn gather_around(
+    content: &[u8],
+    at: usize,
+    types: &[u32],
+    from: &[u8],
+    results: &[u8],
+    draft: &mut [u8],
+    base: usize,
+    count: usize,
+    end: usize,
+    limit: usize,
+) -> Gathering
+    requires { ⌜ (5 ≤ getD (now content) at 0)
+        × Source (now content) at (now types) (now from) (now results) (now draft) base count end limit ⌝ }
+    ensures { λ r. ⌜ ((q : Source (now (content .entry)) at (now (types .entry)) (now (from .entry)) (now (results .entry))
+        (now (draft .entry)) base count end limit)
+        → Gathers (now (draft .entry)) (now (draft .exit)) base end limit (q .there .next)
+        (gathered (q .kept .list) (alts (listOf (now (from .entry)) (now (results .entry))) (q .there .content))) r) ⌝ }
+{
+    let operator = content[at];
+    let asked = content_has(content, at + 1, types, 0);
+    if asked.has {
+        draft[end] = operator;
+        return match emit_row(
+            content,
+            at + 1,
+            1,
+            types,
+            from,
+            results,
+            draft,
+            end,
+            end + 1,
+        ) {
+            Emitted::TooLarge => Gathering::TooLarge,
+            Emitted::Upto { next, end: fresh } => settle(
+                draft,
+                base,
+                count,
+                end,
+                fresh,
+                limit,
+                next,
+            ),
+        };
+    }
+    if operator == 6 {
+        return Gathering::Upto {
+            next: asked.next,
+            count,
+            end,
+        };
+    }
+    gather_empty(draft, base, count, end, limit, asked.next)
+}
+
+// Adds to the operands in the draft the alternatives that the source content at a place gives.
+pub fn gather(
+    content: &[u8],
+    at: usize,
+    types: &[u32],
+    from: &[u8],
+    results: &[u8],
+    draft: &mut [u8],
+    base: usize,
+    count: usize,
+    end: usize,
+    limit: usize,
+) -> Gathering
+    requires { ⌜ Source (now content) at (now types) (now from) (now results) (now draft) base count end limit ⌝ }
+    ensures { λ r. ⌜ ((q : Source (now (content .entry)) at (now (types .entry)) (now (from .entry)) (now (results .entry))
+        (now (draft .entry)) base count end limit)
+        → Gathers (now (draft .entry)) (now (draft .exit)) base end limit (q .there .next)
+        (gathered (q .kept .list) (alts (listOf (now (from .entry)) (now (results .entry))) (q .there .content))) r) ⌝ }
+{
+    let operator = wide(content[at]);
+    match operator {
+        0 => Gathering::Upto {
+            next: at + 1,
+            count,
+            end,
+        },
+        1 => gather_empty(draft, base, count, end, limit, at + 1),
+        2 => {
+            let k = wide(content[at + 1]);
+            let i = byte_or_zero(from, k);
+            let stop = byte_or_zero(from, k + 1);
+            gather_types(results, i, stop, draft, base, count, end, limit, at + 2)
+        }
+        3 => gather_sequence(
+            content,
+            at,
+            types,
+            from,
+            results,
+            draft,
+            base,
+            count,
+            end,
+            limit,
+        ),
+        4 => {
+            let n = wide(content[at + 1]);
+            gather_row(
+                content,
+                at + 2,
+                n,
+                types,
+                from,
+                results,
+                draft,
+                base,
+                count,
+                end,
+                limit,
+            )
+        }
+        _ => gather_around(
+            content,
+            at,
+            types,
+            from,
+            results,
+            draft,
+            base,
+            count,
+            end,
+            limit,
+        ),
+    }
+}
+
+// The same for so many source contents, one after the other.
+pub fn gather_row(
+    content: &[u8],
+    at: usize,
+    n: usize,
+    types: &[u32],
+    from: &[u8],
+    results: &[u8],
+    draft: &mut [u8],
+    base: usize,
+    count: usize,
+    end: usize,
+    limit: usize,
+) -> Gathering
+    requires { ⌜ Sources (now content) at n (now types) (now from) (now results) (now draft) base count end limit ⌝ }
+    ensures { λ r. ⌜ ((q : Sources (now (content .entry)) at n (now (types .entry)) (now (from .entry)) (now (results .entry))
+        (now (draft .entry)) base count end limit)
+        → Gathers (now (draft .entry)) (now (draft .exit)) base end limit (q .there .next)
+        (gathered (q .kept .list)
+        (joinedOf (λ xs. xs) (altsOfEach (listOf (now (from .entry)) (now (results .entry))) (q .there .contents)))) r) ⌝ }
+{
+    if n == 0 {
+        return Gathering::Upto {
+            next: at,
+            count,
+            end,
+        };
+    }
+    match gather(
+        content,
+        at,
+        types,
+        from,
+        results,
+        draft,
+        base,
+        count,
+        end,
+        limit,
+    ) {
+        Gathering::TooLarge => Gathering::TooLarge,
+        Gathering::Upto {
+            next,
+            count: more,
+            end: last,
+        } => gather_row(
+            content,
+            next,
+            n - 1,
+            types,
+            from,
+            results,
+            draft,
+            base,
+            more,
+            last,
+            limit,
+        ),
+    }
+}
+
+// Writes the contents that so many source contents give, one after the other, as operands of an expression that begins at `start`.
+fn emit_row(
+    content: &[u8],
+    at: usize,
+    n: usize,
+    types: &[u32],
+    from: &[u8],
+    results: &[u8],
+    draft: &mut [u8],
+    start: usize,
+    place: usize,
+) -> Emitted
+    requires { ⌜ Operands (now content) at n (now types) (now from) (now results) (now draft) start place ⌝ }
+    ensures { λ r. ⌜ ((q : Operands (now (content .entry)) at n (now (types .entry)) (now (from .entry)) (now (results .entry))
+        (now (draft .entry)) start place)
+        → Emits (now (draft .entry)) (now (draft .exit)) start place n (q .there .next)
+        (operands (map written (altsOfEach (listOf (now (from .entry)) (now (results .entry))) (q .there .contents)))) r) ⌝ }
+{
+    if n == 0 {
+        return Emitted::Upto {
+            next: at,
+            end: place,
+        };
+    }
+    match gather(
+        content,
+        at,
+        types,
+        from,
+        results,
+        draft,
+        place + 2,
+        0,
+        place + 2,
+        start + 1026,
+    ) {
+        Gathering::TooLarge => Emitted::TooLarge,
+        Gathering::Upto { next, count, end } => {
+            let last = finish(draft, place, count, end);
+            if start + 1024 < last {
+                return Emitted::TooLarge;
+            }
+            emit_row(
+                content,
+                next,
+                n - 1,
+                types,
+                from,
+                results,
+                draft,
+                start,
+                last,
+            )
+        }
+    }
+}
