@@ -92,7 +92,7 @@ use Rattle.widening.proofs.SourceLaws.{
 }
 
 -- A row gathered.
-module _ (s : List ℕ) (at n : ℕ) (types from results d : List ℕ) (base count end limit : ℕ)
+module _ {s : List ℕ} {at n : ℕ} {types from results d : List ℕ} {base count end limit : ℕ}
     (q : Sources s at n types from results d base count end limit) (res : ℕ → List ℕ) where
   abbrev rowGives : List Content
   rowGives = joinedOf (λ xs. xs) (altsOfEach res (q .there .contents))
@@ -130,7 +130,7 @@ module _ (s : List ℕ) (at n : ℕ) (types from results d : List ℕ) (base cou
           (each-first res (q .there .contents) (first .first .content) (first .others .contents) (first .both))
           (told-large d d' base end limit (first .first .next) (gathered (q .kept .list) firstGives) r e g))
 
-      module _ (next more last : ℕ) (e : r ≡ gathering.Upto next more last) (l : length d' ≡ length d) where
+      module _ {next more last : ℕ} (e : r ≡ gathering.Upto next more last) (l : length d' ≡ length d) where
         pub told : (next ≡ first .first .next) × Added d d' base end (gathered (q .kept .list) firstGives) limit more last
         told = told-upto d d' base end limit (first .first .next) (gathered (q .kept .list) firstGives) r next more last e g
 
@@ -229,7 +229,7 @@ emits-from d d' d'' start place n next cs (emitted.Upto m end) e g = (
 )
 
 -- A row written.
-module _ (s : List ℕ) (at n : ℕ) (types from results d : List ℕ) (start place : ℕ)
+module _ {s : List ℕ} {at n : ℕ} {types from results d : List ℕ} {start place : ℕ}
     (q : Operands s at n types from results d start place) (res : ℕ → List ℕ) where
   abbrev rowWritten : Contents
   rowWritten = eachWritten res (q .there .contents)
@@ -313,7 +313,7 @@ module _ (s : List ℕ) (at n : ℕ) (types from results d : List ℕ) (start pl
           (wide-choice (start + 1026 - (place + 2)) (gathered [] firstAlts) w)))
           d'
 
-      module _ (next more last : ℕ) (e : r ≡ gathering.Upto next more last) (l : length d' ≡ length d) where
+      module _ {next more last : ℕ} (e : r ≡ gathering.Upto next more last) (l : length d' ≡ length d) where
         pub told' : (next ≡ first' .first .next) × Added d d' (place + 2) (place + 2) (gathered [] firstAlts) (start + 1026) more last
         told' =
             told-upto d d' (place + 2) (place + 2) (start + 1026) (first' .first .next) (gathered [] firstAlts) r next more last e g
@@ -324,7 +324,7 @@ module _ (s : List ℕ) (at n : ℕ) (types from results d : List ℕ) (start pl
         pub goes-on' : at < next
         goes-on' = subst (λ (k : ℕ). at < k) (sym (told' .0)) (first' .forward)
 
-        module _ (d'' : List ℕ) (close : ℕ) (f : Finished d' d'' place (choiceOf (gathered [] firstAlts)) close)
+        module _ {d'' : List ℕ} {close : ℕ} (f : Finished d' d'' place (choiceOf (gathered [] firstAlts)) close)
             (l' : length d'' ≡ length d') where
           operand-stands : exprAt d'' place ≡ just (written firstAlts upTo close)
           operand-stands = f .stands ∙ ap (λ (c : Content). just (c upTo close)) (sym (written-gathered firstAlts))
@@ -395,7 +395,7 @@ byte-kept : (d d' : List ℕ) (i n : ℕ) → i < n → take n d' ≡ take n d �
 byte-kept d d' i n h e = sym (getD-take n d' i 0 h) ∙ ap (λ (l : List ℕ). getD l i 0) e ∙ getD-take n d i 0 h
 
 -- A sequence, its bytes written before a row.
-module _ (s : List ℕ) (at n : ℕ) (types from results d : List ℕ) (base count end limit : ℕ)
+module _ {s : List ℕ} {at n : ℕ} {types from results d : List ℕ} {base count end limit : ℕ}
     (q : Source s at types from results d base count end limit) (res : ℕ → List ℕ)
     (cs : CountedThere standard s at n (q .there) sequence) (counts : n ≡ getD s (at + 1) 0) where
   abbrev row : Contents
@@ -454,7 +454,7 @@ module _ (s : List ℕ) (at n : ℕ) (types from results d : List ℕ) (base cou
           (subst (λ (l : List Content). TooWide (limit - base) (gathered (q .kept .list) l)) gives
           (wide-sequence (limit - base) (end + 1024 - (end + 2)) (q .kept .list) (eachWritten res row) (omega arith) h))
 
-      module _ (next fresh : ℕ) (e : r ≡ emitted.Upto next fresh) (l : length d₂ ≡ length d₁) where
+      module _ {next fresh : ℕ} (e : r ≡ emitted.Upto next fresh) (l : length d₂ ≡ length d₁) where
         laid : (next ≡ cs .operands .next) × Laid d₁ d₂ end (end + 2) n (eachWritten res row) fresh
         laid = emits-upto d₁ d₂ end (end + 2) n (cs .operands .next) (eachWritten res row) r next fresh e g
 
@@ -496,7 +496,7 @@ module _ (s : List ℕ) (at n : ℕ) (types from results d : List ℕ) (base cou
             (gathers-from d d₂ d₂ base end limit next (gathered (q .kept .list) (whole ∷ [])) o sequence-keeps f)
 
 -- An operator of one operand, its byte written before the operand.
-module _ (s : List ℕ) (at : ℕ) (types from results d : List ℕ) (base count end limit : ℕ)
+module _ {s : List ℕ} {at : ℕ} {types from results d : List ℕ} {base count end limit : ℕ}
     (q : Source s at types from results d base count end limit) (res : ℕ → List ℕ)
     (one : SingleThere standard s at (q .there) res) where
   abbrev inner : Content
@@ -586,7 +586,7 @@ module _ (s : List ℕ) (at : ℕ) (types from results d : List ℕ) (base count
           (omega arith)
           (subst (λ (cs : Contents). Unfit (end + 1024 - (end + 1)) cs) inner-written h)))
 
-      module _ (next fresh : ℕ) (e : r ≡ emitted.Upto next fresh) (l : length e₂ ≡ length e₁) where
+      module _ {next fresh : ℕ} (e : r ≡ emitted.Upto next fresh) (l : length e₂ ≡ length e₁) where
         laid' : (next ≡ one .operand .next) × Laid e₁ e₂ end (end + 1) 1 (eachWritten res (inner ∷ᶜ []ᶜ)) fresh
         laid' = emits-upto e₁ e₂ end (end + 1) 1 (one .operand .next) (eachWritten res (inner ∷ᶜ []ᶜ)) r next fresh e g
 
@@ -637,7 +637,7 @@ nests (anyNumber c) = omega arith
 nests (oneOrMore c) = omega arith
 nests (optional c) = omega arith
 
-module _ (s : List ℕ) (at : ℕ) (types from results d : List ℕ) (base count end limit : ℕ)
+module _ {s : List ℕ} {at : ℕ} {types from results d : List ℕ} {base count end limit : ℕ}
     (q : Source s at types from results d base count end limit) where
   pub source-spare : limit + 1026 ≤ length d
   source-spare =
@@ -674,7 +674,7 @@ module _ (s : List ℕ) (at : ℕ) (types from results d : List ℕ) (base count
         (ap (alts res) (w .0))
         g
 
-    module _ (n : ℕ) (cs : CountedThere standard s at n (q .there) choice) where
+    module _ {n : ℕ} (cs : CountedThere standard s at n (q .there) choice) where
       pub choice-room : limit + 1026 * deepest (cs .operands .contents) ≤ length d
       unfolding nesting
       choice-room =

@@ -1,4 +1,5 @@
 // The draft in which a content is made: a list of operands that stand in it one after the other, no two byte-equal.
+use crate::limits::OPERANDS;
 use reader::numbers::wide;
 ghost use Prim.Native.Nat.{_+_, _-_, _≤_};
 ghost use mathlib.Core.Bool.{true};
@@ -121,7 +122,7 @@ pub fn settle(
     if limit < fresh {
         return Gathering::TooLarge;
     }
-    if 255 <= count {
+    if OPERANDS <= count {
         return Gathering::TooLarge;
     }
     Gathering::Upto {

@@ -4,8 +4,10 @@
 use crate::drafts::Gathering;
 use crate::drafts::finish;
 use crate::drafts::settle;
+use crate::limits::HEADED;
 use crate::productive::content_has;
 use crate::productive::row_has;
+use reader::limits::CONTENT;
 use reader::numbers::wide;
 ghost use Prim.Native.Nat.{_+_, _-_, _≤_};
 ghost use mathlib.Core.List.{List, [], _∷_, map};
@@ -370,12 +372,12 @@ fn emit_row(
         place + 2,
         0,
         place + 2,
-        start + 1026,
+        start + HEADED,
     ) {
         Gathering::TooLarge => Emitted::TooLarge,
         Gathering::Upto { next, count, end } => {
             let last = finish(draft, place, count, end);
-            if start + 1024 < last {
+            if start + CONTENT < last {
                 return Emitted::TooLarge;
             }
             emit_row(

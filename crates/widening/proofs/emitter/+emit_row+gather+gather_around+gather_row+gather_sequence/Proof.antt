@@ -211,9 +211,16 @@ gather-sequence-calls t = (
   settle-reads.Learnt,
 )
 
-emit-row-returns : (t : ℕ) → emit-row-lts.Need-returns (emit-row-calls t) (emit-row-at t) emit-row.Post
-emit-row-returns t c =
-    λ q. no-operands _ _ _ _ _ _ _ _ _ q _ (c .if1 .taken)
+-- the operands of a sequence and of a choice
+module _ {s : List ℕ} {at n : ℕ} {types from results d : List ℕ} {base count end limit : ℕ}
+    (q : Source s at types from results d base count end limit) where
+  operands-of : getD s at 0 ≡ 3 → n ≡ getD s (at + 1) 0 → CountedThere standard s at n (q .there) sequence
+  operands-of b e =
+      counted-of standard s at n (q .there) sequence e (omega arith) (omega arith) (ap (getElem? operators) b ∙ operator-sequence)
+
+  choices-of : getD s at 0 ≡ 4 → n ≡ getD s (at + 1) 0 → CountedThere standard s at n (q .there) choice
+  choices-of b e =
+      counted-of standard s at n (q .there) choice e (omega arith) (omega arith) (ap (getElem? operators) b ∙ operator-choice)
 
 emit-row-add-gather : (t : ℕ) → emit-row-lts.Need-add-gather (emit-row-calls t) (emit-row-at t) emit-row.Post
 emit-row-add-gather t c =
@@ -235,15 +242,9 @@ emit-row-gather-requires t c κs =
     let a = c .before .before .before .before .before .before .before .args in
     let res = listOf (a .from .now) (a .results .now) in
     let some = c .before .if1 .left in
-    let q = c .before .before .before .before .before .before .before .pre .1 in
     let m = c .before .before .before .before .before .before .before .pre .0 in
-    (omega arith, first-operand _ _ _ _ _ _ _ _ _ q res some)
-
-emit-row-enum-told : (t : ℕ) → emit-row-lts.Need-enum-told (emit-row-calls t) (emit-row-at t) emit-row.Post
-emit-row-enum-told t c = search needs
-
-emit-row-enum-known-next : (t : ℕ) → emit-row-lts.Need-enum-known-next (emit-row-calls t) (emit-row-at t) emit-row.Post
-emit-row-enum-known-next t c = search needs
+    let q = c .before .before .before .before .before .before .before .pre .1 in
+    (omega arith, first-operand q res some)
 
 emit-row-finish-requires : (t : ℕ) → emit-row-lts.Need-finish-requires (emit-row-calls t) (emit-row-at t) emit-row.Post
 emit-row-finish-requires t c κs =
@@ -251,8 +252,8 @@ emit-row-finish-requires t c κs =
     let res = listOf (a .from .now) (a .results .now) in
     let some = c .before .before .before .before .before .before .before .before .if1 .left in
     let q = c .before .before .before .before .before .before .before .before .before .before .before .before .before .before .pre .1 in
-    let m = c .before .before .before .before .before .before .before .before .before .before .before .before .before .before .pre .0 in
-    operand-kept _ _ _ _ _ _ _ _ _ q res some _ _ (c .before .before .before .before .before .before .gather .ensures (first-operand _ _ _ _ _ _ _ _ _ q res some)) _ _ _ (c .before .before .next .given .1) (c .before .before .before .before .before .before .gather .kept .1 .1 .1 .1 .1 .0)
+    let g = c .before .before .before .before .before .before .gather .ensures (first-operand q res some) in
+    operand-kept q res some _ _ g (c .before .before .next .given .1) (c .before .before .before .before .before .before .gather .kept .1 .1 .1 .1 .1 .0)
 
 emit-row-add-if2 : (t : ℕ) → emit-row-lts.Need-add-if2 (emit-row-calls t) (emit-row-at t) emit-row.Post
 emit-row-add-if2 t c =
@@ -268,7 +269,12 @@ emit-row-returns-2 t c =
     let a = c .before .before .before .before .before .before .before .before .before .before .before .before .before .before .before .before .before .before .args in
     let res = listOf (a .from .now) (a .results .now) in
     let some = c .before .before .before .before .before .before .before .before .before .before .before .before .if1 .left in
-    λ q. operand-long _ _ _ _ _ _ _ _ _ q res some _ _ (c .before .before .before .before .before .before .before .before .before .before .gather .ensures (first-operand _ _ _ _ _ _ _ _ _ q res some)) _ _ _ (c .before .before .before .before .before .before .next .given .1) (c .before .before .before .before .before .before .before .before .before .before .gather .kept .1 .1 .1 .1 .1 .0) _ _ (c .before .before .before .finish .ensures (operand-kept _ _ _ _ _ _ _ _ _ q res some _ _ (c .before .before .before .before .before .before .before .before .before .before .gather .ensures (first-operand _ _ _ _ _ _ _ _ _ q res some)) _ _ _ (c .before .before .before .before .before .before .next .given .1) (c .before .before .before .before .before .before .before .before .before .before .gather .kept .1 .1 .1 .1 .1 .0))) (c .before .before .before .finish .kept .0) (c .if2 .taken)
+    let e = c .before .before .before .before .before .before .next .given .1 in
+    let l = c .before .before .before .before .before .before .before .before .before .before .gather .kept .1 .1 .1 .1 .1 .0 in
+    λ q.
+    let g = c .before .before .before .before .before .before .before .before .before .before .gather .ensures (first-operand q res some) in
+    let f = c .before .before .before .finish .ensures (operand-kept q res some _ _ g e l) in
+    operand-long q res some _ _ g e l f (c .before .before .before .finish .kept .0) (c .if2 .taken)
 
 emit-row-sub-emit-row : (t : ℕ) → emit-row-lts.Need-sub-emit-row (emit-row-calls t) (emit-row-at t) emit-row.Post
 emit-row-sub-emit-row t c =
@@ -280,22 +286,24 @@ emit-row-emit-row-requires t c κs =
     let a = c .before .before .before .before .before .before .before .before .before .before .before .before .before .before .before .before .before .before .before .args in
     let res = listOf (a .from .now) (a .results .now) in
     let some = c .before .before .before .before .before .before .before .before .before .before .before .before .before .if1 .left in
-    let q = c .before .before .before .before .before .before .before .before .before .before .before .before .before .before .before .before .before .before .before .pre .1 in
+    let e = c .before .before .before .before .before .before .before .next .given .1 in
+    let l = c .before .before .before .before .before .before .before .before .before .before .before .gather .kept .1 .1 .1 .1 .1 .0 in
+    let l' = c .before .before .before .before .finish .kept .0 in
     let m = c .before .before .before .before .before .before .before .before .before .before .before .before .before .before .before .before .before .before .before .pre .0 in
-    let on = goes-on' _ _ _ _ _ _ _ _ _ q res some _ _ (c .before .before .before .before .before .before .before .before .before .before .before .gather .ensures (first-operand _ _ _ _ _ _ _ _ _ q res some)) _ _ _ (c .before .before .before .before .before .before .before .next .given .1) (c .before .before .before .before .before .before .before .before .before .before .before .gather .kept .1 .1 .1 .1 .1 .0) in
-    let i = other-operands _ _ _ _ _ _ _ _ _ q res some _ _ (c .before .before .before .before .before .before .before .before .before .before .before .gather .ensures (first-operand _ _ _ _ _ _ _ _ _ q res some)) _ _ _ (c .before .before .before .before .before .before .before .next .given .1) (c .before .before .before .before .before .before .before .before .before .before .before .gather .kept .1 .1 .1 .1 .1 .0) _ _ (c .before .before .before .before .finish .ensures (operand-kept _ _ _ _ _ _ _ _ _ q res some _ _ (c .before .before .before .before .before .before .before .before .before .before .before .gather .ensures (first-operand _ _ _ _ _ _ _ _ _ q res some)) _ _ _ (c .before .before .before .before .before .before .before .next .given .1) (c .before .before .before .before .before .before .before .before .before .before .before .gather .kept .1 .1 .1 .1 .1 .0))) (c .before .before .before .before .finish .kept .0) (c .before .if2 .left) .there .inside in
-    (omega arith, other-operands _ _ _ _ _ _ _ _ _ q res some _ _ (c .before .before .before .before .before .before .before .before .before .before .before .gather .ensures (first-operand _ _ _ _ _ _ _ _ _ q res some)) _ _ _ (c .before .before .before .before .before .before .before .next .given .1) (c .before .before .before .before .before .before .before .before .before .before .before .gather .kept .1 .1 .1 .1 .1 .0) _ _ (c .before .before .before .before .finish .ensures (operand-kept _ _ _ _ _ _ _ _ _ q res some _ _ (c .before .before .before .before .before .before .before .before .before .before .before .gather .ensures (first-operand _ _ _ _ _ _ _ _ _ q res some)) _ _ _ (c .before .before .before .before .before .before .before .next .given .1) (c .before .before .before .before .before .before .before .before .before .before .before .gather .kept .1 .1 .1 .1 .1 .0))) (c .before .before .before .before .finish .kept .0) (c .before .if2 .left))
-
-emit-row-same-length-2 : (t : ℕ) → emit-row-lts.Need-same-length-2 (emit-row-calls t) (emit-row-at t) emit-row.Post
-emit-row-same-length-2 t c =
-    c .before .before .before .before .gather .kept .1 .1 .1 .1 .1 .0
+    let q = c .before .before .before .before .before .before .before .before .before .before .before .before .before .before .before .before .before .before .before .pre .1 in
+    let g = c .before .before .before .before .before .before .before .before .before .before .before .gather .ensures (first-operand q res some) in
+    let f = c .before .before .before .before .finish .ensures (operand-kept q res some _ _ g e l) in
+    let on = goes-on' q res some _ _ g e l in
+    let others = other-operands q res some _ _ g e l f l' (c .before .if2 .left) in
+    let i = others .there .inside in
+    (omega arith, others)
 
 emit-row-returns-3 : (t : ℕ) → emit-row-lts.Need-returns-3 (emit-row-calls t) (emit-row-at t) emit-row.Post
 emit-row-returns-3 t c =
     let a = c .before .before .before .before .before .before .before .before .before .before .before .before .args in
     let res = listOf (a .from .now) (a .results .now) in
     let some = c .before .before .before .before .before .before .if1 .left in
-    λ q. operand-wide _ _ _ _ _ _ _ _ _ q res some _ _ (c .before .before .before .before .gather .ensures (first-operand _ _ _ _ _ _ _ _ _ q res some)) (c .enum-told .given .1)
+    λ q. operand-wide q res some _ _ (c .before .before .before .before .gather .ensures (first-operand q res some)) (c .enum-told .given .1)
 
 emit-row-same-length-3 : (t : ℕ) → emit-row-lts.Need-same-length-3 (emit-row-calls t) (emit-row-at t) emit-row.Post
 emit-row-same-length-3 t c =
@@ -306,105 +314,70 @@ emit-row-returns-4 t c =
     let a = c .before .before .before .before .before .before .before .before .before .before .before .before .before .before .before .before .before .before .before .before .before .before .args in
     let res = listOf (a .from .now) (a .results .now) in
     let some = c .before .before .before .before .before .before .before .before .before .before .before .before .before .before .before .before .if1 .left in
-    λ q. row-on _ _ _ _ _ _ _ _ _ q res some _ _ (c .before .before .before .before .before .before .before .before .before .before .before .before .before .before .gather .ensures (first-operand _ _ _ _ _ _ _ _ _ q res some)) _ _ _ (c .before .before .before .before .before .before .before .before .before .before .next .given .1) (c .before .before .before .before .before .before .before .before .before .before .before .before .before .before .gather .kept .1 .1 .1 .1 .1 .0) _ _ (c .before .before .before .before .before .before .before .finish .ensures (operand-kept _ _ _ _ _ _ _ _ _ q res some _ _ (c .before .before .before .before .before .before .before .before .before .before .before .before .before .before .gather .ensures (first-operand _ _ _ _ _ _ _ _ _ q res some)) _ _ _ (c .before .before .before .before .before .before .before .before .before .before .next .given .1) (c .before .before .before .before .before .before .before .before .before .before .before .before .before .before .gather .kept .1 .1 .1 .1 .1 .0))) (c .before .before .before .before .before .before .before .finish .kept .0) (c .before .before .before .before .if2 .left) _ _ (c .before .before .emit-row .ensures (other-operands _ _ _ _ _ _ _ _ _ q res some _ _ (c .before .before .before .before .before .before .before .before .before .before .before .before .before .before .gather .ensures (first-operand _ _ _ _ _ _ _ _ _ q res some)) _ _ _ (c .before .before .before .before .before .before .before .before .before .before .next .given .1) (c .before .before .before .before .before .before .before .before .before .before .before .before .before .before .gather .kept .1 .1 .1 .1 .1 .0) _ _ (c .before .before .before .before .before .before .before .finish .ensures (operand-kept _ _ _ _ _ _ _ _ _ q res some _ _ (c .before .before .before .before .before .before .before .before .before .before .before .before .before .before .gather .ensures (first-operand _ _ _ _ _ _ _ _ _ q res some)) _ _ _ (c .before .before .before .before .before .before .before .before .before .before .next .given .1) (c .before .before .before .before .before .before .before .before .before .before .before .before .before .before .gather .kept .1 .1 .1 .1 .1 .0))) (c .before .before .before .before .before .before .before .finish .kept .0) (c .before .before .before .before .if2 .left)))
+    let e = c .before .before .before .before .before .before .before .before .before .before .next .given .1 in
+    let l = c .before .before .before .before .before .before .before .before .before .before .before .before .before .before .gather .kept .1 .1 .1 .1 .1 .0 in
+    let l' = c .before .before .before .before .before .before .before .finish .kept .0 in
+    λ q.
+    let g = c .before .before .before .before .before .before .before .before .before .before .before .before .before .before .gather .ensures (first-operand q res some) in
+    let f = c .before .before .before .before .before .before .before .finish .ensures (operand-kept q res some _ _ g e l) in
+    row-on q res some _ _ g e l f l' (c .before .before .before .before .if2 .left) _ _ (c .before .before .emit-row .ensures (other-operands q res some _ _ g e l f l' (c .before .before .before .before .if2 .left)))
 
 gather-shared-slice-read-wide : (t : ℕ) → gather-lts.Need-shared-slice-read-wide (gather-calls t) (gather-at t) gather.Post
 gather-shared-slice-read-wide t c =
     let q = c .before .before .before .before .before .before .pre .1 in
-    let m = c .before .before .before .before .before .before .pre .0 in
     content-inside standard _ _ (q .there) .0
-
-gather-wide-requires : (t : ℕ) → gather-lts.Need-wide-requires (gather-calls t) (gather-at t) gather.Post
-gather-wide-requires t c κs = search needs
 
 gather-add-t19 : (t : ℕ) → gather-lts.Need-add-t19 (gather-calls t) (gather-at t) gather.Post
 gather-add-t19 t c =
     let q = c .before .before .before .before .before .before .before .before .pre .1 in
-    let m = c .before .before .before .before .before .before .before .before .pre .0 in
     let i = content-inside standard _ _ (q .there) in
     omega arith
 
 gather-add-gather-empty : (t : ℕ) → gather-lts.Need-add-gather-empty (gather-calls t) (gather-at t) gather.Post
 gather-add-gather-empty t c =
     let q = c .before .before .before .before .before .before .before .before .before .pre .1 in
-    let m = c .before .before .before .before .before .before .before .before .before .pre .0 in
     let i = content-inside standard _ _ (q .there) in
     omega arith
-
-gather-gather-empty-requires : (t : ℕ) → gather-lts.Need-gather-empty-requires (gather-calls t) (gather-at t) gather.Post
-gather-gather-empty-requires t c κs =
-    let q = c .before .before .before .before .before .before .before .before .before .pre .1 in
-    let m = c .before .before .before .before .before .before .before .before .before .pre .0 in
-    source-room _ _ _ _ _ _ _ _ _ _ q
 
 gather-add-wide : (t : ℕ) → gather-lts.Need-add-wide (gather-calls t) (gather-at t) gather.Post
 gather-add-wide t c =
     let q = c .before .before .before .before .before .before .before .before .pre .1 in
-    let m = c .before .before .before .before .before .before .before .before .pre .0 in
     let i = content-inside standard _ _ (q .there) in
     omega arith
 
 gather-shared-slice-read-wide-2 : (t : ℕ) → gather-lts.Need-shared-slice-read-wide-2 (gather-calls t) (gather-at t) gather.Post
-gather-shared-slice-read-wide-2 t c =
-    let q = c .before .before .before .before .before .before .before .before .before .pre .1 in
-    let m = c .before .before .before .before .before .before .before .before .before .pre .0 in
-    let b = sym (c .before .before .wide .ensures .0) ∙ c .before .match .keys3 in
-    type-inside _ _ _ _ _ _ _ _ _ _ q b
-
-gather-wide-requires-2 : (t : ℕ) → gather-lts.Need-wide-requires-2 (gather-calls t) (gather-at t) gather.Post
-gather-wide-requires-2 t c κs = search needs
-
-gather-byte-or-zero-requires : (t : ℕ) → gather-lts.Need-byte-or-zero-requires (gather-calls t) (gather-at t) gather.Post
-gather-byte-or-zero-requires t c κs = search needs
-
-gather-add-byte-or-zero : (t : ℕ) → gather-lts.Need-add-byte-or-zero (gather-calls t) (gather-at t) gather.Post
-gather-add-byte-or-zero t c = omega arith
-
-gather-byte-or-zero-requires-2 : (t : ℕ) → gather-lts.Need-byte-or-zero-requires-2 (gather-calls t) (gather-at t) gather.Post
-gather-byte-or-zero-requires-2 t c κs = search needs
+gather-shared-slice-read-wide-2 t c = type-inside (c .before .before .before .before .before .before .before .before .before .pre .1) (sym (c .before .before .wide .ensures .0) ∙ c .before .match .keys3)
 
 gather-add-gather-types : (t : ℕ) → gather-lts.Need-add-gather-types (gather-calls t) (gather-at t) gather.Post
 gather-add-gather-types t c =
-    let q = c .before .before .before .before .before .before .before .before .before .before .before .before .before .pre .1 in
-    let m = c .before .before .before .before .before .before .before .before .before .before .before .before .before .pre .0 in
     let b = sym (c .before .before .before .before .before .before .wide .ensures .0) ∙ c .before .before .before .before .before .match .keys3 in
-    let i = type-inside _ _ _ _ _ _ _ _ _ _ q b in
+    let i = type-inside (c .before .before .before .before .before .before .before .before .before .before .before .before .before .pre .1) b in
     omega arith
 
 gather-gather-types-requires : (t : ℕ) → gather-lts.Need-gather-types-requires (gather-calls t) (gather-at t) gather.Post
-gather-gather-types-requires t c κs =
-    let q = c .before .before .before .before .before .before .before .before .before .before .before .before .before .pre .1 in
-    let m = c .before .before .before .before .before .before .before .before .before .before .before .before .before .pre .0 in
-    source-room _ _ _ _ _ _ _ _ _ _ q
+gather-gather-types-requires t c κs = source-room (c .before .before .before .before .before .before .before .before .before .before .before .before .before .pre .1)
 
 gather-gather-sequence-requires : (t : ℕ) → gather-lts.Need-gather-sequence-requires (gather-calls t) (gather-at t) gather.Post
 gather-gather-sequence-requires t c κs =
-    let q = c .before .before .before .before .before .before .before .before .before .pre .1 in
     let m = c .before .before .before .before .before .before .before .before .before .pre .0 in
     let b = sym (c .before .before .wide .ensures .0) ∙ c .before .match .keys4 in
-    (omega arith, (b, q))
+    (omega arith, (b, c .before .before .before .before .before .before .before .before .before .pre .1))
 
 gather-add-wide-2 : (t : ℕ) → gather-lts.Need-add-wide-2 (gather-calls t) (gather-at t) gather.Post
 gather-add-wide-2 t c =
     let q = c .before .before .before .before .before .before .before .before .pre .1 in
-    let m = c .before .before .before .before .before .before .before .before .pre .0 in
     let i = content-inside standard _ _ (q .there) in
     omega arith
 
 gather-shared-slice-read-wide-3 : (t : ℕ) → gather-lts.Need-shared-slice-read-wide-3 (gather-calls t) (gather-at t) gather.Post
 gather-shared-slice-read-wide-3 t c =
     let q = c .before .before .before .before .before .before .before .before .before .pre .1 in
-    let m = c .before .before .before .before .before .before .before .before .before .pre .0 in
     let b = sym (c .before .before .wide .ensures .0) ∙ c .before .match .keys5 in
     count-there standard _ _ (q .there) (omega arith) (omega arith)
-
-gather-wide-requires-3 : (t : ℕ) → gather-lts.Need-wide-requires-3 (gather-calls t) (gather-at t) gather.Post
-gather-wide-requires-3 t c κs = search needs
 
 gather-add-gather-row : (t : ℕ) → gather-lts.Need-add-gather-row (gather-calls t) (gather-at t) gather.Post
 gather-add-gather-row t c =
     let q = c .before .before .before .before .before .before .before .before .before .before .pre .1 in
-    let m = c .before .before .before .before .before .before .before .before .before .before .pre .0 in
     let b = sym (c .before .before .before .wide .ensures .0) ∙ c .before .before .match .keys5 in
     let i = count-there standard _ _ (q .there) (omega arith) (omega arith) in
     omega arith
@@ -413,80 +386,49 @@ gather-gather-row-requires : (t : ℕ) → gather-lts.Need-gather-row-requires (
 gather-gather-row-requires t c κs =
     let a = c .before .before .before .before .before .before .before .before .before .before .before .args in
     let res = listOf (a .from .now) (a .results .now) in
-    let q = c .before .before .before .before .before .before .before .before .before .before .before .pre .1 in
     let m = c .before .before .before .before .before .before .before .before .before .before .before .pre .0 in
+    let q = c .before .before .before .before .before .before .before .before .before .before .before .pre .1 in
     let b = sym (c .before .before .before .before .wide .ensures .0) ∙ c .before .before .before .match .keys5 in
-    let four : (3 ≤ getD (a .content .now) (a .at) 0) × (getD (a .content .now) (a .at) 0 ≤ 4) = (omega arith, omega arith) in
-    let byte = ap (getElem? operators) b ∙ operator-choice in
     let i = count-there standard _ _ (q .there) (omega arith) (omega arith) in
-    (omega arith, choice-sources _ _ _ _ _ _ _ _ _ _ q res _ (counted-of standard _ _ _ (q .there) choice (c .before .wide3 .ensures .0) (four .0) (four .1) byte))
+    (omega arith, choice-sources q res (choices-of q b (c .before .wide3 .ensures .0)))
 
 gather-gather-around-requires : (t : ℕ) → gather-lts.Need-gather-around-requires (gather-calls t) (gather-at t) gather.Post
 gather-gather-around-requires t c κs =
-    let q = c .before .before .before .before .before .before .before .before .before .pre .1 in
     let m = c .before .before .before .before .before .before .before .before .before .pre .0 in
+    let w = c .before .before .wide .ensures .0 in
     let r = c .before .match .rest in
     let n4 = r .1 in
     let n3 = r .0 .1 in
     let n2 = r .0 .0 .1 in
     let n1 = r .0 .0 .0 .1 in
     let n0 = r .0 .0 .0 .0 .1 in
-    let w = c .before .before .wide .ensures .0 in
-    (omega arith, (omega arith, q))
+    (omega arith, (omega arith, c .before .before .before .before .before .before .before .before .before .pre .1))
 
 gather-returns : (t : ℕ) → gather-lts.Need-returns (gather-calls t) (gather-at t) gather.Post
 gather-returns t c =
     let b = sym (c .before .wide .ensures .0) ∙ c .match .keys1 in
-    λ q. none-gives _ _ _ _ _ _ _ _ _ _ q _ b
-
-gather-same-length : (t : ℕ) → gather-lts.Need-same-length (gather-calls t) (gather-at t) gather.Post
-gather-same-length t c =
-    c .before .before .gather-empty .kept .0
+    λ q. none-gives q _ b
 
 gather-returns-2 : (t : ℕ) → gather-lts.Need-returns-2 (gather-calls t) (gather-at t) gather.Post
 gather-returns-2 t c =
-    let a = c .before .before .before .before .before .before .before .before .before .before .before .before .args in
-    let res = listOf (a .from .now) (a .results .now) in
     let b = sym (c .before .before .before .before .before .wide .ensures .0) ∙ c .before .before .before .before .match .keys2 in
-    λ q. empty-gives _ _ _ _ _ _ _ _ _ _ q res b _ _ (c .before .before .gather-empty .ensures (source-room _ _ _ _ _ _ _ _ _ _ q))
-
-gather-same-length-2 : (t : ℕ) → gather-lts.Need-same-length-2 (gather-calls t) (gather-at t) gather.Post
-gather-same-length-2 t c =
-    c .before .before .gather-types .kept .1 .1 .1 .0
+    λ q. empty-gives q _ b _ _ (c .before .before .gather-empty .ensures (source-room q))
 
 gather-returns-3 : (t : ℕ) → gather-lts.Need-returns-3 (gather-calls t) (gather-at t) gather.Post
 gather-returns-3 t c =
     let b = sym (c .before .before .before .before .before .before .before .before .before .wide .ensures .0) ∙ c .before .before .before .before .before .before .before .before .match .keys3 in
-    λ q. type-gives _ _ _ _ _ _ _ _ _ _ q b _ _ _ (c .before .before .before .before .before .before .wide2 .ensures .0) (c .before .before .before .before .before .byte-or-zero .ensures) (c .before .before .before .before .byte-or-zero2 .ensures) _ _ (c .before .before .gather-types .ensures (source-room _ _ _ _ _ _ _ _ _ _ q))
-
-gather-same-length-3 : (t : ℕ) → gather-lts.Need-same-length-3 (gather-calls t) (gather-at t) gather.Post
-gather-same-length-3 t c =
-    c .before .before .gather-sequence .kept .1 .1 .1 .1 .1 .0
-
-gather-returns-4 : (t : ℕ) → gather-lts.Need-returns-4 (gather-calls t) (gather-at t) gather.Post
-gather-returns-4 t c =
-    λ q. c .before .before .gather-sequence .ensures q
-
-gather-same-length-4 : (t : ℕ) → gather-lts.Need-same-length-4 (gather-calls t) (gather-at t) gather.Post
-gather-same-length-4 t c =
-    c .before .before .gather-row .kept .1 .1 .1 .1 .1 .1 .0
+    λ q.
+    type-gives q b _ _ _ (c .before .before .before .before .before .before .wide2 .ensures .0) (c .before .before .before .before .before .byte-or-zero .ensures) (c .before .before .before .before .byte-or-zero2 .ensures) _ _
+    (c .before .before .gather-types .ensures (source-room q))
 
 gather-returns-5 : (t : ℕ) → gather-lts.Need-returns-5 (gather-calls t) (gather-at t) gather.Post
 gather-returns-5 t c =
     let a = c .before .before .before .before .before .before .before .before .before .before .before .before .before .before .args in
     let res = listOf (a .from .now) (a .results .now) in
     let b = sym (c .before .before .before .before .before .before .before .wide .ensures .0) ∙ c .before .before .before .before .before .before .match .keys5 in
-    let four : (3 ≤ getD (a .content .now) (a .at) 0) × (getD (a .content .now) (a .at) 0 ≤ 4) = (omega arith, omega arith) in
-    let byte = ap (getElem? operators) b ∙ operator-choice in
-    λ q. choice-gives _ _ _ _ _ _ _ _ _ _ q res _ (counted-of standard _ _ _ (q .there) choice (c .before .before .before .before .wide3 .ensures .0) (four .0) (four .1) byte) _ _ (c .before .before .gather-row .ensures (choice-sources _ _ _ _ _ _ _ _ _ _ q res _ (counted-of standard _ _ _ (q .there) choice (c .before .before .before .before .wide3 .ensures .0) (four .0) (four .1) byte)))
-
-gather-same-length-5 : (t : ℕ) → gather-lts.Need-same-length-5 (gather-calls t) (gather-at t) gather.Post
-gather-same-length-5 t c =
-    c .before .before .gather-around .kept .1 .1 .1 .1 .1 .0
-
-gather-returns-6 : (t : ℕ) → gather-lts.Need-returns-6 (gather-calls t) (gather-at t) gather.Post
-gather-returns-6 t c =
-    λ q. c .before .before .gather-around .ensures q
+    λ q.
+    let cs = choices-of q b (c .before .before .before .before .wide3 .ensures .0) in
+    choice-gives q res cs _ _ (c .before .before .gather-row .ensures (choice-sources q res cs))
 
 gather-around-shared-slice-read-operator :
     (t : ℕ) → gather-around-lts.Need-shared-slice-read-operator (
@@ -501,15 +443,11 @@ gather-around-shared-slice-read-operator :
     ) (gather-around-at t) gather-around.Post
 gather-around-shared-slice-read-operator t c =
     let q = c .before .before .before .before .before .before .pre .1 .1 in
-    let b = c .before .before .before .before .before .before .pre .1 .0 in
-    let m = c .before .before .before .before .before .before .pre .0 in
     content-inside standard _ _ (q .there) .0
 
 gather-around-add-content-has : (t : ℕ) → gather-around-lts.Need-add-content-has (gather-around-calls t) (gather-around-at t) gather-around.Post
 gather-around-add-content-has t c =
     let q = c .before .before .before .before .before .before .pre .1 .1 in
-    let b = c .before .before .before .before .before .before .pre .1 .0 in
-    let m = c .before .before .before .before .before .before .pre .0 in
     let i = content-inside standard _ _ (q .there) in
     omega arith
 
@@ -519,8 +457,7 @@ gather-around-content-has-requires t c κs =
     let res = listOf (a .from .now) (a .results .now) in
     let q = c .before .before .before .before .before .before .pre .1 .1 in
     let b = c .before .before .before .before .before .before .pre .1 .0 in
-    let m = c .before .before .before .before .before .before .pre .0 in
-    let w = q .maps .words in
+    let words = q .maps .words in
     (single-of standard _ _ (q .there) res b .operand, omega arith)
 
 gather-around-slice-write-draft : (t : ℕ) → gather-around-lts.Need-slice-write-draft (gather-around-calls t) (gather-around-at t) gather-around.Post
@@ -529,14 +466,11 @@ gather-around-slice-write-draft t c =
     let res = listOf (a .from .now) (a .results .now) in
     let q = c .before .before .before .before .before .before .before .before .pre .1 .1 in
     let b = c .before .before .before .before .before .before .before .before .pre .1 .0 in
-    let m = c .before .before .before .before .before .before .before .before .pre .0 in
-    around-inside _ _ _ _ _ _ _ _ _ _ q res (single-of standard _ _ (q .there) res b)
+    around-inside q res (single-of standard _ _ (q .there) res b)
 
 gather-around-add-emit-row : (t : ℕ) → gather-around-lts.Need-add-emit-row (gather-around-calls t) (gather-around-at t) gather-around.Post
 gather-around-add-emit-row t c =
     let q = c .before .before .before .before .before .before .before .before .pre .1 .1 in
-    let b = c .before .before .before .before .before .before .before .before .pre .1 .0 in
-    let m = c .before .before .before .before .before .before .before .before .pre .0 in
     let i = content-inside standard _ _ (q .there) in
     omega arith
 
@@ -546,25 +480,18 @@ gather-around-add-emit-row-2 t c =
     let res = listOf (a .from .now) (a .results .now) in
     let q = c .before .before .before .before .before .before .before .before .before .pre .1 .1 in
     let b = c .before .before .before .before .before .before .before .before .before .pre .1 .0 in
-    let m = c .before .before .before .before .before .before .before .before .before .pre .0 in
-    let i = around-inside _ _ _ _ _ _ _ _ _ _ q res (single-of standard _ _ (q .there) res b) in
+    let i = around-inside q res (single-of standard _ _ (q .there) res b) in
     omega arith
 
 gather-around-emit-row-requires : (t : ℕ) → gather-around-lts.Need-emit-row-requires (gather-around-calls t) (gather-around-at t) gather-around.Post
 gather-around-emit-row-requires t c κs =
     let a = c .before .before .before .before .before .before .before .before .before .args in
     let res = listOf (a .from .now) (a .results .now) in
+    let m = c .before .before .before .before .before .before .before .before .before .pre .0 in
     let q = c .before .before .before .before .before .before .before .before .before .pre .1 .1 in
     let b = c .before .before .before .before .before .before .before .before .before .pre .1 .0 in
-    let m = c .before .before .before .before .before .before .before .before .before .pre .0 in
     let i = content-inside standard _ _ (q .there) in
-    (omega arith, around-operands _ _ _ _ _ _ _ _ _ _ q res (single-of standard _ _ (q .there) res b))
-
-gather-around-enum-told : (t : ℕ) → gather-around-lts.Need-enum-told (gather-around-calls t) (gather-around-at t) gather-around.Post
-gather-around-enum-told t c = search needs
-
-gather-around-enum-known-next : (t : ℕ) → gather-around-lts.Need-enum-known-next (gather-around-calls t) (gather-around-at t) gather-around.Post
-gather-around-enum-known-next t c = search needs
+    (omega arith, around-operands q res (single-of standard _ _ (q .there) res b))
 
 gather-around-settle-requires : (t : ℕ) → gather-around-lts.Need-settle-requires (gather-around-calls t) (gather-around-at t) gather-around.Post
 gather-around-settle-requires t c κs =
@@ -572,19 +499,23 @@ gather-around-settle-requires t c κs =
     let res = listOf (a .from .now) (a .results .now) in
     let q = c .before .before .before .before .before .before .before .before .before .before .before .before .before .before .before .before .pre .1 .1 in
     let b = c .before .before .before .before .before .before .before .before .before .before .before .before .before .before .before .before .pre .1 .0 in
-    let m = c .before .before .before .before .before .before .before .before .before .before .before .before .before .before .before .before .pre .0 in
-    (around-newest _ _ _ _ _ _ _ _ _ _ q res (single-of standard _ _ (q .there) res b) (sym (content-found _ _ _ (q .maps) _ _ (single-of standard _ _ (q .there) res b .operand) _ _ (c .before .before .before .before .before .before .before .before .before .content-has .ensures) .0) ∙ c .before .before .before .before .before .before .before .before .if1 .taken) _ _ (c .before .before .before .before .before .before .emit-row .ensures (around-operands _ _ _ _ _ _ _ _ _ _ q res (single-of standard _ _ (q .there) res b))) _ _ (c .before .before .next .given .1) (c .before .before .before .before .before .before .emit-row .kept .1 .1 .1 .1 .1 .1 .0), q .fits)
-
-gather-around-same-length : (t : ℕ) → gather-around-lts.Need-same-length (gather-around-calls t) (gather-around-at t) gather-around.Post
-gather-around-same-length t c =
-    c .before .before .before .before .emit-row .kept .1 .1 .1 .1 .1 .1 .0 ∙ simp length-set
+    let one = single-of standard _ _ (q .there) res b in
+    let found = content-found _ _ _ (q .maps) _ _ (one .operand) _ _ (c .before .before .before .before .before .before .before .before .before .content-has .ensures) in
+    let has = sym (found .0) ∙ c .before .before .before .before .before .before .before .before .if1 .taken in
+    let g = c .before .before .before .before .before .before .emit-row .ensures (around-operands q res one) in
+    (around-newest q res one has _ _ g (c .before .before .next .given .1) (c .before .before .before .before .before .before .emit-row .kept .1 .1 .1 .1 .1 .1 .0), q .fits)
 
 gather-around-returns : (t : ℕ) → gather-around-lts.Need-returns (gather-around-calls t) (gather-around-at t) gather-around.Post
 gather-around-returns t c =
     let a = c .before .before .before .before .before .before .before .before .before .before .before .before .before .before .args in
     let res = listOf (a .from .now) (a .results .now) in
     let b = c .before .before .before .before .before .before .before .before .before .before .before .before .before .before .pre .1 .0 in
-    λ q. around-wide _ _ _ _ _ _ _ _ _ _ q res (single-of standard _ _ (q .there) res b) (sym (content-found _ _ _ (q .maps) _ _ (single-of standard _ _ (q .there) res b .operand) _ _ (c .before .before .before .before .before .before .before .content-has .ensures) .0) ∙ c .before .before .before .before .before .before .if1 .taken) _ _ (c .before .before .before .before .emit-row .ensures (around-operands _ _ _ _ _ _ _ _ _ _ q res (single-of standard _ _ (q .there) res b))) (c .enum-told .given .1)
+    λ q.
+    let one = single-of standard _ _ (q .there) res b in
+    let found = content-found _ _ _ (q .maps) _ _ (one .operand) _ _ (c .before .before .before .before .before .before .before .content-has .ensures) in
+    let has = sym (found .0) ∙ c .before .before .before .before .before .before .if1 .taken in
+    let g = c .before .before .before .before .emit-row .ensures (around-operands q res one) in
+    around-wide q res one has _ _ g (c .enum-told .given .1)
 
 gather-around-same-length-2 : (t : ℕ) → gather-around-lts.Need-same-length-2 (gather-around-calls t) (gather-around-at t) gather-around.Post
 gather-around-same-length-2 t c =
@@ -595,14 +526,24 @@ gather-around-returns-2 t c =
     let a = c .before .before .before .before .before .before .before .before .before .before .before .before .before .before .before .before .before .args in
     let res = listOf (a .from .now) (a .results .now) in
     let b = c .before .before .before .before .before .before .before .before .before .before .before .before .before .before .before .before .before .pre .1 .0 in
-    λ q. around-settled _ _ _ _ _ _ _ _ _ _ q res (single-of standard _ _ (q .there) res b) (sym (content-found _ _ _ (q .maps) _ _ (single-of standard _ _ (q .there) res b .operand) _ _ (c .before .before .before .before .before .before .before .before .before .before .content-has .ensures) .0) ∙ c .before .before .before .before .before .before .before .before .before .if1 .taken) _ _ (c .before .before .before .before .before .before .before .emit-row .ensures (around-operands _ _ _ _ _ _ _ _ _ _ q res (single-of standard _ _ (q .there) res b))) _ _ (c .before .before .before .next .given .1) (c .before .before .before .before .before .before .before .emit-row .kept .1 .1 .1 .1 .1 .1 .0) _ (c .settle .ensures (around-newest _ _ _ _ _ _ _ _ _ _ q res (single-of standard _ _ (q .there) res b) (sym (content-found _ _ _ (q .maps) _ _ (single-of standard _ _ (q .there) res b .operand) _ _ (c .before .before .before .before .before .before .before .before .before .before .content-has .ensures) .0) ∙ c .before .before .before .before .before .before .before .before .before .if1 .taken) _ _ (c .before .before .before .before .before .before .before .emit-row .ensures (around-operands _ _ _ _ _ _ _ _ _ _ q res (single-of standard _ _ (q .there) res b))) _ _ (c .before .before .before .next .given .1) (c .before .before .before .before .before .before .before .emit-row .kept .1 .1 .1 .1 .1 .1 .0)))
+    let e = c .before .before .before .next .given .1 in
+    let l = c .before .before .before .before .before .before .before .emit-row .kept .1 .1 .1 .1 .1 .1 .0 in
+    λ q.
+    let one = single-of standard _ _ (q .there) res b in
+    let found = content-found _ _ _ (q .maps) _ _ (one .operand) _ _ (c .before .before .before .before .before .before .before .before .before .before .content-has .ensures) in
+    let has = sym (found .0) ∙ c .before .before .before .before .before .before .before .before .before .if1 .taken in
+    let g = c .before .before .before .before .before .before .before .emit-row .ensures (around-operands q res one) in
+    around-settled q res one has _ _ g e l _ (c .settle .ensures (around-newest q res one has _ _ g e l))
 
 gather-around-returns-3 : (t : ℕ) → gather-around-lts.Need-returns-3 (gather-around-calls t) (gather-around-at t) gather-around.Post
 gather-around-returns-3 t c =
     let a = c .before .before .before .before .before .before .before .before .before .args in
     let res = listOf (a .from .now) (a .results .now) in
     let b = c .before .before .before .before .before .before .before .before .before .pre .1 .0 in
-    λ q. around-blank _ _ _ _ _ _ _ _ _ _ q res (single-of standard _ _ (q .there) res b) _ (content-found _ _ _ (q .maps) _ _ (single-of standard _ _ (q .there) res b .operand) _ _ (c .before .before .content-has .ensures) .1) (c .if2 .taken) (sym (content-found _ _ _ (q .maps) _ _ (single-of standard _ _ (q .there) res b .operand) _ _ (c .before .before .content-has .ensures) .0) ∙ c .before .if1 .left)
+    λ q.
+    let one = single-of standard _ _ (q .there) res b in
+    let found = content-found _ _ _ (q .maps) _ _ (one .operand) _ _ (c .before .before .content-has .ensures) in
+    around-blank q res one _ (found .1) (c .if2 .taken) (sym (found .0) ∙ c .before .if1 .left)
 
 gather-around-gather-empty-requires : (t : ℕ) → gather-around-lts.Need-gather-empty-requires (gather-around-calls t) (gather-around-at t) gather-around.Post
 gather-around-gather-empty-requires t c κs =
@@ -610,38 +551,27 @@ gather-around-gather-empty-requires t c κs =
     let res = listOf (a .from .now) (a .results .now) in
     let q = c .before .before .before .before .before .before .before .before .before .before .pre .1 .1 in
     let b = c .before .before .before .before .before .before .before .before .before .before .pre .1 .0 in
-    let m = c .before .before .before .before .before .before .before .before .before .before .pre .0 in
-    around-spare _ _ _ _ _ _ _ _ _ _ q res (single-of standard _ _ (q .there) res b)
-
-gather-around-same-length-3 : (t : ℕ) → gather-around-lts.Need-same-length-3 (gather-around-calls t) (gather-around-at t) gather-around.Post
-gather-around-same-length-3 t c =
-    c .before .before .gather-empty .kept .0
+    around-spare q res (single-of standard _ _ (q .there) res b)
 
 gather-around-returns-4 : (t : ℕ) → gather-around-lts.Need-returns-4 (gather-around-calls t) (gather-around-at t) gather-around.Post
 gather-around-returns-4 t c =
     let a = c .before .before .before .before .before .before .before .before .before .before .before .before .before .args in
     let res = listOf (a .from .now) (a .results .now) in
     let b = c .before .before .before .before .before .before .before .before .before .before .before .before .before .pre .1 .0 in
-    λ q. around-empty _ _ _ _ _ _ _ _ _ _ q res (single-of standard _ _ (q .there) res b) _ _ _ (content-found _ _ _ (q .maps) _ _ (single-of standard _ _ (q .there) res b .operand) _ _ (c .before .before .before .before .before .before .content-has .ensures) .1) (c .before .before .before .before .if2 .left) (sym (content-found _ _ _ (q .maps) _ _ (single-of standard _ _ (q .there) res b .operand) _ _ (c .before .before .before .before .before .before .content-has .ensures) .0) ∙ c .before .before .before .before .before .if1 .left) (c .before .before .gather-empty .ensures (around-spare _ _ _ _ _ _ _ _ _ _ q res (single-of standard _ _ (q .there) res b)))
-
-gather-row-returns : (t : ℕ) → gather-row-lts.Need-returns (gather-row-calls t) (gather-row-at t) gather-row.Post
-gather-row-returns t c =
-    λ q. no-sources _ _ _ _ _ _ _ _ _ _ _ q _ (c .if1 .taken)
+    λ q.
+    let one = single-of standard _ _ (q .there) res b in
+    let found = content-found _ _ _ (q .maps) _ _ (one .operand) _ _ (c .before .before .before .before .before .before .content-has .ensures) in
+    let has-not = sym (found .0) ∙ c .before .before .before .before .before .if1 .left in
+    around-empty q res one _ _ _ (found .1) (c .before .before .before .before .if2 .left) has-not (c .before .before .gather-empty .ensures (around-spare q res one))
 
 gather-row-gather-requires : (t : ℕ) → gather-row-lts.Need-gather-requires (gather-row-calls t) (gather-row-at t) gather-row.Post
 gather-row-gather-requires t c κs =
     let a = c .before .before .before .before .before .before .before .args in
     let res = listOf (a .from .now) (a .results .now) in
     let some = c .before .if1 .left in
-    let q = c .before .before .before .before .before .before .before .pre .1 in
     let m = c .before .before .before .before .before .before .before .pre .0 in
-    (omega arith, first-source _ _ _ _ _ _ _ _ _ _ _ q res some)
-
-gather-row-enum-told : (t : ℕ) → gather-row-lts.Need-enum-told (gather-row-calls t) (gather-row-at t) gather-row.Post
-gather-row-enum-told t c = search needs
-
-gather-row-enum-known-next : (t : ℕ) → gather-row-lts.Need-enum-known-next (gather-row-calls t) (gather-row-at t) gather-row.Post
-gather-row-enum-known-next t c = search needs
+    let q = c .before .before .before .before .before .before .before .pre .1 in
+    (omega arith, first-source q res some)
 
 gather-row-sub-gather-row : (t : ℕ) → gather-row-lts.Need-sub-gather-row (gather-row-calls t) (gather-row-at t) gather-row.Post
 gather-row-sub-gather-row t c =
@@ -653,22 +583,22 @@ gather-row-gather-row-requires t c κs =
     let a = c .before .before .before .before .before .before .before .before .before .before .before .before .before .before .args in
     let res = listOf (a .from .now) (a .results .now) in
     let some = c .before .before .before .before .before .before .before .before .if1 .left in
-    let q = c .before .before .before .before .before .before .before .before .before .before .before .before .before .before .pre .1 in
+    let e = c .before .before .next .given .1 in
+    let l = c .before .before .before .before .before .before .gather .kept .1 .1 .1 .1 .1 .0 in
     let m = c .before .before .before .before .before .before .before .before .before .before .before .before .before .before .pre .0 in
-    let on = goes-on _ _ _ _ _ _ _ _ _ _ _ q res some _ _ (c .before .before .before .before .before .before .gather .ensures (first-source _ _ _ _ _ _ _ _ _ _ _ q res some)) _ _ _ (c .before .before .next .given .1) (c .before .before .before .before .before .before .gather .kept .1 .1 .1 .1 .1 .0) in
-    let i = other-sources _ _ _ _ _ _ _ _ _ _ _ q res some _ _ (c .before .before .before .before .before .before .gather .ensures (first-source _ _ _ _ _ _ _ _ _ _ _ q res some)) _ _ _ (c .before .before .next .given .1) (c .before .before .before .before .before .before .gather .kept .1 .1 .1 .1 .1 .0) .there .inside in
-    (omega arith, other-sources _ _ _ _ _ _ _ _ _ _ _ q res some _ _ (c .before .before .before .before .before .before .gather .ensures (first-source _ _ _ _ _ _ _ _ _ _ _ q res some)) _ _ _ (c .before .before .next .given .1) (c .before .before .before .before .before .before .gather .kept .1 .1 .1 .1 .1 .0))
-
-gather-row-same-length : (t : ℕ) → gather-row-lts.Need-same-length (gather-row-calls t) (gather-row-at t) gather-row.Post
-gather-row-same-length t c =
-    c .before .before .before .before .gather .kept .1 .1 .1 .1 .1 .0
+    let q = c .before .before .before .before .before .before .before .before .before .before .before .before .before .before .pre .1 in
+    let g = c .before .before .before .before .before .before .gather .ensures (first-source q res some) in
+    let on = goes-on q res some _ _ g e l in
+    let others = other-sources q res some _ _ g e l in
+    let i = others .there .inside in
+    (omega arith, others)
 
 gather-row-returns-2 : (t : ℕ) → gather-row-lts.Need-returns-2 (gather-row-calls t) (gather-row-at t) gather-row.Post
 gather-row-returns-2 t c =
     let a = c .before .before .before .before .before .before .before .before .before .before .before .before .args in
     let res = listOf (a .from .now) (a .results .now) in
     let some = c .before .before .before .before .before .before .if1 .left in
-    λ q. row-wide _ _ _ _ _ _ _ _ _ _ _ q res some _ _ (c .before .before .before .before .gather .ensures (first-source _ _ _ _ _ _ _ _ _ _ _ q res some)) (c .enum-told .given .1)
+    λ q. row-wide q res some _ _ (c .before .before .before .before .gather .ensures (first-source q res some)) (c .enum-told .given .1)
 
 gather-row-same-length-2 : (t : ℕ) → gather-row-lts.Need-same-length-2 (gather-row-calls t) (gather-row-at t) gather-row.Post
 gather-row-same-length-2 t c =
@@ -679,13 +609,16 @@ gather-row-returns-3 t c =
     let a = c .before .before .before .before .before .before .before .before .before .before .before .before .before .before .before .before .before .args in
     let res = listOf (a .from .now) (a .results .now) in
     let some = c .before .before .before .before .before .before .before .before .before .before .before .if1 .left in
-    λ q. row-then _ _ _ _ _ _ _ _ _ _ _ q res some _ _ (c .before .before .before .before .before .before .before .before .before .gather .ensures (first-source _ _ _ _ _ _ _ _ _ _ _ q res some)) _ _ _ (c .before .before .before .before .before .next .given .1) (c .before .before .before .before .before .before .before .before .before .gather .kept .1 .1 .1 .1 .1 .0) _ _ (c .before .before .gather-row .ensures (other-sources _ _ _ _ _ _ _ _ _ _ _ q res some _ _ (c .before .before .before .before .before .before .before .before .before .gather .ensures (first-source _ _ _ _ _ _ _ _ _ _ _ q res some)) _ _ _ (c .before .before .before .before .before .next .given .1) (c .before .before .before .before .before .before .before .before .before .gather .kept .1 .1 .1 .1 .1 .0)))
+    let e = c .before .before .before .before .before .next .given .1 in
+    let l = c .before .before .before .before .before .before .before .before .before .gather .kept .1 .1 .1 .1 .1 .0 in
+    λ q.
+    let g = c .before .before .before .before .before .before .before .before .before .gather .ensures (first-source q res some) in
+    row-then q res some _ _ g e l _ _ (c .before .before .gather-row .ensures (other-sources q res some _ _ g e l))
 
 gather-sequence-add-wide : (t : ℕ) → gather-sequence-lts.Need-add-wide (gather-sequence-calls t) (gather-sequence-at t) gather-sequence.Post
 gather-sequence-add-wide t c =
     let q = c .before .before .before .before .before .pre .1 .1 in
     let b = c .before .before .before .before .before .pre .1 .0 in
-    let m = c .before .before .before .before .before .pre .0 in
     let i = count-there standard _ _ (q .there) (omega arith) (omega arith) in
     omega arith
 
@@ -693,50 +626,37 @@ gather-sequence-shared-slice-read-wide : (t : ℕ) → gather-sequence-lts.Need-
 gather-sequence-shared-slice-read-wide t c =
     let q = c .before .before .before .before .before .before .pre .1 .1 in
     let b = c .before .before .before .before .before .before .pre .1 .0 in
-    let m = c .before .before .before .before .before .before .pre .0 in
     let i = count-there standard _ _ (q .there) (omega arith) (omega arith) in
     omega arith
-
-gather-sequence-wide-requires : (t : ℕ) → gather-sequence-lts.Need-wide-requires (gather-sequence-calls t) (gather-sequence-at t) gather-sequence.Post
-gather-sequence-wide-requires t c κs = search needs
 
 gather-sequence-add-row-has : (t : ℕ) → gather-sequence-lts.Need-add-row-has (gather-sequence-calls t) (gather-sequence-at t) gather-sequence.Post
 gather-sequence-add-row-has t c =
     let q = c .before .before .before .before .before .before .before .pre .1 .1 in
     let b = c .before .before .before .before .before .before .before .pre .1 .0 in
-    let m = c .before .before .before .before .before .before .before .pre .0 in
     let i = count-there standard _ _ (q .there) (omega arith) (omega arith) in
     omega arith
 
 gather-sequence-row-has-requires : (t : ℕ) → gather-sequence-lts.Need-row-has-requires (gather-sequence-calls t) (gather-sequence-at t) gather-sequence.Post
 gather-sequence-row-has-requires t c κs =
-    let a = c .before .before .before .before .before .before .before .args in
-    let res = listOf (a .from .now) (a .results .now) in
-    let b = c .before .before .before .before .before .before .before .pre .1 .0 in
-    let three : (3 ≤ getD (a .content .now) (a .at) 0) × (getD (a .content .now) (a .at) 0 ≤ 4) = (omega arith, omega arith) in
-    let byte = ap (getElem? operators) b ∙ operator-sequence in
     let q = c .before .before .before .before .before .before .before .pre .1 .1 in
-    let m = c .before .before .before .before .before .before .before .pre .0 in
-    let w = q .maps .words in
-    (counted-of standard _ _ _ (q .there) sequence (c .wide .ensures .0) (three .0) (three .1) byte .operands, omega arith)
+    let b = c .before .before .before .before .before .before .before .pre .1 .0 in
+    let words = q .maps .words in
+    (operands-of q b (c .wide .ensures .0) .operands, omega arith)
 
 gather-sequence-slice-write-draft : (t : ℕ) → gather-sequence-lts.Need-slice-write-draft (gather-sequence-calls t) (gather-sequence-at t) gather-sequence.Post
 gather-sequence-slice-write-draft t c =
     let a = c .before .before .before .before .before .before .before .before .before .args in
     let res = listOf (a .from .now) (a .results .now) in
-    let b = c .before .before .before .before .before .before .before .before .before .pre .1 .0 in
-    let three : (3 ≤ getD (a .content .now) (a .at) 0) × (getD (a .content .now) (a .at) 0 ≤ 4) = (omega arith, omega arith) in
-    let byte = ap (getElem? operators) b ∙ operator-sequence in
     let q = c .before .before .before .before .before .before .before .before .before .pre .1 .1 in
-    let m = c .before .before .before .before .before .before .before .before .before .pre .0 in
-    let i = sequence-inside _ _ _ _ _ _ _ _ _ _ _ q res (counted-of standard _ _ _ (q .there) sequence (c .before .before .wide .ensures .0) (three .0) (three .1) byte) (c .before .before .wide .ensures .0) in
+    let b = c .before .before .before .before .before .before .before .before .before .pre .1 .0 in
+    let n = c .before .before .wide .ensures .0 in
+    let i = sequence-inside q res (operands-of q b n) n in
     omega arith
 
 gather-sequence-add-draft : (t : ℕ) → gather-sequence-lts.Need-add-draft (gather-sequence-calls t) (gather-sequence-at t) gather-sequence.Post
 gather-sequence-add-draft t c =
     let q = c .before .before .before .before .before .before .before .before .before .pre .1 .1 in
     let b = c .before .before .before .before .before .before .before .before .before .pre .1 .0 in
-    let m = c .before .before .before .before .before .before .before .before .before .pre .0 in
     let i = count-there standard _ _ (q .there) (omega arith) (omega arith) in
     omega arith
 
@@ -754,7 +674,6 @@ gather-sequence-shared-slice-read-draft :
 gather-sequence-shared-slice-read-draft t c =
     let q = c .before .before .before .before .before .before .before .before .before .before .pre .1 .1 in
     let b = c .before .before .before .before .before .before .before .before .before .before .pre .1 .0 in
-    let m = c .before .before .before .before .before .before .before .before .before .before .pre .0 in
     let i = count-there standard _ _ (q .there) (omega arith) (omega arith) in
     omega arith
 
@@ -762,31 +681,26 @@ gather-sequence-add-draft-2 : (t : ℕ) → gather-sequence-lts.Need-add-draft-2
 gather-sequence-add-draft-2 t c =
     let a = c .before .before .before .before .before .before .before .before .before .before .args in
     let res = listOf (a .from .now) (a .results .now) in
-    let b = c .before .before .before .before .before .before .before .before .before .before .pre .1 .0 in
-    let three : (3 ≤ getD (a .content .now) (a .at) 0) × (getD (a .content .now) (a .at) 0 ≤ 4) = (omega arith, omega arith) in
-    let byte = ap (getElem? operators) b ∙ operator-sequence in
     let q = c .before .before .before .before .before .before .before .before .before .before .pre .1 .1 in
-    let m = c .before .before .before .before .before .before .before .before .before .before .pre .0 in
-    let i = sequence-inside _ _ _ _ _ _ _ _ _ _ _ q res (counted-of standard _ _ _ (q .there) sequence (c .before .before .before .wide .ensures .0) (three .0) (three .1) byte) (c .before .before .before .wide .ensures .0) in
+    let b = c .before .before .before .before .before .before .before .before .before .before .pre .1 .0 in
+    let n = c .before .before .before .wide .ensures .0 in
+    let i = sequence-inside q res (operands-of q b n) n in
     omega arith
 
 gather-sequence-slice-write-draft-2 : (t : ℕ) → gather-sequence-lts.Need-slice-write-draft-2 (gather-sequence-calls t) (gather-sequence-at t) gather-sequence.Post
 gather-sequence-slice-write-draft-2 t c =
     let a = c .before .before .before .before .before .before .before .before .before .before .args in
     let res = listOf (a .from .now) (a .results .now) in
-    let b = c .before .before .before .before .before .before .before .before .before .before .pre .1 .0 in
-    let three : (3 ≤ getD (a .content .now) (a .at) 0) × (getD (a .content .now) (a .at) 0 ≤ 4) = (omega arith, omega arith) in
-    let byte = ap (getElem? operators) b ∙ operator-sequence in
     let q = c .before .before .before .before .before .before .before .before .before .before .pre .1 .1 in
-    let m = c .before .before .before .before .before .before .before .before .before .before .pre .0 in
-    let i = sequence-inside _ _ _ _ _ _ _ _ _ _ _ q res (counted-of standard _ _ _ (q .there) sequence (c .before .before .before .wide .ensures .0) (three .0) (three .1) byte) (c .before .before .before .wide .ensures .0) in
+    let b = c .before .before .before .before .before .before .before .before .before .before .pre .1 .0 in
+    let n = c .before .before .before .wide .ensures .0 in
+    let i = sequence-inside q res (operands-of q b n) n in
     simp length-set (omega arith)
 
 gather-sequence-add-emit-row : (t : ℕ) → gather-sequence-lts.Need-add-emit-row (gather-sequence-calls t) (gather-sequence-at t) gather-sequence.Post
 gather-sequence-add-emit-row t c =
     let q = c .before .before .before .before .before .before .before .before .before .before .pre .1 .1 in
     let b = c .before .before .before .before .before .before .before .before .before .before .pre .1 .0 in
-    let m = c .before .before .before .before .before .before .before .before .before .before .pre .0 in
     let i = count-there standard _ _ (q .there) (omega arith) (omega arith) in
     omega arith
 
@@ -794,55 +708,48 @@ gather-sequence-add-emit-row-2 : (t : ℕ) → gather-sequence-lts.Need-add-emit
 gather-sequence-add-emit-row-2 t c =
     let a = c .before .before .before .before .before .before .before .before .before .before .before .args in
     let res = listOf (a .from .now) (a .results .now) in
-    let b = c .before .before .before .before .before .before .before .before .before .before .before .pre .1 .0 in
-    let three : (3 ≤ getD (a .content .now) (a .at) 0) × (getD (a .content .now) (a .at) 0 ≤ 4) = (omega arith, omega arith) in
-    let byte = ap (getElem? operators) b ∙ operator-sequence in
     let q = c .before .before .before .before .before .before .before .before .before .before .before .pre .1 .1 in
-    let m = c .before .before .before .before .before .before .before .before .before .before .before .pre .0 in
-    let i = sequence-inside _ _ _ _ _ _ _ _ _ _ _ q res (counted-of standard _ _ _ (q .there) sequence (c .before .before .before .before .wide .ensures .0) (three .0) (three .1) byte) (c .before .before .before .before .wide .ensures .0) in
+    let b = c .before .before .before .before .before .before .before .before .before .before .before .pre .1 .0 in
+    let n = c .before .before .before .before .wide .ensures .0 in
+    let i = sequence-inside q res (operands-of q b n) n in
     omega arith
 
 gather-sequence-emit-row-requires : (t : ℕ) → gather-sequence-lts.Need-emit-row-requires (gather-sequence-calls t) (gather-sequence-at t) gather-sequence.Post
 gather-sequence-emit-row-requires t c κs =
     let a = c .before .before .before .before .before .before .before .before .before .before .before .args in
     let res = listOf (a .from .now) (a .results .now) in
-    let b = c .before .before .before .before .before .before .before .before .before .before .before .pre .1 .0 in
-    let three : (3 ≤ getD (a .content .now) (a .at) 0) × (getD (a .content .now) (a .at) 0 ≤ 4) = (omega arith, omega arith) in
-    let byte = ap (getElem? operators) b ∙ operator-sequence in
-    let q = c .before .before .before .before .before .before .before .before .before .before .before .pre .1 .1 in
     let m = c .before .before .before .before .before .before .before .before .before .before .before .pre .0 in
+    let q = c .before .before .before .before .before .before .before .before .before .before .before .pre .1 .1 in
+    let b = c .before .before .before .before .before .before .before .before .before .before .before .pre .1 .0 in
+    let n = c .before .before .before .before .wide .ensures .0 in
     let i = count-there standard _ _ (q .there) (omega arith) (omega arith) in
-    (omega arith, sequence-operands _ _ _ _ _ _ _ _ _ _ _ q res (counted-of standard _ _ _ (q .there) sequence (c .before .before .before .before .wide .ensures .0) (three .0) (three .1) byte) (c .before .before .before .before .wide .ensures .0))
-
-gather-sequence-enum-told : (t : ℕ) → gather-sequence-lts.Need-enum-told (gather-sequence-calls t) (gather-sequence-at t) gather-sequence.Post
-gather-sequence-enum-told t c = search needs
-
-gather-sequence-enum-known-next : (t : ℕ) → gather-sequence-lts.Need-enum-known-next (gather-sequence-calls t) (gather-sequence-at t) gather-sequence.Post
-gather-sequence-enum-known-next t c = search needs
+    (omega arith, sequence-operands q res (operands-of q b n) n)
 
 gather-sequence-settle-requires : (t : ℕ) → gather-sequence-lts.Need-settle-requires (gather-sequence-calls t) (gather-sequence-at t) gather-sequence.Post
 gather-sequence-settle-requires t c κs =
     let a = c .before .before .before .before .before .before .before .before .before .before .before .before .before .before .before .before .before .before .args in
     let res = listOf (a .from .now) (a .results .now) in
-    let b = c .before .before .before .before .before .before .before .before .before .before .before .before .before .before .before .before .before .before .pre .1 .0 in
-    let three : (3 ≤ getD (a .content .now) (a .at) 0) × (getD (a .content .now) (a .at) 0 ≤ 4) = (omega arith, omega arith) in
-    let byte = ap (getElem? operators) b ∙ operator-sequence in
     let q = c .before .before .before .before .before .before .before .before .before .before .before .before .before .before .before .before .before .before .pre .1 .1 in
-    let m = c .before .before .before .before .before .before .before .before .before .before .before .before .before .before .before .before .before .before .pre .0 in
-    (sequence-newest _ _ _ _ _ _ _ _ _ _ _ q res (counted-of standard _ _ _ (q .there) sequence (c .before .before .before .before .before .before .before .before .before .before .before .wide .ensures .0) (three .0) (three .1) byte) (c .before .before .before .before .before .before .before .before .before .before .before .wide .ensures .0) (sym (row-found _ _ _ (q .maps) _ _ _ (counted-of standard _ _ _ (q .there) sequence (c .before .before .before .before .before .before .before .before .before .before .before .wide .ensures .0) (three .0) (three .1) byte .operands) _ _ _ (c .before .before .before .before .before .before .before .before .before .before .row-has .ensures) .0) ∙ c .before .before .before .before .before .before .before .before .before .if1 .taken) _ _ (c .before .before .before .before .before .before .emit-row .ensures (sequence-operands _ _ _ _ _ _ _ _ _ _ _ q res (counted-of standard _ _ _ (q .there) sequence (c .before .before .before .before .before .before .before .before .before .before .before .wide .ensures .0) (three .0) (three .1) byte) (c .before .before .before .before .before .before .before .before .before .before .before .wide .ensures .0))) _ _ (c .before .before .next .given .1) (c .before .before .before .before .before .before .emit-row .kept .1 .1 .1 .1 .1 .1 .0), q .fits)
-
-gather-sequence-same-length : (t : ℕ) → gather-sequence-lts.Need-same-length (gather-sequence-calls t) (gather-sequence-at t) gather-sequence.Post
-gather-sequence-same-length t c =
-    c .before .before .before .before .emit-row .kept .1 .1 .1 .1 .1 .1 .0 ∙ simp length-set
+    let b = c .before .before .before .before .before .before .before .before .before .before .before .before .before .before .before .before .before .before .pre .1 .0 in
+    let n = c .before .before .before .before .before .before .before .before .before .before .before .wide .ensures .0 in
+    let cs = operands-of q b n in
+    let found = row-found _ _ _ (q .maps) _ _ _ (cs .operands) _ _ _ (c .before .before .before .before .before .before .before .before .before .before .row-has .ensures) in
+    let has = sym (found .0) ∙ c .before .before .before .before .before .before .before .before .before .if1 .taken in
+    let g = c .before .before .before .before .before .before .emit-row .ensures (sequence-operands q res cs n) in
+    (sequence-newest q res cs n has _ _ g (c .before .before .next .given .1) (c .before .before .before .before .before .before .emit-row .kept .1 .1 .1 .1 .1 .1 .0), q .fits)
 
 gather-sequence-returns : (t : ℕ) → gather-sequence-lts.Need-returns (gather-sequence-calls t) (gather-sequence-at t) gather-sequence.Post
 gather-sequence-returns t c =
     let a = c .before .before .before .before .before .before .before .before .before .before .before .before .before .before .before .before .args in
     let res = listOf (a .from .now) (a .results .now) in
     let b = c .before .before .before .before .before .before .before .before .before .before .before .before .before .before .before .before .pre .1 .0 in
-    let three : (3 ≤ getD (a .content .now) (a .at) 0) × (getD (a .content .now) (a .at) 0 ≤ 4) = (omega arith, omega arith) in
-    let byte = ap (getElem? operators) b ∙ operator-sequence in
-    λ q. sequence-wide _ _ _ _ _ _ _ _ _ _ _ q res (counted-of standard _ _ _ (q .there) sequence (c .before .before .before .before .before .before .before .before .before .wide .ensures .0) (three .0) (three .1) byte) (c .before .before .before .before .before .before .before .before .before .wide .ensures .0) (sym (row-found _ _ _ (q .maps) _ _ _ (counted-of standard _ _ _ (q .there) sequence (c .before .before .before .before .before .before .before .before .before .wide .ensures .0) (three .0) (three .1) byte .operands) _ _ _ (c .before .before .before .before .before .before .before .before .row-has .ensures) .0) ∙ c .before .before .before .before .before .before .before .if1 .taken) _ _ (c .before .before .before .before .emit-row .ensures (sequence-operands _ _ _ _ _ _ _ _ _ _ _ q res (counted-of standard _ _ _ (q .there) sequence (c .before .before .before .before .before .before .before .before .before .wide .ensures .0) (three .0) (three .1) byte) (c .before .before .before .before .before .before .before .before .before .wide .ensures .0))) (c .enum-told .given .1)
+    let n = c .before .before .before .before .before .before .before .before .before .wide .ensures .0 in
+    λ q.
+    let cs = operands-of q b n in
+    let found = row-found _ _ _ (q .maps) _ _ _ (cs .operands) _ _ _ (c .before .before .before .before .before .before .before .before .row-has .ensures) in
+    let has = sym (found .0) ∙ c .before .before .before .before .before .before .before .if1 .taken in
+    let g = c .before .before .before .before .emit-row .ensures (sequence-operands q res cs n) in
+    sequence-wide q res cs n has _ _ g (c .enum-told .given .1)
 
 gather-sequence-same-length-2 : (t : ℕ) → gather-sequence-lts.Need-same-length-2 (gather-sequence-calls t) (gather-sequence-at t) gather-sequence.Post
 gather-sequence-same-length-2 t c =
@@ -853,18 +760,26 @@ gather-sequence-returns-2 t c =
     let a = c .before .before .before .before .before .before .before .before .before .before .before .before .before .before .before .before .before .before .before .args in
     let res = listOf (a .from .now) (a .results .now) in
     let b = c .before .before .before .before .before .before .before .before .before .before .before .before .before .before .before .before .before .before .before .pre .1 .0 in
-    let three : (3 ≤ getD (a .content .now) (a .at) 0) × (getD (a .content .now) (a .at) 0 ≤ 4) = (omega arith, omega arith) in
-    let byte = ap (getElem? operators) b ∙ operator-sequence in
-    λ q. sequence-settled _ _ _ _ _ _ _ _ _ _ _ q res (counted-of standard _ _ _ (q .there) sequence (c .before .before .before .before .before .before .before .before .before .before .before .before .wide .ensures .0) (three .0) (three .1) byte) (c .before .before .before .before .before .before .before .before .before .before .before .before .wide .ensures .0) (sym (row-found _ _ _ (q .maps) _ _ _ (counted-of standard _ _ _ (q .there) sequence (c .before .before .before .before .before .before .before .before .before .before .before .before .wide .ensures .0) (three .0) (three .1) byte .operands) _ _ _ (c .before .before .before .before .before .before .before .before .before .before .before .row-has .ensures) .0) ∙ c .before .before .before .before .before .before .before .before .before .before .if1 .taken) _ _ (c .before .before .before .before .before .before .before .emit-row .ensures (sequence-operands _ _ _ _ _ _ _ _ _ _ _ q res (counted-of standard _ _ _ (q .there) sequence (c .before .before .before .before .before .before .before .before .before .before .before .before .wide .ensures .0) (three .0) (three .1) byte) (c .before .before .before .before .before .before .before .before .before .before .before .before .wide .ensures .0))) _ _ (c .before .before .before .next .given .1) (c .before .before .before .before .before .before .before .emit-row .kept .1 .1 .1 .1 .1 .1 .0) _ (c .settle .ensures (sequence-newest _ _ _ _ _ _ _ _ _ _ _ q res (counted-of standard _ _ _ (q .there) sequence (c .before .before .before .before .before .before .before .before .before .before .before .before .wide .ensures .0) (three .0) (three .1) byte) (c .before .before .before .before .before .before .before .before .before .before .before .before .wide .ensures .0) (sym (row-found _ _ _ (q .maps) _ _ _ (counted-of standard _ _ _ (q .there) sequence (c .before .before .before .before .before .before .before .before .before .before .before .before .wide .ensures .0) (three .0) (three .1) byte .operands) _ _ _ (c .before .before .before .before .before .before .before .before .before .before .before .row-has .ensures) .0) ∙ c .before .before .before .before .before .before .before .before .before .before .if1 .taken) _ _ (c .before .before .before .before .before .before .before .emit-row .ensures (sequence-operands _ _ _ _ _ _ _ _ _ _ _ q res (counted-of standard _ _ _ (q .there) sequence (c .before .before .before .before .before .before .before .before .before .before .before .before .wide .ensures .0) (three .0) (three .1) byte) (c .before .before .before .before .before .before .before .before .before .before .before .before .wide .ensures .0))) _ _ (c .before .before .before .next .given .1) (c .before .before .before .before .before .before .before .emit-row .kept .1 .1 .1 .1 .1 .1 .0)))
+    let n = c .before .before .before .before .before .before .before .before .before .before .before .before .wide .ensures .0 in
+    let e = c .before .before .before .next .given .1 in
+    let l = c .before .before .before .before .before .before .before .emit-row .kept .1 .1 .1 .1 .1 .1 .0 in
+    λ q.
+    let cs = operands-of q b n in
+    let found = row-found _ _ _ (q .maps) _ _ _ (cs .operands) _ _ _ (c .before .before .before .before .before .before .before .before .before .before .before .row-has .ensures) in
+    let has = sym (found .0) ∙ c .before .before .before .before .before .before .before .before .before .before .if1 .taken in
+    let g = c .before .before .before .before .before .before .before .emit-row .ensures (sequence-operands q res cs n) in
+    sequence-settled q res cs n has _ _ g e l _ (c .settle .ensures (sequence-newest q res cs n has _ _ g e l))
 
 gather-sequence-returns-3 : (t : ℕ) → gather-sequence-lts.Need-returns-3 (gather-sequence-calls t) (gather-sequence-at t) gather-sequence.Post
 gather-sequence-returns-3 t c =
     let a = c .before .before .before .before .before .before .before .before .before .args in
     let res = listOf (a .from .now) (a .results .now) in
     let b = c .before .before .before .before .before .before .before .before .before .pre .1 .0 in
-    let three : (3 ≤ getD (a .content .now) (a .at) 0) × (getD (a .content .now) (a .at) 0 ≤ 4) = (omega arith, omega arith) in
-    let byte = ap (getElem? operators) b ∙ operator-sequence in
-    λ q. sequence-blank _ _ _ _ _ _ _ _ _ _ _ q res (counted-of standard _ _ _ (q .there) sequence (c .before .before .wide .ensures .0) (three .0) (three .1) byte) (c .before .before .wide .ensures .0) _ (row-found _ _ _ (q .maps) _ _ _ (counted-of standard _ _ _ (q .there) sequence (c .before .before .wide .ensures .0) (three .0) (three .1) byte .operands) _ _ _ (c .before .row-has .ensures) .1) (sym (row-found _ _ _ (q .maps) _ _ _ (counted-of standard _ _ _ (q .there) sequence (c .before .before .wide .ensures .0) (three .0) (three .1) byte .operands) _ _ _ (c .before .row-has .ensures) .0) ∙ c .if1 .left)
+    let n = c .before .before .wide .ensures .0 in
+    λ q.
+    let cs = operands-of q b n in
+    let found = row-found _ _ _ (q .maps) _ _ _ (cs .operands) _ _ _ (c .before .row-has .ensures) in
+    sequence-blank q res cs n _ (found .1) (sym (found .0) ∙ c .if1 .left)
 
 pub +emit-row+gather+gather-around+gather-row+gather-sequence-spec : {M : Type 1} → statement M
 +emit-row+gather+gather-around+gather-row+gather-sequence-spec =
@@ -874,92 +789,61 @@ pub +emit-row+gather+gather-around+gather-row+gather-sequence-spec : {M : Type 1
     μ-gather-around
     μ-gather-row
     μ-gather-sequence
-    (λ t. emit-row-lts.spec (
-      gather-below t,
-      gather.Post,
-      finish-reads.Asked,
-      finish-reads.Learnt,
-      emit-row-below t,
-      emit-row.Post,
-    )
+    (λ t. emit-row-lts.spec (emit-row-calls t)
     (emit-row-at t)
     emit-row.Post
-    (emit-row-returns t)
+    (λ c. λ q. no-operands q _ (c .if1 .taken))
     (emit-row-add-gather t)
     (emit-row-add-gather-2 t)
     (emit-row-add-gather-3 t)
     (emit-row-gather-requires t)
-    (emit-row-enum-told t)
-    (emit-row-enum-known-next t)
+    (λ c. search needs)
+    (λ c. search needs)
     (emit-row-finish-requires t)
     (emit-row-add-if2 t)
     (emit-row-same-length t)
     (emit-row-returns-2 t)
     (emit-row-sub-emit-row t)
     (emit-row-emit-row-requires t)
-    (emit-row-same-length-2 t)
+    (λ c. c .before .before .before .before .gather .kept .1 .1 .1 .1 .1 .0)
     (emit-row-returns-3 t)
     (emit-row-same-length-3 t)
     (emit-row-returns-4 t))
-    (λ t. gather-lts.spec (
-      wide-reads.Asked,
-      wide-reads.Learnt,
-      gather-empty-reads.Asked,
-      gather-empty-reads.Learnt,
-      byte-or-zero-reads.Asked,
-      byte-or-zero-reads.Learnt,
-      gather-types-reads.Asked,
-      gather-types-reads.Learnt,
-      gather-sequence-below t,
-      gather-sequence.Post,
-      gather-row-below t,
-      gather-row.Post,
-      gather-around-below t,
-      gather-around.Post,
-    )
+    (λ t. gather-lts.spec (gather-calls t)
     (gather-at t)
     gather.Post
     (gather-shared-slice-read-wide t)
-    (gather-wide-requires t)
+    (λ c κs. search needs)
     (gather-add-t19 t)
     (gather-add-gather-empty t)
-    (gather-gather-empty-requires t)
+    (λ c κs. source-room (c .before .before .before .before .before .before .before .before .before .pre .1))
     (gather-add-wide t)
     (gather-shared-slice-read-wide-2 t)
-    (gather-wide-requires-2 t)
-    (gather-byte-or-zero-requires t)
-    (gather-add-byte-or-zero t)
-    (gather-byte-or-zero-requires-2 t)
+    (λ c κs. search needs)
+    (λ c κs. search needs)
+    (λ c. omega arith)
+    (λ c κs. search needs)
     (gather-add-gather-types t)
     (gather-gather-types-requires t)
     (gather-gather-sequence-requires t)
     (gather-add-wide-2 t)
     (gather-shared-slice-read-wide-3 t)
-    (gather-wide-requires-3 t)
+    (λ c κs. search needs)
     (gather-add-gather-row t)
     (gather-gather-row-requires t)
     (gather-gather-around-requires t)
     (gather-returns t)
-    (gather-same-length t)
+    (λ c. c .before .before .gather-empty .kept .0)
     (gather-returns-2 t)
-    (gather-same-length-2 t)
+    (λ c. c .before .before .gather-types .kept .1 .1 .1 .0)
     (gather-returns-3 t)
-    (gather-same-length-3 t)
-    (gather-returns-4 t)
-    (gather-same-length-4 t)
+    (λ c. c .before .before .gather-sequence .kept .1 .1 .1 .1 .1 .0)
+    (λ c. λ q. c .before .before .gather-sequence .ensures q)
+    (λ c. c .before .before .gather-row .kept .1 .1 .1 .1 .1 .1 .0)
     (gather-returns-5 t)
-    (gather-same-length-5 t)
-    (gather-returns-6 t))
-    (λ t. gather-around-lts.spec (
-      content-has-reads.Asked,
-      content-has-reads.Learnt,
-      emit-row-below t,
-      emit-row.Post,
-      settle-reads.Asked,
-      settle-reads.Learnt,
-      gather-empty-reads.Asked,
-      gather-empty-reads.Learnt,
-    )
+    (λ c. c .before .before .gather-around .kept .1 .1 .1 .1 .1 .0)
+    (λ c. λ q. c .before .before .gather-around .ensures q))
+    (λ t. gather-around-lts.spec (gather-around-calls t)
     (gather-around-at t)
     gather-around.Post
     (gather-around-shared-slice-read-operator t)
@@ -969,46 +853,37 @@ pub +emit-row+gather+gather-around+gather-row+gather-sequence-spec : {M : Type 1
     (gather-around-add-emit-row t)
     (gather-around-add-emit-row-2 t)
     (gather-around-emit-row-requires t)
-    (gather-around-enum-told t)
-    (gather-around-enum-known-next t)
+    (λ c. search needs)
+    (λ c. search needs)
     (gather-around-settle-requires t)
-    (gather-around-same-length t)
+    (λ c. c .before .before .before .before .emit-row .kept .1 .1 .1 .1 .1 .1 .0 ∙ simp length-set)
     (gather-around-returns t)
     (gather-around-same-length-2 t)
     (gather-around-returns-2 t)
     (gather-around-returns-3 t)
     (gather-around-gather-empty-requires t)
-    (gather-around-same-length-3 t)
+    (λ c. c .before .before .gather-empty .kept .0)
     (gather-around-returns-4 t))
     (λ t. gather-row-lts.spec
     (gather-below t, gather.Post, gather-row-below t, gather-row.Post)
     (gather-row-at t)
     gather-row.Post
-    (gather-row-returns t)
+    (λ c. λ q. no-sources q _ (c .if1 .taken))
     (gather-row-gather-requires t)
-    (gather-row-enum-told t)
-    (gather-row-enum-known-next t)
+    (λ c. search needs)
+    (λ c. search needs)
     (gather-row-sub-gather-row t)
     (gather-row-gather-row-requires t)
-    (gather-row-same-length t)
+    (λ c. c .before .before .before .before .gather .kept .1 .1 .1 .1 .1 .0)
     (gather-row-returns-2 t)
     (gather-row-same-length-2 t)
     (gather-row-returns-3 t))
-    λ t. gather-sequence-lts.spec (
-      wide-reads.Asked,
-      wide-reads.Learnt,
-      row-has-reads.Asked,
-      row-has-reads.Learnt,
-      emit-row-below t,
-      emit-row.Post,
-      settle-reads.Asked,
-      settle-reads.Learnt,
-    )
+    λ t. gather-sequence-lts.spec (gather-sequence-calls t)
     (gather-sequence-at t)
     gather-sequence.Post
     (gather-sequence-add-wide t)
     (gather-sequence-shared-slice-read-wide t)
-    (gather-sequence-wide-requires t)
+    (λ c κs. search needs)
     (gather-sequence-add-row-has t)
     (gather-sequence-row-has-requires t)
     (gather-sequence-slice-write-draft t)
@@ -1019,10 +894,10 @@ pub +emit-row+gather+gather-around+gather-row+gather-sequence-spec : {M : Type 1
     (gather-sequence-add-emit-row t)
     (gather-sequence-add-emit-row-2 t)
     (gather-sequence-emit-row-requires t)
-    (gather-sequence-enum-told t)
-    (gather-sequence-enum-known-next t)
+    (λ c. search needs)
+    (λ c. search needs)
     (gather-sequence-settle-requires t)
-    (gather-sequence-same-length t)
+    (λ c. c .before .before .before .before .emit-row .kept .1 .1 .1 .1 .1 .1 .0 ∙ simp length-set)
     (gather-sequence-returns t)
     (gather-sequence-same-length-2 t)
     (gather-sequence-returns-2 t)
