@@ -5,6 +5,7 @@ pub mod WideLaws
 pub mod GatherLaws
 pub mod SourceLaws
 pub mod EmitLaws
+pub mod CompleteLaws
 pub mod ContentAtLaws
 pub mod ProductiveLaws
 pub mod OnceLaws

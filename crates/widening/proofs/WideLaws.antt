@@ -133,7 +133,7 @@ pub one-long : (room : ℕ) (c : Content) → room < length (contentBytes c) →
 unfolding operandBytes
 one-long room c h = let l = length-append (contentBytes c) [] in long (omega arith)
 
-one-wide : (room : ℕ) (c : Content) → 255 < widestChoice c → Unfit room (c ∷ᶜ []ᶜ)
+pub one-wide : (room : ℕ) (c : Content) → 255 < widestChoice c → Unfit room (c ∷ᶜ []ᶜ)
 unfolding widestOf
 one-wide room c h = wide (omega arith)
 
@@ -202,7 +202,7 @@ pub wide-single : (room less : ℕ) (ds : List Content) (f : Content → Content
 wide-single room less ds f c a e h = wide-one room ds (f c) (unfit-single room less f c a e h)
 
 -- so the finished content is too large
-unfit-large : (c : Content) → Unfit 1024 (c ∷ᶜ []ᶜ) → contentTooLarge standard c ≡ true
+pub unfit-large : (c : Content) → Unfit 1024 (c ∷ᶜ []ᶜ) → contentTooLarge standard c ≡ true
 unfolding contentTooLarge standard operandBytes widestOf
 unfit-large c (long h) =
     let l = length-append (contentBytes c) [] in

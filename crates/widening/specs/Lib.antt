@@ -2,3 +2,4 @@ pub mod ContentAt
 pub mod Walks
 pub mod Drafts
 pub mod Emitting
+pub mod Completing
