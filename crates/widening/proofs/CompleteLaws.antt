@@ -40,7 +40,7 @@ use Rattle.reader.specs.declared.contents.Extent.{Extent}
 use Rattle.reader.specs.declared.contents.Extent.the-variants.{Nowhere, Upto}
 use Rattle.reader.proofs.ExprLaws.{same-placed, expr-kept, expr-written, expr-bytes, expr-forward}
 use Rattle.reader.proofs.ExtentLaws.{proper-yes, proper-no}
-use Rattle.widening.specs.Drafts.{Row, Kept}
+use Rattle.widening.specs.Drafts.{Kept, Added}
 use Rattle.widening.specs.Completing.{Regular, Stored}
 use Rattle.widening.proofs.WideLaws.{one-long, one-wide, unfit-large}
 use Rattle.widening.proofs.EmitLaws.{fresh-row}
@@ -138,3 +138,8 @@ module _ (d : List ℕ) (c : Content) (last : ℕ) (stands : exprAt d 0 ≡ just
 -- where a caller starts
 abbrev pub start-kept : (d : List ℕ) → 2 ≤ length d → Kept d 2 0 2
 start-kept d h = record { list = []; row = fresh-row d 2 h }
+
+-- the operands after a gathering, for the next one
+abbrev pub kept-after : (before after : List ℕ) (base old : ℕ) (ds : List Content) (limit count end : ℕ)
+    → Added before after base old ds limit count end → Kept after base count end
+kept-after before after base old ds limit count end a = record { list = ds; row = a .row }
