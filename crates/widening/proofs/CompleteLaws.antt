@@ -2,13 +2,13 @@
 --   made-long, made-improper, made-deep : more bytes than a content may have; not proper, so a choice too wide; nested too deep
 --   made-fine : otherwise it is stored
 -- and so for a caller that gathers from source contents one after the other: start-kept, the empty list at the front of the draft.
-use Prim.Native.Nat.{ℕ, _+_, _-_, _≤_, _<_, max}
+use Prim.Native.Nat.{ℕ, _-_, _≤_, _<_}
 use native.Mathlib.Omega.{arith}
-use mathlib.Core.Bool.{Bool, true, false, _&&_, _||_}
+use mathlib.Core.Bool.{true, false, _&&_, _||_}
 use mathlib.Core.List.{List, []}
 use mathlib.Core.Logic.{_⊎_, inl, inr}
 use mathlib.Core.Option.{some as just}
-use mathlib.Core.Path.{_≡_, refl, sym, _∙_, ap, subst}
+use mathlib.Core.Path.{_≡_, sym, _∙_, ap}
 use lib.ListN.{length, take, drop}
 use lib.Seq.{take-take}
 use lib.Dec.{ltb, leb}
@@ -36,7 +36,6 @@ use Rattle.theory.proofs.BoolLaws.{and-left, and-right, or-left, or-right, or-n
 use Rattle.theory.proofs.Counted.{counted-proper}
 use Rattle.reader.specs.ExprAt.{_upTo_, exprAt}
 use Rattle.reader.specs.Extents.{properAt}
-use Rattle.reader.specs.declared.contents.Extent.{Extent}
 use Rattle.reader.specs.declared.contents.Extent.the-variants.{Nowhere, Upto}
 use Rattle.reader.proofs.ExprLaws.{same-placed, expr-kept, expr-written, expr-bytes, expr-forward}
 use Rattle.reader.proofs.ExtentLaws.{proper-yes, proper-no}

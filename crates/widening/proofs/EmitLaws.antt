@@ -4,11 +4,11 @@
 --   sequence-..., around-...                                      a sequence, and an operator of one operand, around a row written
 use Prim.Native.Nat.{ℕ, zero, suc, _+_, _-_, _*_, _≤_, _<_}
 use native.Mathlib.Omega.{arith}
-use mathlib.Core.Bool.{Bool, true, false}
-use mathlib.Core.List.{List, [], _∷_, _++_, map}
+use mathlib.Core.Bool.{true, false}
+use mathlib.Core.List.{List, [], _∷_, map}
 use mathlib.Core.Option.{some as just}
 use mathlib.Core.Path.{_≡_, refl, sym, _∙_, ap, ap₂, subst}
-use lib.ListN.{length, getD, getElem?, take, drop, set, length-set}
+use lib.ListN.{length, getD, getElem?, take, set, length-set}
 use lib.Seq.{take-set-le, getD-set-same, getD-take}
 use Rattle.grammar.specs.Lists.{joinedOf}
 use Rattle.grammar.specs.Limits.{standard}
@@ -30,7 +30,7 @@ use Rattle.grammar.specs.Content.{
   operands,
   choiceOf,
 }
-use Rattle.grammar.specs.ReadContent.{contentBytes, single, operators}
+use Rattle.grammar.specs.ReadContent.{operators}
 use Rattle.theory.proofs.Alternatives.{alts, altsOfEach, written, hasAlts, allHaveAlts, someLeft, sequence-has, sequence-has-not}
 use Rattle.theory.proofs.Gathering.{gathered, gathered-nothing, written-gathered}
 use Rattle.reader.specs.ExprAt.{_upTo_, placed, exprAt, exprsAt}
@@ -40,9 +40,8 @@ use Rattle.widening.specs.declared.drafts.Gathering.the-variants as gath
 use Rattle.widening.specs.declared.emitter.Emitted.{Emitted}
 use Rattle.widening.specs.declared.emitter.Emitted.the-variants as emitted
 use Rattle.widening.specs.Drafts.{Row, Kept, Newest, Unfit, TooWide, Added, Gathers, Finished}
-use Rattle.widening.specs.ContentAt.{ContentAt, ContentsAt}
 use Rattle.widening.specs.Walks.{listOf}
-use Rattle.widening.specs.Emitting.{Maps, Room, Source, Sources, Operands, Laid, Emits}
+use Rattle.widening.specs.Emitting.{Room, Source, Sources, Operands, Laid, Emits}
 use Rattle.widening.proofs.RowLaws.{exprs-uncons, exprs-none-left}
 use Rattle.widening.proofs.FinishLaws.{
   single-stands,
@@ -61,20 +60,7 @@ use Rattle.widening.proofs.WideLaws.{
   wide-sequence,
   wide-single,
 }
-use Rattle.widening.proofs.GatherLaws.{
-  kept-of,
-  newest-of,
-  keeps-before,
-  gathers-from,
-  gathers-as,
-  nothing-added,
-  typesFrom,
-  first-wide,
-  then-others,
-  told-large,
-  told-upto,
-  large-told,
-}
+use Rattle.widening.proofs.GatherLaws.{newest-of, keeps-before, gathers-from, gathers-as, nothing-added, typesFrom, first-wide, then-others, told-large, told-upto, large-told}
 use Rattle.widening.proofs.SourceLaws.{
   FirstThere,
   first-of,

@@ -1,15 +1,15 @@
 -- What the writing of an operator's first bytes makes of the operands after them:
 --   alone-stands, single-stands, counted-stands : the bytes and the operands are the expression
 --   finish-none, finish-one, finish-more : none, the one operand, the choice of them all
-use Prim.Native.Nat.{ℕ, zero, suc, _+_, _-_, _≤_, _<_}
+use Prim.Native.Nat.{ℕ, zero, _+_, _-_, _≤_, _<_}
 use native.Mathlib.Omega.{arith}
 use mathlib.Core.List.{List, [], _∷_, _++_, append-assoc}
 use mathlib.Core.Option.{some as just}
-use mathlib.Core.Path.{_≡_, refl, sym, _∙_, ap, subst}
+use mathlib.Core.Path.{_≡_, refl, sym, _∙_, ap}
 use lib.ListN.{length, getD, getElem?, take, drop, set, length-set}
-use lib.Seq.{paste, take-at, drop-at, take-append-le, length-take-le, take-set-le, drop-set-lt, getD-set-same, getD-set-other, length-paste}
-use Rattle.grammar.specs.Content.{Content, none, choice, Contents, count, operands, choiceOf}
-use Rattle.grammar.specs.ReadContent.{contentBytes, operandBytes, alone, counted, single, operators}
+use lib.Seq.{paste, take-at, drop-at, length-take-le, take-set-le, drop-set-lt, getD-set-same, getD-set-other}
+use Rattle.grammar.specs.Content.{Content, none, choice, Contents, operands, choiceOf}
+use Rattle.grammar.specs.ReadContent.{contentBytes, alone, counted, single, operators}
 use Rattle.reader.specs.ExprAt.{_upTo_, placed, exprAt, exprsAt}
 use Rattle.reader.proofs.ExprLaws.{
   expr-alone,

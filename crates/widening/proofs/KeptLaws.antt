@@ -9,16 +9,16 @@ use mathlib.Core.List.{List, [], _∷_, _++_}
 use mathlib.Core.Logic.{_↔_}
 use mathlib.Core.Option.{some as just}
 use mathlib.Core.Path.{_≡_, refl, sym, _∙_, ap, subst}
-use lib.ListN.{length, length-append, take, drop, take-append-drop}
+use lib.ListN.{length, take, drop, take-append-drop}
 use Rattle.grammar.specs.Lists.{any}
 use Rattle.grammar.specs.Content.{Content, operands}
 use Rattle.grammar.specs.ReadContent.{contentBytes, operandBytes, sameContent}
 use Rattle.theory.proofs.BoolLaws.{same-test}
 use Rattle.theory.proofs.ContentBytes.{same-content}
-use Rattle.theory.proofs.Gathering.{Gathered, gathered, gathered-so, gather-old, gather-new}
+use Rattle.theory.proofs.Gathering.{gathered, gathered-so, gather-old, gather-new}
 use Rattle.reader.specs.ExprAt.{_upTo_, exprAt, exprsAt}
 use Rattle.reader.proofs.ExprLaws.{same-placed, expr-written, expr-of, expr-bytes, expr-forward, exprs-forward, exprs-written}
-use Rattle.widening.specs.Drafts.{Row, Unfit, long, TooWide, unfit, many, Added, Kept, Newest}
+use Rattle.widening.specs.Drafts.{Row, long, TooWide, unfit, many, Added, Newest}
 use Rattle.widening.proofs.RowLaws.{count-list, exprs-uncons, exprs-one-more}
 
 module _ (s : List ℕ) (i middle end fresh : ℕ) (x y : Content) (e : exprAt s end ≡ just (x upTo fresh)) (f : exprAt s i ≡ just (y upTo middle)) where

@@ -9,7 +9,7 @@ use mathlib.Core.List.{List, [], _∷_, _++_, map}
 use mathlib.Core.Option.{some as just}
 use mathlib.Core.Path.{_≡_, refl, sym, _∙_, ap, ap₂, subst}
 use lib.ListN.{length, getD, getElem?}
-use lib.Dec.{leb, ltb}
+use lib.Dec.{leb}
 use borrow.Author.Tests.{ltb-true}
 use Rattle.grammar.specs.Lists.{joinedOf}
 use Rattle.grammar.specs.Limits.{Limits, standard}
@@ -46,20 +46,7 @@ use Rattle.theory.proofs.Alternatives.{
   around-has-not,
 }
 use Rattle.reader.specs.ExprAt.{_upTo_, placed, exprAt, exprsAt}
-use Rattle.reader.proofs.ExprLaws.{
-  same-placed,
-  exprs-first,
-  exprs-end,
-  exprs-more,
-  exprs-none,
-  expr-forward,
-  counted-was,
-  counted-more,
-  single-was,
-  operator-any-number,
-  operator-one-or-more,
-  operator-optional,
-}
+use Rattle.reader.proofs.ExprLaws.{same-placed, exprs-first, exprs-end, exprs-more, exprs-none, expr-forward, counted-was, single-was, operator-any-number, operator-one-or-more, operator-optional}
 use Rattle.widening.specs.ContentAt.{ContentAt, ContentsAt}
 use Rattle.widening.specs.Walks.{hasAt, hasRowAt, listOf}
 use Rattle.widening.specs.Emitting.{Maps}

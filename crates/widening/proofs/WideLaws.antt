@@ -3,7 +3,7 @@
 --   wide-choice  the choice of them does not; unfit-first, unfit-others : nor does a row in which it stands
 --   wide-sequence, wide-single : nor do operands with a sequence, a repetition or an option of it
 --   too-large    the finished content is too large
-use Prim.Native.Nat.{ℕ, zero, suc, _+_, _-_, _≤_, _<_, max}
+use Prim.Native.Nat.{ℕ, suc, _+_, _-_, _≤_, _<_}
 use native.Mathlib.Omega.{arith}
 use mathlib.Core.Bool.{true, _||_}
 use mathlib.Core.List.{List, [], _∷_, _++_, List·Memᴰ, List·Memᴰ·head, List·Memᴰ·cases-cons, Memᴰ·append-right}
@@ -14,22 +14,7 @@ use lib.Dec.{ltb}
 use borrow.Author.Tests.{lt-ltb}
 use Rattle.grammar.specs.Lists.{distinct}
 use Rattle.grammar.specs.Limits.{standard}
-use Rattle.grammar.specs.Content.{
-  Content,
-  none,
-  sequence,
-  choice,
-  anyNumber,
-  oneOrMore,
-  optional,
-  Contents,
-  []ᶜ,
-  _∷ᶜ_,
-  count,
-  nesting,
-  operands,
-  choiceOf,
-}
+use Rattle.grammar.specs.Content.{Content, sequence, anyNumber, oneOrMore, optional, Contents, []ᶜ, _∷ᶜ_, nesting, operands, choiceOf}
 use Rattle.grammar.specs.ReadContent.{contentBytes, operandBytes, sameContent}
 use Rattle.grammar.specs.Size.{widestChoice, widestOf, contentTooLarge}
 use Rattle.theory.proofs.BoolLaws.{or-left, or-right}

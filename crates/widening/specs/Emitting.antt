@@ -1,11 +1,11 @@
 -- What the emitter is given and what it answers.
 use Prim.Native.Nat.{ℕ, _+_, _-_, _*_, _≤_, _<_}
-use mathlib.Core.List.{List, map}
+use mathlib.Core.List.{List}
 use mathlib.Core.Option.{some as just}
 use mathlib.Core.Path.{_≡_}
 use lib.ListN.{length, take}
 use Rattle.grammar.specs.Limits.{standard}
-use Rattle.grammar.specs.Content.{Content, Contents, nesting, deepest}
+use Rattle.grammar.specs.Content.{Contents, nesting, deepest}
 use Rattle.theory.proofs.Alternatives.{someLeft}
 use Rattle.sets.specs.Sets.{member}
 use Rattle.reader.specs.ExprAt.{_upTo_, exprsAt}

@@ -1,17 +1,10 @@
 -- `complete` meets its contract: what the reader's walk finds of the finished content settles it.
-use Prim.Native.Nat.{ℕ, _≤_}
-use native.Mathlib.Omega.{arith}
 use mathlib.Core.Path.{sym, _∙_}
 use borrow.Author.Needs.{needs}
-use Rattle.grammar.specs.Limits.{standard}
 use Rattle.widening.specs.Completing.{Made}
 use Rattle.widening.proofs.CompleteLaws.{made-inside, made-long, made-improper, made-deep, made-fine}
 use Rattle.widening.proofs.completing.complete.Statement.{statement}
 use Rattle.widening.proofs.completing.complete.Tie as tie
-use Rattle.widening.proofs.completing.complete.Reads as reads
-use Rattle.widening.proofs.completing.complete.Lts as lts
-use Rattle.reader.proofs.contents.expression.Reads as expression-reads
-use Rattle.widening.proofs.drafts.finish.Reads as finish-reads
 
 finish-requires : tie.Need-finish-requires
 finish-requires c κs = search needs

@@ -1,8 +1,7 @@
 -- `after` meets its contract. The loop's invariant: as many expressions as are left stand from here on, and they end where the
 -- expression ends. The measure is the number of bytes from here on.
-use Prim.Native.Nat.{ℕ, _+_, _-_, _≤_}
+use Prim.Native.Nat.{_-_, _≤_}
 use native.Mathlib.Omega.{arith}
-use mathlib.Core.Path.{_≡_, sym}
 use lib.ListN.{length}
 use mathlib.Core.List.{[], _∷_}
 use Rattle.grammar.specs.Content.{operands}
@@ -11,9 +10,6 @@ use Rattle.widening.specs.Drafts.{Stands, Ends}
 use Rattle.widening.proofs.RowLaws.{exprs-one, ends-first, ends-few, ends-past, ends-step}
 use Rattle.widening.proofs.drafts.after.Statement.{statement}
 use Rattle.widening.proofs.drafts.after.Tie as tie
-use Rattle.widening.proofs.drafts.after.Reads as reads
-use Rattle.widening.proofs.drafts.after.Lts as lts
-use Rattle.widening.proofs.drafts.opening.Reads as opening-reads
 
 abbrev Inv-loop : tie.InvT-loop
 Inv-loop draft at left₀ i₀ left i = (i ≤ length draft) × ((q : Stands draft at) → Ends draft i left (q .next))

@@ -5,9 +5,6 @@ use borrow.Author.Needs.{needs}
 use Rattle.widening.proofs.FinishLaws.{finish-none, finish-one, finish-more}
 use Rattle.widening.proofs.drafts.finish.Statement.{statement}
 use Rattle.widening.proofs.drafts.finish.Tie as tie
-use Rattle.widening.proofs.drafts.finish.Reads as reads
-use Rattle.widening.proofs.drafts.finish.Lts as lts
-use Rattle.widening.proofs.drafts.move_down.Reads as move-down-reads
 
 slice-write-draft : tie.Need-slice-write-draft
 slice-write-draft c = search needs

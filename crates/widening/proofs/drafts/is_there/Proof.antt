@@ -1,11 +1,11 @@
 -- `is_there` meets its contract. The loop's invariant: an equal one is among all operands just where it is among those from here on.
-use Prim.Native.Nat.{ℕ, _+_, _-_, _≤_}
+use Prim.Native.Nat.{ℕ, _-_, _≤_}
 use native.Mathlib.Omega.{arith}
 use mathlib.Core.Bool.{Bool, true, false, _||_}
 use mathlib.Core.List.{List}
-use mathlib.Core.Path.{_≡_, refl, sym, _∙_, ap, subst}
+use mathlib.Core.Path.{_≡_, refl, sym, _∙_, ap}
 use Rattle.grammar.specs.Lists.{any}
-use Rattle.grammar.specs.Content.{Content, operands}
+use Rattle.grammar.specs.Content.{Content}
 use Rattle.grammar.specs.ReadContent.{sameContent}
 use Rattle.reader.specs.ExprAt.{exprsAt}
 use Rattle.reader.proofs.ExprLaws.{expr-forward}
@@ -14,10 +14,6 @@ use Rattle.widening.proofs.RowLaws.{exprs-none-left}
 use Rattle.widening.proofs.KeptLaws.{same-there, StillAmong, FirstAmong, among-first, first-ends, others-among}
 use Rattle.widening.proofs.drafts.is_there.Statement.{statement}
 use Rattle.widening.proofs.drafts.is_there.Tie as tie
-use Rattle.widening.proofs.drafts.is_there.Reads as reads
-use Rattle.widening.proofs.drafts.is_there.Lts as lts
-use Rattle.widening.proofs.drafts.after.Reads as after-reads
-use Rattle.widening.proofs.drafts.same_bytes.Reads as same-bytes-reads
 
 abbrev Inv-loop : tie.InvT-loop
 Inv-loop draft base count end fresh left₀ i₀ left i =

@@ -1,16 +1,12 @@
 -- `move_down` meets its contract. The loop's invariant: as many bytes as were passed are pasted in from `start` on.
 use Prim.Native.Nat.{ℕ, suc, _+_, _-_, _≤_, _<_}
 use native.Mathlib.Omega.{arith}
-use native.Mathlib.Numerals.{add-one}
 use mathlib.Core.List.{List}
-use mathlib.Core.Path.{_≡_, refl, sym, _∙_, ap, subst}
+use mathlib.Core.Path.{_≡_, refl, sym, _∙_, ap}
 use lib.ListN.{length, getD, set, drop, length-set, length-drop}
-use lib.Seq.{paste, paste-zero, paste-suc, drop-paste, getD-drop, length-paste}
-use borrow.Author.Needs.{needs}
+use lib.Seq.{paste, paste-zero, paste-suc, drop-paste, getD-drop}
 use Rattle.widening.proofs.drafts.move_down.Statement.{statement}
 use Rattle.widening.proofs.drafts.move_down.Tie as tie
-use Rattle.widening.proofs.drafts.move_down.Reads as reads
-use Rattle.widening.proofs.drafts.move_down.Lts as lts
 
 abbrev Inv-loop : tie.InvT-loop
 Inv-loop draft₀ start end i₀ draft i =

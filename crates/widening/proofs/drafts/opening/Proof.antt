@@ -1,6 +1,6 @@
 -- `opening` meets its contract: the first byte says what stands after it.
 use native.Mathlib.Omega.{arith}
-use mathlib.Core.Path.{_≡_, sym, _∙_, ap, subst}
+use mathlib.Core.Path.{sym, subst}
 use borrow.Author.Needs.{needs}
 use Prim.Native.Nat.{ℕ}
 use Rattle.reader.proofs.ExprLaws.{expr-forward}
@@ -8,9 +8,6 @@ use Rattle.widening.specs.Drafts.{Headed}
 use Rattle.widening.proofs.RowLaws.{counted-inside, opens-alone, opens-numbered, opens-counted, opens-single}
 use Rattle.widening.proofs.drafts.opening.Statement.{statement}
 use Rattle.widening.proofs.drafts.opening.Tie as tie
-use Rattle.widening.proofs.drafts.opening.Reads as reads
-use Rattle.widening.proofs.drafts.opening.Lts as lts
-use Rattle.reader.proofs.numbers.wide.Reads as wide-reads
 
 shared-slice-read-wide : tie.Need-shared-slice-read-wide
 shared-slice-read-wide c =

@@ -1,5 +1,5 @@
 -- `same_bytes` meets its contract. The loop's invariant: the bytes passed are the same.
-use Prim.Native.Nat.{ℕ, suc, _+_, _-_, _≤_, _<_}
+use Prim.Native.Nat.{ℕ, _+_, _-_, _≤_, _<_}
 use native.Mathlib.Omega.{arith}
 use native.Mathlib.Numerals.{add-one}
 use mathlib.Core.Bool.{true, false, false≢true}
@@ -9,8 +9,6 @@ use lib.ListN.{length, getD, take, drop, length-drop}
 use lib.Seq.{take-suc, getD-drop, getD-take}
 use Rattle.widening.proofs.drafts.same_bytes.Statement.{statement}
 use Rattle.widening.proofs.drafts.same_bytes.Tie as tie
-use Rattle.widening.proofs.drafts.same_bytes.Reads as reads
-use Rattle.widening.proofs.drafts.same_bytes.Lts as lts
 
 abbrev Inv-loop : tie.InvT-loop
 Inv-loop draft a b n i₀ i = (i ≤ n) × (take i (drop a draft) ≡ take i (drop b draft))

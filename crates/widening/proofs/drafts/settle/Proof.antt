@@ -1,14 +1,10 @@
 -- `settle` meets its contract: the newest is dropped where it is there, is kept where it fits, and does not fit otherwise.
-use native.Mathlib.Omega.{arith}
 use mathlib.Core.Path.{refl, sym, _∙_}
 use borrow.Author.Needs.{needs}
 use Rattle.widening.specs.Drafts.{Gathers}
 use Rattle.widening.proofs.KeptLaws.{old-row, more-row, too-long, too-many}
 use Rattle.widening.proofs.drafts.settle.Statement.{statement}
 use Rattle.widening.proofs.drafts.settle.Tie as tie
-use Rattle.widening.proofs.drafts.settle.Reads as reads
-use Rattle.widening.proofs.drafts.settle.Lts as lts
-use Rattle.widening.proofs.drafts.is_there.Reads as is-there-reads
 
 is-there-requires : tie.Need-is-there-requires
 is-there-requires c κs = c .before .pre .0

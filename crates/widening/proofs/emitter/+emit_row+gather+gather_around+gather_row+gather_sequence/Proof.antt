@@ -1,22 +1,20 @@
 -- The emitter's functions meet their contracts. The measure is four times the bytes from the place on: a row is two more, a content
 -- one more; every call goes on past a byte, or from a row to its first content, or from a content to what its operator needs.
 -- Each return is a law of EmitLaws.
-use Prim.Native.Nat.{_+_, _-_, _*_, _≤_}
+use Prim.Native.Nat.{_+_, _-_, _*_}
 use native.Mathlib.Omega.{arith}
-use mathlib.Core.Bool.{Bool, true, false}
 use mathlib.Core.List.{List}
-use mathlib.Core.Path.{_≡_, refl, sym, _∙_, ap, subst}
+use mathlib.Core.Path.{_≡_, sym, _∙_, ap}
 use lib.ListN.{length, getD, getElem?, length-set}
 use borrow.Author.Needs.{needs}
 use Rattle.grammar.specs.Limits.{standard}
 use Rattle.grammar.specs.Content.{sequence, choice}
 use Rattle.grammar.specs.ReadContent.{operators}
-use Rattle.reader.proofs.ExprLaws.{operator-sequence, operator-choice, expr-forward}
+use Rattle.reader.proofs.ExprLaws.{operator-sequence, operator-choice}
 use Rattle.widening.specs.Walks.{listOf}
-use Rattle.widening.specs.ContentAt.{ContentAt}
-use Rattle.widening.specs.Emitting.{Source, Sources, Operands}
+use Rattle.widening.specs.Emitting.{Source}
 use Rattle.widening.proofs.ContentAtLaws.{content-inside, count-there}
-use Rattle.widening.proofs.SourceLaws.{CountedThere, counted-of, SingleThere, single-of, content-found, row-found}
+use Rattle.widening.proofs.SourceLaws.{CountedThere, counted-of, single-of, content-found, row-found}
 use Rattle.widening.proofs.EmitLaws.{
   no-sources,
   first-source,

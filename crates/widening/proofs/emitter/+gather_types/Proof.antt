@@ -4,9 +4,9 @@ use native.Mathlib.Omega.{arith}
 use mathlib.Core.List.{List, [], _∷_}
 use mathlib.Core.Option.{some as just}
 use mathlib.Core.Path.{_≡_, refl, sym, _∙_, ap, subst}
-use lib.ListN.{length, getD, getElem?, take, set, length-set}
+use lib.ListN.{length, getD, getElem?, set, length-set}
 use borrow.Author.Needs.{needs}
-use Rattle.grammar.specs.Content.{Content, type}
+use Rattle.grammar.specs.Content.{type}
 use Rattle.grammar.specs.ReadContent.{operators}
 use Rattle.reader.specs.ExprAt.{_upTo_, exprAt}
 use Rattle.reader.proofs.ExprLaws.{operator-type, expr-numbered}
@@ -15,8 +15,8 @@ use Rattle.widening.specs.declared.drafts.Gathering.{Gathering}
 use Rattle.widening.specs.declared.drafts.Gathering.the-variants.{TooLarge, Upto}
 use Rattle.widening.specs.Drafts.{Kept, Newest, TooWide, Gathers}
 use Rattle.widening.specs.Emitting.{Room}
-use Rattle.widening.proofs.FinishLaws.{headed, headed-first, headed-second, headed-length, headed-before}
-use Rattle.widening.proofs.GatherLaws.{newest-of, gathers-from, nothing-added, types-none, types-past, types-first, typesFrom, first-wide, then-others, told-large, told-upto}
+use Rattle.widening.proofs.FinishLaws.{headed-first, headed-second, headed-length, headed-before}
+use Rattle.widening.proofs.GatherLaws.{newest-of, nothing-added, types-none, types-past, types-first, typesFrom, first-wide, then-others, told-large, told-upto}
 use borrow.Fn.Kinds.{In}
 use borrow.Fn.PlainCycle.{Measures, is, falls, and}
 use Rattle.widening.proofs.emitter.gather_types.Reads as gather-types

@@ -4,9 +4,6 @@ use lib.ListN.{List·getD-eq-default}
 use borrow.Author.Needs.{needs}
 use Rattle.widening.proofs.emitter.byte_or_zero.Statement.{statement}
 use Rattle.widening.proofs.emitter.byte_or_zero.Tie as tie
-use Rattle.widening.proofs.emitter.byte_or_zero.Reads as reads
-use Rattle.widening.proofs.emitter.byte_or_zero.Lts as lts
-use Rattle.reader.proofs.numbers.wide.Reads as wide-reads
 
 shared-slice-read-wide : tie.Need-shared-slice-read-wide
 shared-slice-read-wide c = search needs

@@ -15,9 +15,6 @@ use Rattle.widening.proofs.FinishLaws.{alone-stands}
 use Rattle.widening.proofs.GatherLaws.{newest-of, gathers-from}
 use Rattle.widening.proofs.emitter.gather_empty.Statement.{statement}
 use Rattle.widening.proofs.emitter.gather_empty.Tie as tie
-use Rattle.widening.proofs.emitter.gather_empty.Reads as reads
-use Rattle.widening.proofs.emitter.gather_empty.Lts as lts
-use Rattle.widening.proofs.drafts.settle.Reads as settle-reads
 
 slice-write-draft : tie.Need-slice-write-draft
 slice-write-draft c = search needs
