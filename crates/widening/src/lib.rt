@@ -1,1 +1,7 @@
 // Widening tables by a table or by a document to the least local or single-type table.
+pub mod completing;
+pub mod drafts;
+pub mod emitter;
+pub mod limits;
+pub mod met;
+pub mod productive;

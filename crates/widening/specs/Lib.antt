@@ -1,0 +1,5 @@
+pub mod ContentAt
+pub mod Walks
+pub mod Drafts
+pub mod Emitting
+pub mod Completing

@@ -1,0 +1,6 @@
+// The limits of results, once for the code of this crate. crates/grammar/specs/Limits.antt has them for the definitions.
+
+// Operands of a choice.
+pub const OPERANDS: usize = 255;
+// The bytes of a content, and two before its operands for the operator and the count of a choice.
+pub const HEADED: usize = 1026;
