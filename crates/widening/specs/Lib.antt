@@ -1,2 +1,4 @@
 pub mod ContentAt
 pub mod Walks
+pub mod View
+pub mod Rounds
