@@ -1,7 +1,6 @@
 // The fruitful pairs of a union: rounds, each over the pairs known so far, until one adds nothing.
 use crate::productive::content_has;
 use crate::union::United;
-use reader::numbers::wide;
 use sets::four::Set4;
 ghost use mathlib.Core.Path.{_≡_};
 ghost use mathlib.Core.Option.{some as just};
@@ -56,8 +55,8 @@ pub fn types_with(v: United, known: Set4) -> Set4
     let mut set = Set4::empty();
     let mut i: usize = 0;
     while i < rules {
-        let first = wide(firsts[i]);
-        let more = put_if(known.has(first), set, wide(types[i]));
+        let first = firsts[i];
+        let more = put_if(known.has(first), set, types[i]);
         set = more;
         i += 1;
     }
@@ -75,7 +74,7 @@ pub fn round(old: &[u8], add: &[u8], v: United, known: Set4) -> Set4
     let mut next = known;
     let mut i: usize = 0;
     while i < rules {
-        let more = put_if(rule_has(old, add, v, i, types), next, wide(firsts[i]));
+        let more = put_if(rule_has(old, add, v, i, types), next, firsts[i]);
         next = more;
         i += 1;
     }

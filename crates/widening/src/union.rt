@@ -5,9 +5,9 @@
 pub struct United {
     pub rules: usize,
     pub old_rules: usize,
-    pub types: [u8; 128],
-    pub labels: [u8; 128],
-    pub firsts: [u8; 128],
+    pub types: [usize; 128],
+    pub labels: [usize; 128],
+    pub firsts: [usize; 128],
     pub content_from: [usize; 128],
     pub content_to: [usize; 128],
 }

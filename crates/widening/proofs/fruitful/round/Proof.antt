@@ -36,26 +36,30 @@ loop-holds c = (omega arith, λ u x. puts-start _ _ _ _ refl, c .before .before 
 rule-has-requires : tie.Need-rule-has-requires Inv-loop μ-loop
 rule-has-requires c κs = (c .before .before .before .before .before .before .pre .0, c .loop-test .taken, c .before .before .before .types-with .ensures .1)
 
-array-read-wide : tie.Need-array-read-wide Inv-loop μ-loop
-array-read-wide c =
+mul-put-if : tie.Need-mul-put-if Inv-loop μ-loop
+mul-put-if c =
+    let h = c .before .before .before .before .before .before .before .pre .0 .views .few in
+    omega arith
+
+array-read-put-if : tie.Need-array-read-put-if Inv-loop μ-loop
+array-read-put-if c =
     let h = c .before .before .before .before .before .before .before .pre .0 .views .few in
     omega arith
 
 put-if-requires : tie.Need-put-if-requires Inv-loop μ-loop
 put-if-requires c κs =
-    let h = views-sized (c .before .before .before .before .before .before .before .before .pre .0 .views) .first (c .before .before .before .loop .i) (c .before .before .loop-test .taken) in
-    let e = c .wide .ensures .0 in
-    (omega arith, c .before .before .before .loop .inv .2)
+    let h = views-sized (c .before .before .before .before .before .before .before .pre .0 .views) .first (c .before .before .loop .i) (c .before .loop-test .taken) in
+    (h, c .before .before .loop .inv .2)
 
 add-i : tie.Need-add-i Inv-loop μ-loop
 add-i c =
-    let h = c .before .before .before .before .before .before .before .before .before .pre .0 .views .few in
+    let h = c .before .before .before .before .before .before .before .before .pre .0 .views .few in
     omega arith
 
 loop-again : tie.Need-loop-again Inv-loop μ-loop
 loop-again c = (
   omega arith,
-  λ u x. puts-step _ _ _ (c .before .before .before .before .loop .i) _ _ _ _ (c .before .before .before .before .loop .inv .1 u x) (c .put-if .ensures .0) (c .before .before .rule-has .ensures u x) (c .before .wide .ensures .0),
+  λ u x. puts-step _ _ _ (c .before .before .before .loop .i) _ _ _ _ (c .before .before .before .loop .inv .1 u x) (c .put-if .ensures .0) (c .before .rule-has .ensures u x) refl,
   c .put-if .ensures .1,
 )
 
@@ -82,8 +86,8 @@ round-spec =
     types-with-requires
     loop-holds
     rule-has-requires
-    array-read-wide
-    (λ c κs. search needs)
+    mul-put-if
+    array-read-put-if
     put-if-requires
     add-i
     (λ c. omega arith)

@@ -1,8 +1,8 @@
 -- `types_with` meets its contract. The loop's invariant: the set has the types of the rules before `i` whose pairs are known.
 use Prim.Native.Nat.{ℕ, _-_, _≤_}
-use mathlib.Core.List.{List}
 use native.Mathlib.Omega.{arith}
-use mathlib.Core.Path.{_≡_, _∙_, ap}
+use mathlib.Core.List.{List}
+use mathlib.Core.Path.{_≡_, refl, _∙_, ap}
 use lib.ListN.{length, getD, length-replicate}
 use borrow.Author.Needs.{needs}
 use Rattle.sets.specs.Sets.{member, nothing}
@@ -21,9 +21,6 @@ Inv-loop known firsts types rules set₀ i₀ set i =
 abbrev μ-loop : tie.MeasureT-loop
 μ-loop known firsts types rules set₀ i₀ set i = rules - i
 
-empty-requires : tie.Need-empty-requires Inv-loop μ-loop
-empty-requires c κs = search needs
-
 loop-holds : tie.Need-loop-holds Inv-loop μ-loop
 loop-holds c =
     let zeros = c .empty .ensures in (
@@ -32,51 +29,43 @@ loop-holds c =
       ap length zeros ∙ length-replicate {A = ℕ} 4 0,
     )
 
-array-read-wide : tie.Need-array-read-wide Inv-loop μ-loop
-array-read-wide c =
+mul-first : tie.Need-mul-first Inv-loop μ-loop
+mul-first c =
     let h = c .before .before .before .before .before .pre .0 .few in
     omega arith
 
-wide-requires : tie.Need-wide-requires Inv-loop μ-loop
-wide-requires c κs = search needs
+array-read-first : tie.Need-array-read-first Inv-loop μ-loop
+array-read-first c =
+    let h = c .before .before .before .before .before .pre .0 .few in
+    omega arith
 
 has-requires : tie.Need-has-requires Inv-loop μ-loop
-has-requires c κs =
-    let h = c .before .before .before .before .before .before .pre .0 .first (c .before .before .loop .i) (c .before .loop-test .taken) in
-    let e = c .wide .ensures .0 in
+has-requires c κs = c .before .before .before .before .before .pre .0 .first (c .before .loop .i) (c .loop-test .taken)
+
+mul-put-if : tie.Need-mul-put-if Inv-loop μ-loop
+mul-put-if c =
+    let h = c .before .before .before .before .before .before .pre .0 .few in
     omega arith
 
-array-read-wide-2 : tie.Need-array-read-wide-2 Inv-loop μ-loop
-array-read-wide-2 c =
-    let h = c .before .before .before .before .before .before .before .pre .0 .few in
+array-read-put-if : tie.Need-array-read-put-if Inv-loop μ-loop
+array-read-put-if c =
+    let h = c .before .before .before .before .before .before .pre .0 .few in
     omega arith
-
-wide-requires-2 : tie.Need-wide-requires-2 Inv-loop μ-loop
-wide-requires-2 c κs = search needs
 
 put-if-requires : tie.Need-put-if-requires Inv-loop μ-loop
-put-if-requires c κs =
-    let h = c .before .before .before .before .before .before .before .before .pre .0 .type (c .before .before .before .before .loop .i) (c .before .before .before .loop-test .taken) in
-    let e = c .wide2 .ensures .0 in
-    (omega arith, c .before .before .before .before .loop .inv .2)
+put-if-requires c κs = (c .before .before .before .before .before .before .pre .0 .type (c .before .before .loop .i) (c .before .loop-test .taken), c .before .before .loop .inv .2)
 
 add-i : tie.Need-add-i Inv-loop μ-loop
 add-i c =
-    let h = c .before .before .before .before .before .before .before .before .before .pre .0 .few in
+    let h = c .before .before .before .before .before .before .before .pre .0 .few in
     omega arith
 
-loop-less : tie.Need-loop-less Inv-loop μ-loop
-loop-less c = omega arith
-
 loop-again : tie.Need-loop-again Inv-loop μ-loop
-loop-again c =
-    let known = c .before .before .before .before .before .before .before .before .before .args .known .words in (
-      omega arith,
-      puts-step _ _ _ (c .before .before .before .before .before .loop .i) _ _ _ _ (c .before .before .before .before .before .loop .inv .1) (c .put-if .ensures .0)
-          (c .before .before .has .ensures ∙ ap (member known 0) (c .before .before .before .wide .ensures .0))
-          (c .before .wide2 .ensures .0),
-      c .put-if .ensures .1,
-    )
+loop-again c = (
+  omega arith,
+  puts-step _ _ _ (c .before .before .before .loop .i) _ _ _ _ (c .before .before .before .loop .inv .1) (c .put-if .ensures .0) (c .before .has .ensures) refl,
+  c .put-if .ensures .1,
+)
 
 returns : tie.Need-returns Inv-loop μ-loop
 unfolding typesWith
@@ -94,15 +83,15 @@ types-with-spec =
     (tie.spec
     Inv-loop
     μ-loop
-    empty-requires
+    (λ c κs. search needs)
     loop-holds
-    array-read-wide
-    wide-requires
+    mul-first
+    array-read-first
     has-requires
-    array-read-wide-2
-    wide-requires-2
+    mul-put-if
+    array-read-put-if
     put-if-requires
     add-i
-    loop-less
+    (λ c. omega arith)
     loop-again
     returns)
