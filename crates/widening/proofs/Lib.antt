@@ -5,3 +5,4 @@ pub mod MetLaws
 pub mod PutsLaws
 pub mod ViewLaws
 pub mod FruitfulLaws
+pub mod UnitedLabelsLaws

@@ -1,5 +1,6 @@
 // Widening tables by a table or by a document to the least local or single-type table.
 pub mod fruitful;
+pub mod labels;
 pub mod met;
 pub mod productive;
 pub mod union;
