@@ -6,3 +6,4 @@ pub mod PutsLaws
 pub mod ViewLaws
 pub mod FruitfulLaws
 pub mod UnitedLabelsLaws
+pub mod UnionLaws
