@@ -7,3 +7,4 @@ pub mod ViewLaws
 pub mod FruitfulLaws
 pub mod UnitedLabelsLaws
 pub mod UnionLaws
+pub mod PairLists
