@@ -8,3 +8,4 @@ pub mod FruitfulLaws
 pub mod UnitedLabelsLaws
 pub mod UnionLaws
 pub mod PairLists
+pub mod ReachedLaws
