@@ -2,6 +2,9 @@
 pub mod completing;
 pub mod drafts;
 pub mod emitter;
+pub mod fruitful;
+pub mod labels;
 pub mod limits;
 pub mod met;
 pub mod productive;
+pub mod union;

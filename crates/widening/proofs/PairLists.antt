@@ -1,0 +1,164 @@
+-- The pairs of a type by number: `pairs-are`: they are the numbers of the first rules of pairs of that type, ascending.
+use Prim.Native.Nat.{ℕ, zero, suc, _<_}
+use native.Mathlib.Omega.{arith}
+use mathlib.Core.Bool.{Bool, true, false, not, _&&_, _||_}
+use mathlib.Core.List.{List, [], _∷_, _++_, map, map-map, List·Memᴰ, List·Memᴰ·head, List·Memᴰ·tail}
+use mathlib.Core.Path.{_≡_, refl, sym, _∙_, ap, ap₂, fun-ext}
+use lib.ListN.{length, getD}
+use lib.Dec.{eqb}
+use borrow.Author.Tests.{eqb-true, eq-eqb, ne-eqb, not-true}
+use Rattle.grammar.specs.Lists.{keep, distinct, place, numbersFrom, numbersBelow}
+use Rattle.grammar.specs.Content.{none}
+use Rattle.grammar.specs.Table.{Rule, Table}
+use Rattle.grammar.specs.KindTests.{samePair}
+use Rattle.grammar.specs.Normalise.{pairOf, pairsOf}
+use Rattle.theory.proofs.BoolLaws.{and-right, same-test}
+use Rattle.theory.proofs.ListLaws.{keep-yes, keep-no, kept, keep-map}
+use Rattle.theory.proofs.NormaliseDocuments.{pair-refl, pair-sym, pair-trans, pair-type}
+
+numbers-suc : (from n : ℕ) → numbersFrom (suc from) n ≡ map suc (numbersFrom from n)
+unfolding numbersFrom
+numbers-suc from zero = refl
+numbers-suc from (suc n) = ap (λ (l : List ℕ). suc from ∷ l) (numbers-suc (suc from) n)
+
+eqb-suc : (m n : ℕ) → eqb (suc m) (suc n) ≡ eqb m n
+eqb-suc m n =
+    same-test (eqb (suc m) (suc n)) (eqb m n)
+    (λ e. eq-eqb m n (let q = eqb-true (suc m) (suc n) e in omega arith), λ e. eq-eqb (suc m) (suc n) (ap suc (eqb-true m n e)))
+
+map-on : {A B : Type 0} (f g : A → B) (xs : List A) → ((x : A) → List·Memᴰ x xs → f x ≡ g x) → map f xs ≡ map g xs
+map-on f g [] h = refl
+map-on f g (x ∷ xs) h = ap₂ _∷_ (h x (List·Memᴰ·head refl)) (map-on f g xs (λ y m. h y (List·Memᴰ·tail m)))
+
+keep-keep : {A : Type 0} (p q : A → Bool) (xs : List A) → keep p (keep q xs) ≡ keep (λ x. q x && p x) xs
+unfolding keep
+keep-keep p q [] = refl
+keep-keep p q (x ∷ xs) = go (q x) refl (p x) refl (keep-keep p q xs)
+  where
+    go : (a : Bool) → q x ≡ a → (b : Bool) → p x ≡ b → keep p (keep q xs) ≡ keep (λ y. q y && p y) xs
+        → keep p (keep q (x ∷ xs)) ≡ keep (λ y. q y && p y) (x ∷ xs)
+    go true e true f ih =
+        ap (keep p) (keep-yes q x xs e)
+        ∙ keep-yes p x (keep q xs) f
+        ∙ ap (λ l. x ∷ l) ih
+        ∙ sym (keep-yes (λ y. q y && p y) x xs (ap₂ _&&_ e f))
+    go true e false f ih =
+        ap (keep p) (keep-yes q x xs e)
+        ∙ keep-no p x (keep q xs) f
+        ∙ ih
+        ∙ sym (keep-no (λ y. q y && p y) x xs (ap₂ _&&_ e f))
+    go false e b f ih =
+        ap (keep p) (keep-no q x xs e) ∙ ih ∙ sym (keep-no (λ y. q y && p y) x xs (ap (λ (c : Bool). c && p x) e))
+
+module _ {A : Type 0} (same : A → A → Bool) (same-refl : (x : A) → same x x ≡ true)
+    (same-sym : (x y : A) → same x y ≡ true → same y x ≡ true) (d : A) where
+  flip : (x y : A) → same x y ≡ same y x
+  flip x y = same-test (same x y) (same y x) (same-sym x y, same-sym y x)
+
+  place-past : (x y : A) (ys : List A) → same x y ≡ false → place same x (y ∷ ys) ≡ suc (place same x ys)
+  unfolding place
+  place-past x y ys e = rw (e, place)
+
+  place-front : (x y : A) (ys : List A) → same x y ≡ true → place same x (y ∷ ys) ≡ zero
+  unfolding place
+  place-front x y ys e = rw (e, place)
+
+  -- the number is that of the first of its kind
+  abbrev isFirst : List A → ℕ → Bool
+  isFirst xs q = eqb (place same (getD xs q d) xs) q
+
+  -- past the first element
+  first-past : (P : A → Bool) (x : A) (xs : List A) (q : ℕ)
+      → (P (getD (x ∷ xs) (suc q) d) && isFirst (x ∷ xs) (suc q))
+      ≡ ((not (same x (getD xs q d)) && P (getD xs q d)) && isFirst xs q)
+  first-past P x xs q = go (same (getD xs q d) x) refl (P (getD xs q d))
+    where
+      y : A
+      y = getD xs q d
+
+      go : (b : Bool) → same (getD xs q d) x ≡ b → (p : Bool)
+          → (p && eqb (place same (getD xs q d) (x ∷ xs)) (suc q))
+          ≡ ((not (same x (getD xs q d)) && p) && eqb (place same (getD xs q d) xs) q)
+      go true e p =
+          ap (λ (c : Bool). p && c)
+          (ap (λ (n : ℕ). eqb n (suc q)) (place-front (getD xs q d) x xs e) ∙ ne-eqb 0 (suc q) (λ z. omega arith))
+          ∙ never p
+          ∙ sym
+          (ap (λ (c : Bool). (not c && p) && eqb (place same (getD xs q d) xs) q) (flip x (getD xs q d) ∙ e))
+        where
+          never : (p : Bool) → (p && false) ≡ false
+          never true = refl
+          never false = refl
+      go false e p =
+          ap (λ (c : Bool). p && c)
+          (ap (λ (n : ℕ). eqb n (suc q)) (place-past (getD xs q d) x xs e) ∙ eqb-suc (place same (getD xs q d) xs) q)
+          ∙ sym
+          (ap (λ (c : Bool). (not c && p) && eqb (place same (getD xs q d) xs) q) (flip x (getD xs q d) ∙ e))
+
+  pub firsts-are : (P : A → Bool) (xs : List A)
+      → map (λ y. place same y xs) (keep P (distinct same xs))
+      ≡ keep (λ q. P (getD xs q d) && isFirst xs q) (numbersBelow (length xs))
+  unfolding distinct numbersBelow numbersFrom keep
+  firsts-are P [] = refl
+  firsts-are P (x ∷ xs) = go (P x) refl (firsts-are (λ y. unlike y && P y) xs)
+    where
+      unlike : A → Bool
+      unlike y = not (same x y)
+
+      test : ℕ → Bool
+      test q = P (getD (x ∷ xs) q d) && isFirst (x ∷ xs) q
+
+      rest : map (λ y. place same y xs) (keep (λ y. unlike y && P y) (distinct same xs))
+          ≡ keep (λ q. (unlike (getD xs q d) && P (getD xs q d)) && isFirst xs q) (numbersBelow (length xs))
+          → map (λ y. place same y (x ∷ xs)) (keep P (keep unlike (distinct same xs)))
+          ≡ keep test (numbersFrom 1 (length xs))
+      rest ih =
+          ap (map (λ y. place same y (x ∷ xs))) (keep-keep P unlike (distinct same xs))
+          ∙ map-on (λ y. place same y (x ∷ xs)) (λ y. suc (place same y xs)) (keep (λ y. unlike y && P y) (distinct same xs))
+          (λ y m.
+          let k = kept (λ z. unlike z && P z) (distinct same xs) m .1 in
+          place-past y x xs (flip y x ∙ not-true (same x y) (first-part (unlike y) (P y) k)))
+          ∙ sym (map-map suc (λ y. place same y xs) (keep (λ y. unlike y && P y) (distinct same xs)))
+          ∙ ap (map suc) ih
+          ∙ ap (λ f. map suc (keep f (numbersBelow (length xs)))) (sym (fun-ext (first-past P x xs)))
+          ∙ sym (keep-map suc test (numbersBelow (length xs)))
+          ∙ ap (keep test) (sym (numbers-suc 0 (length xs)))
+        where
+          first-part : (a b : Bool) → (a && b) ≡ true → a ≡ true
+          first-part true b e = refl
+          first-part false b e = e
+
+      here : (b : Bool) → P x ≡ b → test 0 ≡ b
+      here b e =
+          ap₂ _&&_ e (ap (λ (n : ℕ). eqb n 0) (place-front x x xs (same-refl x)) ∙ eq-eqb 0 0 refl) ∙ plain b
+        where
+          plain : (b : Bool) → (b && true) ≡ b
+          plain true = refl
+          plain false = refl
+
+      go : (b : Bool) → P x ≡ b
+          → map (λ y. place same y xs) (keep (λ y. unlike y && P y) (distinct same xs))
+          ≡ keep (λ q. (unlike (getD xs q d) && P (getD xs q d)) && isFirst xs q) (numbersBelow (length xs))
+          → map (λ y. place same y (x ∷ xs)) (keep P (x ∷ keep unlike (distinct same xs)))
+          ≡ keep test (0 ∷ numbersFrom 1 (length xs))
+      go true e ih =
+          ap (map (λ y. place same y (x ∷ xs))) (keep-yes P x (keep unlike (distinct same xs)) e)
+          ∙ ap₂ _∷_ (place-front x x xs (same-refl x)) (rest ih)
+          ∙ sym (keep-yes test 0 (numbersFrom 1 (length xs)) (here true e))
+      go false e ih =
+          ap (map (λ y. place same y (x ∷ xs))) (keep-no P x (keep unlike (distinct same xs)) e)
+          ∙ rest ih
+          ∙ sym (keep-no test 0 (numbersFrom 1 (length xs)) (here false e))
+
+-- so the pairs of a type
+abbrev noRule : Rule
+noRule = record { type = 0; label = 0; content = none }
+
+pub pairs-are : (u : Table) (k : ℕ)
+    → pairsOf u k
+    ≡ keep
+    (λ q. eqb (getD (u .rules) q (record { type = 0; label = 0; content = none }) .type) k
+    && eqb (pairOf u (getD (u .rules) q (record { type = 0; label = 0; content = none }))) q)
+    (numbersBelow (length (u .rules)))
+unfolding pairsOf pairOf
+pairs-are u k = firsts-are samePair pair-refl pair-sym noRule (λ (r : Rule). eqb (r .type) k) (u .rules)
