@@ -20,7 +20,8 @@ use Rattle.grammar.specs.Reduce.{hasWord, notKnown, newlyFruitful, fruitful}
 use Rattle.theory.proofs.BoolLaws.{and-left, and-right, and-intro, or-cases, or-left, or-right, same-test}
 use Rattle.theory.proofs.ListLaws.{any-found, any-of, kept, keep-mem, distinct-was, distinct-has, in-mem, mem-in, at-mem}
 use Rattle.theory.proofs.Rounds.{not-known, rounds-hold, rounds-closed, closed-has}
-use Rattle.theory.proofs.NormaliseDocuments.{pair-refl, pair-sym, pair-trans, pair-same, pairs-of}
+use Rattle.theory.proofs.NormaliseDocuments.{pair-refl, pair-trans, pair-same, pairs-of}
+use Rattle.theory.proofs.KindTests.{same-pair-sym}
 use Rattle.theory.proofs.Alternatives.{hasAlts, allHaveAlts, oneHasAlts, hasLeft}
 use Rattle.theory.proofs.EmittedRule.{firstRules, pairContents, newly-fruitful}
 use Rattle.sets.specs.Sets.{nothing}

@@ -14,7 +14,8 @@ use Rattle.grammar.specs.KindTests.{samePair}
 use Rattle.grammar.specs.Normalise.{pairOf, pairsOf}
 use Rattle.theory.proofs.BoolLaws.{and-right, same-test}
 use Rattle.theory.proofs.ListLaws.{keep-yes, keep-no, kept, keep-map}
-use Rattle.theory.proofs.NormaliseDocuments.{pair-refl, pair-sym, pair-trans, pair-type}
+use Rattle.theory.proofs.NormaliseDocuments.{pair-refl, pair-trans}
+use Rattle.theory.proofs.KindTests.{same-pair-sym}
 
 numbers-suc : (from n : ℕ) → numbersFrom (suc from) n ≡ map suc (numbersFrom from n)
 unfolding numbersFrom
@@ -161,4 +162,4 @@ pub pairs-are : (u : Table) (k : ℕ)
     && eqb (pairOf u (getD (u .rules) q (record { type = 0; label = 0; content = none }))) q)
     (numbersBelow (length (u .rules)))
 unfolding pairsOf pairOf
-pairs-are u k = firsts-are samePair pair-refl pair-sym noRule (λ (r : Rule). eqb (r .type) k) (u .rules)
+pairs-are u k = firsts-are samePair pair-refl same-pair-sym noRule (λ (r : Rule). eqb (r .type) k) (u .rules)

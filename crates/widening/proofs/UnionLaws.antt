@@ -21,9 +21,8 @@ use Rattle.grammar.specs.KindTests.{samePair}
 use Rattle.grammar.specs.ReadContent.{contentBytes, isProper}
 use Rattle.grammar.specs.Unite.{shifted, unitedLabels, added, unite}
 use Rattle.grammar.specs.Normalise.{pairOf}
-use Rattle.theory.proofs.ListLaws.{any-of, at-mem, at-below, below-at, place-found}
+use Rattle.theory.proofs.ListLaws.{at-else, any-of, at-mem, at-below, below-at, place-found}
 use Rattle.theory.proofs.NormaliseDocuments.{pair-refl}
-use Rattle.theory.proofs.PositionLaws.{at-else}
 use Rattle.reader.specs.declared.tables.TableIndex.{TableIndex}
 use Rattle.reader.specs.ExprAt.{_upTo_, exprAt}
 use Rattle.reader.specs.TableIndex.{part, Stands, Indexes, ruleType, ruleLabel, contentFrom, contentTo}

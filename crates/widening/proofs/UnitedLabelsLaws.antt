@@ -15,9 +15,8 @@ use borrow.Author.Tests.{leb-true, leb-false, le-leb, lt-leb}
 use Rattle.grammar.specs.Lists.{any, keep, place}
 use Rattle.grammar.specs.Names.{Name, sameName}
 use Rattle.theory.proofs.BoolLaws.{passes-or-fails, not-both}
-use Rattle.theory.proofs.ListLaws.{at-below, below-at, just-eq, keep-yes, keep-no}
+use Rattle.theory.proofs.ListLaws.{at-else, at-below, below-at, just-eq, keep-yes, keep-no}
 use Rattle.theory.proofs.DistinctLaws.{keep-append}
-use Rattle.theory.proofs.PositionLaws.{at-else}
 use Rattle.reader.specs.TableIndex.{part, Stands}
 use Rattle.reader.proofs.TableIndexLaws.{at-end}
 use Rattle.widening.specs.declared.labels.Names.{Names}
