@@ -2,15 +2,16 @@
 -- `walk-optional`) and operand by operand (`in-turn-none`, `in-turn-next`, `each-none`, `each-next`), and where the parts stand that
 -- the walk goes on with (`proper-operand`, `proper-operands`, `proper-first`, `in-turn-rest`). Then child by child (`walks-next`), and
 -- that the children's walks tell whether the content matches (`no-children`, `some-children`).
-use Prim.Native.Nat.{ℕ, zero, suc, _+_, _≤_, _<_}
+use Prim.Native.Nat.{ℕ, zero, suc, _+_, _-_, _≤_, _<_}
 use native.Mathlib.Omega.{arith}
 use mathlib.Core.Bool.{Bool, true, false, _&&_, _||_}
 use mathlib.Core.List.{List, [], _∷_, _++_}
+use mathlib.Core.Logic.{_⊎_, inl, inr}
 use mathlib.Core.Option.{none as nothing, some as just}
 use mathlib.Core.Path.{_≡_, refl, sym, _∙_, ap, subst}
 use lib.Dec.{leb, ltb}
 use lib.ListN.{length, getD, getElem?, set, drop, replicate, length-append}
-use borrow.Author.Tests.{ltb-true}
+use borrow.Author.Tests.{ltb-true, ltb-false}
 use Rattle.grammar.specs.Limits.{Limits}
 use Rattle.grammar.specs.Content.{
   Content,
@@ -28,7 +29,7 @@ use Rattle.grammar.specs.Content.{
   count,
 }
 use Rattle.grammar.specs.ReadContent.{contentBytes, operandBytes, operators, counted, single, isProper, areProper}
-use Rattle.theory.proofs.BoolLaws.{and-left, and-right}
+use Rattle.theory.proofs.BoolLaws.{and-left, and-right, passes-or-fails}
 use Rattle.theory.proofs.Marked.{nullable}
 use Rattle.theory.proofs.MarkedRun.{run}
 use Rattle.theory.proofs.MarkedPass.{Walked, walk, walkInTurn, walkEach, walks, isMarked, number, noMarks, walk-nullable, walks-run}
@@ -52,8 +53,12 @@ use Rattle.reader.proofs.ExprLaws.{
   operator-any-number,
   operator-one-or-more,
   operator-optional,
+  operator-unknown,
+  known-operator,
+  FirstAt,
 }
-use Rattle.validator.specs.WalkAt.{walkAt, walkInTurnAt, walkEachAt, walksAt, runAt, ProperAt, ProperRowAt}
+use Rattle.validator.specs.WalkAt.{walkAt, walkInTurnAt, walkEachAt, walksAt, runAt, walked, ended, ProperAt, ProperRowAt}
+use Rattle.validator.specs.declared.matching.Passed.{Passed}
 
 -- where something stands, the walk is over that
 module _ (s : List ℕ) (at : ℕ) (marks : List ℕ) (b : Bool) (has : ℕ → Bool) where
@@ -108,9 +113,20 @@ mutual
       let l = length-append (contentBytes c) (operandBytes cs) in
       omega arith
 
--- the first number of an expression tells its final
-abbrev pub ended : ℕ → Walked → Walked
-ended at p = record { marks = set (p .marks) at (number (p .final)); next = p .next; nullable = p .nullable; final = p .final }
+-- the operator that is none of the others
+pub byte-last : (n : ℕ) → n ≤ 7 → (n ≡ 0 → ⊥) → (n ≡ 1 → ⊥) → (n ≡ 2 → ⊥) → (n ≡ 3 → ⊥) → (n ≡ 4 → ⊥) → (n ≡ 5 → ⊥)
+    → (n ≡ 6 → ⊥) → n ≡ 7
+byte-last zero h p0 p1 p2 p3 p4 p5 p6 = absurd (p0 refl)
+byte-last (suc zero) h p0 p1 p2 p3 p4 p5 p6 = absurd (p1 refl)
+byte-last (suc (suc zero)) h p0 p1 p2 p3 p4 p5 p6 = absurd (p2 refl)
+byte-last (suc (suc (suc zero))) h p0 p1 p2 p3 p4 p5 p6 = absurd (p3 refl)
+byte-last (suc (suc (suc (suc zero)))) h p0 p1 p2 p3 p4 p5 p6 = absurd (p4 refl)
+byte-last (suc (suc (suc (suc (suc zero))))) h p0 p1 p2 p3 p4 p5 p6 = absurd (p5 refl)
+byte-last (suc (suc (suc (suc (suc (suc zero)))))) h p0 p1 p2 p3 p4 p5 p6 = absurd (p6 refl)
+byte-last (suc (suc (suc (suc (suc (suc (suc n))))))) h p0 p1 p2 p3 p4 p5 p6 = few n h
+  where
+    few : (n : ℕ) → suc (suc (suc (suc (suc (suc (suc n)))))) ≤ 7 → suc (suc (suc (suc (suc (suc (suc n)))))) ≡ 7
+    few n h = omega arith
 
 -- an expression that also matches no children
 abbrev pub orNone : Walked → Walked
@@ -120,6 +136,15 @@ module _ (lim : Limits) (s : List ℕ) (at : ℕ) (stands : ProperAt lim s at) w
   -- the bytes are there
   pub byte-inside : at < length s
   byte-inside = let h = expr-forward s at (stands .content) (stands .next) (stands .stands) in omega arith
+
+  pub byte-known : getD s at 0 ≤ 7
+  byte-known = go (passes-or-fails (ltb 7 (getD s at 0)))
+    where
+      go : (ltb 7 (getD s at 0) ≡ true) ⊎ (ltb 7 (getD s at 0) ≡ false) → getD s at 0 ≤ 7
+      go (inl t) =
+          absurd (known-operator s at (stands .content) (stands .next) (stands .stands)
+          (operator-unknown (getD s at 0) (ltb-true 7 (getD s at 0) t)))
+      go (inr t) = ltb-false 7 (getD s at 0) t
 
   pub number-inside : getD s at 0 ≡ 2 → at + 1 < length s
   number-inside e = numbered-more s at (stands .content) (stands .next) (stands .stands) type (ap (getElem? operators) e ∙ operator-type)
@@ -199,6 +224,11 @@ module _ (lim : Limits) (s : List ℕ) (at : ℕ) (stands : ProperAt lim s at) w
     walk-end =
         let w = expr-written s at (stands .content) (stands .next) (stands .stands) in
         ap (λ (p : Walked). p .next) whole-walk ∙ walk-next (stands .content) at marks b has ∙ sym (w .next-is)
+
+    pub walk-forward : (at < walkAt s at marks b has .next) × (walkAt s at marks b has .next ≤ length s)
+    walk-forward =
+        subst (λ (next : ℕ). (at < next) × (next ≤ length s)) (sym walk-end)
+        (expr-forward s at (stands .content) (stands .next) (stands .stands))
 
     pub walk-none : getD s at 0 ≡ 0
         → walkAt s at marks b has ≡ record { marks = marks; next = at + 1; nullable = false; final = false }
@@ -291,12 +321,18 @@ module _ (lim : Limits) (s : List ℕ) (at : ℕ) (n f : Bool) (marks : List ℕ
       each-at s at marks b has 0 (row .contents) (row .next) n f (row .stands)
       ∙ ap (λ (cs : Contents). walkEach cs at marks b has n f) (p .0)
 
-module _ (lim : Limits) (s : List ℕ) (at k : ℕ) (row : ProperRowAt lim s at (suc k)) where
+module _ (lim : Limits) (s : List ℕ) (at count : ℕ) (row : ProperRowAt lim s at count) (some : count ≡ 0 → ⊥) where
+  row-count : suc (count - 1) ≡ count
+  row-count = omega arith
+
+  row-first : FirstAt s at (count - 1) (row .contents) (row .next)
+  row-first = exprs-first s at (count - 1) (row .contents) (row .next) (ap (exprsAt s at) row-count ∙ row .stands)
+
   -- the first operand, and the others after it
   pub proper-first : ProperAt lim s at
   unfolding isProper
   proper-first =
-      let p = exprs-first s at k (row .contents) (row .next) (row .stands) in
+      let p = row-first in
       record {
         content = p .first;
         next = p .middle;
@@ -304,59 +340,89 @@ module _ (lim : Limits) (s : List ℕ) (at k : ℕ) (row : ProperRowAt lim s at 
         proper = and-left (isProper lim (p .first)) (areProper lim (p .others)) (sym (ap (areProper lim) (p .both)) ∙ row .proper);
       }
 
-  pub proper-others : ProperRowAt lim s (proper-first .next) k
-  unfolding isProper proper-first
-  proper-others =
-      let p = exprs-first s at k (row .contents) (row .next) (row .stands) in
-      record {
-        contents = p .others;
-        next = row .next;
-        stands = p .others-at;
-        proper = and-right (isProper lim (p .first)) (areProper lim (p .others)) (sym (ap (areProper lim) (p .both)) ∙ row .proper);
-      }
-
   module _ (marks : List ℕ) (b : Bool) (has : ℕ → Bool) where
     -- the place that the walk over the first leaves
-    pub others-after : ProperRowAt lim s (walkAt s at marks b has .next) k
-    others-after = subst (λ (next : ℕ). ProperRowAt lim s next k) (sym (walk-end lim s at proper-first marks b has)) proper-others
+    first-end : walkAt s at marks b has .next ≡ row-first .middle
+    unfolding proper-first
+    first-end = walk-end lim s at proper-first marks b has
 
-    others-stand : exprsAt s (walkAt s at marks b has .next) k ≡ just (proper-others .contents upTo proper-others .next)
-    others-stand = ap (λ (next : ℕ). exprsAt s next k) (walk-end lim s at proper-first marks b has) ∙ proper-others .stands
+    others-stand : exprsAt s (walkAt s at marks b has .next) (count - 1) ≡ just (row-first .others upTo row .next)
+    others-stand = ap (λ (next : ℕ). exprsAt s next (count - 1)) first-end ∙ row-first .others-at
 
-    first-and-others : row .contents ≡ proper-first .content ∷ᶜ proper-others .contents
-    unfolding proper-first proper-others
-    first-and-others = exprs-first s at k (row .contents) (row .next) (row .stands) .both
+    pub proper-others : ProperRowAt lim s (walkAt s at marks b has .next) (count - 1)
+    unfolding isProper
+    proper-others =
+        let p = row-first in
+        record {
+          contents = p .others;
+          next = row .next;
+          stands = others-stand;
+          proper = and-right (isProper lim (p .first)) (areProper lim (p .others)) (sym (ap (areProper lim) (p .both)) ∙ row .proper);
+        }
 
-    first-walk : walkAt s at marks b has ≡ walk (proper-first .content) at marks b has
-    first-walk = walk-at s at marks b has (proper-first .content) (proper-first .next) (proper-first .stands)
+    pub first-forward : (at < walkAt s at marks b has .next) × (walkAt s at marks b has .next ≤ length s)
+    first-forward = walk-forward lim s at proper-first marks b has
+
+    first-walk : walkAt s at marks b has ≡ walk (row-first .first) at marks b has
+    first-walk = walk-at s at marks b has (row-first .first) (row-first .middle) (row-first .first-at)
 
     module _ (n f : Bool) where
       pub in-turn-next : let p = walkAt s at marks b has in
-          walkInTurnAt s at (suc k) marks b has n f
-          ≡ walkInTurnAt s (p .next) k (p .marks) ((b && p .nullable) || isMarked marks at) has (n && p .nullable)
+          walkInTurnAt s at count marks b has n f
+          ≡ walkInTurnAt s (p .next) (count - 1) (p .marks) ((b && p .nullable) || isMarked marks at) has (n && p .nullable)
           ((f && p .nullable) || p .final)
       unfolding walk
       in-turn-next =
           let p = walkAt s at marks b has in
-          in-turn-at s at marks b has (suc k) (row .contents) (row .next) n f (row .stands)
-          ∙ ap (λ (cs : Contents). walkInTurn cs at marks b has n f) first-and-others
+          in-turn-at s at marks b has count (row .contents) (row .next) n f (row .stands)
+          ∙ ap (λ (cs : Contents). walkInTurn cs at marks b has n f) (row-first .both)
           ∙ sym (ap (λ (q : Walked).
-          walkInTurn (proper-others .contents) (q .next) (q .marks) ((b && q .nullable) || isMarked marks at) has (n && q .nullable)
+          walkInTurn (row-first .others) (q .next) (q .marks) ((b && q .nullable) || isMarked marks at) has (n && q .nullable)
           ((f && q .nullable) || q .final)) first-walk)
-          ∙ sym (in-turn-at s (p .next) (p .marks) ((b && p .nullable) || isMarked marks at) has k (proper-others .contents)
-          (proper-others .next) (n && p .nullable) ((f && p .nullable) || p .final) others-stand)
+          ∙ sym (in-turn-at s (p .next) (p .marks) ((b && p .nullable) || isMarked marks at) has (count - 1) (row-first .others)
+          (row .next) (n && p .nullable) ((f && p .nullable) || p .final) others-stand)
 
       pub each-next : let p = walkAt s at marks b has in
-          walkEachAt s at (suc k) marks b has n f ≡ walkEachAt s (p .next) k (p .marks) b has (n || p .nullable) (f || p .final)
+          walkEachAt s at count marks b has n f
+          ≡ walkEachAt s (p .next) (count - 1) (p .marks) b has (n || p .nullable) (f || p .final)
       unfolding walk
       each-next =
           let p = walkAt s at marks b has in
-          each-at s at marks b has (suc k) (row .contents) (row .next) n f (row .stands)
-          ∙ ap (λ (cs : Contents). walkEach cs at marks b has n f) first-and-others
+          each-at s at marks b has count (row .contents) (row .next) n f (row .stands)
+          ∙ ap (λ (cs : Contents). walkEach cs at marks b has n f) (row-first .both)
           ∙ sym (ap (λ (q : Walked).
-          walkEach (proper-others .contents) (q .next) (q .marks) b has (n || q .nullable) (f || q .final)) first-walk)
-          ∙ sym (each-at s (p .next) (p .marks) b has k (proper-others .contents)
-          (proper-others .next) (n || p .nullable) (f || p .final) others-stand)
+          walkEach (row-first .others) (q .next) (q .marks) b has (n || q .nullable) (f || q .final)) first-walk)
+          ∙ sym (each-at s (p .next) (p .marks) b has (count - 1) (row-first .others)
+          (row .next) (n || p .nullable) (f || p .final) others-stand)
+
+    -- A round as the code goes: p is what the first operand gave, q what the others give.
+    module _ (marks′ : List ℕ) (p : Passed) (first : walked marks′ p ≡ walkAt s at marks b has) where
+      pub rest-proper : ProperRowAt lim s (p .next) (count - 1)
+      rest-proper = subst (λ (w : Walked). ProperRowAt lim s (w .next) (count - 1)) (sym first) proper-others
+
+      pub rest-forward : (at < p .next) × (p .next ≤ length s)
+      rest-forward = subst (λ (w : Walked). (at < w .next) × (w .next ≤ length s)) (sym first) first-forward
+
+      pub in-turn-goes : (n f : Bool) (b′ n′ f′ : Bool) → b′ ≡ ((b && p .nullable) || isMarked marks at) → n′ ≡ (n && p .nullable)
+          → f′ ≡ ((f && p .nullable) || p .ends) → (q : Walked) → q ≡ walkInTurnAt s (p .next) (count - 1) marks′ b′ has n′ f′
+          → q ≡ walkInTurnAt s at count marks b has n f
+      in-turn-goes n f b′ n′ f′ eb en ef q h =
+          h
+          ∙ (λ i. walkInTurnAt s (p .next) (count - 1) marks′ (eb i) has (en i) (ef i))
+          ∙ ap (λ (w : Walked).
+          walkInTurnAt s (w .next) (count - 1) (w .marks) ((b && w .nullable) || isMarked marks at) has (n && w .nullable)
+          ((f && w .nullable) || w .final)) first
+          ∙ sym (in-turn-next n f)
+
+      pub each-goes : (n f : Bool) (n′ f′ : Bool) → n′ ≡ (n || p .nullable) → f′ ≡ (f || p .ends)
+          → (q : Walked) → q ≡ walkEachAt s (p .next) (count - 1) marks′ b has n′ f′
+          → q ≡ walkEachAt s at count marks b has n f
+      each-goes n f n′ f′ en ef q h =
+          h
+          ∙ (λ i. walkEachAt s (p .next) (count - 1) marks′ b has (en i) (ef i))
+          ∙ ap (λ (w : Walked).
+          walkEachAt s (w .next) (count - 1) (w .marks) b has (n || w .nullable) (f || w .final)) first
+          ∙ sym (each-next n f)
 
 -- Child by child, over a whole content.
 module _ (s : List ℕ) (marks : List ℕ) where

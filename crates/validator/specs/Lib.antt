@@ -1,1 +1,2 @@
 pub mod WalkAt
+pub mod Sets

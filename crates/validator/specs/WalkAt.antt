@@ -5,14 +5,14 @@ use mathlib.Core.Bool.{Bool, true, false}
 use mathlib.Core.List.{List, [], _∷_}
 use mathlib.Core.Option.{none as nothing, some as just}
 use mathlib.Core.Path.{_≡_}
-use lib.ListN.{length}
+use lib.ListN.{length, set}
 use Rattle.grammar.specs.Limits.{Limits}
 use Rattle.grammar.specs.Content.{Content, Contents}
 use Rattle.grammar.specs.ReadContent.{isProper, areProper}
 use Rattle.reader.specs.ExprAt.{_upTo_, exprAt, exprsAt}
-use Rattle.theory.proofs.MarkedPass.{Walked, walk, walkInTurn, walkEach, walks}
+use Rattle.theory.proofs.MarkedPass.{Walked, number, walk, walkInTurn, walkEach, walks}
 use Rattle.theory.proofs.MarkedRun.{run}
-use Rattle.validator.specs.declared.matching.Pass.{Pass}
+use Rattle.validator.specs.declared.matching.Passed.{Passed}
 
 -- nothing stands there
 abbrev pub noWalk : List ℕ → ℕ → Walked
@@ -41,8 +41,12 @@ unfoldable pub runAt : List ℕ → List (ℕ → Bool) → Bool
 runAt s children = elim (exprAt s 0) [ nothing ↦ false | just e ↦ run (e .content) children ]
 
 -- what the code's walk gives back, with the marks that it leaves
-abbrev pub walked : List ℕ → Pass → Walked
+abbrev pub walked : List ℕ → Passed → Walked
 walked marks p = record { marks = marks; next = p .next; nullable = p .nullable; final = p .ends }
+
+-- the first number of an expression tells its final
+abbrev pub ended : ℕ → Walked → Walked
+ended at p = record { marks = set (p .marks) at (number (p .final)); next = p .next; nullable = p .nullable; final = p .final }
 
 -- a proper expression stands at a place
 pub record ProperAt (lim : Limits) (s : List ℕ) (at : ℕ) : Type 0 where

@@ -2,11 +2,229 @@
 //
 // One walk over the content for each child. The marks have one number for each byte of the content: at the first byte of an
 // expression 1 where the children so far can end that expression, else 0.
+use crate::sets::has;
+use reader::numbers::wide;
+ghost use mathlib.Core.Bool.{_&&_, _||_, true, false};
+ghost use mathlib.Core.Path.{_≡_};
+ghost use Prim.Native.Nat.{_+_, _/_, _<_, _≤_};
+ghost use lib.ListN.{length, set, getD};
+ghost use Rattle.grammar.specs.Limits.{standard};
+ghost use Rattle.theory.proofs.MarkedPass.{number};
+ghost use Rattle.validator.specs.Sets.{member};
+ghost use Rattle.validator.specs.WalkAt.{walkAt, walkInTurnAt, walkEachAt, walked, ended, ProperAt, ProperRowAt, Room};
 
 // What the walk over an expression gives back: the place after it, whether it matches no children at all, and whether the children so
 // far, the last one included, can end it.
-pub struct Pass {
+pub struct Passed {
     pub next: usize,
     pub nullable: bool,
     pub ends: bool,
+}
+
+fn both(a: bool, b: bool) -> bool
+    ensures { λ r. ⌜ r ≡ (a && b) ⌝ }
+{
+    if a {
+        return b;
+    }
+    false
+}
+
+fn either(a: bool, b: bool) -> bool
+    ensures { λ r. ⌜ r ≡ (a || b) ⌝ }
+{
+    if a {
+        return true;
+    }
+    b
+}
+
+// Stores whether the children so far can end the expression at a place.
+fn mark(marks: &mut [u8], at: usize, ends: bool)
+    requires { ⌜ at < length (now marks) ⌝ }
+    ensures { λ r. ⌜ now (marks .exit) ≡ set (now (marks .entry)) at (number ends) ⌝ }
+{
+    if ends {
+        marks[at] = 1;
+        return;
+    }
+    marks[at] = 0;
+}
+
+// Whether the child, if it may come here, has the type.
+fn allowed(incoming: bool, words: &[u32], base: usize, k: usize) -> bool
+    requires { ⌜ base + k / 32 < length (now words) ⌝ }
+    ensures { λ r. ⌜ r ≡ (incoming && member (now (words .entry)) base k) ⌝ }
+{
+    if incoming {
+        return has(words, base, k);
+    }
+    false
+}
+
+// The same answer, with its end stored at the expression's first byte.
+fn sealed(marks: &mut [u8], at: usize, part: Passed) -> Passed
+    requires { ⌜ at < length (now marks) ⌝ }
+    ensures { λ r. ⌜ walked (now (marks .exit)) r ≡ ended at (walked (now (marks .entry)) part) ⌝ }
+{
+    mark(marks, at, part.ends);
+    part
+}
+
+// An expression that also matches no children.
+fn or_none(part: Passed) -> Passed
+    ensures { λ r. ⌜ r ≡ record { next = part .next; nullable = true; ends = part .ends } ⌝ }
+{
+    Passed {
+        next: part.next,
+        nullable: true,
+        ends: part.ends,
+    }
+}
+
+// One child's walk over a type.
+fn typed(
+    content: &[u8],
+    at: usize,
+    marks: &mut [u8],
+    incoming: bool,
+    words: &[u32],
+    base: usize,
+) -> Passed
+    requires { ⌜ (at + 1 < length (now content)) × (getD (now content) (at + 1) 0 < 64) × (Room (now content) (now marks) (now words) base) ⌝ }
+    ensures { λ r. ⌜ walked (now (marks .exit)) r ≡ ended at (record {
+      marks = now (marks .entry);
+      next = at + 2;
+      nullable = false;
+      final = incoming && member (now (words .entry)) base (getD (now (content .entry)) (at + 1) 0);
+    }) ⌝ }
+{
+    let k = wide(content[at + 1]);
+    let part = Passed {
+        next: at + 2,
+        nullable: false,
+        ends: allowed(incoming, words, base, k),
+    };
+    sealed(marks, at, part)
+}
+
+// One child's walk over the expression at a place; `incoming` where the child may begin it.
+pub fn pass(
+    content: &[u8],
+    at: usize,
+    marks: &mut [u8],
+    incoming: bool,
+    words: &[u32],
+    base: usize,
+) -> Passed
+    requires { ⌜ (ProperAt standard (now content) at) × (Room (now content) (now marks) (now words) base) ⌝ }
+    ensures { λ r. ⌜ walked (now (marks .exit)) r
+        ≡ walkAt (now (content .entry)) at (now (marks .entry)) incoming (member (now (words .entry)) base) ⌝ }
+{
+    let operator = wide(content[at]);
+    match operator {
+        0 => Passed {
+            next: at + 1,
+            nullable: false,
+            ends: false,
+        },
+        1 => Passed {
+            next: at + 1,
+            nullable: true,
+            ends: false,
+        },
+        2 => typed(content, at, marks, incoming, words, base),
+        3 => {
+            let none_yet = Passed {
+                next: at + 2,
+                nullable: true,
+                ends: false,
+            };
+            let count = wide(content[at + 1]);
+            let all = in_turn(content, count, none_yet, marks, incoming, words, base);
+            sealed(marks, at, all)
+        }
+        4 => {
+            let none_yet = Passed {
+                next: at + 2,
+                nullable: false,
+                ends: false,
+            };
+            let count = wide(content[at + 1]);
+            let one = each(content, count, none_yet, marks, incoming, words, base);
+            sealed(marks, at, one)
+        }
+        5 => {
+            let begins = either(incoming, marks[at + 1] == 1);
+            let part = pass(content, at + 1, marks, begins, words, base);
+            sealed(marks, at, or_none(part))
+        }
+        6 => {
+            let begins = either(incoming, marks[at + 1] == 1);
+            let part = pass(content, at + 1, marks, begins, words, base);
+            sealed(marks, at, part)
+        }
+        _ => {
+            let part = pass(content, at + 1, marks, incoming, words, base);
+            sealed(marks, at, or_none(part))
+        }
+    }
+}
+
+// The same over so many operands of a sequence, after those gone through so far.
+fn in_turn(
+    content: &[u8],
+    count: usize,
+    earlier: Passed,
+    marks: &mut [u8],
+    incoming: bool,
+    words: &[u32],
+    base: usize,
+) -> Passed
+    requires { ⌜ (ProperRowAt standard (now content) (earlier .next) count) × (Room (now content) (now marks) (now words) base) ⌝ }
+    ensures { λ r. ⌜ walked (now (marks .exit)) r
+        ≡ walkInTurnAt (now (content .entry)) (earlier .next) count (now (marks .entry)) incoming (member (now (words .entry)) base)
+        (earlier .nullable) (earlier .ends) ⌝ }
+{
+    if count == 0 {
+        return earlier;
+    }
+    let at = earlier.next;
+    let went_on = marks[at] == 1;
+    let first = pass(content, at, marks, incoming, words, base);
+    let more = Passed {
+        next: first.next,
+        nullable: both(earlier.nullable, first.nullable),
+        ends: either(both(earlier.ends, first.nullable), first.ends),
+    };
+    let begins = either(both(incoming, first.nullable), went_on);
+    in_turn(content, count - 1, more, marks, begins, words, base)
+}
+
+// The same over so many operands of a choice.
+fn each(
+    content: &[u8],
+    count: usize,
+    earlier: Passed,
+    marks: &mut [u8],
+    incoming: bool,
+    words: &[u32],
+    base: usize,
+) -> Passed
+    requires { ⌜ (ProperRowAt standard (now content) (earlier .next) count) × (Room (now content) (now marks) (now words) base) ⌝ }
+    ensures { λ r. ⌜ walked (now (marks .exit)) r
+        ≡ walkEachAt (now (content .entry)) (earlier .next) count (now (marks .entry)) incoming (member (now (words .entry)) base)
+        (earlier .nullable) (earlier .ends) ⌝ }
+{
+    if count == 0 {
+        return earlier;
+    }
+    let at = earlier.next;
+    let first = pass(content, at, marks, incoming, words, base);
+    let more = Passed {
+        next: first.next,
+        nullable: either(earlier.nullable, first.nullable),
+        ends: either(earlier.ends, first.ends),
+    };
+    each(content, count - 1, more, marks, incoming, words, base)
 }
