@@ -5,5 +5,6 @@ pub mod ListerExample
 pub mod Edges
 pub mod RefusalOrder
 pub mod Mistakes
+pub mod WideningExamples
 pub mod SampleExamples
 pub mod Numbers

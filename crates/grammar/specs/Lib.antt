@@ -27,6 +27,7 @@ pub mod SingleTypeForm
 pub mod Tidy
 pub mod Size
 pub mod Widen
+pub mod Claim
 pub mod Calls
 pub mod Answers
 pub mod Listing

@@ -1,2 +1,11 @@
 pub mod ExprLaws
 pub mod ExtentLaws
+pub mod ClassTable
+pub mod NameReading
+pub mod FieldReading
+pub mod OpenLevels
+pub mod DocumentFields
+pub mod DocumentStepping
+pub mod DocumentLoop
+pub mod DocumentTrees
+pub mod DocumentAnswers

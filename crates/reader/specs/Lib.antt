@@ -1,2 +1,5 @@
+pub mod FieldAt
 pub mod ExprAt
 pub mod Extents
+pub mod DocumentNodes
+pub mod DocumentSteps

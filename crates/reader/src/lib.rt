@@ -1,4 +1,7 @@
 // File readers. Every byte string has the one answer that the written meaning gives it.
 pub mod contents;
+pub mod documents;
+pub mod fields;
 pub mod limits;
+pub mod names;
 pub mod numbers;

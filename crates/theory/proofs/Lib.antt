@@ -24,6 +24,11 @@ pub mod OutcomeLaws
 pub mod ReadSteps
 pub mod TableBytes
 pub mod ReadWithin
+pub mod DistinctLaws
+pub mod Alternatives
+pub mod ChoiceLaws
+pub mod EmittedContent
+pub mod MetPairs
 pub mod NoTwo
 pub mod SameWords
 pub mod TidyWords
@@ -56,6 +61,8 @@ pub mod SampleWithin
 pub mod DocumentWithin
 pub mod SetsClosed
 pub mod SingleTypeMerge
+pub mod EmittedRule
+pub mod Gathering
 pub mod LeastForms
 pub mod WidenLeast
 pub mod SampleLeast
@@ -67,3 +74,5 @@ pub mod Marked
 pub mod MarkedWords
 pub mod MarkedRun
 pub mod MarkedPass
+pub mod WideningTheorem
+pub mod WideningCorollaries

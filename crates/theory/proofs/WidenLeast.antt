@@ -124,19 +124,24 @@ module _ (lim : Limits) (classes : Classes) (kind : Kind) (old addition : Table)
       no-starts (k ∷ ks) true q e = absurd (false≢true q)
       no-starts (k ∷ ks) false q e = absurd (not-thirteen lim (unsized lim kind old addition) e)
 
+-- the table of a document is its sample
+pub sampled : (lim : Limits) (d : Tree) (g : Table) → sampleTable lim d ≡ given g → g ≡ sample d
+unfolding sampleTable ofSize
+sampled lim d g e = sym (given-eq (had-no-fault (tooLarge lim (sample d)) ResultTooLarge (given (sample d)) g e .1))
+
+pub sampled-thirteen : (lim : Limits) (d : Tree) → sampleTable lim d ≡ refused NoDocument → ⊥
+unfolding sampleTable
+sampled-thirteen lim d e = not-thirteen lim (sample d) e
+
 -- A document is added through its sample, and the sample adds no more than the document asks.
 module _ (lim : Limits) (classes : Classes) (kind : Kind) (old : Table) (d : Tree) (old-within : TableWithin lim classes old)
     (sample-within : (g : Table) → sampleTable lim d ≡ given g → TableWithin lim classes g) where
-  sampled : (g : Table) → sampleTable lim d ≡ given g → g ≡ sample d
-  unfolding sampleTable ofSize
-  sampled g e = sym (given-eq (had-no-fault (tooLarge lim (sample d)) ResultTooLarge (given (sample d)) g e .1))
-
   pub widened-by-document : (result : Table) → widen lim kind old (byDocument d) ≡ given result
       → LeastWidening kind old (byDocument d) result
   unfolding widen
   widened-by-document result e =
       let a = was-given (sampleTable lim d) (λ g. widenByTable lim kind old g) result e in
-      let q = sampled (a .0) (a .1) in
+      let q = sampled lim d (a .0) (a .1) in
       let w = widened-by-table lim classes kind old (a .0) old-within (sample-within (a .0) (a .1)) result (a .2) in
       record {
         of-kind = w .of-kind;

@@ -1,0 +1,115 @@
+-- What a document that was read means for those above.
+--   nodes-count, node-held : the nodes that an index holds, by position
+--   document-tree : whenever reading gives nodes, they make a tree
+--   document-answer : whether the document reads is the answer that reading found
+use Prim.Native.Nat.{ℕ, zero, suc, _<_}
+use native.Mathlib.Omega.{arith}
+use mathlib.Core.Bool.{Bool, true, false, true≢false}
+use mathlib.Core.List.{List, [], _∷_, _++_}
+use mathlib.Core.Option.{some as just}
+use mathlib.Core.Path.{_≡_, refl, sym, _∙_, ap}
+use lib.Dec.{ltb}
+use lib.ListN.{length, getElem?}
+use borrow.Author.Tests.{ltb-true, ltb-false}
+use Rattle.grammar.specs.Limits.{Limits, standard}
+use Rattle.grammar.specs.Names.{Classes, asciiClasses}
+use Rattle.grammar.specs.Outcome.{Outcome, given, refused, _>>=_}
+use Rattle.grammar.specs.ReadTable.{isEmpty}
+use Rattle.grammar.specs.Tree.{Tree}
+use Rattle.grammar.specs.ReadDocument.{Node, readNodes, treeOf, readDocument}
+use Rattle.grammar.specs.Answers.{reading}
+use Rattle.grammar.specs.declared.Refusal.{Refusal}
+use Rattle.grammar.specs.declared.Reading.{Reading}
+use Rattle.grammar.specs.declared.Reading.the-variants.{Readable, Refused as Unreadable}
+use Rattle.reader.specs.declared.documents.DocumentIndex.{DocumentIndex}
+use Rattle.reader.specs.declared.documents.DocumentRead.{DocumentRead}
+use Rattle.reader.specs.DocumentNodes.{nodeAt, firstNodes, nodesIn, outcomeOf, DocumentReads}
+use Rattle.reader.proofs.DocumentTrees.{treeCount, complete}
+use Rattle.reader.proofs.DocumentLoop.{nodes-length}
+
+module _ (lim : Limits) (classes : Classes) where
+  some-read : (bytes : List ℕ) (ns : List Node) → readNodes lim classes bytes ≡ given ns → isEmpty ns ≡ false
+  unfolding treeCount
+  some-read bytes ns e = go ns (complete lim classes bytes ns e .0)
+    where
+      go : (l : List Node) → treeCount l ≡ 1 → isEmpty l ≡ false
+      go [] p = absurd (omega arith)
+      go (n ∷ l) p = refl
+
+  -- reading on to the tree
+  tree-given : (ns : List Node) → isEmpty ns ≡ false → (t : Tree) × (treeOf ns ≡ given t)
+  unfolding treeOf
+  tree-given [] e = absurd (true≢false e)
+  tree-given (n ∷ ns) e = (_, refl)
+
+  tree-of-nodes : (bytes : List ℕ) (o : Outcome (List Node)) → readNodes lim classes bytes ≡ o → readDocument lim classes bytes ≡ (o >>= treeOf)
+  unfolding readDocument
+  tree-of-nodes bytes o e = ap (λ (x : Outcome (List Node)). x >>= treeOf) e
+
+  pub document-tree : (bytes : List ℕ) (ns : List Node) → readNodes lim classes bytes ≡ given ns
+      → (t : Tree) × (treeOf ns ≡ given t) × (readDocument lim classes bytes ≡ given t)
+  document-tree bytes ns e =
+      let t = tree-given ns (some-read bytes ns e) in
+      (t .0, t .1, tree-of-nodes bytes (given ns) e ∙ t .1)
+
+  pub document-refused : (bytes : List ℕ) (r : Refusal) → readNodes lim classes bytes ≡ refused r → readDocument lim classes bytes ≡ refused r
+  document-refused bytes r e = tree-of-nodes bytes (refused r) e
+
+-- whether the document reads is the answer that reading found
+pub document-answer : (s : List ℕ) (r : DocumentRead) → DocumentReads s r → reading (readDocument standard asciiClasses s) ≡ r .answer
+unfolding reading
+document-answer s r d = go (r .answer) refl
+  where
+    go : (a : Reading) → r .answer ≡ a → reading (readDocument standard asciiClasses s) ≡ r .answer
+    go Readable e =
+        ap
+        reading
+        (document-tree standard asciiClasses s (nodesIn s (r .index)) (d .outcome ∙ ap (λ (x : Reading). outcomeOf x (nodesIn s (r .index))) e) .2)
+        ∙ sym e
+    go (Unreadable x) e =
+        ap
+        reading
+        (document-refused standard asciiClasses s x (d .outcome ∙ ap (λ (x : Reading). outcomeOf x (nodesIn s (r .index))) e))
+        ∙ sym e
+
+-- the nodes that an index holds, by position
+pub nodes-count : (s : List ℕ) (ix : DocumentIndex) → length (nodesIn s ix) ≡ ix .nodes
+nodes-count s ix = nodes-length s (ix .names) (ix .sizes) (ix .children) (ix .nodes)
+
+at-left : {A : Type 0} (l m : List A) (i : ℕ) → i < length l → getElem? (l ++ m) i ≡ getElem? l i
+at-left [] m i h = absurd (omega arith)
+at-left (x ∷ l) m zero h = refl
+at-left (x ∷ l) m (suc i) h = at-left l m i (omega arith)
+
+at-last : {A : Type 0} (l : List A) (x : A) (i : ℕ) → i ≡ length l → getElem? (l ++ (x ∷ [])) i ≡ just x
+at-last [] x zero h = refl
+at-last [] x (suc i) h = absurd (omega arith)
+at-last (y ∷ l) x zero h = absurd (omega arith)
+at-last (y ∷ l) x (suc i) h = at-last l x i (omega arith)
+
+first-at : (s names sizes children : List ℕ) (n i : ℕ) → i < n
+    → getElem? (firstNodes s names sizes children n) i ≡ just (nodeAt s names sizes children i)
+unfolding firstNodes
+first-at s names sizes children zero i h = absurd (omega arith)
+first-at s names sizes children (suc n) i h = go (ltb i n) refl (λ k. first-at s names sizes children n i k)
+  where
+    long : length (firstNodes s names sizes children n) ≡ n
+    long = nodes-length s names sizes children n
+
+    go : (b : Bool) → ltb i n ≡ b
+        → (i < n → getElem? (firstNodes s names sizes children n) i ≡ just (nodeAt s names sizes children i))
+        → getElem? (firstNodes s names sizes children n ++ (nodeAt s names sizes children n ∷ [])) i ≡ just (nodeAt s names sizes children i)
+    go true e ih =
+        let k = ltb-true i n e in
+        let l = long in
+        at-left (firstNodes s names sizes children n) (nodeAt s names sizes children n ∷ []) i (omega arith) ∙ ih k
+    go false e ih =
+        let k = ltb-false i n e in
+        let l = long in
+        let p : n ≡ i = omega arith in
+        at-last (firstNodes s names sizes children n) (nodeAt s names sizes children n) i (omega arith)
+        ∙ ap (λ (j : ℕ). just (nodeAt s names sizes children j)) p
+
+pub node-held : (s : List ℕ) (ix : DocumentIndex) (i : ℕ) → i < ix .nodes
+    → getElem? (nodesIn s ix) i ≡ just (nodeAt s (ix .names) (ix .sizes) (ix .children) i)
+node-held s ix i h = first-at s (ix .names) (ix .sizes) (ix .children) (ix .nodes) i h

@@ -1,0 +1,335 @@
+-- What one field of a document says, by numbers: how many nodes are read, how many levels are open, how many bytes are left.
+--   ends : the end field's answer is `endAnswer`
+--   node-misfit, node-misnamed, node-misplaced, node-here : the cases of any other field
+use Prim.Native.Nat.{ℕ, suc, _+_, _-_, _*_, _≤_, _<_}
+use native.Mathlib.Numerals.{add-one}
+use native.Mathlib.Omega.{arith}
+use mathlib.Core.Bool.{Bool, true, false, not, _&&_, _||_}
+use mathlib.Core.List.{List, [], _∷_}
+use mathlib.Core.Path.{_≡_, refl, sym, _∙_, ap, ap₂}
+use lib.Dec.{eqb, leb, ltb, eqb·suc-zero}
+use lib.ListN.{length, getD, take, drop, length-drop}
+use lib.Seq.{slice, slice-empty, slice-cons, length-take-le}
+use borrow.Author.Tests.{leb-true, leb-false, ltb-false, eqb-false, eq-eqb, ne-eqb, le-leb, lt-leb, lt-ltb, le-ltb}
+use Rattle.grammar.specs.Limits.{Limits, standard}
+use Rattle.grammar.specs.Names.{Classes, asciiClasses, isName}
+use Rattle.grammar.specs.Fields.{Field, Fields, _then_, fieldsOf}
+use Rattle.grammar.specs.Outcome.{Outcome, given, refused, _>>=_, _>>_, turnBack}
+use Rattle.grammar.specs.ReadTable.{isEmpty, bytesLeft}
+use Rattle.grammar.specs.ReadDocument.{
+  nodeTag,
+  documentEndTag,
+  Node,
+  Opened,
+  nothingRead,
+  withNode,
+  badNode,
+  readNode,
+  readNodeFields,
+  readNodes,
+}
+use Rattle.grammar.specs.declared.Refusal.the-variants.{InputTooLong, BadField, BadName, BadTree, BytesAfterEnd}
+use Rattle.grammar.specs.declared.Reading.the-variants.{Readable, Refused as Unreadable}
+use Rattle.theory.proofs.BoolLaws.{or-false}
+use Rattle.theory.proofs.FieldBytes.{fields-empty, fields-tag, fields-half, fields-front, fields-past}
+use Rattle.reader.specs.DocumentNodes.{outcomeOf}
+use Rattle.reader.specs.DocumentSteps.{endAnswer, badCounts, Sized, restOf, restWith}
+use Rattle.reader.proofs.FieldReading.{part-of}
+
+-- a list is empty when its length is 0
+empty-length : {A : Type 0} (l : List A) → isEmpty l ≡ eqb (length l) 0
+empty-length [] = refl
+empty-length (x ∷ l) = sym (eqb·suc-zero (length l))
+
+-- bytes are left where the list has some
+bytes-left : (l : List ℕ) → bytesLeft (fieldsOf l) ≡ not (eqb (length l) 0)
+bytes-left [] = ap bytesLeft fields-empty
+bytes-left (t ∷ []) = ap bytesLeft (fields-tag t)
+bytes-left (t ∷ h ∷ []) = ap bytesLeft (fields-half t h)
+bytes-left (t ∷ h ∷ l ∷ s) = go (leb (h * 256 + l) (length s)) refl ∙ ap not (sym (eqb·suc-zero (suc (suc (length s)))))
+  where
+    go : (b : Bool) → leb (h * 256 + l) (length s) ≡ b → bytesLeft (fieldsOf (t ∷ h ∷ l ∷ s)) ≡ true
+    go true e = ap bytesLeft (fields-front t h l s (leb-true (h * 256 + l) (length s) e))
+    go false e = ap bytesLeft (fields-past t h l s (leb-false (h * 256 + l) (length s) e))
+
+-- the end field's answer, test by test
+module _ (size depth left : ℕ) where
+  pub answer-size : (size ≡ 0 → ⊥) → endAnswer size depth left ≡ Unreadable BadField
+  unfolding endAnswer
+  answer-size p = rw (ne-eqb size 0 p, endAnswer)
+
+  pub answer-depth : size ≡ 0 → (depth ≡ 0 → ⊥) → endAnswer size depth left ≡ Unreadable BadTree
+  unfolding endAnswer
+  answer-depth p q = rw (eq-eqb size 0 p, ne-eqb depth 0 q, endAnswer)
+
+  pub answer-left : size ≡ 0 → depth ≡ 0 → (left ≡ 0 → ⊥) → endAnswer size depth left ≡ Unreadable BytesAfterEnd
+  unfolding endAnswer
+  answer-left p q r = rw (eq-eqb size 0 p, eq-eqb depth 0 q, ne-eqb left 0 r, endAnswer)
+
+  pub answer-none : size ≡ 0 → depth ≡ 0 → left ≡ 0 → endAnswer size depth left ≡ Readable
+  unfolding endAnswer
+  answer-none p q r = rw (eq-eqb size 0 p, eq-eqb depth 0 q, eq-eqb left 0 r, endAnswer)
+
+-- the end field
+module _ (lim : Limits) (classes : Classes) (o : Opened) where
+  at-the-end : (value : List ℕ) (rest : Fields)
+      → readNodeFields lim classes o (record { tag = documentEndTag; value = value } then rest)
+      ≡ (turnBack (not (isEmpty value)) BadField
+      >> (turnBack (not (isEmpty (o .toCome))) BadTree >> (turnBack (bytesLeft rest) BytesAfterEnd >> given (o .nodes))))
+  unfolding readNodeFields
+  at-the-end value rest = refl
+
+  pub ends : (value l : List ℕ)
+      → readNodeFields lim classes o (record { tag = documentEndTag; value = value } then fieldsOf l)
+      ≡ outcomeOf (endAnswer (length value) (length (o .toCome)) (length l)) (o .nodes)
+  unfolding endAnswer
+  ends value l =
+      at-the-end value (fieldsOf l)
+      ∙ ap
+      (λ (b : Bool).
+      turnBack (not b) BadField
+      >> (turnBack (not (isEmpty (o .toCome))) BadTree >> (turnBack (bytesLeft (fieldsOf l)) BytesAfterEnd >> given (o .nodes))))
+      (empty-length value)
+      ∙ ap
+      (λ (b : Bool).
+      turnBack (not (eqb (length value) 0)) BadField
+      >> (turnBack (not b) BadTree >> (turnBack (bytesLeft (fieldsOf l)) BytesAfterEnd >> given (o .nodes))))
+      (empty-length (o .toCome))
+      ∙ ap
+      (λ (b : Bool).
+      turnBack (not (eqb (length value) 0)) BadField
+      >> (turnBack (not (eqb (length (o .toCome)) 0)) BadTree >> (turnBack b BytesAfterEnd >> given (o .nodes))))
+      (bytes-left l)
+      ∙ go (eqb (length value) 0) refl (eqb (length (o .toCome)) 0) refl (eqb (length l) 0) refl
+    where
+      tests : Bool → Bool → Bool → Outcome (List Node)
+      tests a b c =
+          turnBack (not a) BadField >> (turnBack (not b) BadTree >> (turnBack (not c) BytesAfterEnd >> given (o .nodes)))
+
+      go : (a : Bool) → eqb (length value) 0 ≡ a → (b : Bool) → eqb (length (o .toCome)) 0 ≡ b → (c : Bool) → eqb (length l) 0 ≡ c
+          → tests (eqb (length value) 0) (eqb (length (o .toCome)) 0) (eqb (length l) 0)
+          ≡ outcomeOf (endAnswer (length value) (length (o .toCome)) (length l)) (o .nodes)
+      go false p b q c r = rw (p, endAnswer)
+      go true p false q c r = rw (p, q, endAnswer)
+      go true p true q false r = rw (p, q, r, endAnswer)
+      go true p true q true r = rw (p, q, r, endAnswer)
+
+-- a node's faults by numbers
+pub bad-counts : (lim : Limits) (o : Opened) (n : Node)
+    → badNode lim o n ≡ badCounts lim (length (o .nodes)) (n .children) (length (o .toCome))
+unfolding badNode
+bad-counts lim o n =
+    ap
+    (λ (b : Bool).
+    leb (lim .nodes) (length (o .nodes)) || ltb (lim .children) (n .children) || ltb (lim .levels) (length (o .toCome)) || b)
+    (empty-length (o .toCome))
+
+-- a node without a fault is within the limits
+pub record Counts (nodes children depth : ℕ) : Type 0 where
+  pub room : nodes < 1024
+  pub few : children ≤ 200
+  pub level : depth ≤ 64
+  pub some-level : 0 < depth
+
+pub good-counts : (nodes children depth : ℕ) → badCounts standard nodes children depth ≡ false → Counts nodes children depth
+unfolding standard
+good-counts nodes children depth e =
+    let a = leb 1024 nodes in
+    let b = ltb 200 children in
+    let c = ltb 64 depth in
+    let last = or-false (a || b || c) (eqb depth 0) e in
+    let third = or-false (a || b) c (last .0) in
+    let first = or-false a b (third .0) in
+    let room = leb-false 1024 nodes (first .0) in
+    let few = ltb-false 200 children (first .1) in
+    let level = ltb-false 64 depth (third .1) in
+    let some-level = eqb-false depth 0 (last .1) in
+    record { room = room; few = few; level = level; some-level = omega arith }
+
+-- a node field, test by test
+abbrev pub tried : Bool → Bool → Bool → Opened → Outcome Opened
+tried fits named bad more =
+    turnBack (not fits) BadField >> (turnBack (not named) BadName >> (turnBack bad BadTree >> given more))
+
+module _ (lim : Limits) (classes : Classes) (o : Opened) where
+  pub read-empty : (tag : ℕ) → readNode lim classes o (record { tag = tag; value = [] }) ≡ refused BadField
+  unfolding readNode
+  read-empty tag = refl
+
+  module _ (tag k : ℕ) (name : List ℕ) where
+    abbrev pub fits : Bool
+    fits = eqb tag nodeTag && leb 1 (length name) && leb (length name) (lim .name)
+
+    pub read-tried : readNode lim classes o (record { tag = tag; value = k ∷ name })
+        ≡ tried
+        fits
+        (isName classes name)
+        (badCounts lim (length (o .nodes)) k (length (o .toCome)))
+        (withNode o (record { name = name; children = k }))
+    unfolding readNode
+    read-tried =
+        ap
+        (λ (b : Bool). tried fits (isName classes name) b (withNode o (record { name = name; children = k })))
+        (bad-counts lim o (record { name = name; children = k }))
+
+    read-misfit : fits ≡ false → readNode lim classes o (record { tag = tag; value = k ∷ name }) ≡ refused BadField
+    read-misfit p =
+        read-tried
+        ∙ ap
+        (λ (b : Bool).
+        tried
+        b
+        (isName classes name)
+        (badCounts lim (length (o .nodes)) k (length (o .toCome)))
+        (withNode o (record { name = name; children = k })))
+        p
+
+    module _ (tagged : tag ≡ nodeTag) (some : 1 ≤ length name) (short : length name ≤ lim .name) where
+      all-fits : fits ≡ true
+      all-fits =
+          ap (λ (b : Bool). b && leb 1 (length name) && leb (length name) (lim .name)) (eq-eqb tag nodeTag tagged)
+          ∙ ap (λ (b : Bool). b && leb (length name) (lim .name)) (le-leb 1 (length name) some)
+          ∙ le-leb (length name) (lim .name) short
+
+      read-fits : (named : Bool) → isName classes name ≡ named → (bad : Bool)
+          → badCounts lim (length (o .nodes)) k (length (o .toCome)) ≡ bad
+          → readNode lim classes o (record { tag = tag; value = k ∷ name })
+          ≡ tried true named bad (withNode o (record { name = name; children = k }))
+      read-fits named p bad q =
+          let more = withNode o (record { name = name; children = k }) in
+          let counts = badCounts lim (length (o .nodes)) k (length (o .toCome)) in
+          read-tried
+          ∙ ap (λ (b : Bool). tried b (isName classes name) counts more) all-fits
+          ∙ ap (λ (b : Bool). tried true b counts more) p
+          ∙ ap (λ (b : Bool). tried true named b more) q
+
+first-fails : (a b c : Bool) → a ≡ false → (a && b && c) ≡ false
+first-fails a b c e = ap (λ (x : Bool). x && b && c) e
+
+second-fails : (a b c : Bool) → b ≡ false → (a && b && c) ≡ false
+second-fails true b c e = ap (λ (x : Bool). x && c) e
+second-fails false b c e = refl
+
+third-fails : (a b c : Bool) → c ≡ false → (a && b && c) ≡ false
+third-fails true true c e = e
+third-fails true false c e = refl
+third-fails false b c e = refl
+
+-- the value of a field, and the name behind its first byte
+module _ (s : List ℕ) (from to : ℕ) (order : from ≤ to) (within : to ≤ length s) where
+  abbrev value : List ℕ
+  value = slice from to s
+
+  abbrev name : List ℕ
+  name = take (to - (from + 1)) (drop (from + 1) s)
+
+  no-value : to - from < 1 → value ≡ []
+  no-value h = let e : from ≡ to = omega arith in ap (λ (k : ℕ). slice k to s) e ∙ slice-empty to s
+
+  first-and-name : 1 ≤ to - from → value ≡ getD s from 0 ∷ name
+  first-and-name h =
+      let whole : to ≡ from + 1 + (to - (from + 1)) = omega arith in
+      slice-cons from to s 0 (omega arith) within
+      ∙ ap₂ (λ (f t : ℕ). getD s from 0 ∷ slice f t s) (sym (add-one from)) whole
+      ∙ ap (λ (l : List ℕ). getD s from 0 ∷ l) (part-of (from + 1) (to - (from + 1)) s (omega arith))
+
+  name-length : 1 ≤ to - from → length name ≡ to - (from + 1)
+  name-length h = let d = length-drop (from + 1) s in length-take-le (to - (from + 1)) (drop (from + 1) s) (omega arith)
+
+  -- the cases of a field that is no end
+  module _ (tag : ℕ) (rest : Fields) (o : Opened) where
+    abbrev field : Field
+    field = record { tag = tag; value = value }
+
+    goes-on : (v : List ℕ) → value ≡ v → (r : Outcome Opened)
+        → readNode standard asciiClasses o (record { tag = tag; value = v }) ≡ r
+        → restWith field rest o ≡ (r >>= λ more. restOf more rest)
+    goes-on v p r q =
+        ap (λ (l : List ℕ). restWith (record { tag = tag; value = l }) rest o) p
+        ∙ ap (λ (x : Outcome Opened). x >>= λ more. restOf more rest) q
+
+    node-misfit : (1 ≤ to - from → fits standard asciiClasses o tag (getD s from 0) name ≡ false) → restWith field rest o ≡ refused BadField
+    node-misfit p = go (leb 1 (to - from)) refl
+      where
+        go : (b : Bool) → leb 1 (to - from) ≡ b → restWith field rest o ≡ refused BadField
+        go false q = goes-on [] (no-value (leb-false 1 (to - from) q)) (refused BadField) (read-empty standard asciiClasses o tag)
+        go true q =
+            let some = leb-true 1 (to - from) q in
+            goes-on
+            (getD s from 0 ∷ name)
+            (first-and-name some)
+            (refused BadField)
+            (read-misfit standard asciiClasses o tag (getD s from 0) name (p some))
+
+    pub node-foreign : (tag ≡ nodeTag → ⊥) → restWith field rest o ≡ refused BadField
+    node-foreign p =
+        node-misfit
+        (λ q. first-fails (eqb tag nodeTag) (leb 1 (length name)) (leb (length name) (standard .name)) (ne-eqb tag nodeTag p))
+
+    pub node-short : to - from < 2 → restWith field rest o ≡ refused BadField
+    node-short p =
+        node-misfit
+        (λ q.
+        let long = name-length q in
+        second-fails
+        (eqb tag nodeTag)
+        (leb 1 (length name))
+        (leb (length name) (standard .name))
+        (lt-leb 1 (length name) (omega arith)))
+
+    pub node-long : 63 < to - from - 1 → restWith field rest o ≡ refused BadField
+    unfolding standard
+    node-long p =
+        node-misfit
+        (λ q.
+        let long = name-length q in
+        third-fails (eqb tag nodeTag) (leb 1 (length name)) (leb (length name) 63) (lt-leb (length name) 63 (omega arith)))
+
+    module _ (tagged : tag ≡ nodeTag) (some : 2 ≤ to - from) (short : to - from - 1 ≤ 63) where
+      node-tried : (named : Bool) → isName asciiClasses name ≡ named → (bad : Bool)
+          → badCounts standard (length (o .nodes)) (getD s from 0) (length (o .toCome)) ≡ bad
+          → restWith field rest o
+          ≡ (tried true named bad (withNode o (record { name = name; children = getD s from 0 }))
+          >>= λ more. restOf more rest)
+      unfolding standard
+      node-tried named p bad q =
+          let long = name-length (omega arith) in
+          goes-on
+          (getD s from 0 ∷ name)
+          (first-and-name (omega arith))
+          (tried true named bad (withNode o (record { name = name; children = getD s from 0 })))
+          (read-fits standard asciiClasses o tag (getD s from 0) name tagged (omega arith) (omega arith) named p bad q)
+
+      pub node-misnamed : isName asciiClasses name ≡ false → restWith field rest o ≡ refused BadName
+      node-misnamed p = node-tried false p (badCounts standard (length (o .nodes)) (getD s from 0) (length (o .toCome))) refl
+
+      module _ (nodes depth children : ℕ) (counted : children ≡ getD s from 0) (sized : Sized o nodes depth) where
+        here : (bad : Bool) → badCounts standard nodes children depth ≡ bad
+            → badCounts standard (length (o .nodes)) (getD s from 0) (length (o .toCome)) ≡ bad
+        here bad e = rw (sized .read, sized .open-levels, ← counted) e
+
+        pub node-misplaced : isName asciiClasses name ≡ true → badCounts standard nodes children depth ≡ true
+            → restWith field rest o ≡ refused BadTree
+        node-misplaced p q = node-tried true p true (here true q)
+
+        pub node-here : isName asciiClasses name ≡ true → badCounts standard nodes children depth ≡ false
+            → restWith field rest o ≡ restOf (withNode o (record { name = name; children = children })) rest
+        node-here p q =
+            node-tried true p false (here false q)
+            ∙ ap (λ (k : ℕ). restOf (withNode o (record { name = name; children = k })) rest) (sym counted)
+
+-- the length of the input comes first
+module _ (lim : Limits) (classes : Classes) (bytes : List ℕ) where
+  pub reads-long : lim .input < length bytes → readNodes lim classes bytes ≡ refused InputTooLong
+  unfolding readNodes
+  reads-long h =
+      ap
+      (λ (b : Bool). turnBack b InputTooLong >> readNodeFields lim classes nothingRead (fieldsOf bytes))
+      (lt-ltb (lim .input) (length bytes) h)
+
+  pub reads-short : length bytes ≤ lim .input → readNodes lim classes bytes ≡ readNodeFields lim classes nothingRead (fieldsOf bytes)
+  unfolding readNodes
+  reads-short h =
+      ap
+      (λ (b : Bool). turnBack b InputTooLong >> readNodeFields lim classes nothingRead (fieldsOf bytes))
+      (le-ltb (lim .input) (length bytes) h)

@@ -1,0 +1,165 @@
+-- Reading a document field by field. `SoFar` ties the arrays to the nodes read and the levels open: reading on from `at` with these
+-- is reading the whole. It holds at first (`so-far-none`), after each node (`so-far-next`), and gives the answer (`so-far-stop`).
+use Prim.Native.Nat.{ℕ, zero, suc, _+_, _-_, _≤_, _<_}
+use native.Mathlib.Numerals.{add-one}
+use native.Mathlib.Omega.{arith}
+use mathlib.Core.Bool.{Bool, true, false}
+use mathlib.Core.List.{List, [], _∷_, _++_}
+use mathlib.Core.Path.{_≡_, refl, sym, _∙_, ap, ap₂, subst}
+use lib.Dec.{ltb}
+use lib.ListN.{length, getD, take, drop, set, length-set, length-append}
+use lib.Seq.{getD-set-same, getD-set-other}
+use borrow.Author.Tests.{ltb-true, ltb-false}
+use Rattle.grammar.specs.Fields.{fieldsOf}
+use Rattle.grammar.specs.Outcome.{Outcome}
+use Rattle.grammar.specs.ReadDocument.{Node, Opened, nothingRead, withNode}
+use Rattle.grammar.specs.declared.Reading.{Reading}
+use Rattle.reader.specs.declared.documents.Levels.{Levels}
+use Rattle.reader.specs.declared.documents.Step.{Step}
+use Rattle.reader.specs.declared.documents.Step.the-variants.{Node as NodeHere, Stop}
+use Rattle.reader.specs.DocumentNodes.{nodeAt, firstNodes, Indexed, outcomeOf}
+use Rattle.reader.specs.DocumentSteps.{Sized, restOf, NodeStep, StepSays, openLevels, Open, After}
+use Rattle.reader.proofs.OpenLevels.{levels-length}
+
+module _ (s names sizes children : List ℕ) where
+  pub nodes-length : (n : ℕ) → length (firstNodes s names sizes children n) ≡ n
+  unfolding firstNodes
+  nodes-length zero = refl
+  nodes-length (suc n) =
+      let e = length-append (firstNodes s names sizes children n) (nodeAt s names sizes children n ∷ []) in
+      let ih = nodes-length n in
+      omega arith
+
+  -- what is stored behind the first nodes does not matter
+  pub nodes-kept : (n i a b k : ℕ) → n ≤ i → firstNodes s (set names i a) (set sizes i b) (set children i k) n ≡ firstNodes s names sizes children n
+  unfolding firstNodes
+  nodes-kept zero i a b k h = refl
+  nodes-kept (suc n) i a b k h =
+      ap₂ (λ (l : List Node) (x : Node). l ++ (x ∷ [])) (nodes-kept n i a b k (omega arith)) node-kept
+    where
+      node-kept : nodeAt s (set names i a) (set sizes i b) (set children i k) n ≡ nodeAt s names sizes children n
+      node-kept =
+          rw (
+            getD-set-other names i n a 0 (λ e. omega arith),
+            getD-set-other sizes i n b 0 (λ e. omega arith),
+            getD-set-other children i n k 0 (λ e. omega arith),
+          )
+
+  -- one node more
+  pub nodes-more : (n a b k : ℕ) → n < length names → n < length sizes → n < length children
+      → firstNodes s (set names n a) (set sizes n b) (set children n k) (n + 1)
+      ≡ firstNodes s names sizes children n ++ (record { name = take b (drop a s); children = k } ∷ [])
+  unfolding firstNodes
+  nodes-more n a b k p q r =
+      ap (firstNodes s (set names n a) (set sizes n b) (set children n k)) (add-one n)
+      ∙ ap₂ (λ (l : List Node) (x : Node). l ++ (x ∷ [])) (nodes-kept n n a b k (omega arith)) node-stored
+    where
+      node-stored : nodeAt s (set names n a) (set sizes n b) (set children n k) n ≡ record { name = take b (drop a s); children = k }
+      node-stored = rw (getD-set-same names n a 0 p, getD-set-same sizes n b 0 q, getD-set-same children n k 0 r)
+
+stored-at : (l : List ℕ) (n i v : ℕ) → i ≡ n → n < length l → getD (set l n v) i 0 ≡ v
+stored-at l n i v e h = ap (λ (j : ℕ). getD (set l n v) j 0) e ∙ getD-set-same l n v 0 h
+
+pub record SoFar (s names sizes children : List ℕ) (nodes at : ℕ) (levels : Levels) : Type 0 where
+  pub reached : at ≤ length s
+  pub names-room : length names ≡ 1024
+  pub sizes-room : length sizes ≡ 1024
+  pub children-room : length children ≡ 1024
+  pub indexed : Indexed s names sizes children nodes
+  pub levels-open : Open (levels .coming) (levels .depth)
+  pub goes-on : restOf nothingRead (fieldsOf s)
+      ≡ restOf
+      (record { nodes = firstNodes s names sizes children nodes; toCome = openLevels (levels .coming) (levels .depth) })
+      (fieldsOf (drop at s))
+
+-- what a step says, once it is known to be a node
+pub says-node : (s : List ℕ) (at nodes depth : ℕ) (whole : Opened → Outcome (List Node)) (st : Step) {from to k : ℕ} → st ≡ NodeHere from to k
+    → StepSays s at nodes depth whole st → NodeStep s at nodes depth whole from to k
+says-node s at nodes depth whole st e says = subst (λ (x : Step). StepSays s at nodes depth whole x) e says
+
+module _ (s names sizes children : List ℕ) where
+  pub so-far-none : (coming : List ℕ) → length names ≡ 1024 → length sizes ≡ 1024 → length children ≡ 1024 → getD coming 0 0 ≡ 1
+      → SoFar s names sizes children 0 0 (record { coming = coming; depth = 1 })
+  unfolding firstNodes openLevels
+  so-far-none coming p q r e =
+      record {
+        reached = omega arith;
+        names-room = p;
+        sizes-room = q;
+        children-room = r;
+        indexed = record { few = omega arith; within = λ i h. absurd (omega arith); counts = λ i h. absurd (omega arith) };
+        levels-open = record { deep = omega arith; innermost = innermost };
+        goes-on = ap (λ (k : ℕ). restOf (record { nodes = []; toCome = k ∷ [] }) (fieldsOf s)) (sym e);
+      }
+    where
+      innermost : (d : ℕ) → 1 ≡ suc d → 0 < getD coming d 0
+      innermost zero h = omega arith
+      innermost (suc d) h = absurd (omega arith)
+
+  module _ (nodes at : ℕ) (levels : Levels) (far : SoFar s names sizes children nodes at levels) where
+    abbrev opened : Opened
+    opened = record { nodes = firstNodes s names sizes children nodes; toCome = openLevels (levels .coming) (levels .depth) }
+
+    sized : Sized opened nodes (levels .depth)
+    sized = record { read = nodes-length s names sizes children nodes; open-levels = levels-length (levels .coming) (levels .depth) }
+
+    pub so-far-stop : (st : Step) {answer : Reading} → st ≡ Stop answer
+        → StepSays s at nodes (levels .depth) (λ o. restOf o (fieldsOf (drop at s))) st
+        → restOf nothingRead (fieldsOf s) ≡ outcomeOf answer (firstNodes s names sizes children nodes)
+    so-far-stop st {answer} e says =
+        far .goes-on
+        ∙ subst (λ (x : Step). StepSays s at nodes (levels .depth) (λ o. restOf o (fieldsOf (drop at s))) x) e says opened sized
+
+    module _ (from to k : ℕ) (step : NodeStep s at nodes (levels .depth) (λ o. restOf o (fieldsOf (drop at s))) from to k)
+        (more : Levels) (after : After levels k more) where
+      indexed-more : Indexed s (set names nodes from) (set sizes nodes (to - from)) (set children nodes k) (nodes + 1)
+      indexed-more =
+          let room = step .room in
+          record { few = omega arith; within = λ i h. within i h (ltb i nodes) refl; counts = λ i h. counts i h (ltb i nodes) refl }
+        where
+          within : (i : ℕ) → i < nodes + 1 → (b : Bool) → ltb i nodes ≡ b
+              → getD (set names nodes from) i 0 + getD (set sizes nodes (to - from)) i 0 ≤ length s
+          within i h true e =
+              let p = ltb-true i nodes e in
+              let old = far .indexed .within i p in
+              let a = getD-set-other names nodes i from 0 (λ e. omega arith) in
+              let b = getD-set-other sizes nodes i (to - from) 0 (λ e. omega arith) in
+              omega arith
+          within i h false e =
+              let p = ltb-false i nodes e in
+              let room = step .room in
+              let a = stored-at names nodes i from (omega arith) (omega (arith, far .names-room)) in
+              let b = stored-at sizes nodes i (to - from) (omega arith) (omega (arith, far .sizes-room)) in
+              omega (arith, step .order, step .within)
+
+          counts : (i : ℕ) → i < nodes + 1 → (b : Bool) → ltb i nodes ≡ b → getD (set children nodes k) i 0 ≤ 200
+          counts i h true e =
+              let p = ltb-true i nodes e in
+              let old = far .indexed .counts i p in
+              let a = getD-set-other children nodes i k 0 (λ e. omega arith) in
+              omega arith
+          counts i h false e =
+              let p = ltb-false i nodes e in
+              let room = step .room in
+              let a = stored-at children nodes i k (omega arith) (omega (arith, far .children-room)) in
+              omega (arith, step .few)
+
+      pub so-far-next : SoFar s (set names nodes from) (set sizes nodes (to - from)) (set children nodes k) (nodes + 1) to more
+      unfolding withNode
+      so-far-next =
+          let room = step .room in
+          record {
+            reached = step .within;
+            names-room = length-set names nodes from ∙ far .names-room;
+            sizes-room = length-set sizes nodes (to - from) ∙ far .sizes-room;
+            children-room = length-set children nodes k ∙ far .children-room;
+            indexed = indexed-more;
+            levels-open = after .stays;
+            goes-on =
+                far .goes-on
+                ∙ step .goes opened sized
+                ∙ ap₂
+                (λ (ns : List Node) (ls : List ℕ). restOf (record { nodes = ns; toCome = ls }) (fieldsOf (drop to s)))
+                (sym (nodes-more s names sizes children nodes from (to - from) k (omega (arith, far .names-room)) (omega (arith, far .sizes-room)) (omega (arith, far .children-room))))
+                (sym (after .levels-are));
+          }

@@ -1,0 +1,69 @@
+-- The field at a place, as a step of reading the document from there on.
+use Prim.Native.Nat.{ℕ, _-_, _≤_}
+use native.Mathlib.Omega.{arith}
+use mathlib.Core.Bool.{false}
+use mathlib.Core.List.{List}
+use mathlib.Core.Path.{_≡_, _∙_, ap}
+use lib.Dec.{eqb}
+use lib.ListN.{length, drop, length-drop}
+use lib.Seq.{slice, length-slice}
+use borrow.Author.Tests.{ne-eqb}
+use Rattle.grammar.specs.Limits.{standard}
+use Rattle.grammar.specs.Names.{asciiClasses}
+use Rattle.grammar.specs.Fields.{Field, Fields, noBytes, pastEnd, _then_, fieldsOf}
+use Rattle.grammar.specs.Outcome.{Outcome, refused}
+use Rattle.grammar.specs.ReadDocument.{documentEndTag, Node, Opened, readNodeFields}
+use Rattle.grammar.specs.declared.Refusal.the-variants.{FieldPastEnd}
+use Rattle.reader.specs.declared.documents.Step.{Step}
+use Rattle.reader.specs.declared.documents.Step.the-variants.{Node as NodeHere, Stop}
+use Rattle.reader.specs.DocumentNodes.{outcomeOf}
+use Rattle.reader.specs.DocumentSteps.{endAnswer, Sized, restOf, restWith, StepSays}
+use Rattle.reader.proofs.FieldReading.{FoundField}
+use Rattle.reader.proofs.DocumentFields.{ends}
+
+pub stops-none : (o : Opened) (fs : Fields) → fs ≡ noBytes → restOf o fs ≡ refused FieldPastEnd
+unfolding readNodeFields
+stops-none o fs e = ap (restOf o) e
+
+pub stops-past : (o : Opened) (fs : Fields) → fs ≡ pastEnd → restOf o fs ≡ refused FieldPastEnd
+unfolding readNodeFields
+stops-past o fs e = ap (restOf o) e
+
+another-tag : (f : Field) (rest : Fields) (o : Opened) → eqb (f .tag) documentEndTag ≡ false → restOf o (f then rest) ≡ restWith f rest o
+unfolding readNodeFields
+another-tag f rest o e = rw (e, readNodeFields)
+
+module _ (s : List ℕ) (at tag from to : ℕ) (found : FoundField s at tag from to) where
+  pub stops-end : tag ≡ documentEndTag → (nodes depth : ℕ) (o : Opened) → Sized o nodes depth
+      → restOf o (fieldsOf (drop at s)) ≡ outcomeOf (endAnswer (to - from) depth (length s - to)) (o .nodes)
+  stops-end e nodes depth o z =
+      ap (restOf o) (found .fields)
+      ∙ ap (λ (t : ℕ). restOf o (record { tag = t; value = slice from to s } then fieldsOf (drop to s))) e
+      ∙ ends standard asciiClasses o (slice from to s) (drop to s)
+      ∙ sizes (length-slice from to s (found .within)) (z .open-levels) (length-drop to s)
+    where
+      sizes : {a b c : ℕ} → a ≡ to - from → b ≡ depth → c ≡ length s - to
+          → outcomeOf (endAnswer a b c) (o .nodes) ≡ outcomeOf (endAnswer (to - from) depth (length s - to)) (o .nodes)
+      sizes p q r = rw (p, q, r)
+
+  pub goes-with : (tag ≡ documentEndTag → ⊥) → (o : Opened)
+      → restOf o (fieldsOf (drop at s)) ≡ restWith (record { tag = tag; value = slice from to s }) (fieldsOf (drop to s)) o
+  goes-with e o =
+      ap (restOf o) (found .fields)
+      ∙ another-tag (record { tag = tag; value = slice from to s }) (fieldsOf (drop to s)) o (ne-eqb tag documentEndTag e)
+
+-- a step says the same of what is the same, and from an earlier place
+pub says-also : (s : List ℕ) (at from nodes depth : ℕ) (whole whole′ : Opened → Outcome (List Node)) (st : Step) → at ≤ from
+    → ((o : Opened) → whole′ o ≡ whole o) → StepSays s from nodes depth whole st → StepSays s at nodes depth whole′ st
+says-also s at from nodes depth whole whole′ (NodeHere f t k) h e n =
+    record {
+      forward = let p = n .forward in omega arith;
+      order = n .order;
+      within = n .within;
+      room = n .room;
+      some-level = n .some-level;
+      level = n .level;
+      few = n .few;
+      goes = λ o z. e o ∙ n .goes o z;
+    }
+says-also s at from nodes depth whole whole′ (Stop answer) h e n = λ o z. e o ∙ n o z

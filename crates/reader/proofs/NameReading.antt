@@ -1,0 +1,95 @@
+-- Names read byte by byte: what the tests of a name are from a place on, and of two names from a place on in both.
+use Prim.Native.Nat.{ℕ, suc, _+_, _≤_, _<_}
+use native.Mathlib.Numerals.{add-one}
+use native.Mathlib.Omega.{arith}
+use mathlib.Core.Bool.{Bool, true, false, _&&_}
+use mathlib.Core.List.{List, [], _∷_}
+use mathlib.Core.Path.{_≡_, refl, sym, _∙_, ap, ap₂}
+use lib.Dec.{eqb, leb}
+use lib.ListN.{length, getD, drop, drop-of-length-le}
+use lib.Seq.{drop-cons}
+use borrow.Author.Tests.{eq-eqb, ne-eqb, le-leb, lt-leb}
+use Rattle.grammar.specs.Lists.{all, sameNumbers}
+use Rattle.grammar.specs.Names.{Classes, isName, sameName}
+
+-- the element at a place, and the list from the next place on
+from : (s : List ℕ) (i : ℕ) → i < length s → drop i s ≡ getD s i 0 ∷ drop (i + 1) s
+from s i h = drop-cons s i 0 h ∙ ap (λ (k : ℕ). getD s i 0 ∷ drop k s) (sym (add-one i))
+
+-- a byte that may stand after the first
+abbrev pub later : Classes → ℕ → Bool
+later classes c = leb 1 (getD classes c 0)
+
+module _ (classes : Classes) (s : List ℕ) where
+  pub name-empty : length s ≡ 0 → isName classes s ≡ false
+  unfolding isName
+  name-empty h = ap (isName classes) (drop-of-length-le s {i = 0} (omega arith))
+
+  pub name-first : 0 < length s → getD classes (getD s 0 0) 0 ≡ 2 → isName classes s ≡ all (later classes) (drop 1 s)
+  unfolding isName
+  name-first h e = go s h e
+    where
+      go : (l : List ℕ) → 0 < length l → getD classes (getD l 0 0) 0 ≡ 2 → isName classes l ≡ all (later classes) (drop 1 l)
+      go [] h e = absurd (omega arith)
+      go (b ∷ bs) h e = ap (λ (t : Bool). t && all (later classes) bs) (eq-eqb (getD classes b 0) 2 e)
+
+  pub name-not-first : 0 < length s → (getD classes (getD s 0 0) 0 ≡ 2 → ⊥) → isName classes s ≡ false
+  unfolding isName
+  name-not-first h e = go s h e
+    where
+      go : (l : List ℕ) → 0 < length l → (getD classes (getD l 0 0) 0 ≡ 2 → ⊥) → isName classes l ≡ false
+      go [] h e = refl
+      go (b ∷ bs) h e = ap (λ (t : Bool). t && all (later classes) bs) (ne-eqb (getD classes b 0) 2 e)
+
+  module _ (i : ℕ) where
+    pub later-next : i < length s → (getD classes (getD s i 0) 0 ≡ 0 → ⊥)
+        → all (later classes) (drop i s) ≡ all (later classes) (drop (i + 1) s)
+    unfolding all
+    later-next h e =
+        ap (all (later classes)) (from s i h)
+        ∙ ap (λ (t : Bool). t && all (later classes) (drop (i + 1) s)) (le-leb 1 (getD classes (getD s i 0) 0) (omega arith))
+
+    pub later-fails : i < length s → getD classes (getD s i 0) 0 ≡ 0 → all (later classes) (drop i s) ≡ false
+    unfolding all
+    later-fails h e =
+        ap (all (later classes)) (from s i h)
+        ∙ ap (λ (t : Bool). t && all (later classes) (drop (i + 1) s)) (lt-leb 1 (getD classes (getD s i 0) 0) (omega arith))
+
+    pub later-end : length s ≤ i → all (later classes) (drop i s) ≡ true
+    unfolding all
+    later-end h = ap (all (later classes)) (drop-of-length-le s h)
+
+-- two names of one length
+unequal : (a b : List ℕ) → (length a ≡ length b → ⊥) → sameNumbers a b ≡ false
+unfolding sameNumbers
+unequal [] [] h = absurd (h refl)
+unequal [] (y ∷ b) h = refl
+unequal (x ∷ a) [] h = refl
+unequal (x ∷ a) (y ∷ b) h = go (eqb x y) (unequal a b (λ e. h (ap suc e)))
+  where
+    go : (t : Bool) → sameNumbers a b ≡ false → (t && sameNumbers a b) ≡ false
+    go true e = e
+    go false e = refl
+
+module _ (a b : List ℕ) where
+  pub same-lengths : (length a ≡ length b → ⊥) → sameName a b ≡ false
+  unfolding sameName
+  same-lengths h = unequal a b h
+
+  module _ (i : ℕ) where
+    pub same-next : i < length a → i < length b → getD a i 0 ≡ getD b i 0
+        → sameName (drop i a) (drop i b) ≡ sameName (drop (i + 1) a) (drop (i + 1) b)
+    unfolding sameName
+    same-next h k e =
+        ap₂ sameNumbers (from a i h) (from b i k)
+        ∙ ap (λ (t : Bool). t && sameNumbers (drop (i + 1) a) (drop (i + 1) b)) (eq-eqb (getD a i 0) (getD b i 0) e)
+
+    pub same-fails : i < length a → i < length b → (getD a i 0 ≡ getD b i 0 → ⊥) → sameName (drop i a) (drop i b) ≡ false
+    unfolding sameName
+    same-fails h k e =
+        ap₂ sameNumbers (from a i h) (from b i k)
+        ∙ ap (λ (t : Bool). t && sameNumbers (drop (i + 1) a) (drop (i + 1) b)) (ne-eqb (getD a i 0) (getD b i 0) e)
+
+    pub same-end : length a ≤ i → length b ≤ i → sameName (drop i a) (drop i b) ≡ true
+    unfolding sameName
+    same-end h k = ap₂ sameNumbers (drop-of-length-le a h) (drop-of-length-le b k)

@@ -1,0 +1,43 @@
+-- What reading a document found: the nodes that the index holds, and whether they are the document's.
+use Prim.Native.Nat.{ℕ, zero, suc, _+_, _≤_, _<_}
+use mathlib.Core.List.{List, [], _∷_, _++_}
+use mathlib.Core.Path.{_≡_}
+use lib.ListN.{length, getD, take, drop}
+use Rattle.grammar.specs.Limits.{standard}
+use Rattle.grammar.specs.Names.{asciiClasses}
+use Rattle.grammar.specs.Outcome.{Outcome, given, refused}
+use Rattle.grammar.specs.ReadDocument.{Node, readNodes}
+use Rattle.grammar.specs.declared.Reading.{Reading}
+use Rattle.grammar.specs.declared.Reading.the-variants.{Readable, Refused as Unreadable}
+use Rattle.reader.specs.declared.documents.DocumentIndex.{DocumentIndex}
+use Rattle.reader.specs.declared.documents.DocumentRead.{DocumentRead}
+
+-- the node at a place: its name is the part of the input that the arrays say, its child count the array's
+abbrev pub nodeAt : (s names sizes children : List ℕ) → ℕ → Node
+nodeAt s names sizes children i =
+    record { name = take (getD sizes i 0) (drop (getD names i 0) s); children = getD children i 0 }
+
+-- the first nodes, in file order
+unfoldable pub firstNodes : (s names sizes children : List ℕ) → ℕ → List Node
+firstNodes s names sizes children zero = []
+firstNodes s names sizes children (suc n) = firstNodes s names sizes children n ++ (nodeAt s names sizes children n ∷ [])
+
+-- the nodes that an index of `s` holds
+abbrev pub nodesIn : List ℕ → DocumentIndex → List Node
+nodesIn s ix = firstNodes s (ix .names) (ix .sizes) (ix .children) (ix .nodes)
+
+-- the outcome that an answer stands for, where these nodes were read
+abbrev pub outcomeOf : Reading → List Node → Outcome (List Node)
+outcomeOf Readable ns = given ns
+outcomeOf (Unreadable r) ns = refused r
+
+-- the arrays up to a count: each name lies within the input, and each child count is within the limit
+pub record Indexed (s names sizes children : List ℕ) (nodes : ℕ) : Type 0 where
+  pub few : nodes ≤ 1024
+  pub within : (i : ℕ) → i < nodes → getD names i 0 + getD sizes i 0 ≤ length s
+  pub counts : (i : ℕ) → i < nodes → getD children i 0 ≤ 200
+
+-- what was read is the document's answer, and its nodes if it reads
+pub record DocumentReads (s : List ℕ) (r : DocumentRead) : Type 0 where
+  pub outcome : readNodes standard asciiClasses s ≡ outcomeOf (r .answer) (nodesIn s (r .index))
+  pub indexed : Indexed s (r .index .names) (r .index .sizes) (r .index .children) (r .index .nodes)

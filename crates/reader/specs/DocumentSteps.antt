@@ -1,0 +1,86 @@
+-- The steps of reading a document: the next field, and the open levels after a node.
+use Prim.Native.Nat.{ℕ, zero, suc, _-_, _≤_, _<_}
+use mathlib.Core.Bool.{Bool, true, false, _||_}
+use mathlib.Core.List.{List, [], _∷_}
+use mathlib.Core.Path.{_≡_}
+use lib.Dec.{eqb, leb, ltb}
+use lib.ListN.{length, getD, take, drop}
+use Rattle.grammar.specs.Limits.{Limits, standard}
+use Rattle.grammar.specs.Names.{asciiClasses}
+use Rattle.grammar.specs.Fields.{Field, Fields, fieldsOf}
+use Rattle.grammar.specs.Outcome.{Outcome, _>>=_}
+use Rattle.grammar.specs.ReadDocument.{Node, Opened, closed, afterNode, withNode, readNode, readNodeFields}
+use Rattle.grammar.specs.declared.Refusal.the-variants.{BadField, BadTree, BytesAfterEnd}
+use Rattle.grammar.specs.declared.Reading.{Reading}
+use Rattle.grammar.specs.declared.Reading.the-variants.{Readable, Refused as Unreadable}
+use Rattle.reader.specs.declared.documents.Step.{Step}
+use Rattle.reader.specs.declared.documents.Step.the-variants.{Node as NodeHere, Stop}
+use Rattle.reader.specs.declared.documents.Levels.{Levels}
+use Rattle.reader.specs.DocumentNodes.{outcomeOf}
+
+-- what an end field says: the size of its value, how many levels are open, how many bytes are left after it
+unfoldable pub endAnswer : ℕ → ℕ → ℕ → Reading
+endAnswer size depth left =
+    elim (eqb size 0) [
+      | false ↦ Unreadable BadField
+      | true ↦
+          elim (eqb depth 0) [
+            | false ↦ Unreadable BadTree
+            | true ↦ elim (eqb left 0) [ false ↦ Unreadable BytesAfterEnd | true ↦ Readable ]
+          ]
+    ]
+
+-- badNode by numbers: how many nodes are read, the children of the next, how many levels are open
+abbrev pub badCounts : Limits → ℕ → ℕ → ℕ → Bool
+badCounts lim nodes children depth = leb (lim .nodes) nodes || ltb (lim .children) children || ltb (lim .levels) depth || eqb depth 0
+
+-- what is read so far has so many nodes and open levels
+pub record Sized (o : Opened) (nodes depth : ℕ) : Type 0 where
+  pub read : length (o .nodes) ≡ nodes
+  pub open-levels : length (o .toCome) ≡ depth
+
+-- the rest of a document, of which `o` is read
+abbrev pub restOf : Opened → Fields → Outcome (List Node)
+restOf = readNodeFields standard asciiClasses
+
+-- the same, where the first field is no end
+abbrev pub restWith : Field → Fields → Opened → Outcome (List Node)
+restWith f rest o = readNode standard asciiClasses o f >>= λ more. restOf more rest
+
+-- A node is read: `whole` goes on behind it. Its name stands after `at`.
+pub record NodeStep (s : List ℕ) (at nodes depth : ℕ) (whole : Opened → Outcome (List Node)) (from to children : ℕ) : Type 0 where
+  pub forward : at < from
+  pub order : from ≤ to
+  pub within : to ≤ length s
+  pub room : nodes < 1024
+  pub some-level : 0 < depth
+  pub level : depth ≤ 64
+  pub few : children ≤ 200
+  pub goes : (o : Opened) → Sized o nodes depth
+      → whole o ≡ restOf (withNode o (record { name = take (to - from) (drop from s); children = children })) (fieldsOf (drop to s))
+
+-- what a step says of the rest of a document, `whole`, whatever was read before it
+abbrev pub StepSays : List ℕ → ℕ → ℕ → ℕ → (Opened → Outcome (List Node)) → Step → Type 0
+StepSays s at nodes depth whole (NodeHere from to children) = NodeStep s at nodes depth whole from to children
+StepSays s at nodes depth whole (Stop answer) = (o : Opened) → Sized o nodes depth → whole o ≡ outcomeOf answer (o .nodes)
+
+-- the open levels, innermost first: the array has them outermost first
+unfoldable pub openLevels : List ℕ → ℕ → List ℕ
+openLevels coming zero = []
+openLevels coming (suc d) = getD coming d 0 ∷ openLevels coming d
+
+-- some levels are open, and on the innermost a node is to come
+pub record Open (coming : List ℕ) (depth : ℕ) : Type 0 where
+  pub deep : depth ≤ 65
+  pub innermost : (d : ℕ) → depth ≡ suc d → 0 < getD coming d 0
+
+-- the levels left open when those with none to come are closed
+pub record Closed (coming : List ℕ) (depth left : ℕ) : Type 0 where
+  pub less : left ≤ depth
+  pub innermost : (d : ℕ) → left ≡ suc d → 0 < getD coming d 0
+  pub levels : openLevels coming left ≡ closed (openLevels coming depth)
+
+-- the levels after a node with so many children
+pub record After (levels : Levels) (children : ℕ) (r : Levels) : Type 0 where
+  pub stays : Open (r .coming) (r .depth)
+  pub levels-are : openLevels (r .coming) (r .depth) ≡ afterNode children (openLevels (levels .coming) (levels .depth))

@@ -1,0 +1,225 @@
+// Document files: nodes parent before children, left to right, then the end.
+ghost use mathlib.Core.Path.{_≡_};
+ghost use Prim.Native.Nat.{_≤_, _<_};
+ghost use lib.ListN.{length, drop};
+ghost use lib.Seq.{slice};
+ghost use Rattle.grammar.specs.Limits.{standard};
+ghost use Rattle.grammar.specs.Names.{asciiClasses};
+ghost use Rattle.grammar.specs.Fields.{fieldsOf};
+ghost use Rattle.grammar.specs.ReadDocument.{nothingRead};
+ghost use Rattle.reader.specs.DocumentNodes.{Indexed, DocumentReads, nodesIn, outcomeOf};
+ghost use Rattle.reader.specs.DocumentSteps.{endAnswer, badCounts, restOf, restWith, StepSays, Open, Closed, After};
+use crate::fields::FieldAt;
+use crate::fields::field_at;
+use crate::limits::CHILDREN;
+use crate::limits::INPUT;
+use crate::limits::LEVELS;
+use crate::limits::NAME;
+use crate::limits::NODES;
+use crate::names::is_name;
+use crate::numbers::wide;
+use grammar::Reading;
+use grammar::Refusal;
+
+const NODE_TAG: u8 = 0x30;
+
+const END_TAG: u8 = 0x3F;
+
+// For each open level, outermost first, how many nodes are still to come there.
+struct Levels {
+    pub coming: [usize; 65],
+    pub depth: usize,
+}
+
+// What the next field says.
+enum Step {
+    // A node: where its name begins and ends, and how many children it has.
+    Node(usize, usize, usize),
+    // The document ends here, with this answer.
+    Stop(Reading),
+}
+
+// The nodes of a document in file order: where each name stands, and how many children each has.
+pub struct DocumentIndex {
+    pub names: [usize; 1024],
+    pub sizes: [usize; 1024],
+    pub children: [usize; 1024],
+    pub nodes: usize,
+}
+
+// Whether a document reads, and its nodes if it does.
+pub struct DocumentRead {
+    pub answer: Reading,
+    pub index: DocumentIndex,
+}
+
+// What an end field says, with a value of `size` bytes, while `depth` levels are open, and `left` bytes after it.
+fn end_answer(size: usize, depth: usize, left: usize) -> Reading
+    ensures { λ r. ⌜ r ≡ endAnswer size depth left ⌝ }
+{
+    if size != 0 {
+        return Reading::Refused(Refusal::BadField);
+    }
+    if depth != 0 {
+        return Reading::Refused(Refusal::BadTree);
+    }
+    if left != 0 {
+        return Reading::Refused(Refusal::BytesAfterEnd);
+    }
+    Reading::Readable
+}
+
+// The node is one too many, has too many children, lies too deep or follows a complete tree.
+fn bad_node(nodes: usize, children: usize, depth: usize) -> bool
+    ensures { λ r. ⌜ r ≡ badCounts standard nodes children depth ⌝ }
+{
+    if NODES <= nodes {
+        return true;
+    }
+    if CHILDREN < children {
+        return true;
+    }
+    if LEVELS < depth {
+        return true;
+    }
+    depth == 0
+}
+
+// What a field other than the end says.
+fn node_of(s: &[u8], tag: u8, from: usize, to: usize, nodes: usize, depth: usize) -> Step
+    requires { ⌜ (from ≤ to) × (to ≤ length (now s)) ⌝ }
+    ensures { λ r. ⌜ StepSays (now (s .entry)) from nodes depth
+        (restWith (record { tag = tag; value = slice from to (now (s .entry)) }) (fieldsOf (drop to (now (s .entry))))) r ⌝ }
+{
+    let size = to - from;
+    if tag != NODE_TAG {
+        return Step::Stop(Reading::Refused(Refusal::BadField));
+    }
+    if size < 2 {
+        return Step::Stop(Reading::Refused(Refusal::BadField));
+    }
+    if NAME < size - 1 {
+        return Step::Stop(Reading::Refused(Refusal::BadField));
+    }
+    let children = wide(s[from]);
+    let name = from + 1;
+    if is_name(&s[name..to]) {
+        if bad_node(nodes, children, depth) {
+            return Step::Stop(Reading::Refused(Refusal::BadTree));
+        }
+        Step::Node(name, to, children)
+    } else {
+        Step::Stop(Reading::Refused(Refusal::BadName))
+    }
+}
+
+// What the field at a place says.
+fn step_at(s: &[u8], at: usize, nodes: usize, depth: usize) -> Step
+    ensures { λ r. ⌜ StepSays (now (s .entry)) at nodes depth (λ o. restOf o (fieldsOf (drop at (now (s .entry))))) r ⌝ }
+{
+    match field_at(s, at) {
+        FieldAt::NoBytes => Step::Stop(Reading::Refused(Refusal::FieldPastEnd)),
+        FieldAt::PastEnd => Step::Stop(Reading::Refused(Refusal::FieldPastEnd)),
+        FieldAt::Found(tag, from, to) => {
+            if tag == END_TAG {
+                let answer = end_answer(to - from, depth, s.len() - to);
+                return Step::Stop(answer);
+            }
+            node_of(s, tag, from, to, nodes, depth)
+        }
+    }
+}
+
+// The innermost of some levels with a node to come: the levels above it are closed.
+fn closed_depth(coming: &[usize], depth: usize) -> usize
+    requires { ⌜ depth ≤ length (now coming) ⌝ }
+    ensures { λ r. ⌜ Closed (now (coming .entry)) depth r ⌝ }
+{
+    let mut d = depth;
+    while 0 < d {
+        if coming[d - 1] != 0 {
+            return d;
+        }
+        d -= 1;
+    }
+    0
+}
+
+// The open levels after a node with so many children on the innermost.
+fn after_node(levels: Levels, children: usize) -> Levels
+    requires { ⌜ (0 < levels .depth) × (levels .depth ≤ 64) × Open (levels .coming) (levels .depth) ⌝ }
+    ensures { λ r. ⌜ After levels children r ⌝ }
+{
+    let mut coming = levels.coming;
+    let depth = levels.depth;
+    let top = depth - 1;
+    let left = coming[top] - 1;
+    coming[top] = left;
+    coming[depth] = children;
+    let d = closed_depth(&coming, depth + 1);
+    Levels {
+        coming: coming,
+        depth: d,
+    }
+}
+
+// The fields of a document, front to back.
+fn read_fields(s: &[u8]) -> DocumentRead
+    ensures answer { λ r. ⌜ restOf nothingRead (fieldsOf (now (s .entry))) ≡ outcomeOf (r .answer) (nodesIn (now (s .entry)) (r .index)) ⌝ }
+    ensures index { λ r. ⌜ Indexed (now (s .entry)) (r .index .names) (r .index .sizes) (r .index .children) (r .index .nodes) ⌝ }
+{
+    let mut names = [0usize; 1024];
+    let mut sizes = [0usize; 1024];
+    let mut children = [0usize; 1024];
+    let mut nodes: usize = 0;
+    let mut at: usize = 0;
+    let mut coming = [0usize; 65];
+    coming[0] = 1;
+    let mut levels = Levels {
+        coming: coming,
+        depth: 1,
+    };
+    loop {
+        let depth = levels.depth;
+        match step_at(s, at, nodes, depth) {
+            Step::Node(from, to, count) => {
+                names[nodes] = from;
+                sizes[nodes] = to - from;
+                children[nodes] = count;
+                nodes += 1;
+                at = to;
+                let more = after_node(levels, count);
+                levels = more;
+            }
+            Step::Stop(answer) => {
+                return DocumentRead {
+                    answer: answer,
+                    index: DocumentIndex {
+                        names: names,
+                        sizes: sizes,
+                        children: children,
+                        nodes: nodes,
+                    },
+                };
+            }
+        }
+    }
+}
+
+// The nodes of a document.
+pub fn read_document(s: &[u8]) -> DocumentRead
+    ensures { λ r. ⌜ DocumentReads (now (s .entry)) r ⌝ }
+{
+    if INPUT < s.len() {
+        return DocumentRead {
+            answer: Reading::Refused(Refusal::InputTooLong),
+            index: DocumentIndex {
+                names: [0; 1024],
+                sizes: [0; 1024],
+                children: [0; 1024],
+                nodes: 0,
+            },
+        };
+    }
+    read_fields(s)
+}

@@ -1,0 +1,4 @@
+pub mod BitLaws
+pub mod FourWords
+pub mod SetLaws
+pub mod SizeLaws

@@ -1,0 +1,1 @@
+// Widening tables by a table or by a document to the least local or single-type table.

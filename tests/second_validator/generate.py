@@ -1,0 +1,1381 @@
+"""Cases for the calls of document 01, with the answers of reference.py.
+
+    python3 generate.py --write DIR [--seed N] [--count M]    writes DIR/cases.bin, DIR/expected.txt
+    python3 generate.py --check DIR [--seed N] [--count M]    recomputes both and compares
+    python3 generate.py --counts    [--seed N] [--count M]    cases per call and per refusal
+    python3 generate.py --answer FILE                         the expected lines of any case file
+    python3 generate.py --listings DIR                        lister cases: DIR/NN/old.tbl, new.doc,
+                                                              expected.txt (a file may be missing)
+
+The made cases come first and are always the same; `--count` random cases follow, settled by
+`--seed`.  The same seed and count give the same files with every Python 3.
+
+cases.bin, front to back; all numbers unsigned, high byte first:
+
+    repeated for each case
+        1 byte   call, 1 to 11 (below)
+        4 bytes  W, the length of the working slice in words
+        4 bytes  F, the word that fills the working slice before the call
+        4 bytes  O, the length of the output slice in bytes (0 for calls without one)
+        4 bytes  the caller's label number (0 for calls without one)
+        4 bytes  length of the first input, then its bytes
+        4 bytes  length of the second input, then its bytes (length 0 for calls without one)
+    1 byte   0: no more cases
+
+    call 1 table_reads(table)                     7 sample(document)
+         2 document_reads(document)               8 widen_local_by_table(old, addition)
+         3 label_name(table, label)               9 widen_local_by_document(old, document)
+         4 lets_in(table, document)              10 widen_single_type_by_table(old, addition)
+         5 is_local(table)                       11 widen_single_type_by_document(old, document)
+         6 is_single_type(table)
+
+Before the call word i of the working slice is F, and byte i of the output is (165 + 7 * i) mod 256.
+
+expected.txt has one line a case, five decimal numbers with one space between, then a line feed:
+
+    call refusal value outsum worksum
+
+refusal is 0 for none.  value is 1 for yes and for readable, 0 for no, the length of a table
+written, offset * 65,536 + length of a name (the offset within the table's bytes), 0 with a refusal.
+outsum is the checksum of the whole output slice after the call; for call 3 it is that of the bytes
+of the part that came back.  worksum is the checksum of the whole working slice after the call.
+
+Checksum: h = 17; for each byte or word x in order, h = (h * 31 + x) mod 2^32.
+
+No input is longer than MOST_INPUT bytes, no output than MOST_OUTPUT, no working slice than
+MOST_WORK words.
+"""
+
+import argparse
+import os
+import sys
+from collections import Counter, namedtuple
+
+sys.dont_write_bytecode = True
+sys.path.insert(0, os.path.dirname(os.path.abspath(__file__)))
+import reference as ref  # noqa: E402
+
+MOST_INPUT, MOST_OUTPUT, MOST_WORK = 65600, 33000, 16500
+DEFAULT_SEED, DEFAULT_COUNT = 1, 1600
+
+TABLE_READS, DOCUMENT_READS, LABEL_NAME, LETS_IN, IS_LOCAL, IS_SINGLE_TYPE, SAMPLE = range(1, 8)
+LOCAL_BY_TABLE, LOCAL_BY_DOCUMENT, SINGLE_BY_TABLE, SINGLE_BY_DOCUMENT = range(8, 12)
+CALL_NAMES = {1: 'table_reads', 2: 'document_reads', 3: 'label_name', 4: 'lets_in', 5: 'is_local',
+              6: 'is_single_type', 7: 'sample', 8: 'widen_local_by_table',
+              9: 'widen_local_by_document', 10: 'widen_single_type_by_table',
+              11: 'widen_single_type_by_document'}
+WRITING = (SAMPLE, LOCAL_BY_TABLE, LOCAL_BY_DOCUMENT, SINGLE_BY_TABLE, SINGLE_BY_DOCUMENT)
+BY_TABLE = (LOCAL_BY_TABLE, SINGLE_BY_TABLE)
+BY_DOCUMENT = (LOCAL_BY_DOCUMENT, SINGLE_BY_DOCUMENT)
+
+Case = namedtuple('Case', 'call work_len work_fill out_len label first second')
+
+
+# ---------------------------------------------------------------- answers
+
+def answer_of(case):
+    w, o, a, b = case.work_len, case.out_len, case.first, case.second
+    if case.call == LABEL_NAME:
+        return ref.label_name(a, case.label, w)
+    if case.call == LETS_IN:
+        return ref.lets_in(a, b, w)
+    if case.call == SAMPLE:
+        return ref.sample(a, o, w)
+    if case.call in WRITING:
+        return getattr(ref, CALL_NAMES[case.call])(a, b, o, w)
+    return getattr(ref, CALL_NAMES[case.call])(a, w)
+
+
+def checksum(items, h=17):
+    for item in items:
+        h = (h * 31 + item) % 2**32
+    return h
+
+
+OUTPUT_FILL = bytes((165 + 7 * i) % 256 for i in range(MOST_OUTPUT))
+UNCHANGED_WORK = {}      # (length, word) -> checksum of an unchanged working slice
+
+
+def work_checksum(case, answer):
+    """checksum(ref.work_after(...)), with the run of zeros taken in one step."""
+    if answer.refusal == 1:
+        key = (case.work_len, case.work_fill)
+        if key not in UNCHANGED_WORK:
+            UNCHANGED_WORK[key] = checksum([case.work_fill] * case.work_len)
+        return UNCHANGED_WORK[key]
+    zeros = 17 * pow(31, ref.WORK_WORDS, 2**32) % 2**32
+    return checksum([case.work_fill] * (case.work_len - ref.WORK_WORDS), zeros)
+
+
+def expected_line(case):
+    answer = answer_of(case)
+    if case.call == LABEL_NAME:
+        offset, length = divmod(answer.value, 65536)
+        output = case.first[offset:offset + length]
+    else:
+        output = ref.output_after(answer, OUTPUT_FILL[:case.out_len])
+    return '%d %d %d %d %d\n' % (case.call, answer.refusal, answer.value, checksum(output),
+                                 work_checksum(case, answer))
+
+
+def case_bytes(case):
+    def number(value):
+        return value.to_bytes(4, 'big')
+    return (bytes([case.call]) + number(case.work_len) + number(case.work_fill)
+            + number(case.out_len) + number(case.label) + number(len(case.first)) + case.first
+            + number(len(case.second)) + case.second)
+
+
+def cases_in(data):
+    """The cases of a case file, read front to back."""
+    at = 0
+
+    def number(size=4):
+        nonlocal at
+        at += size
+        return int.from_bytes(data[at - size:at], 'big')
+
+    def slice_():
+        nonlocal at
+        length = number()
+        at += length
+        return data[at - length:at]
+
+    while True:
+        call = number(1)
+        if call == 0:
+            assert at == len(data)
+            return
+        work_len, work_fill, out_len, label_ = number(), number(), number(), number()
+        yield Case(call, work_len, work_fill, out_len, label_, slice_(), slice_())
+
+
+# ---------------------------------------------------------------- a generator of numbers
+
+class Numbers:
+    """Fixed pseudo-random numbers (splitmix64), so that no library changes the cases."""
+
+    def __init__(self, seed):
+        self.state = seed * 0x9E3779B97F4A7C15 % 2**64
+
+    def next(self):
+        self.state = (self.state + 0x9E3779B97F4A7C15) % 2**64
+        z = self.state
+        z = (z ^ (z >> 30)) * 0xBF58476D1CE4E5B9 % 2**64
+        z = (z ^ (z >> 27)) * 0x94D049BB133111EB % 2**64
+        return z ^ (z >> 31)
+
+    def below(self, bound):
+        return self.next() % bound
+
+    def between(self, low, high):
+        return low + self.below(high - low + 1)
+
+    def of(self, items):
+        return items[self.below(len(items))]
+
+    def chance(self, percent):
+        return self.below(100) < percent
+
+
+# ---------------------------------------------------------------- building bytes
+
+def field(tag, value):
+    return bytes([tag, len(value) // 256, len(value) % 256]) + value
+
+
+def label(name):
+    return field(0x10, name.encode('latin-1') if isinstance(name, str) else name)
+
+
+def start(type_):
+    return field(0x11, bytes([type_]))
+
+
+def rule(type_, label_, content):
+    return field(0x12, bytes([type_, label_]) + content)
+
+
+END = field(0x1F, b'')
+DOC_END = field(0x3F, b'')
+E = END
+
+NONE, EMPTY = b'\x00', b'\x01'
+
+
+def t(type_):
+    return bytes([2, type_])
+
+
+def seq(*operands):
+    return bytes([3, len(operands)]) + b''.join(operands)
+
+
+def choice(*operands):
+    return bytes([4, len(operands)]) + b''.join(operands)
+
+
+def any_of(operand, times=1):
+    return b'\x05' * times + operand
+
+
+def some_of(operand):
+    return b'\x06' + operand
+
+
+def optional(operand):
+    return b'\x07' + operand
+
+
+def table(starts, rules, names=()):
+    """A table of rules (type, name, content); labels are `names`, then others as they appear."""
+    labels = list(names)
+    for _, name, _ in rules:
+        if name not in labels:
+            labels.append(name)
+    return (b''.join(label(name) for name in labels) + b''.join(start(s) for s in starts)
+            + b''.join(rule(ty, labels.index(name), content) for ty, name, content in rules) + END)
+
+
+def node_field(children, name):
+    return field(0x30, bytes([children]) + (name.encode('latin-1') if isinstance(name, str)
+                                            else name))
+
+
+# Trees are pairs of a name and a list of trees.
+
+def tree(name, *children):
+    return (name, list(children))
+
+
+def nodes(a_tree):
+    name, children = a_tree
+    return node_field(len(children), name) + b''.join(nodes(child) for child in children)
+
+
+def document(a_tree):
+    return nodes(a_tree) + DOC_END
+
+
+def doc(name, *children):
+    return document(tree(name, *children))
+
+
+def chain(length, name='a'):
+    """One node on each of `length` levels."""
+    made = tree(name)
+    for _ in range(length - 1):
+        made = tree(name, made)
+    return made
+
+
+# ---------------------------------------------------------------- the list of cases
+
+FILLS = (0xFFFFFFFF, 0x00000001, 0x80000000, 0xDEADBEEF, 0x00010001, 0x00000000)
+
+
+class Cases:
+    """The cases so far.  Working slices and fills change from case to case."""
+
+    def __init__(self):
+        self.all = []
+
+    def add(self, call, first, second=b'', label=0, out=None, work=None, fill=None):
+        """`out`: None for a few bytes more than the result, 'exact', 'short' by one, or a length;
+        only calls that write have an output."""
+        turn = len(self.all)
+        if work is None:
+            work = ref.WORK_WORDS + (0, 0, 0, 1, 0, 7, 0, 0, 100)[turn % 9]
+        if fill is None:
+            fill = FILLS[turn % len(FILLS)]
+        case = Case(call, work, fill, MOST_OUTPUT, label, first, second)
+        if call not in WRITING:
+            case = case._replace(out_len=0)
+        elif isinstance(out, int):
+            case = case._replace(out_len=out)
+        else:
+            length = len(answer_of(case).written)
+            if out == 'exact':
+                case = case._replace(out_len=length)
+            elif out == 'short':
+                case = case._replace(out_len=max(0, length - 1))
+            else:
+                case = case._replace(out_len=min(length + 5 + turn % 40, MOST_OUTPUT))
+        self.all.append(case)
+
+    def widen(self, old, addition, **options):
+        """By a table, to both kinds."""
+        for call in BY_TABLE:
+            self.add(call, old, addition, **options)
+
+    def widen_doc(self, old, a_document, **options):
+        """By a document, to both kinds."""
+        for call in BY_DOCUMENT:
+            self.add(call, old, a_document, **options)
+
+    def kinds(self, a_table):
+        self.add(IS_LOCAL, a_table)
+        self.add(IS_SINGLE_TYPE, a_table)
+
+    def result_questions(self, old, addition, documents):
+        """Widens, asks the results for their kinds and for documents, and widens them by E."""
+        for call in BY_TABLE:
+            self.add(call, old, addition, out='exact')
+            result = answer_of(self.all[-1]).written
+            if result:
+                self.kinds(result)
+                self.add(call, result, E)
+                for a_document in documents:
+                    self.add(LETS_IN, result, a_document)
+
+
+# ---------------------------------------------------------------- the paper's cases
+
+P1 = bytes.fromhex('10000161 110001 00 120003000001 1F0000')
+P2 = bytes.fromhex('3000020061 3F0000')
+P5 = table([0], [(0, 'block', seq(t(1), t(2))), (1, 'floor', t(3)), (2, 'lift', t(4)),
+                 (3, 'door', t(5)), (4, 'door', t(6)), (5, 'time', EMPTY), (6, 'code', EMPTY)])
+P6 = table([0], [(0, 'group', seq(t(1), t(1))), (1, 'group', t(2)), (2, 'card', EMPTY)])
+P7 = table([0], [(0, 'list', choice(seq(t(1), t(2)), t(3))), (1, 'door', t(4)), (2, 'card', t(2)),
+                 (3, 'door', t(5)), (4, 'time', EMPTY), (5, 'code', EMPTY)])
+P8 = table([0], [(0, 'list', t(1)), (1, 'door', EMPTY), (1, 'lift', EMPTY)])
+P5_CROSSED = doc('block', tree('floor', tree('door', tree('code'))),
+                 tree('lift', tree('door', tree('time'))))
+P5_STRAIGHT = doc('block', tree('floor', tree('door', tree('time'))),
+                  tree('lift', tree('door', tree('code'))))
+LISTER_TABLE = table([0], [(0, 'list', any_of(t(1))), (1, 'card', seq(t(2), optional(t(3)))),
+                           (2, 'name', EMPTY), (3, 'door', EMPTY)])
+LISTER_DOC = doc('list', tree('card', tree('name'), tree('zone')))
+
+
+def paper_cases(cases):
+    cases.add(TABLE_READS, P1)
+    cases.add(LETS_IN, P1, P2)
+    cases.add(TABLE_READS, b'')
+    cases.add(DOCUMENT_READS, b'')
+    cases.widen(E, E)
+    for paper_table, documents in (
+            (P1, [P2]),
+            (P5, [P5_CROSSED, P5_STRAIGHT]),
+            (P6, [doc('group', tree('group', tree('card')), tree('group', tree('card'))),
+                  doc('group', tree('group', tree('group', tree('card')),
+                                    tree('group', tree('card'))), tree('group', tree('card'))),
+                  doc('group', tree('card')), doc('card')]),
+            (P7, [doc('list', tree('door', tree('code'))), doc('list', tree('door', tree('time')))]),
+            (P8, [doc('list', tree('door')), doc('list', tree('lift')), doc('list')]),
+            (LISTER_TABLE, [LISTER_DOC, doc('list')])):
+        cases.add(TABLE_READS, paper_table)
+        cases.kinds(paper_table)
+        for a_document in documents:
+            cases.add(LETS_IN, paper_table, a_document)
+            cases.add(SAMPLE, a_document)
+            cases.widen_doc(paper_table, a_document)
+            cases.widen_doc(E, a_document)
+        cases.result_questions(paper_table, E, documents)
+        cases.result_questions(E, paper_table, documents)
+        cases.result_questions(paper_table, paper_table, documents)
+    paper_tables = (P1, P5, P6, P7, P8, LISTER_TABLE)
+    for first in paper_tables:
+        for second in paper_tables:
+            if first != second:
+                cases.widen(first, second)
+    cases.widen_doc(P5, P5_CROSSED, out='exact')
+    cases.widen_doc(P5, P5_CROSSED, out='short')
+
+
+# ---------------------------------------------------------------- inputs that are turned back
+
+GOOD_TABLE = table([0], [(0, 'list', any_of(t(1))), (1, 'card', EMPTY)])
+GOOD_DOC = doc('list', tree('card'), tree('card'))
+HEAD = label('list') + label('card')      # two labels
+
+
+def deep(depth, operand=EMPTY):
+    """A content that nests `depth` deep."""
+    return any_of(operand, depth - 1)
+
+
+def one_rule(content):
+    return HEAD + start(0) + rule(0, 0, content) + END
+
+
+def names_of(count, length=2):
+    return [('n%0*d' % (length - 1, i)) for i in range(count)]
+
+
+def flat_table(count):
+    """`count` labels, starts and rules."""
+    return (b''.join(label(name) for name in names_of(count, 3)) +
+            b''.join(start(i) for i in range(count)) +
+            b''.join(rule(i, i, EMPTY) for i in range(count)) + END)
+
+
+def refused_tables():
+    """Small tables that reading turns back, by refusal; some with two faults, for their order."""
+    labels65 = b''.join(label(name) for name in names_of(65, 3))
+    labels64 = b''.join(label(name) for name in names_of(64, 3))
+    starts64 = b''.join(start(i) for i in range(64))
+    rules64 = b''.join(rule(i, 0, EMPTY) for i in range(64))
+    return {
+        3: [
+            b'', GOOD_TABLE[:-1], GOOD_TABLE[:-2], GOOD_TABLE[:-3], GOOD_TABLE[:1], GOOD_TABLE[:2],
+            GOOD_TABLE[:3], GOOD_TABLE[:5], HEAD, HEAD + start(0), b'\x1f', b'\x1f\x00',
+            b'\x1f\x00\x01',                                  # end field with a value that is missing
+            b'\x99\x00\x01',                                  # foreign and past the end: 3
+            b'\x10\xff\xff' + b'a' * 70, HEAD + b'\x11\x00\x02\x00', HEAD + b'\x12\x04\x03\x00\x00\x01',
+        ],
+        4: [
+            b'\x99\x00\x00' + END, b'\x13\x00\x03\x00\x00\x01' + END, b'\x00\x00\x00' + END,
+            GOOD_DOC, b'\x0f\x00\x01a' + END, b'\x1e\x00\x00' + END, b'\x20\x00\x00',
+            start(0) + label('a') + END, HEAD + rule(0, 0, EMPTY) + start(0) + END,
+            HEAD + rule(0, 0, EMPTY) + label('b') + END, start(0) + b'\x10\x00\x00' + END,
+            b'\x10\x00\x00' + END, b'\x10\x00\x00' + label('!') + END, label('a' * 64) + END,
+            label('a' * 64 + '!') + END,
+            b'\x11\x00\x00' + END, b'\x11\x00\x02\x00\x00' + END,
+            HEAD + b'\x12\x00\x00' + END, HEAD + b'\x12\x00\x01\x00' + END,
+            HEAD + b'\x12\x00\x02\x00\x00' + END,
+            HEAD + b'\x12\x00\x02\xff\xff' + END,             # no content, type above 63: 4
+            HEAD + rule(0, 0, EMPTY * 1025) + END, b'\x1f\x00\x01a', b'\x1f\x00\x01a' + b'zz',
+            b'\x1f\x01\x00' + b'a' * 256, b'\x30\x00\x02\x00\x61' + END,
+        ],
+        5: [
+            label('1a') + END, label('-a') + END, label('.a') + END, label('a b') + END,
+            label('a\xe9') + END, label('a:b') + END, label('a\x00') + END,
+            label('a') + label('?') + END,
+            labels64 + label('9') + END,                      # 65th with a bad name: 5
+        ],
+        6: [
+            label('a') + label('a') + END, label('a') + label('b') + label('a') + END,
+            labels64 + label('n00') + END,                    # 65th and repeated: 6
+            start(0) + start(0) + END, start(5) + start(7) + start(5) + END,
+            starts64 + start(63) + END,
+        ],
+        7: [
+            labels65 + END, starts64 + start(64) + END, HEAD + rules64 + rule(0, 0, EMPTY) + END,
+            HEAD + rules64 + rule(64, 9, b'\x09') + END,      # 65th rule with 8 and 9: 7
+            labels65 + label('n00') + END,
+        ],
+        8: [
+            start(64) + END, start(255) + END, start(64) + start(64) + END,
+            HEAD + rule(64, 0, EMPTY) + END, HEAD + rule(255, 0, EMPTY) + END,
+            HEAD + rule(0, 2, EMPTY) + END, HEAD + rule(0, 255, EMPTY) + END, rule(0, 0, EMPTY) + END,
+            HEAD + rule(0, 2, b'\x08') + END,                 # label and content: 8
+            HEAD + rule(64, 2, deep(33)) + END,
+        ],
+        9: [
+            one_rule(b'\x08'), one_rule(b'\xff'), one_rule(b'\x02'), one_rule(b'\x02\x40'),
+            one_rule(b'\x02\xff'), one_rule(EMPTY + EMPTY), one_rule(NONE + NONE), one_rule(t(0) + t(1)),
+            one_rule(b'\x03'), one_rule(b'\x04'), one_rule(b'\x03\x00'), one_rule(b'\x04\x00'),
+            one_rule(b'\x03\x01\x01'), one_rule(b'\x04\x01\x01'), one_rule(b'\x03\x02\x01'),
+            one_rule(b'\x04\x02\x01'), one_rule(b'\x03\x02\x01\x01\x01'), one_rule(b'\x05'),
+            one_rule(b'\x06'), one_rule(b'\x07'), one_rule(b'\x05\x01\x01'),
+            one_rule(b'\x04\xff' + EMPTY * 254),
+            one_rule(b'\x05\x08'), one_rule(seq(t(0), b'\x09')), one_rule(choice(t(0), t(64))),
+            one_rule(deep(40) + EMPTY), one_rule(deep(33, b'\x08')), one_rule(deep(40)[:-1]),
+            one_rule(seq(deep(33), t(64))),                   # 10 inside, 9 after it: 9
+            one_rule(deep(1024)[:-1]),
+        ],
+        10: [
+            one_rule(deep(33)), one_rule(deep(33, t(0))), one_rule(seq(deep(32), EMPTY)),
+            one_rule(choice(EMPTY, deep(32, t(1)))), one_rule(deep(1024)), one_rule(b'\x06' * 32 + EMPTY),
+            one_rule(b'\x07' * 32 + NONE), HEAD + rule(0, 0, deep(33)) + rule(64, 0, EMPTY) + END,
+        ],
+        12: [
+            GOOD_TABLE + b'\x00', GOOD_TABLE + END, GOOD_TABLE + GOOD_TABLE, END + b'\xff',
+            END + END, END + label('a'),
+        ],
+    }
+
+
+def refused_documents():
+    """Small documents that reading turns back, by refusal."""
+    return {
+        3: [
+            b'', GOOD_DOC[:-1], GOOD_DOC[:-2], GOOD_DOC[:-3], GOOD_DOC[:1], GOOD_DOC[:2], GOOD_DOC[:3],
+            GOOD_DOC[:6], b'\x3f\x00\x05', b'\x31\x00\x05a', node_field(0, 'a'), node_field(1, 'a'),
+            b'\x30\x00\x40\x00' + b'a' * 62,
+        ],
+        4: [
+            b'\x31\x00\x02\x00a' + DOC_END, b'\x32\x00\x02\x00a' + DOC_END, GOOD_TABLE, E,
+            b'\x30\x00\x01\x00' + DOC_END, b'\x30\x00\x00' + DOC_END, node_field(0, 'a' * 64) + DOC_END,
+            node_field(0, 'a' * 64 + '!') + DOC_END, b'\x3f\x00\x01a', node_field(1, 'a') + b'\x3f\x00\x01a',
+            node_field(0, 'a') + b'\x3f\x00\x01a' + b'zz', node_field(0, 'a') + b'\x3e\x00\x00',
+            node_field(0, 'a') + b'\x1f\x00\x00', node_field(0, 'a') + label('b') + DOC_END,
+        ],
+        5: [
+            doc('1'), doc('-'), doc('a b'), doc('a\xff'), doc('list', tree('_'), tree('?')),
+            node_field(201, '!') + DOC_END,                   # bad name with 201 children: 5
+            node_field(0, 'a') + node_field(0, '!') + DOC_END,  # after a complete tree: 5
+            document(chain(64)).replace(b'\x30\x00\x02\x00a', b'\x30\x00\x02\x01a' + b'\x30\x00\x02\x00!'),
+        ],
+        11: [
+            DOC_END, DOC_END + b'\x00', node_field(1, 'a') + DOC_END,
+            node_field(2, 'a') + node_field(0, 'b') + DOC_END, node_field(1, 'a') + DOC_END + b'\x00',
+            node_field(0, 'a') + node_field(0, 'b') + DOC_END,
+            node_field(1, 'a') + node_field(0, 'b') + node_field(0, 'c') + DOC_END,
+            node_field(201, 'a') + DOC_END, node_field(255, 'a') + DOC_END,
+            node_field(201, 'a') + b'\x99', doc('a', *[tree('b')] * 201), document(chain(65)),
+            document(chain(64, 'x'))[:-3].replace(b'\x30\x00\x02\x00x', b'\x30\x00\x02\x01x') + DOC_END,
+            node_field(1, 'a') + node_field(201, 'b') + DOC_END,
+        ],
+        12: [
+            GOOD_DOC + b'\x00', GOOD_DOC + DOC_END, GOOD_DOC + GOOD_DOC, GOOD_DOC + b'\x30',
+        ],
+    }
+
+
+def refusal_cases(cases):
+    for number, faulty in enumerate(sum(refused_tables().values(), [])):
+        cases.add(TABLE_READS, faulty)
+        # The other calls in turn, the faulty table first or second.
+        others = [
+            lambda: cases.add(LABEL_NAME, faulty, label=number % 3),
+            lambda: cases.add(LETS_IN, faulty, GOOD_DOC),
+            lambda: cases.add(IS_LOCAL, faulty),
+            lambda: cases.add(IS_SINGLE_TYPE, faulty),
+            lambda: cases.add(LOCAL_BY_TABLE, faulty, GOOD_TABLE),
+            lambda: cases.add(LOCAL_BY_TABLE, GOOD_TABLE, faulty),
+            lambda: cases.add(LOCAL_BY_DOCUMENT, faulty, GOOD_DOC),
+            lambda: cases.add(SINGLE_BY_TABLE, faulty, GOOD_TABLE),
+            lambda: cases.add(SINGLE_BY_TABLE, GOOD_TABLE, faulty),
+            lambda: cases.add(SINGLE_BY_DOCUMENT, faulty, GOOD_DOC),
+        ]
+        for turn in range(3):
+            others[(number * 3 + turn) % len(others)]()
+    for number, faulty in enumerate(sum(refused_documents().values(), [])):
+        cases.add(DOCUMENT_READS, faulty)
+        cases.add(SAMPLE, faulty, out=number % 50)
+        cases.add(LETS_IN, GOOD_TABLE, faulty)
+        cases.add(BY_DOCUMENT[number % 2], GOOD_TABLE, faulty, out=number % 50)
+
+    # One small input for each refusal by reading, through every call and every place for it.
+    one_of_each = {3: GOOD_TABLE[:-1], 4: start(0) + label('a') + END, 5: label('1') + END,
+                   6: start(3) + start(3) + END, 7: flat_table(64)[:-3] + rule(0, 0, EMPTY) + END,
+                   8: start(99) + END, 9: one_rule(b'\x08'), 10: one_rule(deep(33)),
+                   12: GOOD_TABLE + b'\x00'}
+    for faulty in one_of_each.values():
+        for call in (TABLE_READS, LABEL_NAME, IS_LOCAL, IS_SINGLE_TYPE):
+            cases.add(call, faulty, label=1)
+        for call in (LETS_IN,) + BY_DOCUMENT:
+            cases.add(call, faulty, GOOD_DOC)
+        for call in BY_TABLE:
+            cases.add(call, faulty, GOOD_TABLE)
+            cases.add(call, GOOD_TABLE, faulty)
+    for faulty in (GOOD_DOC[:-1], b'\x31\x00\x00', doc('1'), DOC_END, GOOD_DOC + b'\x00'):
+        for call in (DOCUMENT_READS, SAMPLE):
+            cases.add(call, faulty)
+        for call in (LETS_IN,) + BY_DOCUMENT:
+            cases.add(call, GOOD_TABLE, faulty)
+
+    # The old table comes first, whatever is wrong with the addition.
+    for first in one_of_each.values():
+        for second in (b'', label('1') + END, END + b'\x00'):
+            cases.add(BY_TABLE[len(cases.all) % 2], first, second)
+        for second in (b'', doc('1'), DOC_END, GOOD_DOC + b'\x00'):
+            cases.add(((LETS_IN,) + BY_DOCUMENT)[len(cases.all) % 3], first, second)
+
+    # 1, with good inputs, with bad ones, and with a short output.
+    for call in CALL_NAMES:
+        first = GOOD_DOC if call in (DOCUMENT_READS, SAMPLE) else GOOD_TABLE
+        second = GOOD_DOC if call in (LETS_IN,) + BY_DOCUMENT else GOOD_TABLE if call in BY_TABLE else b''
+        for work in (0, 1, 16383):
+            cases.add(call, first, second, work=work, out=100)
+        cases.add(call, b'', b'', work=16383, out=0)
+        cases.add(call, first, second, work=16384, fill=0xFFFFFFFF)
+        cases.add(call, first, second, work=16384, fill=0)
+        cases.add(call, first, second, work=16385, fill=0xFFFFFFFF)
+        cases.add(call, first, second, work=MOST_WORK, fill=0xFFFFFFFF, out=0)
+        if call in WRITING:
+            for out in ('exact', 'short', 0, 1, 2, 1000):
+                cases.add(call, first, second, out=out)
+
+    # 8 for a caller's label number, after the table.
+    for number in (0, 1, 2, 3, 63, 64, 255, 256, 257, 65535, 65536, 2**31, 2**32 - 1):
+        cases.add(LABEL_NAME, GOOD_TABLE, label=number)
+        cases.add(LABEL_NAME, E, label=number)
+        cases.add(LABEL_NAME, GOOD_TABLE + b'\x00', label=number)
+    for number in range(65):
+        cases.add(LABEL_NAME, flat_table(64), label=number)
+    long_names = [c * n for c, n in zip('abcdefgh', (1, 63, 2, 62, 31, 63, 1, 5))]
+    for number in range(9):
+        cases.add(LABEL_NAME, table([], [], long_names), label=number)
+
+
+# ---------------------------------------------------------------- the edges of reading
+
+def byte_cases(cases):
+    """Every byte as the first and as a later byte of a name, in tables and documents."""
+    for byte in range(256):
+        first, later = bytes([byte]), b'a' + bytes([byte])
+        if byte % 2:
+            cases.add(TABLE_READS, label(first) + END)
+            cases.add(DOCUMENT_READS, node_field(0, later) + DOC_END)
+        else:
+            cases.add(DOCUMENT_READS, node_field(0, first) + DOC_END)
+            cases.add(TABLE_READS, label(later) + END)
+    for operator in list(range(0, 20)) + [0x20, 0x40, 0x7F, 0x80, 0xFE, 0xFF]:
+        for operands in (b'', EMPTY, t(1), b'\x02' + EMPTY + EMPTY):
+            cases.add(TABLE_READS, one_rule(bytes([operator]) + operands))
+    for tag in range(0, 256, 5):
+        cases.add(TABLE_READS, HEAD + bytes([tag, 0, 1, 0]) + END)
+        cases.add(DOCUMENT_READS, bytes([tag, 0, 2, 0]) + b'a' + DOC_END)
+
+
+def wide_doc(children):
+    return tree('list', *[tree('card')] * children)
+
+
+def big_doc(count):
+    """Exactly `count` nodes (1,000 to 1,025): a root, 200 cards, and fours or fives below."""
+    below = count - 201
+    cards = []
+    for number in range(200):
+        here = below // 200 + (1 if number < below % 200 else 0)
+        cards.append(tree('card', *[tree('name')] * here))
+    return tree('list', *cards)
+
+
+CARDS = table([0], [(0, 'list', any_of(t(1))), (1, 'card', any_of(t(2))), (2, 'name', EMPTY)])
+CHAIN = table([0], [(0, 'a', optional(t(0)))])
+
+
+def padded_document(length):
+    """A document of exactly `length` bytes: 600 nodes, names as long as needed."""
+    count = 600
+    spare = length - 3 - 4 * count          # bytes of all names together
+    sizes = [spare // count + (1 if i < spare % count else 0) for i in range(count)]
+    names = ['b' * size for size in sizes]
+    groups = [tree(names[1 + 6 * i], *[tree(name) for name in names[2 + 6 * i:7 + 6 * i]])
+              for i in range(99)]
+    rest = [tree(name) for name in names[595:]]
+    return document(tree(names[0], *(groups + rest)))
+
+
+def padded_table(length):
+    """A table of exactly `length` bytes (30,000 to 32,800) that widening by E only copies: 64
+    labels, one rule each, all types reached from the start 0 in their order."""
+    names = names_of(64, 3)
+    contents = [choice(*[t(i) for i in range(1, 64)])] + [EMPTY] * 63
+    fixed = 64 * 6 + 4 + 64 * 5 + len(contents[0]) + 1 + 3     # rule 63 stays empty
+    spare = length - fixed
+    for i in range(1, 63):
+        size = spare // (63 - i)
+        spare -= size
+        types = (size - 2) // 2
+        types = min(types, 200)
+        marks = size - 2 - 2 * types
+        contents[i] = seq(*[any_of(t(63)) if k < marks else t(63) for k in range(types)])
+    made = table([0], [(i, names[i], contents[i]) for i in range(64)])
+    assert len(made) == length, (len(made), length)
+    return made
+
+
+def edge_cases(cases):
+    # 64 and 65 labels, starts and rules; each alone.
+    for count in (63, 64, 65):
+        cases.add(TABLE_READS, b''.join(label(n) for n in names_of(count, 3)) + END)
+        cases.add(TABLE_READS, b''.join(start(i) for i in range(count)) + END)
+        cases.add(TABLE_READS, HEAD + b''.join(rule(i % 64, i % 2, EMPTY) for i in range(count)) + END)
+    cases.kinds(flat_table(64))
+    cases.widen(flat_table(64), E)
+    cases.widen(flat_table(64), flat_table(64))
+    # Names of 1, 63 and 64 bytes, contents of 1, 1,024 and 1,025 bytes.
+    for length in (1, 2, 62, 63, 64):
+        cases.add(TABLE_READS, label('n' * length) + END)
+        cases.add(DOCUMENT_READS, doc('n' * length))
+        cases.add(SAMPLE, doc('n' * length))
+        cases.widen_doc(E, doc('n' * length))
+    content_1024 = seq(*([t(0)] * 250 + [seq(*[t(1)] * 255), any_of(t(1), 6), EMPTY]))
+    content_1024 = b'\x05' * (1024 - len(content_1024)) + content_1024
+    assert len(content_1024) == 1024
+    for content in (content_1024, content_1024 + b'\x00', b'\x05' + content_1024):
+        cases.add(TABLE_READS, one_rule(content))
+    # Nesting 32 and 33 by each operator.
+    for depth in (31, 32, 33):
+        for operator in (b'\x05', b'\x06', b'\x07', b'\x03\x02\x01', b'\x04\x02\x02\x01'):
+            content = operator * (depth - 1) + t(1)
+            a_table = table([0], [(0, 'list', content), (1, 'card', EMPTY)])
+            cases.add(TABLE_READS, a_table)
+            cases.add(LETS_IN, a_table, doc('list', tree('card')))
+            cases.add(LETS_IN, a_table, doc('list'))
+            cases.widen(a_table, E)
+    # Sequences and choices of 2 and of 255.
+    for count in (2, 3, 199, 200, 254, 255):
+        a_table = table([0], [(0, 'list', seq(*[optional(t(1))] * count)), (1, 'card', EMPTY)])
+        cases.add(LETS_IN, a_table, document(wide_doc(min(count, 200))))
+        if count < 200:
+            cases.add(LETS_IN, a_table, document(wide_doc(count + 1)))
+        a_table = table([0], [(0, 'list', choice(*[t(1)] * count)), (1, 'card', EMPTY)])
+        cases.widen(a_table, E)
+    # Children, levels, nodes.
+    for children in (0, 1, 199, 200, 201):
+        a_document = document(wide_doc(children))
+        cases.add(DOCUMENT_READS, a_document)
+        cases.add(LETS_IN, GOOD_TABLE, a_document)
+        cases.add(SAMPLE, a_document)
+    cases.widen_doc(GOOD_TABLE, document(wide_doc(200)))
+    cases.widen_doc(GOOD_TABLE, document(wide_doc(201)))
+    for levels in (1, 63, 64, 65):
+        a_document = document(chain(levels))
+        cases.add(DOCUMENT_READS, a_document)
+        cases.add(LETS_IN, CHAIN, a_document)
+        cases.add(SAMPLE, a_document)
+        cases.widen_doc(CHAIN, a_document)
+        cases.widen_doc(E, a_document)
+    deep_list = document(tree('a', *[chain(63)] * 16))     # 1,009 nodes on 64 levels
+    cases.add(LETS_IN, table([0], [(0, 'a', any_of(t(0)))]), deep_list)
+    cases.add(LETS_IN, CHAIN, deep_list)
+    cases.add(SAMPLE, deep_list)
+    for count in (1023, 1024, 1025):
+        a_document = document(big_doc(count))
+        cases.add(DOCUMENT_READS, a_document)
+        cases.add(LETS_IN, CARDS, a_document)
+        cases.add(SAMPLE, a_document)
+    cases.add(LOCAL_BY_DOCUMENT, CARDS, document(big_doc(1024)))
+    cases.add(SINGLE_BY_DOCUMENT, CARDS, document(big_doc(1025)))
+    cases.add(LETS_IN, LISTER_TABLE, document(big_doc(1024)))
+    # Lengths of 32,768 and 32,769 bytes.
+    full, over = padded_table(32768), padded_table(32769)
+    cases.add(TABLE_READS, full)
+    cases.add(TABLE_READS, over)
+    cases.add(IS_SINGLE_TYPE, full)
+    cases.add(IS_SINGLE_TYPE, over)
+    cases.add(IS_LOCAL, over)
+    cases.add(LABEL_NAME, full, label=63)
+    cases.add(LABEL_NAME, over, label=99)
+    cases.add(LOCAL_BY_TABLE, E, over)
+    cases.add(LOCAL_BY_TABLE, b'', over)
+    cases.add(SINGLE_BY_TABLE, over, b'')
+    cases.add(LETS_IN, full, doc('n00', tree('n63')))
+    full_doc, over_doc = padded_document(32768), padded_document(32769)
+    cases.add(DOCUMENT_READS, full_doc)
+    cases.add(DOCUMENT_READS, over_doc)
+    cases.add(SAMPLE, full_doc)
+    cases.add(LETS_IN, E, over_doc)
+    cases.add(SAMPLE, over_doc)
+    cases.add(LOCAL_BY_DOCUMENT, over, GOOD_DOC)
+    cases.add(SINGLE_BY_DOCUMENT, E, over_doc)
+    cases.add(LOCAL_BY_DOCUMENT, E + b'\x00', over_doc)
+    cases.add(TABLE_READS, E + b'\x00' * 32765)          # 12
+    cases.add(TABLE_READS, E + b'\x00' * 65536)          # 2, though 65,539 mod 65,536 is 3
+
+
+# ---------------------------------------------------------------- the limits of 14
+
+def leaves(count):
+    """Rules 1 to `count` of empty leaves; 'n01' names type 1."""
+    return [(i, 'n%02d' % i, EMPTY) for i in range(1, count + 1)]
+
+
+def operands(count):
+    """`count` different small operands over types 1 to 63, fewest bytes first; 256 at most."""
+    made = [EMPTY, any_of(EMPTY), some_of(EMPTY), optional(EMPTY)]
+    made += [t(i) for i in range(1, 64)]
+    made += [any_of(t(i)) for i in range(1, 64)]
+    made += [some_of(t(i)) for i in range(1, 64)]
+    made += [optional(t(i)) for i in range(1, 64)]
+    return made[:count]
+
+
+def limit_cases(cases):
+    # 64 and 65 types.
+    for count in (62, 63):
+        old = table([0], [(0, 'n00', choice(*[t(i) for i in range(1, count + 1)]))] + leaves(count))
+        cases.widen(old, table([9], [(9, 'extra', EMPTY)]), out='exact')
+        cases.widen_doc(old, doc('extra'))
+        cases.widen(old, E)
+        cases.add(LOCAL_BY_TABLE, old, table([9], [(9, 'extra', EMPTY)]), out=0)
+    for count in (63, 64):     # the sample: a root and `count` children
+        a_document = doc('root', *[tree('c%02d' % i) for i in range(count)])
+        cases.add(SAMPLE, a_document, out='exact')
+        cases.add(SAMPLE, a_document, out=0)
+        cases.widen_doc(E, a_document)
+        cases.widen_doc(P1, a_document)
+        cases.widen_doc(P1, doc('a', *[tree('c%02d' % i) for i in range(count)]))
+    for groups in (21, 22):    # 1 + 3 * groups paths with few names: 64 and 67
+        a_document = doc('r', *[tree('g%d' % i, tree('x'), tree('y')) for i in range(groups)])
+        cases.add(SAMPLE, a_document)
+        cases.widen_doc(E, a_document)
+        cases.widen_doc(P8, a_document)
+    # Single-type sets as of a word automaton: an a, then `more` further letters to the end.
+    for more in (1, 2, 3, 4, 5, 6, 7, 20):
+        states = [(0, 'a', choice(t(0), t(1))), (0, 'b', t(0))]
+        for state in range(1, more + 1):
+            following = EMPTY if state == more else t(state + 1)
+            states += [(state, 'a', following), (state, 'b', following)]
+        cases.widen(table([0], states), E)
+        letters = 'abbaabab' + 'a' + 'b' * more
+        made = tree(letters[-1])
+        for letter in reversed(letters[:-1]):
+            made = tree(letter, made)
+        cases.add(LETS_IN, table([0], states), document(made))
+        cases.widen_doc(table([0], states), document(made))
+    # Unfruitful types do not count.
+    old = table([0], [(0, 'n00', choice(*[t(i) for i in range(1, 64)]))] + leaves(62)
+                + [(63, 'n63', t(63))])
+    cases.widen(old, table([9], [(9, 'extra', EMPTY)]))
+    # A content of 1,024 and 1,025 bytes.
+    for spare in (0, 1):
+        old = table([0], [(0, 'r', seq(*[t(1)] * 255)), (1, 'c', EMPTY)])
+        more = [t(1)] * 254 if spare == 0 else [t(1)] * 252 + [any_of(t(1)), any_of(EMPTY)]
+        addition = table([0], [(0, 'r', seq(*more)), (1, 'c', EMPTY)])
+        cases.widen(old, addition, out='exact')
+        marked = [any_of(t(1))] * (108 + spare) + [t(1)] * (147 - spare)
+        old = table([0], [(0, 'r', seq(*marked)), (1, 'c', EMPTY)])
+        cases.widen_doc(old, doc('r', *[tree('c')] * 200))
+        # Normalising alone lengthens a content: t1 has two labels.
+        count = (1024 - 2 - spare) // 6
+        body = [t(1)] * count
+        rest = 1024 + spare - 2 - 6 * count
+        body += [any_of(EMPTY, rest - 1)] if rest > 0 else []
+        old = table([0], [(0, 'r', seq(*body)), (1, 'c', EMPTY), (1, 'd', EMPTY)])
+        cases.widen(old, E)
+    # The sample's content of 1,024, 1,025 and 1,026 bytes; each group is a node of one path.
+    for empty, last in ((0, 5), (1, 5), (0, 6)):
+        groups = [tree('g', *([tree('x')] * (99 - i) + [tree('y')] + [tree('x')] * i)) for i in range(5)]
+        groups += [tree('g', *[tree('x')] * last)] + [tree('g')] * empty + groups[:1]
+        a_document = doc('r', *groups)
+        cases.add(SAMPLE, a_document)
+        cases.widen_doc(E, a_document)
+        cases.widen_doc(P1, a_document, out=0)
+    # Nesting 32 and 33, by merging and by normalising.
+    for depth in (30, 31, 32):
+        old = table([0], [(0, 'r', deep(depth, t(1))), (1, 'c', EMPTY)])
+        cases.widen(old, table([0], [(0, 'r', EMPTY)]), out='exact')
+        cases.widen(old, table([0], [(0, 'r', deep(depth, t(1))), (1, 'c', EMPTY)]))
+        cases.widen_doc(old, doc('r', tree('c'), tree('c')))
+        cases.widen_doc(old, doc('r', tree('d')))
+        two = table([0], [(0, 'r', deep(depth, t(1))), (1, 'c', EMPTY), (1, 'd', EMPTY)])
+        cases.widen(two, E)
+        cases.widen(two, E, out=0)
+        nested = EMPTY
+        for _ in range(depth - 1):
+            nested = choice(nested, any_of(t(1)) if depth < 32 else t(1))
+        cases.widen(table([0], [(0, 'r', nested), (1, 'c', EMPTY)]), E)
+    # Choices of 255 and 256.
+    for count in (255, 256):
+        made = operands(256)
+        root = choice(choice(*made[:100]), choice(*made[100:count]))
+        old = table([0], [(0, 'n00', root)] + leaves(63))
+        cases.widen(old, E, out='exact')
+        inner = table([0], [(0, 'n00', any_of(root))] + leaves(63))
+        cases.widen(inner, E)
+        old = table([0], [(0, 'n00', choice(*made[:128]))] + leaves(63))
+        addition = table([0], [(0, 'n00', choice(*made[128:count]))] + leaves(63))
+        cases.widen(old, addition)
+        old = table([0], [(0, 'n00', choice(choice(*made[1:100]), choice(*made[100:count])))] + leaves(63))
+        cases.widen_doc(old, doc('n00'))
+        cases.widen_doc(old, doc('n00', tree('n05')))       # byte-equal to an operand
+    # 32,768 and 32,769 bytes in all.
+    cases.widen(padded_table(32768), E, out='exact')
+    cases.add(LOCAL_BY_TABLE, padded_table(32768), E, out='short')
+    cases.add(SINGLE_BY_TABLE, E, padded_table(32768), out=MOST_OUTPUT)
+    for length in (32766, 32767):       # n00 gets one more operand of 2 bytes
+        cases.widen(padded_table(length), table([0], [(0, 'n00', any_of(EMPTY))]), out='exact')
+    for length in (32764, 32765):       # n63 gets a choice: 4 bytes more
+        cases.add(LOCAL_BY_TABLE, padded_table(length),
+                  table([0], [(0, 'n00', t(1)), (1, 'n63', any_of(EMPTY))]), out='exact')
+    for length in (32767, 32768):       # n00 gets one more operand of 1 byte
+        cases.widen_doc(padded_table(length), doc('n00'), out='exact')
+
+
+# ---------------------------------------------------------------- meaning and kinds
+
+def meaning_cases(cases):
+    leaf = [(1, 'a', EMPTY), (2, 'b', EMPTY)]
+    a, b = tree('a'), tree('b')
+    words = ([], [a], [b], [a, a], [a, b], [b, a], [b, b], [a, b, a], [a, a, b], [a] * 5,
+             [a, b] * 3, [tree('c')], [a, tree('a', a)])
+    contents = [NONE, EMPTY, t(1), seq(t(1), t(2)), choice(t(1), t(2)), any_of(t(1)), some_of(t(1)),
+                optional(t(1)), any_of(NONE), some_of(NONE), optional(NONE), any_of(EMPTY),
+                some_of(EMPTY), optional(EMPTY), seq(t(1), NONE), choice(t(1), NONE), t(9),
+                any_of(seq(t(1), t(2))), some_of(choice(t(1), t(2))), optional(seq(t(1), t(2), t(1))),
+                seq(any_of(t(1)), any_of(t(1)), t(2)), any_of(any_of(choice(t(1), t(2)))),
+                some_of(optional(t(1))), seq(optional(t(1)), t(1), optional(t(2))),
+                choice(seq(t(1), t(1)), seq(t(1), t(2)), EMPTY), any_of(choice(t(1), seq(t(1), t(1)))),
+                seq(any_of(t(9)), t(1)), choice(t(9), seq(t(9), t(1)), t(2)), some_of(choice(t(9), t(1)))]
+    for number, content in enumerate(contents):
+        a_table = table([0], [(0, 'r', content)] + leaf)
+        for turn, word in enumerate(words):
+            if (number + turn) % 3 == 0 or turn < 3:
+                cases.add(LETS_IN, a_table, document(('r', word)))
+        cases.widen(a_table, E)
+        cases.widen_doc(a_table, document(('r', words[number % len(words)])))
+        if number:
+            cases.widen(a_table, table([0], [(0, 'r', contents[number - 1])] + leaf))
+    # Several ways to derive: types of one label, rules of one pair, several starts.
+    ambiguous = table([0, 1], [(0, 'r', seq(any_of(choice(t(2), t(3))), t(2))), (1, 'r', any_of(t(3))),
+                               (2, 'a', EMPTY), (2, 'a', t(2)), (3, 'a', t(3)), (3, 'a', EMPTY)])
+    for a_tree in (tree('r'), tree('r', a), tree('r', a, a, a), tree('r', tree('a', a), a),
+                   tree('r', tree('a', b)), tree('a'), tree('q'), tree('r', tree('a', a, a))):
+        cases.add(LETS_IN, ambiguous, document(a_tree))
+        cases.widen_doc(ambiguous, document(a_tree))
+    cases.kinds(ambiguous)
+    cases.widen(ambiguous, E)
+    # Long runs that a careless search takes too long for.
+    many = [tree('a')] * 60
+    for content in (any_of(any_of(any_of(t(1)))), any_of(choice(t(1), seq(t(1), t(1)), t(1))),
+                    seq(*[optional(t(1))] * 60), some_of(some_of(optional(some_of(t(1)))))):
+        a_table = table([0], [(0, 'r', content), (1, 'a', EMPTY), (2, 'b', EMPTY)])
+        cases.add(LETS_IN, a_table, document(('r', many)))
+        cases.add(LETS_IN, a_table, document(('r', many + [b])))
+        cases.add(LETS_IN, a_table, document(('r', many + [a])))
+    # 13: no start, starts without rules, only unfruitful starts; and additions that change it.
+    fruitless = [E, start(0) + END, table([], [(0, 'a', EMPTY)]), table([0], [(0, 'a', t(0))]),
+                 table([0], [(0, 'a', NONE)]), table([0], [(0, 'a', t(1)), (1, 'b', t(0))]),
+                 table([5], [(0, 'a', EMPTY)]), table([0], [(0, 'a', some_of(t(7)))]),
+                 table([0], [(0, 'a', seq(t(1), NONE)), (1, 'b', EMPTY)]), label('a') + END,
+                 table([0], [(0, 'a', choice(t(0), t(1), NONE)), (1, 'b', some_of(t(0)))])]
+    for number, first in enumerate(fruitless):
+        for second in (fruitless[(number + 3) % len(fruitless)], E, P1, P8):
+            cases.widen(first, second)
+        cases.add(BY_TABLE[number % 2], first, E, out=0)
+        cases.widen_doc(first, GOOD_DOC)
+        cases.kinds(first)
+        cases.add(LETS_IN, first, P2)
+    # The addition's types are its own, also where the numbers are the old ones.
+    cases.widen(table([0], [(0, 'a', t(1))]), table([1], [(1, 'b', EMPTY)]))
+    cases.widen(table([0], [(0, 'a', optional(t(1)))]), table([1], [(1, 'b', EMPTY)]))
+    cases.widen(table([63], [(63, 'a', any_of(t(0))), (0, 'b', EMPTY)]),
+                table([0], [(0, 'a', any_of(t(63))), (63, 'b', t(0))]))
+    # Order of labels, unused labels, names in another order.
+    cases.widen(table([0], [(0, 'b', seq(t(1), t(2))), (1, 'a', EMPTY), (2, 'c', EMPTY)],
+                      ['x', 'c', 'y', 'a']),
+                table([3], [(3, 'z', seq(t(1), t(2))), (2, 'y', EMPTY), (1, 'b', EMPTY)],
+                      ['w', 'c', 'z', 'b']))
+    # Rules of one pair apart from each other: contents join at the first.
+    cases.widen(table([0], [(0, 'a', t(1)), (1, 'b', EMPTY), (2, 'a', seq(t(1), t(1))), (0, 'a', EMPTY),
+                            (1, 'b', t(2)), (1, 'b', t(0))]), E)
+    # Kinds.
+    for a_table in (
+            E, GOOD_TABLE, P1, P5, P6, P7, P8, flat_table(10),
+            table([0], [(0, 'a', EMPTY), (0, 'a', EMPTY)]), table([0], [(0, 'a', EMPTY), (0, 'b', EMPTY)]),
+            table([0], [(0, 'a', EMPTY), (1, 'a', EMPTY)]), table([0, 1], [(0, 'a', EMPTY), (1, 'a', EMPTY)]),
+            table([0], [(0, 'a', t(1)), (1, 'a', EMPTY)]), table([0], [(0, 'a', t(0)), (1, 'a', EMPTY)]),
+            table([0], [(0, 'r', seq(t(1), t(2))), (1, 'a', EMPTY), (2, 'a', EMPTY)]),
+            table([0], [(0, 'r', seq(t(1), t(1))), (1, 'a', EMPTY), (2, 'a', EMPTY)]),
+            table([0], [(0, 'r', any_of(choice(t(1), optional(t(2))))), (1, 'b', EMPTY), (1, 'a', EMPTY),
+                        (2, 'c', EMPTY), (2, 'a', EMPTY)]),
+            table([0], [(0, 'r', choice(t(1), seq(NONE, t(2)))), (1, 'a', EMPTY), (2, 'a', t(2))]),
+            table([0], [(0, 'r', t(1)), (0, 's', t(2)), (1, 'a', EMPTY), (2, 'a', EMPTY)]),
+            table([0], [(0, 'r', t(1)), (5, 's', seq(t(2), t(1))), (1, 'a', EMPTY), (2, 'a', EMPTY)]),
+            table([3, 1], [(1, 'a', EMPTY), (2, 'a', EMPTY), (3, 'b', EMPTY)]),
+            table([3, 2], [(1, 'a', EMPTY), (2, 'a', EMPTY), (3, 'a', EMPTY)]),
+            table([], [(0, 'a', seq(t(1), t(2))), (1, 'b', t(9)), (2, 'b', t(9))])):
+        cases.kinds(a_table)
+        cases.widen(a_table, E)
+    # Samples: order of paths, labels and child sequences.
+    for a_tree in (
+            tree('r', tree('a', tree('x')), b, tree('a', tree('y'), tree('x')), tree('a')),
+            tree('a', tree('b', tree('a', tree('b'))), tree('b'), tree('b', tree('a'))),
+            tree('r', tree('g', b, a), tree('g', a, b), tree('g', b, a), tree('g'), tree('g', a)),
+            tree('r', tree('p', tree('q', a)), tree('s', tree('q', b)), tree('p', tree('q'))),
+            chain(10), tree('_', tree('A.b-c'), tree('a'), tree('A'))):
+        cases.add(SAMPLE, document(a_tree), out='exact')
+        cases.widen_doc(E, document(a_tree))
+        cases.widen_doc(P5, document(a_tree))
+        cases.add(LETS_IN, ref.sample(document(a_tree), 33000, 16384).written, document(a_tree))
+
+
+# ---------------------------------------------------------------- random cases
+
+POOL = ['a', 'b', 'c', 'd', 'list', 'card', 'x-1', 'A']
+
+
+def random_content(numbers, types, depth):
+    roll = numbers.below(100)
+    if depth == 0 or roll < 35:
+        return t(numbers.of(types)) if numbers.chance(80) else EMPTY if numbers.chance(85) else NONE
+    if roll < 55:
+        return seq(*[random_content(numbers, types, depth - 1) for _ in range(numbers.between(2, 3))])
+    if roll < 75:
+        return choice(*[random_content(numbers, types, depth - 1) for _ in range(numbers.between(2, 4))])
+    return bytes([5 + numbers.below(3)]) + random_content(numbers, types, depth - 1)
+
+
+def random_table(numbers, pool=POOL, largest=8):
+    """Recursive and ambiguous tables, some types without rules, some rules of one pair."""
+    count = numbers.between(1, largest)
+    names = [numbers.of(pool) for _ in range(numbers.between(1, 5))]
+    names = list(dict.fromkeys(names))
+    if numbers.chance(30):
+        types = list(range(numbers.between(1, 6)))
+    else:
+        types = list(dict.fromkeys(numbers.below(64) for _ in range(numbers.between(1, 6))))
+    rules = []
+    for _ in range(count):
+        content = EMPTY if numbers.chance(35) else random_content(numbers, types, numbers.below(4))
+        rules.append((numbers.of(types), numbers.of(names), content))
+    starts = list(dict.fromkeys(numbers.of(types) for _ in range(numbers.of((0, 1, 1, 1, 2, 3)))))
+    return table(starts, rules, names)
+
+
+def rich_table(numbers, pool=POOL, largest=9):
+    """A table whose types mostly name later ones, so that most are fruitful and reached, with
+    few names, so that many share one."""
+    count = numbers.between(2, largest)
+    names = pool[:numbers.between(2, 4)]
+    rules = []
+    for type_ in range(count):
+        for _ in range(numbers.of((1, 1, 1, 2, 3))):
+            later = list(range(type_ + 1, count)) or [type_]
+            types = [numbers.of(later) for _ in range(3)]
+            if numbers.chance(25):
+                types.append(numbers.below(count + 1))
+            content = random_content(numbers, types, numbers.between(1, 3))
+            if type_ >= count - 2 and numbers.chance(80):
+                content = EMPTY
+            rules.append((type_, numbers.of(names), content))
+    if numbers.chance(30):      # a type that is reached only beside an unfruitful one
+        dead, lost = count, count + 1
+        at = numbers.below(len(rules))
+        type_, name, content = rules[at]
+        rules[at] = (type_, name, choice(content, seq(t(lost), t(dead))))
+        rules.append((dead, numbers.of(names), numbers.of((t(dead), some_of(t(dead))))))
+        rules.append((lost, numbers.of(names), random_content(numbers, list(range(count)), 2)))
+    if numbers.chance(30):      # rules in another order
+        for _ in range(len(rules)):
+            rules.append(rules.pop(numbers.below(len(rules))))
+    return table([0] if numbers.chance(70) else [1, 0], rules[:64], names)
+
+
+def fruitful_order(a_table):
+    """The fruitful types, numbered so that each derives some document through lower ones."""
+    known = {}
+    changed = True
+    while changed:
+        changed = False
+        for a_rule in a_table.rules:
+            if a_rule.type not in known and ref.has_word_over(a_rule.content, known):
+                known[a_rule.type] = len(known)
+                changed = True
+    return known
+
+
+def random_word(numbers, content, known, below):
+    """Some word of the content over the types in `known`, low ones once `below` is used up."""
+    operator = content[0]
+    if operator == ref.TYPE:
+        return [content[1]]
+    if operator == ref.SEQUENCE:
+        return [x for operand in content[1] for x in random_word(numbers, operand, known, below)]
+    if operator == ref.CHOICE:
+        usable = [operand for operand in content[1] if ref.has_word_over(operand, known)]
+        return random_word(numbers, numbers.of(usable), known, below)
+    if operator in (ref.ANY, ref.SOME, ref.OPTIONAL):
+        least = 1 if operator == ref.SOME else 0
+        most = least + (0 if below <= 0 or not ref.has_word_over(content[1], known) else
+                        1 if operator == ref.OPTIONAL else numbers.below(4))
+        return [x for _ in range(numbers.between(least, most))
+                for x in random_word(numbers, content[1], known, below)]
+    return []
+
+
+def derived_tree(numbers, a_table, budget=40):
+    """A tree that the table lets in (None if there is none)."""
+    known = fruitful_order(a_table)
+    starts = [s for s in a_table.starts if s in known]
+    if not starts:
+        return None
+    left = [budget]
+
+    def derive(type_, level):
+        left[0] -= 1
+        room = left[0] > 0 and level < 12
+        allowed = known if room else {k: v for k, v in known.items() if v < known[type_]}
+        rules = [r for r in a_table.rules
+                 if r.type == type_ and ref.has_word_over(r.content, allowed)]
+        a_rule = numbers.of(rules)
+        word = random_word(numbers, a_rule.content, allowed, 1 if room else 0)
+        return (a_table.labels[a_rule.label].decode('latin-1'),
+                [derive(x, level + 1) for x in word])
+
+    return derive(numbers.of(starts), 1)
+
+
+def random_tree(numbers, pool, budget=10):
+    children = []
+    count = numbers.below(4) if budget > 1 else 0
+    for _ in range(count):
+        children.append(random_tree(numbers, pool, (budget - 1) // max(1, count)))
+    return (numbers.of(pool), children)
+
+
+def changed_tree(numbers, a_tree, pool):
+    """The tree with one node renamed, dropped, doubled or inserted."""
+    flat = []
+
+    def collect(node):
+        flat.append(node)
+        for child in node[1]:
+            collect(child)
+
+    def copy(node):
+        return [node[0], [copy(child) for child in node[1]]]
+
+    made = copy(a_tree)
+    collect(made)
+    node = numbers.of(flat)
+    action = numbers.below(4)
+    if action == 0:
+        node[0] = numbers.of(pool)
+    elif action == 1 and node[1]:
+        node[1].pop(numbers.below(len(node[1])))
+    elif action == 2 and node[1]:
+        node[1].insert(numbers.below(len(node[1]) + 1), numbers.of(node[1]))
+    else:
+        node[1].insert(numbers.below(len(node[1]) + 1), [numbers.of(pool), []])
+    return made
+
+
+def size(a_tree):
+    return 1 + sum(size(child) for child in a_tree[1])
+
+
+def usable(a_tree):
+    """Small enough for the case file."""
+    return a_tree is not None and size(a_tree) <= 150
+
+
+def random_document(numbers, a_table_bytes, pool=POOL):
+    """Derived from the table, or derived and changed, or free."""
+    a_tree = None
+    if not numbers.chance(15):
+        a_tree = derived_tree(numbers, ref.read_table(a_table_bytes))
+    if not usable(a_tree):
+        return document(random_tree(numbers, pool))
+    if numbers.chance(45):
+        a_tree = changed_tree(numbers, a_tree, pool)
+    return document(a_tree)
+
+
+def fields_of(data):
+    """The fields of bytes that may be damaged, as far as they go."""
+    found, at = [], 0
+    while at + 3 <= len(data):
+        length = data[at + 1] * 256 + data[at + 2]
+        found.append(data[at:at + 3 + length])
+        at += 3 + length
+    return found
+
+
+def damaged(numbers, data):
+    """The bytes with one or two faults."""
+    for _ in range(1 + numbers.below(2)):
+        action = numbers.below(9)
+        at = numbers.below(len(data)) if data else 0
+        if action == 0:
+            data = data[:at]
+        elif action == 1:
+            data = data[:at] + bytes([numbers.below(256)]) + data[at + 1:]
+        elif action == 2:
+            data = data[:at] + bytes([numbers.of((0, 1, 2, 3, 4, 5, 6, 7, 8, 63, 64, 255))]) + data[at + 1:]
+        elif action == 3:
+            data = data[:at] + data[at + 1:]
+        elif action == 4:
+            data = data[:at] + bytes([numbers.below(256)]) + data[at:]
+        elif action == 5:
+            data = data + bytes([numbers.below(64)] * numbers.between(1, 4))
+        else:
+            parts = fields_of(data)
+            if len(parts) > 1:
+                i, j = numbers.below(len(parts)), numbers.below(len(parts))
+                if action == 6:
+                    parts[i], parts[j] = parts[j], parts[i]
+                elif action == 7:
+                    parts.insert(j, parts[i])
+                else:
+                    parts.pop(i)
+                data = b''.join(parts)
+    return data
+
+
+def random_case(cases, numbers):
+    """One random case, or a few that belong together."""
+    if numbers.chance(45):
+        first = rich_table(numbers, largest=24 if numbers.chance(10) else 9)
+    else:
+        first = random_table(numbers, largest=24 if numbers.chance(10) else 8)
+    roll = numbers.below(100)
+    if roll < 8:
+        cases.add(numbers.of((TABLE_READS, LABEL_NAME, IS_LOCAL, IS_SINGLE_TYPE)),
+                  damaged(numbers, first), label=numbers.below(4))
+    elif roll < 14:
+        a_document = damaged(numbers, random_document(numbers, first))
+        call = numbers.of((DOCUMENT_READS, SAMPLE, LETS_IN, LOCAL_BY_DOCUMENT, SINGLE_BY_DOCUMENT))
+        if call in (DOCUMENT_READS, SAMPLE):
+            cases.add(call, a_document)
+        else:
+            cases.add(call, first, a_document)
+    elif roll < 19:
+        second = random_table(numbers)
+        pair = (damaged(numbers, first), second) if numbers.chance(40) else (first, damaged(numbers, second))
+        cases.add(numbers.of(BY_TABLE), *pair)
+    elif roll < 45:
+        cases.add(LETS_IN, first, random_document(numbers, first))
+    elif roll < 50:
+        a_document = document(random_tree(numbers, POOL[:3], numbers.between(1, 60)))
+        cases.add(SAMPLE, a_document, out=numbers.of((None, None, 'exact', 'short')))
+    elif roll < 55:
+        cases.add(numbers.of((TABLE_READS, IS_LOCAL, IS_SINGLE_TYPE)), first)
+    elif roll < 57:
+        cases.add(LABEL_NAME, first, label=numbers.below(5))
+    else:
+        out = numbers.of((None,) * 12 + ('exact', 'exact', 'short', 0))
+        to_kind = numbers.below(2)
+        if roll < 82:
+            second = (rich_table(numbers) if numbers.chance(45) else random_table(numbers)
+                      if numbers.chance(80) else E)
+            call = BY_TABLE[to_kind]
+        else:
+            second = random_document(numbers, first)
+            call = BY_DOCUMENT[to_kind]
+        cases.add(call, first, second, out=out)
+        # Questions to the result.
+        result = answer_of(cases.all[-1]).written
+        if result and len(result) < 1500 and numbers.chance(60):
+            follow = numbers.below(5)
+            if follow == 0:
+                cases.add(numbers.of((IS_LOCAL, IS_SINGLE_TYPE)), result)
+            elif follow == 1:
+                cases.add(LETS_IN, result, random_document(numbers, result))
+            elif follow == 2:
+                cases.add(LETS_IN, result, random_document(numbers, first))
+            elif follow == 3:
+                cases.add(BY_TABLE[numbers.below(2)], result, random_table(numbers))
+            else:
+                cases.add(BY_DOCUMENT[numbers.below(2)], result, random_document(numbers, first))
+
+
+def made_cases(cases):
+    paper_cases(cases)
+    refusal_cases(cases)
+    byte_cases(cases)
+    edge_cases(cases)
+    limit_cases(cases)
+    meaning_cases(cases)
+
+
+def all_cases(seed, count):
+    cases = Cases()
+    made_cases(cases)
+    made = len(cases.all)
+    turn = 0
+    while len(cases.all) < made + count:
+        random_case(cases, Numbers(seed * 1000003 + turn))
+        turn += 1
+    return cases.all[:made + count]
+
+
+def files(seed, count):
+    """cases.bin and expected.txt, and the cases."""
+    cases = all_cases(seed, count)
+    for case in cases:
+        assert max(len(case.first), len(case.second)) <= MOST_INPUT
+        assert case.out_len <= MOST_OUTPUT and case.work_len <= MOST_WORK
+    binary = b''.join(case_bytes(case) for case in cases) + b'\x00'
+    expected = ''.join(expected_line(case) for case in cases).encode('ascii')
+    return binary, expected, cases
+
+
+# ---------------------------------------------------------------- the lister's cases
+
+def lister_cases():
+    """Pairs of old.tbl and new.doc; None for a file that is missing."""
+    pairs = [(LISTER_TABLE, LISTER_DOC), (None, LISTER_DOC), (LISTER_TABLE, None), (None, None),
+             (P5, P5_CROSSED), (P6, doc('group')), (P7, doc('list', tree('card'))), (P8, doc('list')),
+             (E, LISTER_DOC), (LISTER_TABLE + b'\x00', LISTER_DOC), (LISTER_TABLE, LISTER_DOC[:-1]),
+             (table([0], [(0, 'r', seq(any_of(seq(t(1), t(2))), some_of(choice(t(1), t(2))),
+                                       optional(any_of(t(1))), EMPTY, some_of(optional(EMPTY)))),
+                          (1, 'a', any_of(t(9))), (2, 'b', EMPTY)]), doc('s', tree('a'))),
+             (P1, doc('a', *[tree('c%02d' % i) for i in range(64)])),
+             (padded_table(32768), doc('n00')), (padded_table(32767), doc('n00')),
+             (padded_table(32769), doc('n00')), (P1, document(chain(65)))]
+    for number in range(20):
+        numbers = Numbers(77000 + number)
+        old = random_table(numbers)
+        pairs.append((old, random_document(numbers, old)))
+    return pairs
+
+
+def write_listings(directory):
+    for number, (old, a_document) in enumerate(lister_cases()):
+        place = os.path.join(directory, '%02d' % number)
+        os.makedirs(place, exist_ok=True)
+        for name, data in (('old.tbl', old), ('new.doc', a_document),
+                           ('expected.txt', ref.listing(old or b'', a_document or b''))):
+            if data is not None:
+                with open(os.path.join(place, name), 'wb') as file:
+                    file.write(data)
+
+
+# ---------------------------------------------------------------- commands
+
+def print_counts(cases, expected):
+    per_call, per_refusal, both = Counter(), Counter(), Counter()
+    for line in expected.decode('ascii').splitlines():
+        call, refusal = (int(word) for word in line.split()[:2])
+        per_call[call] += 1
+        per_refusal[refusal] += 1
+        both[call, refusal] += 1
+    print('cases %d' % len(cases))
+    print('per refusal: ' + '  '.join('%d: %d' % pair for pair in sorted(per_refusal.items())))
+    print('%-30s %5s   ' % ('call', 'all') + ' '.join('%4d' % refusal for refusal in range(16)))
+    for call in CALL_NAMES:
+        print('%2d %-27s %5d   ' % (call, CALL_NAMES[call], per_call[call])
+              + ' '.join('%4s' % (both[call, refusal] or '.') for refusal in range(16)))
+
+
+def main():
+    parser = argparse.ArgumentParser(description='Cases for the second validator.')
+    parser.add_argument('--write', metavar='DIR')
+    parser.add_argument('--check', metavar='DIR')
+    parser.add_argument('--counts', action='store_true')
+    parser.add_argument('--answer', metavar='FILE')
+    parser.add_argument('--listings', metavar='DIR')
+    parser.add_argument('--seed', type=int, default=DEFAULT_SEED)
+    parser.add_argument('--count', type=int, default=DEFAULT_COUNT)
+    options = parser.parse_args()
+    if options.listings:
+        write_listings(options.listings)
+    if options.answer:
+        for case in cases_in(ref.file_or_nothing(options.answer)):
+            sys.stdout.write(expected_line(case))
+    if not (options.write or options.check or options.counts):
+        if not (options.listings or options.answer):
+            parser.error('nothing asked for')
+        return 0
+    binary, expected, cases = files(options.seed, options.count)
+    if options.counts:
+        print_counts(cases, expected)
+    status = 0
+    for directory, writes in ((options.write, True), (options.check, False)):
+        if not directory:
+            continue
+        if writes:
+            os.makedirs(directory, exist_ok=True)
+        for name, data in (('cases.bin', binary), ('expected.txt', expected)):
+            path = os.path.join(directory, name)
+            if writes:
+                with open(path, 'wb') as file:
+                    file.write(data)
+            else:
+                stored = ref.file_or_nothing(path)
+                if stored != data:
+                    print('%s differs' % path)
+                    if name == 'expected.txt':
+                        lines, others = data.split(b'\n'), stored.split(b'\n')
+                        for number in range(max(len(lines), len(others))):
+                            pair = [some[number].decode() if number < len(some) else 'no line'
+                                    for some in (lines, others)]
+                            if pair[0] != pair[1]:
+                                print('case %d: recomputed %s, stored %s' % (number, *pair))
+                                break
+                    status = 1
+    if status == 0:
+        print('%d cases, %d bytes' % (len(cases), len(binary)))
+    return status
+
+
+if __name__ == '__main__':
+    sys.exit(main())

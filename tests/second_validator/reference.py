@@ -1,0 +1,843 @@
+"""The second validator: every public call, written from document 01 alone.
+
+Plain search, for reading next to the paper: derivations are tried directly, every step of a
+widening is made as a table, and refusals come in the paper's order.  Sentences of the paper
+stand in quotes.  Python 3, standard library only.
+
+    python3 reference.py list DIR      the text that the lister prints in DIR (old.tbl, new.doc)
+"""
+
+import os
+import sys
+from collections import namedtuple
+
+sys.setrecursionlimit(20000)  # contents may nest 1,023 deep before refusal 10 is given
+
+# ---------------------------------------------------------------- numbers of the paper
+
+WORK_WORDS = 16384      # "Its first 16,384 words are zero after every call but refusal 1"
+INPUT_BYTES = 32768     # refusal 2, and 14 for the sample and the result
+NAME_BYTES = 63
+CONTENT_BYTES = 1024
+LIMIT = 64              # labels, starts, rules, types
+NESTING = 32
+COUNT = 255             # operands of a choice
+NODES, CHILDREN, LEVELS = 1024, 200, 64
+
+LABEL, START, RULE, TABLE_END = 0x10, 0x11, 0x12, 0x1F
+NODE, DOCUMENT_END = 0x30, 0x3F
+
+
+class Refused(Exception):
+    """A refusal with the paper's number."""
+
+    def __init__(self, number):
+        super().__init__(number)
+        self.number = number
+
+
+# ---------------------------------------------------------------- data
+
+# A content is a tuple whose first entry is the operator:
+#   (NONE,)  (EMPTY,)  (TYPE, t)  (SEQUENCE, operands)  (CHOICE, operands)
+#   (ANY, operand)  (SOME, operand)  (OPTIONAL, operand)
+NONE, EMPTY, TYPE, SEQUENCE, CHOICE, ANY, SOME, OPTIONAL = range(8)
+
+# labels: list of names; starts: list of types; rules: list of Rule, in order;
+# places: where each label's name begins in the table's bytes (None for made tables).
+Table = namedtuple('Table', 'labels starts rules places')
+Rule = namedtuple('Rule', 'type label content')
+
+
+class Node:
+    """A named node with its children in order."""
+
+    def __init__(self, name, children=()):
+        self.name = name
+        self.children = list(children)
+
+
+# ---------------------------------------------------------------- reading
+
+LETTERS = b'ABCDEFGHIJKLMNOPQRSTUVWXYZabcdefghijklmnopqrstuvwxyz'
+DIGITS = b'0123456789'
+FIRST = frozenset(LETTERS + b'_')
+LATER = frozenset(LETTERS + DIGITS + b'-._')
+
+
+def is_name(value):
+    """"ASCII letters and digits, hyphen, period, underscore; the first is a letter or underscore." """
+    return value[0] in FIRST and all(byte in LATER for byte in value)
+
+
+def field_at(data, at):
+    """The field that begins at `at`: tag, value, place of the next field.
+
+    3: "A field runs past the input's end, or the input stops before an end field." """
+    if at + 3 > len(data):
+        raise Refused(3)
+    tag, length = data[at], data[at + 1] * 256 + data[at + 2]
+    if at + 3 + length > len(data):
+        raise Refused(3)
+    return tag, data[at + 3:at + 3 + length], at + 3 + length
+
+
+def read_content(data):
+    """9: "A content is not exactly one expression, or names a type above 63." """
+    content, after = expression_at(data, 0)
+    if after != len(data):
+        raise Refused(9)
+    return content
+
+
+def expression_at(data, at):
+    """The expression that begins at `at`, and the place after it; 9 if there is none."""
+    if at >= len(data):
+        raise Refused(9)
+    operator = data[at]
+    if operator in (NONE, EMPTY):
+        return (operator,), at + 1
+    if operator == TYPE:
+        if at + 1 >= len(data) or data[at + 1] > 63:
+            raise Refused(9)
+        return (TYPE, data[at + 1]), at + 2
+    if operator in (SEQUENCE, CHOICE):
+        # "each with a count byte of 2 to 255, then the operands"
+        if at + 1 >= len(data) or data[at + 1] < 2:
+            raise Refused(9)
+        operands = []
+        after = at + 2
+        for _ in range(data[at + 1]):
+            operand, after = expression_at(data, after)
+            operands.append(operand)
+        return (operator, tuple(operands)), after
+    if operator in (ANY, SOME, OPTIONAL):
+        operand, after = expression_at(data, at + 1)
+        return (operator, operand), after
+    raise Refused(9)
+
+
+def operands_of(content):
+    """The operands of an operator, in order; none for 00, 01 and 02."""
+    if content[0] in (SEQUENCE, CHOICE):
+        return content[1]
+    if content[0] in (ANY, SOME, OPTIONAL):
+        return (content[1],)
+    return ()
+
+
+def nesting(content):
+    """"00, 01 and 02 count 1, another operator 1 more than its deepest operand." """
+    deepest = 0
+    for operand in operands_of(content):
+        depth = nesting(operand)
+        if depth > deepest:
+            deepest = depth
+    return 1 + deepest
+
+
+def read_table(data):
+    """A table from its bytes, or Refused."""
+    if len(data) > INPUT_BYTES:                 # "2 opens each input"
+        raise Refused(2)
+    labels, places, starts, rules = [], [], [], []
+    at, last_tag = 0, LABEL
+    while True:
+        tag, value, after = field_at(data, at)  # 3
+        # 4: "A tag is foreign to this file or out of order, or its length is not one stated above."
+        # "in this order: labels, starts, rules, end": the tags of a table never fall.
+        if tag not in (LABEL, START, RULE, TABLE_END) or tag < last_tag:
+            raise Refused(4)
+        shortest, longest = {LABEL: (1, NAME_BYTES), START: (1, 1),
+                             RULE: (2 + 1, 2 + CONTENT_BYTES), TABLE_END: (0, 0)}[tag]
+        if not shortest <= len(value) <= longest:
+            raise Refused(4)
+        last_tag = tag
+        if tag == LABEL:
+            if not is_name(value):              # 5: "A name breaks the name rule."
+                raise Refused(5)
+            if value in labels:                 # 6: "A label name ... repeats an earlier one"
+                raise Refused(6)
+            if len(labels) == LIMIT:            # 7: "It is the 65th label, start or rule."
+                raise Refused(7)
+            labels.append(value)
+            places.append(at + 3)
+        elif tag == START:
+            if value[0] in starts:              # 6: "... or a start type repeats an earlier one"
+                raise Refused(6)
+            if len(starts) == LIMIT:            # 7
+                raise Refused(7)
+            if value[0] > 63:                   # 8: "A start or rule type is above 63"
+                raise Refused(8)
+            starts.append(value[0])
+        elif tag == RULE:
+            if len(rules) == LIMIT:             # 7
+                raise Refused(7)
+            # 8: "... or a rule's ... label number is not among the labels."
+            if value[0] > 63 or value[1] >= len(labels):
+                raise Refused(8)
+            content = read_content(value[2:])   # 9
+            if nesting(content) > NESTING:      # 10: "A content nests more than 32 deep."
+                raise Refused(10)
+            rules.append(Rule(value[0], value[1], content))
+        else:
+            if after != len(data):              # 12: "Bytes follow the end field."
+                raise Refused(12)
+            return Table(labels, starts, rules, places)
+        at = after
+
+
+def read_document(data):
+    """A document's root from its bytes, or Refused."""
+    if len(data) > INPUT_BYTES:                 # "2 opens each input"
+        raise Refused(2)
+    root, nodes = None, 0
+    unfilled = []    # nodes still waiting for children, from the root down: [node, how many]
+    at = 0
+    while True:
+        tag, value, after = field_at(data, at)  # 3
+        if tag not in (NODE, DOCUMENT_END):     # 4
+            raise Refused(4)
+        if not (2 <= len(value) <= 1 + NAME_BYTES if tag == NODE else len(value) == 0):
+            raise Refused(4)
+        complete = root is not None and not unfilled
+        if tag == DOCUMENT_END:
+            if not complete:                    # 11: "the end comes before the tree is complete"
+                raise Refused(11)
+            if after != len(data):              # 12
+                raise Refused(12)
+            return root
+        children, name = value[0], value[1:]
+        if not is_name(name):                   # 5
+            raise Refused(5)
+        # 11: "A node is the 1,025th, has over 200 children, lies below level 64
+        # or follows a complete tree"
+        level = len(unfilled) + 1
+        if nodes == NODES or children > CHILDREN or level > LEVELS or complete:
+            raise Refused(11)
+        node = Node(name)
+        nodes += 1
+        if unfilled:
+            unfilled[-1][0].children.append(node)
+            unfilled[-1][1] -= 1
+        else:
+            root = node
+        unfilled.append([node, children])
+        while unfilled and unfilled[-1][1] == 0:
+            unfilled.pop()
+        at = after
+
+
+# ---------------------------------------------------------------- meaning
+
+def table_lets_in(table, root):
+    """"A table lets in a document if a start type derives its root." """
+    known = {}
+
+    def derives(type_, node):
+        """"A type derives a node if one of its rules has the node's name and the children, in
+        order, are derived by the types of some word of the content." """
+        question = (type_, id(node))
+        if question not in known:
+            known[question] = False
+            for rule in table.rules:
+                if (rule.type == type_ and table.labels[rule.label] == node.name
+                        and some_word_fits(rule.content, node.children)):
+                    known[question] = True
+                    break
+        return known[question]
+
+    def some_word_fits(content, children):
+        """Is there a word of the content, as long as the children, whose types derive them?"""
+        found = {}
+
+        def ends(part, begin):
+            """All `end` such that some word of `part` derives children[begin:end]."""
+            question = (id(part), begin)
+            if question not in found:
+                found[question] = tried(part, begin)
+            return found[question]
+
+        def tried(part, begin):
+            operator = part[0]
+            if operator == NONE:            # "None has no word"
+                return set()
+            if operator == EMPTY:           # "empty only the word of no types"
+                return {begin}
+            if operator == TYPE:            # "a type only the word of that one type"
+                if begin < len(children) and derives(part[1], children[begin]):
+                    return {begin + 1}
+                return set()
+            if operator == SEQUENCE:        # "one word of each operand, joined in order"
+                places = {begin}
+                for operand in part[1]:
+                    following = set()
+                    for place in places:
+                        following |= ends(operand, place)
+                    places = following
+                return places
+            if operator == CHOICE:          # "the words of all its operands"
+                places = set()
+                for operand in part[1]:
+                    places |= ends(operand, begin)
+                return places
+            if operator == OPTIONAL:        # "its operand's words and the word of no types"
+                return {begin} | ends(part[1], begin)
+            # 05: "every joining of zero or more words of its operand, 06 every joining of at
+            # least one"
+            places = {begin} if operator == ANY else set(ends(part[1], begin))
+            waiting = list(places)
+            while waiting:
+                for place in ends(part[1], waiting.pop()):
+                    if place not in places:
+                        places.add(place)
+                        waiting.append(place)
+            return places
+
+        return len(children) in ends(content, 0)
+
+    return any(derives(start, root) for start in table.starts)
+
+
+def types_in(content):
+    """The types a content names, left to right, with repetitions."""
+    if content[0] == TYPE:
+        return [content[1]]
+    found = []
+    for operand in operands_of(content):
+        found.extend(types_in(operand))
+    return found
+
+
+def table_is_local(table):
+    """"Local: no two rules have one label." """
+    labels = [rule.label for rule in table.rules]
+    return len(labels) == len(set(labels))
+
+
+def table_is_single_type(table):
+    """"Single-type: no two rules share both type and label, and neither among the starts nor
+    within any one content do two different types have rules with one label." """
+    pairs = [(rule.type, rule.label) for rule in table.rules]
+    if len(pairs) != len(set(pairs)):
+        return False
+
+    def compete(first, second):
+        return first != second and any((second, label) in pairs
+                                       for type_, label in pairs if type_ == first)
+
+    groups = [table.starts] + [types_in(rule.content) for rule in table.rules]
+    for group in groups:
+        group = sorted(set(group))
+        if any(compete(first, second) for first in group for second in group):
+            return False
+    return True
+
+
+# ---------------------------------------------------------------- sample
+
+def choice_of(contents):
+    """The choice of one content or more; one content needs no choice."""
+    if len(contents) == 1:
+        return contents[0]
+    return (CHOICE, tuple(contents))
+
+
+def sample_table(root):
+    """"One type for each distinct path of names from the root, numbered by first visit, root 0
+    and only start. Labels by first visit, rules by type." """
+    types = {}        # path of names -> type, by first visit
+    labels = []
+    visited = []      # (path, node) in the order of the file
+
+    def visit(path, node):
+        if path not in types:
+            types[path] = len(types)
+        if node.name not in labels:
+            labels.append(node.name)
+        visited.append((path, node))
+        for child in node.children:
+            visit(path + (child.name,), child)
+
+    visit((root.name,), root)
+    rules = []
+    for path, type_ in types.items():
+        # "Its content is the choice of the distinct child sequences seen at that path, by first
+        # sight: no child is empty, one child is the type itself, one sequence needs no choice."
+        seen = []
+        for other, node in visited:
+            if other == path:
+                sequence = [(TYPE, types[path + (child.name,)]) for child in node.children]
+                if len(sequence) == 0:
+                    content = (EMPTY,)
+                elif len(sequence) == 1:
+                    content = sequence[0]
+                else:
+                    content = (SEQUENCE, tuple(sequence))
+                if content not in seen:
+                    seen.append(content)
+        rules.append(Rule(type_, labels.index(path[-1]), choice_of(seen)))
+    return Table(labels, [0], rules, None)
+
+
+# ---------------------------------------------------------------- widening, step by step
+
+def replaced(content, replacement):
+    """The content with `replacement(t)`, a content, in the place of each type t."""
+    if content[0] == TYPE:
+        return replacement(content[1])
+    if content[0] in (SEQUENCE, CHOICE):
+        return (content[0], tuple(replaced(operand, replacement) for operand in content[1]))
+    if content[0] in (ANY, SOME, OPTIONAL):
+        return (content[0], replaced(content[1], replacement))
+    return content
+
+
+def unite(old, addition):
+    """"Labels are the old ones, then the addition's new names. The addition's types are made
+    distinct from the old. Rules keep their order, old first." """
+    labels = list(old.labels)
+    for name in addition.labels:
+        if name not in labels:
+            labels.append(name)
+
+    def distinct(type_):      # types of a table that was read are below 64
+        return type_ + 64
+
+    starts = old.starts + [distinct(start) for start in addition.starts]
+    rules = list(old.rules)
+    for rule in addition.rules:
+        rules.append(Rule(distinct(rule.type), labels.index(addition.labels[rule.label]),
+                          replaced(rule.content, lambda t: (TYPE, distinct(t)))))
+    return Table(labels, starts, rules, None)
+
+
+def normalise(table):
+    """"Each pair of type and label becomes one type, ordered by its first rule; contents of the
+    same pair join by choice. A type in a content becomes the choice of its pairs, or none; the
+    pairs of a start type are all starts." """
+    pairs = []
+    for rule in table.rules:
+        if (rule.type, rule.label) not in pairs:
+            pairs.append((rule.type, rule.label))
+
+    pairs_of = {}
+    for number, (type_, _) in enumerate(pairs):
+        pairs_of.setdefault(type_, []).append(number)
+
+    def choice_of_pairs(type_):
+        if type_ not in pairs_of:
+            return (NONE,)
+        return choice_of([(TYPE, number) for number in pairs_of[type_]])
+
+    rules = []
+    for number, pair in enumerate(pairs):
+        contents = [replaced(rule.content, choice_of_pairs)
+                    for rule in table.rules if (rule.type, rule.label) == pair]
+        rules.append(Rule(number, pair[1], choice_of(contents)))
+    starts = []
+    for start in table.starts:
+        starts.extend(pairs_of.get(start, []))
+    return Table(table.labels, starts, rules, None)
+
+
+def has_word_over(content, types):
+    """Has the content a word whose types all lie among `types`?"""
+    operator = content[0]
+    if operator == NONE:
+        return False
+    if operator == TYPE:
+        return content[1] in types
+    if operator == SEQUENCE:
+        return all(has_word_over(operand, types) for operand in content[1])
+    if operator == CHOICE:
+        return any(has_word_over(operand, types) for operand in content[1])
+    if operator == SOME:
+        return has_word_over(content[1], types)
+    return True     # 01, 05 and 07 have the word of no types
+
+
+def fruitful_types(table):
+    """"A type is fruitful if it derives some document; rounds are made until one adds nothing." """
+    fruitful = set()
+    while True:
+        added = {rule.type for rule in table.rules
+                 if rule.type not in fruitful and has_word_over(rule.content, fruitful)}
+        if not added:
+            return fruitful
+        fruitful |= added
+
+
+def without_none(content):
+    """"A sequence holding none is none; a choice drops it, and is none with nothing left; any
+    number of none, and optional none, are empty; one or more of none is none." """
+    operator = content[0]
+    if operator in (SEQUENCE, CHOICE):
+        operands = tuple(without_none(operand) for operand in content[1])
+        if operator == SEQUENCE:
+            return (NONE,) if (NONE,) in operands else (SEQUENCE, operands)
+        operands = tuple(operand for operand in operands if operand != (NONE,))
+        return (CHOICE, operands) if operands else (NONE,)
+    if operator in (ANY, SOME, OPTIONAL):
+        operand = without_none(content[1])
+        if operand == (NONE,):
+            return (NONE,) if operator == SOME else (EMPTY,)
+        return (operator, operand)
+    return content
+
+
+def reduce_table(table):
+    """"Unfruitful types become none; their rules and starts go. [...] After that, types not
+    reached from a start through the remaining contents are dropped." """
+    fruitful = fruitful_types(table)
+
+    def none_if_unfruitful(type_):
+        return (TYPE, type_) if type_ in fruitful else (NONE,)
+
+    rules = [Rule(rule.type, rule.label, without_none(replaced(rule.content, none_if_unfruitful)))
+             for rule in table.rules if rule.type in fruitful]
+    starts = [start for start in table.starts if start in fruitful]
+
+    reached, waiting = set(starts), list(starts)
+    while waiting:
+        type_ = waiting.pop()
+        for rule in rules:
+            if rule.type == type_:
+                for named in types_in(rule.content):
+                    if named not in reached:
+                        reached.add(named)
+                        waiting.append(named)
+    rules = [rule for rule in rules if rule.type in reached]
+    return Table(table.labels, starts, rules, None)
+
+
+def to_local(table):
+    """"One type for each label left, numbered in label order; its content is the choice of all
+    contents of that label, in rule order, each type, starts too, replaced by its label's type." """
+    left = sorted({rule.label for rule in table.rules})
+    type_of_label = {label: number for number, label in enumerate(left)}
+    new_type = {rule.type: type_of_label[rule.label] for rule in table.rules}
+    rules = []
+    for label in left:
+        contents = [replaced(rule.content, lambda t: (TYPE, new_type[t]))
+                    for rule in table.rules if rule.label == label]
+        rules.append(Rule(type_of_label[label], label, choice_of(contents)))
+    starts = sorted({new_type[start] for start in table.starts})
+    return Table(table.labels, starts, rules, None)
+
+
+def to_single_type(table):
+    """"A result type is a set of types of one label." """
+    label_of = {rule.type: rule.label for rule in table.rules}
+    sets = []     # the result types, by number
+
+    # "Start sets, one a label, come first in label order."
+    for label in sorted({label_of[start] for start in table.starts}):
+        sets.append(frozenset(start for start in table.starts if label_of[start] == label))
+    starts = list(range(len(sets)))
+
+    rules = []
+    while len(rules) < len(sets):     # "lowest set first"
+        number = len(rules)
+        members = sets[number]
+        # "A set's content is the choice of its members' contents in rule order."
+        content = choice_of([rule.content for rule in table.rules if rule.type in members])
+        # "Within that, types of one label form one set and are replaced by it. New sets are
+        # numbered as met, left to right"
+        groups = {}                   # label -> its types within the content, labels as met
+        for type_ in types_in(content):
+            groups.setdefault(label_of[type_], set()).add(type_)
+        set_of_label = {}
+        for label, group in groups.items():
+            if group not in sets:
+                sets.append(frozenset(group))
+            set_of_label[label] = sets.index(group)
+
+        def replacement(type_):
+            return (TYPE, set_of_label[label_of[type_]])
+
+        label = label_of[next(iter(members))]
+        rules.append(Rule(number, label, replaced(content, replacement)))
+        if len(sets) > LIMIT:         # 14 whatever follows; there may be very many sets
+            raise Refused(14)
+    return Table(table.labels, starts, rules, None)
+
+
+def tidy(content):
+    """"Tidy, innermost first. A choice takes in the operands of its choices, drops operands
+    byte-equal to earlier ones, and one operand left stands alone." """
+    operator = content[0]
+    if operator == SEQUENCE:
+        return (SEQUENCE, tuple(tidy(operand) for operand in content[1]))
+    if operator in (ANY, SOME, OPTIONAL):
+        return (operator, tidy(content[1]))
+    if operator == CHOICE:
+        taken_in = []
+        for operand in content[1]:
+            operand = tidy(operand)
+            if operand[0] == CHOICE:
+                taken_in.extend(operand[1])
+            else:
+                taken_in.append(operand)
+        kept, seen = [], set()
+        for operand in taken_in:
+            if operand not in seen:
+                seen.add(operand)
+                kept.append(operand)
+        return choice_of(kept)
+    return content
+
+
+def tidy_table(table):
+    rules = [Rule(rule.type, rule.label, tidy(rule.content)) for rule in table.rules]
+    return Table(table.labels, table.starts, rules, None)
+
+
+def with_used_labels(table):
+    """"The result's labels are those used, in label order; starts and rules ascend by type." """
+    used = sorted({rule.label for rule in table.rules})
+    rules = [Rule(rule.type, used.index(rule.label), rule.content)
+             for rule in sorted(table.rules, key=lambda rule: rule.type)]
+    return Table([table.labels[label] for label in used], sorted(table.starts), rules, None)
+
+
+# ---------------------------------------------------------------- writing
+
+def content_length(content):
+    """The bytes of a content, also of one that no file may hold."""
+    length = {NONE: 1, EMPTY: 1, TYPE: 2, SEQUENCE: 2, CHOICE: 2, ANY: 1, SOME: 1, OPTIONAL: 1}
+    total = length[content[0]]
+    for operand in operands_of(content):
+        total += content_length(operand)
+    return total
+
+
+def largest_choice(content):
+    largest = len(content[1]) if content[0] == CHOICE else 0
+    for operand in operands_of(content):
+        largest = max(largest, largest_choice(operand))
+    return largest
+
+
+def within_limits(table):
+    """14: "over 64 types, a content over 1,024 bytes, a nesting over 32, a choice over 255 or over
+    32,768 bytes in all." """
+    total = 3
+    for name in table.labels:
+        total += 3 + len(name)
+    total += 4 * len(table.starts)
+    for rule in table.rules:
+        total += 5 + content_length(rule.content)
+    return (len(table.rules) <= LIMIT       # samples and results have one rule a type
+            and all(content_length(rule.content) <= CONTENT_BYTES for rule in table.rules)
+            and all(nesting(rule.content) <= NESTING for rule in table.rules)
+            and all(largest_choice(rule.content) <= COUNT for rule in table.rules)
+            and total <= INPUT_BYTES)
+
+
+def content_bytes(content):
+    operator = content[0]
+    if operator == TYPE:
+        return bytes([TYPE, content[1]])
+    begin = bytes([operator])
+    if operator in (SEQUENCE, CHOICE):
+        begin += bytes([len(content[1])])
+    return begin + b''.join(content_bytes(operand) for operand in operands_of(content))
+
+
+def field_bytes(tag, value):
+    return bytes([tag, len(value) // 256, len(value) % 256]) + value
+
+
+def table_bytes(table):
+    """"Table, in this order: labels, starts, rules, end" """
+    fields = [field_bytes(LABEL, name) for name in table.labels]
+    fields += [field_bytes(START, bytes([start])) for start in table.starts]
+    fields += [field_bytes(RULE, bytes([rule.type, rule.label]) + content_bytes(rule.content))
+               for rule in table.rules]
+    return b''.join(fields) + field_bytes(TABLE_END, b'')
+
+
+# ---------------------------------------------------------------- the calls
+
+# refusal: the paper's number, 0 for none.  value: 1 yes or readable, 0 no, the length of a table
+# written, or offset * 65,536 + length of a name; 0 with a refusal.  written: the bytes that stand
+# at the beginning of the output afterwards.
+Answer = namedtuple('Answer', 'refusal value written')
+
+
+def answered(work_len, question):
+    """The answer of a call that writes nothing."""
+    try:
+        if work_len < WORK_WORDS:      # 1: "The working slice has fewer than 16,384 words."
+            raise Refused(1)
+        return Answer(0, int(question()), b'')
+    except Refused as refusal:
+        return Answer(refusal.number, 0, b'')
+
+
+def answered_in_bytes(work_len, out_len, made):
+    """The answer of a call that writes a table.  "The number comes with length 0 and an untouched
+    output." """
+    try:
+        if work_len < WORK_WORDS:
+            raise Refused(1)
+        written = made()
+        if out_len < len(written):     # 15: "The lent output is shorter than the result."
+            raise Refused(15)
+        return Answer(0, len(written), written)
+    except Refused as refusal:
+        return Answer(refusal.number, 0, b'')
+
+
+def table_reads(table, work_len):
+    return answered(work_len, lambda: read_table(table) is not None)
+
+
+def document_reads(document, work_len):
+    return answered(work_len, lambda: read_document(document) is not None)
+
+
+def label_name(table, label, work_len):
+    """"A name asked for by its label number comes back as that part of the table's own bytes" """
+    def question():
+        read = read_table(table)
+        if label >= len(read.labels):  # "A caller's label number is tried after its table."
+            raise Refused(8)
+        return read.places[label] * 65536 + len(read.labels[label])
+    return answered(work_len, question)
+
+
+def lets_in(table, document, work_len):
+    def question():
+        read = read_table(table)
+        root = read_document(document)
+        return table_lets_in(read, root)
+    return answered(work_len, question)
+
+
+def is_local(table, work_len):
+    return answered(work_len, lambda: table_is_local(read_table(table)))
+
+
+def is_single_type(table, work_len):
+    return answered(work_len, lambda: table_is_single_type(read_table(table)))
+
+
+def sample_within_limits(root):
+    made = sample_table(root)
+    if not within_limits(made):        # "14 first for the sample"
+        raise Refused(14)
+    return made
+
+
+def sample(document, out_len, work_len):
+    return answered_in_bytes(
+        work_len, out_len, lambda: table_bytes(sample_within_limits(read_document(document))))
+
+
+def widened(old, addition, form):
+    """The result table of a widening, or Refused by 13 or 14."""
+    reduced = reduce_table(normalise(unite(old, addition)))
+    if not reduced.starts:             # 13: "The united tables derive no document."
+        raise Refused(13)
+    result = with_used_labels(tidy_table(form(reduced)))
+    if not within_limits(result):      # 14, "then for the result"
+        raise Refused(14)
+    return result
+
+
+def widen_by_table(old, addition, form, out_len, work_len):
+    def made():
+        first = read_table(old)        # "Inputs are read one after the other, the old table first"
+        second = read_table(addition)
+        return table_bytes(widened(first, second, form))
+    return answered_in_bytes(work_len, out_len, made)
+
+
+def widen_by_document(old, document, form, out_len, work_len):
+    """"A document is added through its sample." """
+    def made():
+        first = read_table(old)
+        root = read_document(document)
+        return table_bytes(widened(first, sample_within_limits(root), form))
+    return answered_in_bytes(work_len, out_len, made)
+
+
+def widen_local_by_table(old, addition, out_len, work_len):
+    return widen_by_table(old, addition, to_local, out_len, work_len)
+
+
+def widen_local_by_document(old, document, out_len, work_len):
+    return widen_by_document(old, document, to_local, out_len, work_len)
+
+
+def widen_single_type_by_table(old, addition, out_len, work_len):
+    return widen_by_table(old, addition, to_single_type, out_len, work_len)
+
+
+def widen_single_type_by_document(old, document, out_len, work_len):
+    return widen_by_document(old, document, to_single_type, out_len, work_len)
+
+
+# ---------------------------------------------------------------- the lent slices afterwards
+
+def output_after(answer, output):
+    """"Output bytes past a result stay as they came"; a refusal leaves all of it untouched."""
+    return answer.written + output[len(answer.written):]
+
+
+def work_after(answer, work):
+    """"Its first 16,384 words are zero after every call but refusal 1, which changes none; words
+    beyond are never changed." """
+    if answer.refusal == 1:
+        return list(work)
+    return [0] * WORK_WORDS + list(work[WORK_WORDS:])
+
+
+# ---------------------------------------------------------------- the lister
+
+def content_text(content):
+    """"(,) is sequence, (|) choice, () empty, ! none, suffixes *, +, ? operators 05, 06, 07." """
+    operator = content[0]
+    if operator == NONE:
+        return '!'
+    if operator == EMPTY:
+        return '()'
+    if operator == TYPE:
+        return 't%d' % content[1]
+    if operator in (SEQUENCE, CHOICE):
+        between = ',' if operator == SEQUENCE else '|'
+        return '(' + between.join(content_text(operand) for operand in content[1]) + ')'
+    return content_text(content[1]) + {ANY: '*', SOME: '+', OPTIONAL: '?'}[operator]
+
+
+def listing(old, document):
+    """The lister's text for the bytes of old.tbl and new.doc."""
+    answer = widen_local_by_document(old, document, INPUT_BYTES, WORK_WORDS)
+    if answer.refusal:
+        return b'refused %d\n' % answer.refusal
+    table = read_table(answer.written)
+    lines = ['local']
+    for start in table.starts:
+        lines.append('start t%d' % start)
+    for rule in table.rules:
+        name = table.labels[rule.label].decode('ascii')
+        lines.append('t%d %s %s' % (rule.type, name, content_text(rule.content)))
+    return ''.join(line + '\n' for line in lines).encode('ascii')
+
+
+def file_or_nothing(path):
+    """"a file that cannot be read counts as no bytes." """
+    try:
+        with open(path, 'rb') as file:
+            return file.read()
+    except OSError:
+        return b''
+
+
+if __name__ == '__main__':
+    if len(sys.argv) != 3 or sys.argv[1] != 'list':
+        sys.exit(__doc__)
+    sys.stdout.buffer.write(listing(file_or_nothing(os.path.join(sys.argv[2], 'old.tbl')),
+                                    file_or_nothing(os.path.join(sys.argv[2], 'new.doc'))))

@@ -1,0 +1,351 @@
+"""Tests of the second validator itself.
+
+    python3 selftest.py [--rounds N]
+
+The paper's P1 to P8, its edges and the lister's example; reading against bytes written; letting in
+against a listing of all derived documents; and widening against brute force on small tables: the
+result is of its kind, lets in what it must, and is least.
+"""
+
+import argparse
+import itertools
+import os
+import sys
+
+sys.dont_write_bytecode = True
+sys.path.insert(0, os.path.dirname(os.path.abspath(__file__)))
+import generate as gen  # noqa: E402
+import reference as ref  # noqa: E402
+from generate import EMPTY, E, Numbers, any_of, choice, doc, seq, t, table, tree  # noqa: E402
+
+W = ref.WORK_WORDS
+FORMS = {'local': (ref.widen_local_by_table, ref.widen_local_by_document, ref.is_local),
+         'single-type': (ref.widen_single_type_by_table, ref.widen_single_type_by_document,
+                         ref.is_single_type)}
+done = [0]
+
+
+def check(fact, *about):
+    done[0] += 1
+    if not fact:
+        raise AssertionError(about)
+
+
+# ---------------------------------------------------------------- the paper's cases
+
+def paper():
+    p1, p2 = gen.P1, gen.P2
+    check(len(p1) == 17 and ref.table_reads(p1, W) == (0, 1, b''), 'P1')
+    check(ref.lets_in(p1, p2, W) == (0, 1, b''), 'P2')
+    check(ref.table_reads(b'', W) == (3, 0, b''), 'P3')
+    check(ref.document_reads(b'', W) == (3, 0, b''), 'P3')
+    check(ref.table_reads(E, W) == (0, 1, b''), 'a table of the end field alone is valid')
+    for by_table, _, _ in FORMS.values():
+        check(by_table(E, E, 100, W) == (13, 0, b''), 'P4')
+    local = ref.widen_local_by_table(gen.P5, E, 500, W).written
+    single = ref.widen_single_type_by_table(gen.P5, E, 500, W).written
+    check(ref.lets_in(local, gen.P5_CROSSED, W).value == 1, 'P5 local')
+    check(ref.lets_in(single, gen.P5_CROSSED, W) == (0, 0, b''), 'P5 single-type')
+    check(ref.lets_in(single, gen.P5_STRAIGHT, W).value == 1, 'P5 single-type')
+    p6 = table([0], [(0, 'group', choice(seq(t(0), t(0)), t(1))), (1, 'card', EMPTY)])
+    check(ref.widen_local_by_table(gen.P6, E, 500, W) == (0, len(p6), p6), 'P6')
+    p7 = table([0], [(0, 'list', t(1)), (1, 'door', t(2)), (2, 'code', EMPTY)])
+    p8 = table([0], [(0, 'list', choice(t(1), t(2))), (1, 'door', EMPTY), (2, 'lift', EMPTY)])
+    for by_table, _, _ in FORMS.values():
+        check(by_table(gen.P7, E, 500, W) == (0, len(p7), p7), 'P7')
+        check(by_table(gen.P8, E, 500, W) == (0, len(p8), p8), 'P8')
+    text = (b'local\nstart t0\nt0 list (t1*|t1)\nt1 card ((t2,t3?)|(t2,t4))\n'
+            b't2 name ()\nt3 door ()\nt4 zone ()\n')
+    check(ref.listing(gen.LISTER_TABLE, gen.LISTER_DOC) == text, 'lister')
+    check(ref.listing(b'', gen.LISTER_DOC) == b'refused 3\n', 'lister')
+    # "64 rules pass, 65 give 7; a name of 64 bytes gives 4; nesting 32 passes, 33 gives 10; 200
+    # children pass, 201 give 11."
+    rules = [gen.rule(0, 0, EMPTY)] * 65
+    for count, refusal in ((64, 0), (65, 7)):
+        check(ref.table_reads(gen.label('a') + b''.join(rules[:count]) + E, W).refusal == refusal)
+    for length, refusal in ((63, 0), (64, 4)):
+        check(ref.table_reads(gen.label('a' * length) + E, W).refusal == refusal)
+        check(ref.document_reads(doc('a' * length), W).refusal == refusal)
+    for depth, refusal in ((32, 0), (33, 10)):
+        check(ref.table_reads(gen.one_rule(gen.deep(depth)), W).refusal == refusal)
+    for children, refusal in ((200, 0), (201, 11)):
+        check(ref.document_reads(gen.document(gen.wide_doc(children)), W).refusal == refusal)
+    for numbered, read in ((gen.refused_tables(), ref.table_reads),
+                           (gen.refused_documents(), ref.document_reads)):
+        for refusal, inputs in numbered.items():
+            for data in inputs:
+                check(read(data, W).refusal == refusal, refusal, data)
+                check(read(data, W - 1).refusal == 1)
+
+
+# ---------------------------------------------------------------- all derived documents, listed
+
+# Trees here are pairs of a name and a tuple of trees.
+
+def derived_documents(read, most):
+    """All trees of at most `most` nodes that the table lets in, listed by building them up: no
+    matching of children is tried here."""
+    trees = {}        # (type, nodes) -> set of trees
+
+    def forests(content, nodes, known):
+        """The lists of trees, `nodes` nodes together, derived by the words of the content."""
+        key = (content, nodes)
+        if key not in known:
+            known[key] = set()       # for a word of no types under 05 and 06, see below
+            known[key] = listed(content, nodes, known)
+        return known[key]
+
+    def joined(first, second, nodes, known, least=0):
+        """Forests of `first` followed by forests that `second(n)` lists."""
+        found = set()
+        for before in range(least, nodes + 1):
+            for left in forests(first, before, known):
+                for right in second(nodes - before):
+                    found.add(left + right)
+        return found
+
+    def listed(content, nodes, known):
+        operator = content[0]
+        if operator == ref.NONE:
+            return set()
+        if operator == ref.EMPTY:
+            return {()} if nodes == 0 else set()
+        if operator == ref.TYPE:
+            return {(one,) for one in trees.get((content[1], nodes), ())}
+        if operator == ref.CHOICE:
+            return set().union(*(forests(operand, nodes, known) for operand in content[1]))
+        if operator == ref.OPTIONAL:
+            return forests(content[1], nodes, known) | ({()} if nodes == 0 else set())
+        if operator == ref.SEQUENCE:
+            def rest(number):
+                if number == len(content[1]):
+                    return lambda left: {()} if left == 0 else set()
+                return lambda left: joined(content[1][number], rest(number + 1), left, known)
+            return rest(0)(nodes)
+        # 05 and 06: a word of no types may be left out of a joining, unless it is the only one.
+        any_number = (ref.ANY, content[1])
+        if nodes == 0:
+            return {()} if operator == ref.ANY or forests(content[1], 0, known) else set()
+        return joined(content[1], lambda left: forests(any_number, left, known), nodes, known, 1)
+
+    for nodes in range(1, most + 1):
+        known = {}
+        for rule in read.rules:
+            name = read.labels[rule.label].decode('ascii')
+            made = {(name, forest) for forest in forests(rule.content, nodes - 1, known)}
+            trees.setdefault((rule.type, nodes), set()).update(made)
+    return {one for start in read.starts for nodes in range(1, most + 1)
+            for one in trees.get((start, nodes), ())}
+
+
+ALL_TREES = {}
+
+
+def all_trees(names, nodes):
+    """All trees of exactly `nodes` nodes over the names."""
+    key = (names, nodes)
+    if key not in ALL_TREES:
+        ALL_TREES[key] = [(name, forest) for name in names for forest in all_forests(names, nodes - 1)]
+    return ALL_TREES[key]
+
+
+def all_forests(names, nodes):
+    if nodes == 0:
+        return [()]
+    return [(first,) + rest for here in range(1, nodes + 1) for first in all_trees(names, here)
+            for rest in all_forests(names, nodes - here)]
+
+
+def trees_up_to(names, most):
+    return [one for nodes in range(1, most + 1) for one in all_trees(names, nodes)]
+
+
+def as_node(a_tree):
+    return ref.Node(a_tree[0].encode('ascii'), [as_node(child) for child in a_tree[1]])
+
+
+def membership(rounds):
+    """Letting in agrees with the listing, on every small tree."""
+    for number in range(rounds):
+        numbers = Numbers(500 + number)
+        make = gen.rich_table if number % 2 else gen.random_table
+        names = ('a', 'b', 'c')[:2 + number % 2]
+        read = ref.read_table(make(numbers, list(names), 5))
+        most = 6 if len(names) == 2 else 4
+        listed = derived_documents(read, most)
+        for a_tree in trees_up_to(names, most):
+            check(ref.table_lets_in(read, as_node(a_tree)) == (a_tree in listed), read, a_tree)
+    # Random contents over two leaves, against every word of at most five.
+    words = [word for length in range(6) for word in itertools.product('ab', repeat=length)]
+    for number in range(rounds * 4):
+        numbers = Numbers(80000 + number)
+        content = gen.random_content(numbers, [1, 2, 3], 3)
+        read = ref.read_table(table([0], [(0, 'r', content), (1, 'a', EMPTY), (2, 'b', EMPTY)]))
+        listed = derived_documents(read, 6)
+        for word in words:
+            a_tree = ('r', tuple((name, ()) for name in word))
+            check(ref.table_lets_in(read, as_node(a_tree)) == (a_tree in listed), read, a_tree)
+
+
+# ---------------------------------------------------------------- kinds and leastness
+
+def pieces(a_tree, kind, above=()):
+    """What a table of the kind cannot tell apart: at each node its name (local) or the path of
+    names to it (single-type), with the names of its children."""
+    path = above + (a_tree[0],)
+    here = path if kind == 'single-type' else (a_tree[0],)
+    yield ('node', here, tuple(child[0] for child in a_tree[1]))
+    for child in a_tree[1]:
+        yield from pieces(child, kind, path)
+
+
+def seen_pieces(trees, kind):
+    found = {('root', a_tree[0]) for a_tree in trees}
+    for a_tree in trees:
+        found.update(pieces(a_tree, kind))
+    return found
+
+
+def made_of(a_tree, found, kind):
+    return ('root', a_tree[0]) in found and all(piece in found for piece in pieces(a_tree, kind))
+
+
+def rival_tables(kind):
+    """Small tables of the kind over the names a and b, with the small trees each lets in."""
+    if kind == 'local':
+        contents = [EMPTY, t(0), t(1), gen.NONE, any_of(t(0)), any_of(t(1)), gen.optional(t(0)),
+                    gen.optional(t(1)), choice(t(0), t(1)), seq(t(0), t(1)), any_of(choice(t(0), t(1))),
+                    seq(t(1), t(1)), gen.some_of(t(1)), choice(EMPTY, seq(t(1), t(0)))]
+        made = [table(starts, [(0, 'a', first), (1, 'b', second)])
+                for starts in ([0], [1], [0, 1]) for first in contents for second in contents]
+    else:
+        made = []
+        numbers = Numbers(4242)
+        contents = [EMPTY, gen.NONE]
+        for one in range(4):
+            contents += [t(one), any_of(t(one)), gen.optional(t(one)), gen.some_of(t(one))]
+        for one, two in itertools.product((0, 2), (1, 3)):
+            contents += [choice(t(one), t(two)), seq(t(one), t(two)), seq(t(two), t(one)),
+                         any_of(choice(t(one), t(two)))]
+        while len(made) < 700:          # types 0 and 2 have name a, types 1 and 3 name b
+            rules = [(k, 'ab'[k % 2], numbers.of(contents)) for k in range(4)]
+            one = table(numbers.of(([0], [1], [0, 1], [0, 3])), rules, ['a', 'b'])
+            if ref.is_single_type(one, W).value:
+                made.append(one)
+        # Every local table with distinct types is single-type too.
+        made += rival_tables('local')[::7]
+    for one in made:
+        check(FORMS[kind][2](one, W) == (0, 1, b''), kind, one)
+    return made
+
+
+def leastness(rounds):
+    names = ('a', 'b')
+    most = 5
+    small = [one for one in trees_up_to(names, 4)]
+    rivals = {kind: [(one, derived_documents(ref.read_table(one), most))
+                     for one in rival_tables(kind)] for kind in FORMS}
+    counts = {'widenings': 0, 'whole': 0, 'rivals compared': 0}
+    for number in range(rounds):
+        numbers = Numbers(9000 + number)
+        make = (gen.random_table, gen.rich_table)
+        old = make[number % 2](numbers, list(names), 4)
+        old_trees = derived_documents(ref.read_table(old), most + 1)
+        if number % 3:
+            addition = make[number // 2 % 2](numbers, list(names), 4)
+            added = derived_documents(ref.read_table(addition), most + 1)
+        else:
+            one = numbers.of(small)
+            addition, added = gen.document(one), {one}
+        for kind, (by_table, by_document, is_kind) in FORMS.items():
+            answer = (by_table if number % 3 else by_document)(old, addition, 33000, W)
+            if answer.refusal:
+                check(answer.refusal == 13 and not old_trees and not added, kind, old, addition)
+                continue
+            counts['widenings'] += 1
+            result = ref.read_table(answer.written)
+            # "Being of the kind, letting in the old and the added, and being least are one claim"
+            check(is_kind(answer.written, W) == (0, 1, b''), kind, old, addition)
+            let_in = derived_documents(result, most + 1)
+            must = old_trees | added
+            check(must <= let_in, kind, old, addition)
+            check(ref.table_bytes(result) == answer.written)
+            # Least: every piece of a small document of the result is seen in what must be let in.
+            found = seen_pieces(must, kind)
+            narrow = {one for one in let_in if gen.size(one) <= 4}
+            whole = all(made_of(one, found, kind) for one in narrow)
+            if whole:
+                counts['whole'] += 1
+            else:
+                # The documents that show a piece may be larger; try again with more nodes.
+                wider = derived_documents(ref.read_table(old), 9)
+                wider |= (derived_documents(ref.read_table(addition), 9) if number % 3 else added)
+                found = seen_pieces(wider, kind)
+                check(all(made_of(one, found, kind) for one in narrow), kind, old, addition)
+                continue
+            # And what is made of seen pieces is let in: the result is no more than a closure.
+            for one in small:
+                if made_of(one, found, kind):
+                    check(one in let_in, kind, old, addition, one)
+            # Rivals that let in all of it up to the bound let in the result's small documents.
+            must = {one for one in must if gen.size(one) <= most}
+            found = seen_pieces(must, kind)
+            narrow = {one for one in narrow if made_of(one, found, kind)}
+            for rival, rival_trees in rivals[kind]:
+                if must <= rival_trees:
+                    counts['rivals compared'] += 1
+                    check(narrow <= rival_trees, kind, old, addition, rival)
+    return counts
+
+
+# ---------------------------------------------------------------- other facts
+
+def other_facts(rounds):
+    for number in range(rounds):
+        numbers = Numbers(31000 + number)
+        old = (gen.rich_table if number % 2 else gen.random_table)(numbers)
+        addition = (gen.random_table if number % 2 else gen.rich_table)(numbers)
+        check(ref.table_bytes(ref.read_table(old)) == old)
+        for by_table, by_document, is_kind in FORMS.values():
+            answer = by_table(old, addition, 33000, W)
+            if answer.refusal:
+                continue
+            check(is_kind(answer.written, W).value == 1)
+            # Widening a result by E changes no document; here it even changes no byte, since the
+            # numbering of a result is the one a second widening gives.
+            again = by_table(answer.written, E, 33000, W)
+            check(again.written == answer.written, old, addition)
+            a_document = gen.random_document(numbers, old)
+            answer = by_document(old, a_document, 33000, W)
+            check(answer.refusal == 14 or ref.lets_in(answer.written, a_document, W).value == 1)
+            a_sample = ref.sample(a_document, 33000, W)
+            if not a_sample.refusal:
+                check(ref.lets_in(a_sample.written, a_document, W).value == 1)
+                check(ref.is_single_type(a_sample.written, W).value == 1)
+                check(by_table(old, a_sample.written, 33000, W) == answer)
+                check(ref.widen_single_type_by_table(a_sample.written, E, 33000, W).refusal == 0)
+    # The case file reads back.
+    cases = gen.all_cases(3, 30)
+    data = b''.join(gen.case_bytes(case) for case in cases) + b'\x00'
+    check(list(gen.cases_in(data)) == cases)
+    # The lent slices afterwards, in full and by checksum.
+    for case in cases[::211]:
+        answer = gen.answer_of(case)
+        work = ref.work_after(answer, [case.work_fill] * case.work_len)
+        check(len(work) == case.work_len)
+        check(gen.checksum(work) == gen.work_checksum(case, answer))
+
+
+def main():
+    parser = argparse.ArgumentParser()
+    parser.add_argument('--rounds', type=int, default=150)
+    rounds = parser.parse_args().rounds
+    paper()
+    membership(max(1, rounds // 5))
+    counts = leastness(rounds)
+    other_facts(rounds)
+    print('%d facts hold; %s' % (done[0], ', '.join('%s %d' % pair for pair in counts.items())))
+
+
+if __name__ == '__main__':
+    main()
