@@ -2,16 +2,16 @@
 -- `walk-optional`) and operand by operand (`in-turn-none`, `in-turn-next`, `each-none`, `each-next`), and where the parts stand that
 -- the walk goes on with (`proper-operand`, `proper-operands`, `proper-first`, `in-turn-rest`). Then child by child (`walks-next`), and
 -- that the children's walks tell whether the content matches (`no-children`, `some-children`).
-use Prim.Native.Nat.{ℕ, zero, suc, _+_, _-_, _≤_, _<_}
+use Prim.Native.Nat.{ℕ, zero, suc, _+_, _*_, _-_, _≤_, _<_}
 use native.Mathlib.Omega.{arith}
 use mathlib.Core.Bool.{Bool, true, false, _&&_, _||_}
 use mathlib.Core.List.{List, [], _∷_, _++_}
 use mathlib.Core.Logic.{_⊎_, inl, inr}
 use mathlib.Core.Option.{none as nothing, some as just}
 use mathlib.Core.Path.{_≡_, refl, sym, _∙_, ap, subst}
-use lib.Dec.{leb, ltb}
+use lib.Dec.{eqb, leb, ltb}
 use lib.ListN.{length, getD, getElem?, set, drop, replicate, length-append}
-use borrow.Author.Tests.{ltb-true, ltb-false}
+use borrow.Author.Tests.{ltb-true, ltb-false, ne-eqb}
 use Rattle.grammar.specs.Limits.{Limits}
 use Rattle.grammar.specs.Content.{
   Content,
@@ -57,7 +57,8 @@ use Rattle.reader.proofs.ExprLaws.{
   known-operator,
   FirstAt,
 }
-use Rattle.validator.specs.WalkAt.{walkAt, walkInTurnAt, walkEachAt, walksAt, runAt, walked, ended, ProperAt, ProperRowAt}
+use Rattle.validator.specs.TypeSets.{setAt, testsAt}
+use Rattle.validator.specs.WalkAt.{walkAt, walkInTurnAt, walkEachAt, walksAt, runAt, walked, ended, ProperAt, WholeAt, ProperRowAt}
 use Rattle.validator.specs.declared.matching.Passed.{Passed}
 
 -- where something stands, the walk is over that
@@ -476,3 +477,53 @@ module _ (lim : Limits) (s : List ℕ) (stands : ProperAt lim s 0) where
         (walks-at s (noMarks (stands .content) ++ after) (stands .content) (stands .next) true (has ∷ children) (stands .stands))
         ∙ walks-run (stands .content) after has children
         ∙ sym (run-at s (stands .content) (stands .next) (has ∷ children) (stands .stands))
+
+-- Sets that stand one after the other.
+pub tests-none : (words : List ℕ) (at : ℕ) → testsAt words at 0 ≡ []
+unfolding testsAt
+tests-none words at = refl
+
+pub tests-next : (words : List ℕ) (at n : ℕ) → (n ≡ 0 → ⊥) → testsAt words at n ≡ setAt words at ∷ testsAt words (at + 2) (n - 1)
+unfolding testsAt
+tests-next words at n some =
+    let e : n ≡ suc (n - 1) = omega arith in
+    ap (testsAt words at) e
+
+-- A round of the loop over the children.
+module _ (lim : Limits) (s words : List ℕ) (stands : ProperAt lim s 0) (top count : ℕ) where
+  pub walks-round : (i : ℕ) (marks marks′ : List ℕ) (p : Passed) (b : Bool) → i < count
+      → walked marks′ p ≡ walkAt s 0 marks b (setAt words (top + 2 * i))
+      → walksAt s marks′ (eqb (i + 1) 0) (testsAt words (top + 2 * (i + 1)) (count - (i + 1)))
+      ≡ walksAt s marks b (testsAt words (top + 2 * i) (count - i))
+  walks-round i marks marks′ p b h e =
+      let has = setAt words (top + 2 * i) in
+      let later : eqb (i + 1) 0 ≡ false = ne-eqb (i + 1) 0 (λ q. omega arith) in
+      let place : top + 2 * (i + 1) ≡ top + 2 * i + 2 = omega arith in
+      let left : count - (i + 1) ≡ count - i - 1 = omega arith in
+      (λ j. walksAt s (e j .marks) (later j) (testsAt words (place j) (left j)))
+      ∙ sym (walks-next lim s stands marks b has (testsAt words (top + 2 * i + 2) (count - i - 1)))
+      ∙ sym (ap (walksAt s marks b) (tests-next words (top + 2 * i) (count - i) (λ q. omega arith)))
+
+  pub walks-over : (marks : List ℕ) (b : Bool) (i : ℕ) → i ≤ count → count ≤ i
+      → walksAt s marks b (testsAt words (top + 2 * i) (count - i)) ≡ marks
+  walks-over marks b i h k =
+      let none : count - i ≡ 0 = omega arith in
+      ap (λ (n : ℕ). walksAt s marks b (testsAt words (top + 2 * i) n)) none
+      ∙ ap (walksAt s marks b) (tests-none words (top + 2 * i))
+      ∙ walks-none lim s stands marks b
+
+-- what the children's walks say of the content
+module _ (lim : Limits) (s words : List ℕ) (whole : WholeAt lim s) (top count : ℕ) (after : List ℕ) where
+  pub match-none : count ≡ 0 → (b : Bool) (has : ℕ → Bool)
+      → walkAt s 0 (replicate (length s) 0 ++ after) b has .nullable ≡ runAt s (testsAt words top count)
+  match-none e b has =
+      no-children lim s (whole .proper-at) (whole .whole) after b has
+      ∙ ap (runAt s) (sym (ap (testsAt words top) e ∙ tests-none words top))
+
+  pub match-some : (count ≡ 0 → ⊥)
+      → isMarked (walksAt s (replicate (length s) 0 ++ after) true (testsAt words top count)) 0 ≡ runAt s (testsAt words top count)
+  match-some some =
+      let next = tests-next words top count some in
+      ap (λ (l : List (ℕ → Bool)). isMarked (walksAt s (replicate (length s) 0 ++ after) true l) 0) next
+      ∙ some-children lim s (whole .proper-at) (whole .whole) after (setAt words top) (testsAt words (top + 2) (count - 1))
+      ∙ ap (runAt s) (sym next)

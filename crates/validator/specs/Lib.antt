@@ -1,2 +1,2 @@
+pub mod TypeSets
 pub mod WalkAt
-pub mod Sets

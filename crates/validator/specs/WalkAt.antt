@@ -55,6 +55,11 @@ pub record ProperAt (lim : Limits) (s : List ℕ) (at : ℕ) : Type 0 where
   pub stands : exprAt s at ≡ just (content upTo next)
   pub proper : isProper lim content ≡ true
 
+-- the bytes are one proper expression
+pub record WholeAt (lim : Limits) (s : List ℕ) : Type 0 where
+  pub proper-at : ProperAt lim s 0
+  pub whole : proper-at .next ≡ length s
+
 -- so many, one after the other
 pub record ProperRowAt (lim : Limits) (s : List ℕ) (at n : ℕ) : Type 0 where
   pub contents : Contents

@@ -1,3 +1,2 @@
 // Membership and kind of tables and documents, over their readers.
 pub mod matching;
-pub mod sets;

@@ -2,16 +2,17 @@
 //
 // One walk over the content for each child. The marks have one number for each byte of the content: at the first byte of an
 // expression 1 where the children so far can end that expression, else 0.
-use crate::sets::has;
 use reader::numbers::wide;
+use sets::words::has;
 ghost use mathlib.Core.Bool.{_&&_, _||_, true, false};
+ghost use mathlib.Core.List.{_++_};
 ghost use mathlib.Core.Path.{_≡_};
-ghost use Prim.Native.Nat.{_+_, _/_, _<_, _≤_};
-ghost use lib.ListN.{length, set, getD};
+ghost use Prim.Native.Nat.{_+_, _*_, _<_, _≤_};
+ghost use lib.ListN.{length, set, getD, replicate, drop};
 ghost use Rattle.grammar.specs.Limits.{standard};
-ghost use Rattle.theory.proofs.MarkedPass.{number};
-ghost use Rattle.validator.specs.Sets.{member};
-ghost use Rattle.validator.specs.WalkAt.{walkAt, walkInTurnAt, walkEachAt, walked, ended, ProperAt, ProperRowAt, Room};
+ghost use Rattle.theory.proofs.MarkedPass.{number, isMarked};
+ghost use Rattle.validator.specs.TypeSets.{setAt, testsAt};
+ghost use Rattle.validator.specs.WalkAt.{walkAt, walkInTurnAt, walkEachAt, walksAt, runAt, walked, ended, WholeAt, ProperAt, ProperRowAt, Room};
 
 // What the walk over an expression gives back: the place after it, whether it matches no children at all, and whether the children so
 // far, the last one included, can end it.
@@ -53,8 +54,8 @@ fn mark(marks: &mut [u8], at: usize, ends: bool)
 
 // Whether the child, if it may come here, has the type.
 fn allowed(incoming: bool, words: &[u32], base: usize, k: usize) -> bool
-    requires { ⌜ base + k / 32 < length (now words) ⌝ }
-    ensures { λ r. ⌜ r ≡ (incoming && member (now (words .entry)) base k) ⌝ }
+    requires { ⌜ (k < 64) × (base + 2 ≤ length (now words)) ⌝ }
+    ensures { λ r. ⌜ r ≡ (incoming && setAt (now (words .entry)) base k) ⌝ }
 {
     if incoming {
         return has(words, base, k);
@@ -96,7 +97,7 @@ fn typed(
       marks = now (marks .entry);
       next = at + 2;
       nullable = false;
-      final = incoming && member (now (words .entry)) base (getD (now (content .entry)) (at + 1) 0);
+      final = incoming && setAt (now (words .entry)) base (getD (now (content .entry)) (at + 1) 0);
     }) ⌝ }
 {
     let k = wide(content[at + 1]);
@@ -119,7 +120,7 @@ pub fn pass(
 ) -> Passed
     requires { ⌜ (ProperAt standard (now content) at) × (Room (now content) (now marks) (now words) base) ⌝ }
     ensures { λ r. ⌜ walked (now (marks .exit)) r
-        ≡ walkAt (now (content .entry)) at (now (marks .entry)) incoming (member (now (words .entry)) base) ⌝ }
+        ≡ walkAt (now (content .entry)) at (now (marks .entry)) incoming (setAt (now (words .entry)) base) ⌝ }
 {
     let operator = wide(content[at]);
     match operator {
@@ -183,7 +184,7 @@ fn in_turn(
 ) -> Passed
     requires { ⌜ (ProperRowAt standard (now content) (earlier .next) count) × (Room (now content) (now marks) (now words) base) ⌝ }
     ensures { λ r. ⌜ walked (now (marks .exit)) r
-        ≡ walkInTurnAt (now (content .entry)) (earlier .next) count (now (marks .entry)) incoming (member (now (words .entry)) base)
+        ≡ walkInTurnAt (now (content .entry)) (earlier .next) count (now (marks .entry)) incoming (setAt (now (words .entry)) base)
         (earlier .nullable) (earlier .ends) ⌝ }
 {
     if count == 0 {
@@ -213,7 +214,7 @@ fn each(
 ) -> Passed
     requires { ⌜ (ProperRowAt standard (now content) (earlier .next) count) × (Room (now content) (now marks) (now words) base) ⌝ }
     ensures { λ r. ⌜ walked (now (marks .exit)) r
-        ≡ walkEachAt (now (content .entry)) (earlier .next) count (now (marks .entry)) incoming (member (now (words .entry)) base)
+        ≡ walkEachAt (now (content .entry)) (earlier .next) count (now (marks .entry)) incoming (setAt (now (words .entry)) base)
         (earlier .nullable) (earlier .ends) ⌝ }
 {
     if count == 0 {
@@ -227,4 +228,42 @@ fn each(
         ends: either(earlier.ends, first.ends),
     };
     each(content, count - 1, more, marks, incoming, words, base)
+}
+
+// Nothing is marked in the first places.
+fn clear(marks: &mut [u8], places: usize)
+    requires { ⌜ places ≤ length (now marks) ⌝ }
+    ensures { λ r. ⌜ now (marks .exit) ≡ replicate places 0 ++ drop places (now (marks .entry)) ⌝ }
+{
+    let mut i: usize = 0;
+    while i < places {
+        marks[i] = 0;
+        i += 1;
+    }
+}
+
+// The children's walks over the content, one after the other: whether the last one can end it.
+fn walked_through(content: &[u8], marks: &mut [u8], words: &[u32], top: usize, count: usize) -> bool
+    requires { ⌜ (WholeAt standard (now content)) × (0 < count) × (Room (now content) (now marks) (now words) top) × (top + 2 * count ≤ length (now words)) ⌝ }
+    ensures { λ r. ⌜ r ≡ isMarked (walksAt (now (content .entry)) (now (marks .entry)) true (testsAt (now (words .entry)) top count)) 0 ⌝ }
+{
+    let mut i: usize = 0;
+    while i < count {
+        pass(content, 0, marks, i == 0, words, top + 2 * i);
+        i += 1;
+    }
+    marks[0] == 1
+}
+
+// Whether the content matches so many children, whose sets stand in the words from `top` on, two words a set.
+pub fn matches(content: &[u8], marks: &mut [u8], words: &[u32], top: usize, count: usize) -> bool
+    requires { ⌜ (WholeAt standard (now content)) × (Room (now content) (now marks) (now words) 0) × (top + 2 * count ≤ length (now words)) ⌝ }
+    ensures { λ r. ⌜ r ≡ runAt (now (content .entry)) (testsAt (now (words .entry)) top count) ⌝ }
+{
+    clear(marks, content.len());
+    if count == 0 {
+        let none = pass(content, 0, marks, false, words, 0);
+        return none.nullable;
+    }
+    walked_through(content, marks, words, top, count)
 }

@@ -11,7 +11,7 @@ use borrow.Fn.Kinds.{In}
 use borrow.Fn.PlainCycle.{Measures, is, falls, and}
 use Rattle.grammar.specs.Limits.{standard}
 use Rattle.theory.proofs.MarkedPass.{Walked, isMarked}
-use Rattle.validator.specs.Sets.{member}
+use Rattle.validator.specs.TypeSets.{setAt}
 use Rattle.validator.specs.declared.matching.Passed.{Passed}
 use Rattle.validator.specs.WalkAt.{ProperAt, ProperRowAt, Room, walkAt, walkInTurnAt, walkEachAt, walked, ended}
 use Rattle.validator.proofs.WalkLaws as laws
@@ -74,7 +74,7 @@ each-returns t c =
     let start = c .before .before .before .before in
     let s = start .args .content .now in
     let e = start .args .earlier in
-    let has = member (start .args .words .now) (start .args .base) in
+    let has = setAt (start .args .words .now) (start .args .base) in
     let marks = start .args .marks .now in
     let b = start .args .incoming in
     let none = c .if1 .taken in
@@ -95,7 +95,7 @@ each-each-requires t c κs =
     let start = c .before .before .before .before .before .before .before .before .before .before .before in
     let s = start .args .content .now in
     let e = start .args .earlier in
-    let has = member (start .args .words .now) (start .args .base) in
+    let has = setAt (start .args .words .now) (start .args .base) in
     let marks = start .args .marks .now in
     let b = start .args .incoming in
     let row = start .pre .1 .0 in
@@ -114,7 +114,7 @@ each-returns-2 t c =
     let start = c .before .before .before .before .before .before .before .before .before .before .before .before .before .before in
     let s = start .args .content .now in
     let e = start .args .earlier in
-    let has = member (start .args .words .now) (start .args .base) in
+    let has = setAt (start .args .words .now) (start .args .base) in
     let marks = start .args .marks .now in
     let b = start .args .incoming in
     let row = start .pre .1 .0 in
@@ -130,7 +130,7 @@ in-turn-returns t c =
     let start = c .before .before .before .before in
     let s = start .args .content .now in
     let e = start .args .earlier in
-    let has = member (start .args .words .now) (start .args .base) in
+    let has = setAt (start .args .words .now) (start .args .base) in
     let marks = start .args .marks .now in
     let b = start .args .incoming in
     let none = c .if1 .taken in
@@ -160,7 +160,7 @@ in-turn-in-turn-requires t c κs =
     let start = c .before .before .before .before .before .before .before .before .before .before .before .before .before .before .before in
     let s = start .args .content .now in
     let e = start .args .earlier in
-    let has = member (start .args .words .now) (start .args .base) in
+    let has = setAt (start .args .words .now) (start .args .base) in
     let marks = start .args .marks .now in
     let b = start .args .incoming in
     let row = start .pre .1 .0 in
@@ -180,7 +180,7 @@ in-turn-returns-2 t c =
     let start = c .before .before .before .before .before .before .before .before .before .before .before .before .before .before .before .before .before .before in
     let s = start .args .content .now in
     let e = start .args .earlier in
-    let has = member (start .args .words .now) (start .args .base) in
+    let has = setAt (start .args .words .now) (start .args .base) in
     let marks = start .args .marks .now in
     let b = start .args .incoming in
     let row = start .pre .1 .0 in
@@ -382,7 +382,7 @@ pass-returns t c =
     let at = start .args .at in
     let stands = start .pre .1 .0 in
     let byte = sym (c .before .wide .ensures .0) in
-    let has = member (start .args .words .now) (start .args .base) in
+    let has = setAt (start .args .words .now) (start .args .base) in
     let marks = start .args .marks .now in
     let b = start .args .incoming in
     sym (laws.walk-none standard s at stands marks b has (byte ∙ c .match .keys1))
@@ -394,7 +394,7 @@ pass-returns-2 t c =
     let at = start .args .at in
     let stands = start .pre .1 .0 in
     let byte = sym (c .before .wide .ensures .0) in
-    let has = member (start .args .words .now) (start .args .base) in
+    let has = setAt (start .args .words .now) (start .args .base) in
     let marks = start .args .marks .now in
     let b = start .args .incoming in
     sym (laws.walk-empty standard s at stands marks b has (byte ∙ c .match .keys2))
@@ -406,7 +406,7 @@ pass-returns-3 t c =
     let at = start .args .at in
     let stands = start .pre .1 .0 in
     let byte = sym (c .before .before .before .before .before .wide .ensures .0) in
-    let has = member (start .args .words .now) (start .args .base) in
+    let has = setAt (start .args .words .now) (start .args .base) in
     let marks = start .args .marks .now in
     let b = start .args .incoming in
     c .before .before .typed .ensures ∙ sym (laws.walk-type standard s at stands marks b has (byte ∙ c .before .before .before .before .match .keys3))
@@ -418,7 +418,7 @@ pass-returns-4 t c =
     let at = start .args .at in
     let stands = start .pre .1 .0 in
     let byte = sym (c .before .before .before .before .before .before .before .before .before .before .before .wide .ensures .0) in
-    let has = member (start .args .words .now) (start .args .base) in
+    let has = setAt (start .args .words .now) (start .args .base) in
     let marks = start .args .marks .now in
     let b = start .args .incoming in
     c .before .before .sealed .ensures
@@ -432,7 +432,7 @@ pass-returns-5 t c =
     let at = start .args .at in
     let stands = start .pre .1 .0 in
     let byte = sym (c .before .before .before .before .before .before .before .before .before .before .before .wide .ensures .0) in
-    let has = member (start .args .words .now) (start .args .base) in
+    let has = setAt (start .args .words .now) (start .args .base) in
     let marks = start .args .marks .now in
     let b = start .args .incoming in
     c .before .before .sealed2 .ensures
@@ -447,7 +447,7 @@ pass-returns-6 t c =
     let at = start .args .at in
     let stands = start .pre .1 .0 in
     let byte = sym (c .before .before .before .before .before .before .before .before .before .before .before .before .wide .ensures .0) in
-    let has = member (start .args .words .now) (start .args .base) in
+    let has = setAt (start .args .words .now) (start .args .base) in
     let marks = start .args .marks .now in
     let b = start .args .incoming in
     c .before .before .sealed3 .ensures
@@ -463,7 +463,7 @@ pass-returns-7 t c =
     let at = start .args .at in
     let stands = start .pre .1 .0 in
     let byte = sym (c .before .before .before .before .before .before .before .before .before .before .before .wide .ensures .0) in
-    let has = member (start .args .words .now) (start .args .base) in
+    let has = setAt (start .args .words .now) (start .args .base) in
     let marks = start .args .marks .now in
     let b = start .args .incoming in
     c .before .before .sealed4 .ensures
@@ -477,7 +477,7 @@ pass-returns-8 t c =
     let at = start .args .at in
     let stands = start .pre .1 .0 in
     let byte = sym (c .before .before .before .before .before .before .before .before .before .before .wide .ensures .0) in
-    let has = member (start .args .words .now) (start .args .base) in
+    let has = setAt (start .args .words .now) (start .args .base) in
     let marks = start .args .marks .now in
     let b = start .args .incoming in
     let rest = c .before .before .before .before .before .before .before .before .before .match .rest in

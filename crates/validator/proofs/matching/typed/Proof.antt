@@ -3,7 +3,7 @@ use Prim.Native.Nat.{ℕ, _+_}
 use mathlib.Core.Bool.{Bool, false, _&&_}
 use mathlib.Core.Path.{_≡_, _∙_, ap}
 use borrow.Author.Needs.{needs}
-use Rattle.validator.specs.Sets.{member}
+use Rattle.validator.specs.TypeSets.{setAt}
 use Rattle.validator.specs.WalkAt.{ended}
 use Rattle.validator.proofs.matching.typed.Statement.{statement}
 use Rattle.validator.proofs.matching.typed.Tie as tie
@@ -46,7 +46,7 @@ returns : tie.Need-returns
 returns c =
     let k = c .before .before .before .before .before .wide .ensures .0 in
     let s = c .before .before .before .before .before .before .before .before .before .before .args .content .now in
-    let has = member (c .before .before .before .before .before .before .before .before .before .before .args .words .now) (c .before .before .before .before .before .before .before .before .before .before .args .base) in
+    let has = setAt (c .before .before .before .before .before .before .before .before .before .before .args .words .now) (c .before .before .before .before .before .before .before .before .before .before .args .base) in
     let at = c .before .before .before .before .before .before .before .before .before .before .args .at in
     c .before .before .sealed .ensures
     ∙ ap (λ (f : Bool). ended at (record { marks = c .before .before .before .before .before .before .before .before .before .before .args .marks .now; next = at + 2; nullable = false; final = f }))
