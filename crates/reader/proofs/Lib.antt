@@ -9,3 +9,10 @@ pub mod DocumentStepping
 pub mod DocumentLoop
 pub mod DocumentTrees
 pub mod DocumentAnswers
+pub mod AnswerLaws
+pub mod TableIndexLaws
+pub mod TableFaults
+pub mod LabelSearch
+pub mod IndexedFaults
+pub mod TableSteps
+pub mod TableReading

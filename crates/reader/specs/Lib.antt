@@ -3,3 +3,4 @@ pub mod ExprAt
 pub mod Extents
 pub mod DocumentNodes
 pub mod DocumentSteps
+pub mod TableIndex

@@ -5,3 +5,4 @@ pub mod fields;
 pub mod limits;
 pub mod names;
 pub mod numbers;
+pub mod tables;

@@ -1,0 +1,203 @@
+-- Reading a table field by field: how far reading came, and where each field leads.
+use Prim.Native.Nat.{ℕ, _≤_, _<_}
+use native.Mathlib.Omega.{arith}
+use mathlib.Core.Bool.{true, false, not}
+use mathlib.Core.List.{List, [], _∷_}
+use mathlib.Core.Logic.{_⊎_, ⊎-elim}
+use mathlib.Core.Path.{_≡_, refl, sym, _∙_, ap, subst}
+use lib.Dec.{eqb, ltb}
+use lib.ListN.{length, drop, length-drop, drop-of-length-le}
+use lib.Seq.{slice}
+use borrow.Author.Tests.{eq-eqb, ne-eqb, lt-ltb, le-ltb}
+use Rattle.grammar.specs.Limits.{standard}
+use Rattle.grammar.specs.Names.{asciiClasses}
+use Rattle.grammar.specs.Table.{Table, emptyTable}
+use Rattle.grammar.specs.Outcome.{Outcome, given, refused, _>>=_, _>>_, turnBack}
+use Rattle.grammar.specs.Answers.{reading}
+use Rattle.grammar.specs.Fields.{Field, Fields, noBytes, pastEnd, _then_, fieldsOf}
+use Rattle.grammar.specs.ReadTable.{labelTag, startTag, ruleTag, tableEndTag, isEmpty, bytesLeft, readLabel, readStart, readRule, readTableField, readTableFields, readTable}
+use Rattle.grammar.specs.declared.Refusal.{Refusal}
+use Rattle.grammar.specs.declared.Refusal.the-variants.{InputTooLong, FieldPastEnd, BadField, BytesAfterEnd}
+use Rattle.grammar.specs.declared.Reading.{Reading}
+use Rattle.grammar.specs.declared.Reading.the-variants.{Readable, Refused as Unreadable}
+use Rattle.theory.proofs.OutcomeLaws.{given-then, no-fault, had-no-fault, given-eq}
+use Rattle.theory.proofs.FieldBytes.{fields-empty, fields-none}
+use Rattle.theory.proofs.ReadSteps.{end-field, next-field}
+use Rattle.reader.specs.declared.fields.FieldAt.the-variants.{Found, NoBytes, PastEnd}
+use Rattle.reader.specs.declared.tables.TableIndex.{TableIndex}
+use Rattle.reader.specs.declared.tables.TableRead.{TableRead}
+use Rattle.reader.specs.FieldAt.{fieldAt}
+use Rattle.reader.specs.TableIndex.{part, Inside, Indexes, Indexed, Reads, endOutcome}
+use Rattle.reader.proofs.AnswerLaws.{fault, readable, unreadable, was-readable, was-unreadable, never-given}
+use Rattle.reader.proofs.FieldReading.{FoundField, field-found, field-none, field-past}
+use Rattle.reader.proofs.TableFaults.{part-size, part-slice}
+use Rattle.reader.proofs.TableSteps.{refused-reads}
+
+-- which of the three a field is, by its tag
+module _ (g : Table) (tag : ℕ) (value : List ℕ) where
+  field : Field
+  field = record { tag = tag; value = value }
+
+  pub label-field : tag ≡ labelTag → readTableField standard asciiClasses g (record { tag = tag; value = value }) ≡ readLabel standard asciiClasses g value
+  unfolding readTableField
+  label-field e = rw (eq-eqb tag labelTag e, readTableField)
+
+  pub start-field : (tag ≡ labelTag → ⊥) → tag ≡ startTag
+      → readTableField standard asciiClasses g (record { tag = tag; value = value }) ≡ readStart standard g value
+  unfolding readTableField
+  start-field n e = rw (ne-eqb tag labelTag n, eq-eqb tag startTag e, readTableField)
+
+  pub rule-field : (tag ≡ labelTag → ⊥) → (tag ≡ startTag → ⊥) → tag ≡ ruleTag
+      → readTableField standard asciiClasses g (record { tag = tag; value = value }) ≡ readRule standard g value
+  unfolding readTableField
+  rule-field n m e = rw (ne-eqb tag labelTag n, ne-eqb tag startTag m, eq-eqb tag ruleTag e, readTableField)
+
+  pub foreign-field : (tag ≡ labelTag → ⊥) → (tag ≡ startTag → ⊥) → (tag ≡ ruleTag → ⊥)
+      → readTableField standard asciiClasses g (record { tag = tag; value = value }) ≡ refused BadField
+  unfolding readTableField
+  foreign-field n m k = rw (ne-eqb tag labelTag n, ne-eqb tag startTag m, ne-eqb tag ruleTag k, readTableField)
+
+-- the table's fields as a whole
+abbrev pub wholeTable : List ℕ → Outcome Table
+wholeTable s = readTableFields standard asciiClasses emptyTable (fieldsOf s)
+
+-- Up to this place a table is read, which the index indexes; the whole reads as the rest does after that table.
+pub record Reached (s : List ℕ) (at : ℕ) (index : TableIndex) : Type 0 where
+  pub table : Table
+  pub indexes : Indexes s index table
+  pub inside : at ≤ length s
+  pub rest : wholeTable s ≡ readTableFields standard asciiClasses table (fieldsOf (drop at s))
+
+pub reached-none : (s : List ℕ) (index : TableIndex) → Indexes s index emptyTable → Reached s 0 index
+reached-none s index x = record { table = emptyTable; indexes = x; inside = omega arith; rest = refl }
+
+pub found-inside : {s : List ℕ} {at tag from to : ℕ} → FoundField s at tag from to → Inside s from to
+found-inside w = record { order = w .order; within = w .within }
+
+module _ {s : List ℕ} {at : ℕ} {index : TableIndex} (r : Reached s at index) where
+  pub indexed : Indexed s index
+  indexed = record { table = r .table; indexes = r .indexes }
+
+  pub ends-early : (fieldAt s at ≡ NoBytes) ⊎ (fieldAt s at ≡ PastEnd)
+      → Reads s (wholeTable s) (record { answer = Unreadable FieldPastEnd; index = index })
+  unfolding readTableFields
+  ends-early e =
+      refused-reads s (wholeTable s) FieldPastEnd index (unreadable (wholeTable s) FieldPastEnd (⊎-elim none past e))
+    where
+      none : fieldAt s at ≡ NoBytes → wholeTable s ≡ refused FieldPastEnd
+      none p = r .rest ∙ ap (readTableFields standard asciiClasses (r .table)) (field-none s at p .1)
+
+      past : fieldAt s at ≡ PastEnd → wholeTable s ≡ refused FieldPastEnd
+      past p = r .rest ∙ ap (readTableFields standard asciiClasses (r .table)) (field-past s at p .1)
+
+  module _ {tag from to : ℕ} (w : FoundField s at tag from to) where
+    here : Field
+    here = record { tag = tag; value = part s from to }
+
+    fields-here : fieldsOf (drop at s) ≡ (here then fieldsOf (drop to s))
+    unfolding here
+    fields-here =
+        w .fields
+        ∙ ap (λ (v : List ℕ). record { tag = tag; value = v } then fieldsOf (drop to s)) (part-slice s from to (found-inside w))
+
+    pub ends-here : tag ≡ tableEndTag → (answer : Reading) → answer ≡ reading (endOutcome (r .table) (part s from to) (fieldsOf (drop to s)))
+        → Reads s (wholeTable s) (record { answer = answer; index = index })
+    unfolding here
+    ends-here e answer a =
+        let so : wholeTable s ≡ endOutcome (r .table) (part s from to) (fieldsOf (drop to s)) =
+        r .rest
+        ∙ ap (readTableFields standard asciiClasses (r .table)) fields-here
+        ∙ end-field standard asciiClasses (r .table) here (fieldsOf (drop to s)) (eq-eqb tag tableEndTag e) in
+        record {
+          answer = a ∙ ap reading (sym so);
+          index =
+              λ g q.
+              let b = had-no-fault (not (isEmpty (part s from to))) BadField _ g (sym so ∙ q) in
+              let d = had-no-fault (bytesLeft (fieldsOf (drop to s))) BytesAfterEnd _ g (b .1) in
+              subst (Indexes s index) (given-eq (d .1)) (r .indexes);
+        }
+
+    module _ (other : tag ≡ tableEndTag → ⊥) (read : TableRead)
+        (so : Reads s (readTableField standard asciiClasses (r .table) (record { tag = tag; value = part s from to })) read) where
+      goes-on : wholeTable s
+          ≡ (readTableField standard asciiClasses (r .table) here >>= (λ more. readTableFields standard asciiClasses more (fieldsOf (drop to s))))
+      unfolding here
+      goes-on =
+          r .rest
+          ∙ ap (readTableFields standard asciiClasses (r .table)) fields-here
+          ∙ next-field standard asciiClasses (r .table) here (fieldsOf (drop to s)) (ne-eqb tag tableEndTag other)
+
+      pub stops-here : (q : Refusal) → read .answer ≡ Unreadable q → Reads s (wholeTable s) read
+      unfolding here
+      stops-here q e =
+          let f = was-unreadable (readTableField standard asciiClasses (r .table) here) q (sym (so .answer) ∙ e) in
+          let whole : wholeTable s ≡ refused q =
+          goes-on
+          ∙ ap (λ (o : Outcome Table). o >>= (λ more. readTableFields standard asciiClasses more (fieldsOf (drop to s)))) f in
+          record {
+            answer = e ∙ sym (unreadable (wholeTable s) q whole);
+            index = λ g p. absurd (never-given (wholeTable s) q g whole p);
+          }
+
+      pub reached-next : read .answer ≡ Readable → Reached s to (read .index)
+      unfolding here
+      reached-next e =
+          let f = was-readable (readTableField standard asciiClasses (r .table) here) (sym (so .answer) ∙ e) in
+          record {
+            table = f .0;
+            indexes = so .index (f .0) (f .1);
+            inside = w .within;
+            rest = goes-on ∙ given-then (readTableField standard asciiClasses (r .table) here) (f .0) _ (f .1);
+          }
+
+-- what an end field says
+module _ (s : List ℕ) (from to : ℕ) (h : Inside s from to) (g : Table) where
+  ending : Outcome Table
+  ending = endOutcome g (part s from to) (fieldsOf (drop to s))
+
+  pub end-with-value : (from ≡ to → ⊥) → reading (endOutcome g (part s from to) (fieldsOf (drop to s))) ≡ Unreadable BadField
+  unfolding ending
+  end-with-value n =
+      unreadable ending BadField (fault _ BadField _ (ap not (some-bytes (part s from to) (let size = part-size s from to h in let order = h .order in omega arith))))
+    where
+      some-bytes : (v : List ℕ) → 0 < length v → isEmpty v ≡ false
+      some-bytes [] k = absurd (omega arith)
+      some-bytes (b ∷ v) k = refl
+
+  module _ (e : from ≡ to) where
+    no-value : {B : Type 0} (next : Outcome B) → (turnBack (not (isEmpty (part s from to))) BadField >> next) ≡ next
+    no-value next = no-fault _ BadField next (ap not (no-bytes (part s from to) (let size = part-size s from to h in omega arith)))
+      where
+        no-bytes : (v : List ℕ) → length v ≡ 0 → isEmpty v ≡ true
+        no-bytes [] k = refl
+        no-bytes (b ∷ v) k = absurd (omega arith)
+
+    pub end-with-more : (to ≡ length s → ⊥) → reading (endOutcome g (part s from to) (fieldsOf (drop to s))) ≡ Unreadable BytesAfterEnd
+    unfolding ending
+    end-with-more n = unreadable ending BytesAfterEnd (no-value _ ∙ fault _ BytesAfterEnd _ (left (fieldsOf (drop to s)) refl))
+      where
+        left : (fs : Fields) → fieldsOf (drop to s) ≡ fs → bytesLeft fs ≡ true
+        left noBytes p =
+            let l = sym (length-drop to s) ∙ ap length (fields-none (drop to s) p) in
+            let w = h .within in
+            absurd (n (omega arith))
+        left pastEnd p = refl
+        left (f then fs) p = refl
+
+    pub end-reads : to ≡ length s → reading (endOutcome g (part s from to) (fieldsOf (drop to s))) ≡ Readable
+    unfolding ending
+    end-reads p =
+        readable
+        ending
+        g
+        (no-value _ ∙ no-fault _ BytesAfterEnd _ (ap bytesLeft (ap fieldsOf (drop-of-length-le s {i = to} (omega arith)) ∙ fields-empty)))
+
+-- an input that is too long, and any other
+module _ (s : List ℕ) where
+  pub table-too-long : 32768 < length s → readTable standard asciiClasses s ≡ refused InputTooLong
+  unfolding readTable standard
+  table-too-long h = fault (ltb 32768 (length s)) InputTooLong _ (lt-ltb 32768 (length s) h)
+
+  pub table-by-fields : length s ≤ 32768 → readTable standard asciiClasses s ≡ wholeTable s
+  unfolding readTable standard
+  table-by-fields h = no-fault (ltb 32768 (length s)) InputTooLong _ (le-ltb 32768 (length s) h)

@@ -1,0 +1,136 @@
+-- What a label, a start or a rule that is read adds to the index.
+use Prim.Native.Nat.{ℕ, _+_, _-_, _≤_, _<_}
+use native.Mathlib.Omega.{arith}
+use mathlib.Core.List.{List, [], _∷_}
+use mathlib.Core.Path.{_≡_, refl, sym, _∙_, ap, subst}
+use lib.ListN.{length, getD}
+use Rattle.grammar.specs.Limits.{standard}
+use Rattle.grammar.specs.Names.{asciiClasses}
+use Rattle.grammar.specs.Table.{Rule, Table}
+use Rattle.grammar.specs.Outcome.{Outcome, given, refused}
+use Rattle.grammar.specs.Answers.{reading}
+use Rattle.grammar.specs.ReadContent.{contentBytes}
+use Rattle.grammar.specs.WriteTable.{ruleBytes}
+use Rattle.grammar.specs.ReadTable.{withLabel, withStart, withRule, readLabel, readStart, readRule}
+use Rattle.grammar.specs.declared.Refusal.{Refusal}
+use Rattle.grammar.specs.declared.Reading.{Reading}
+use Rattle.grammar.specs.declared.Reading.the-variants.{Readable, Refused as Unreadable}
+use Rattle.theory.proofs.OutcomeLaws.{given-eq}
+use Rattle.theory.proofs.ReadSteps.{label-was, StartRead, start-was, RuleRead, rule-was}
+use Rattle.reader.specs.declared.tables.TableIndex.{TableIndex}
+use Rattle.reader.specs.declared.tables.TableRead.{TableRead}
+use Rattle.reader.specs.TableIndex.{part, Inside, Stands, Indexes, Reads}
+use Rattle.reader.proofs.AnswerLaws.{readable, unreadable, was-readable, was-unreadable, never-given}
+use Rattle.reader.proofs.TableFaults.{part-size, part-one, part-two}
+use Rattle.reader.proofs.TableIndexLaws.{addLabel, addStart, addRule, label-added, start-added, rule-added}
+
+-- a refusal leaves nothing to say of the index
+pub refused-reads : (s : List ℕ) (o : Outcome Table) (r : Refusal) (index : TableIndex) → reading o ≡ Unreadable r
+    → Reads s o (record { answer = Unreadable r; index = index })
+refused-reads s o r index e =
+    record { answer = sym e; index = λ g q. absurd (never-given o r g (was-unreadable o r e) q) }
+
+-- the index of the table that is given
+pub given-reads : (s : List ℕ) (o : Outcome Table) (g : Table) (index : TableIndex) → o ≡ given g → Indexes s index g
+    → Reads s o (record { answer = Readable; index = index })
+given-reads s o g index e x =
+    record { answer = sym (readable o g e); index = λ h q. subst (Indexes s index) (given-eq (sym e ∙ q)) x }
+
+module _ {s : List ℕ} {index : TableIndex} {g : Table} (x : Indexes s index g) {from to : ℕ} (h : Inside s from to) where
+  module _ (read : reading (readLabel standard asciiClasses g (part s from to)) ≡ Readable) where
+    pub label-room : index .labels < 64
+    unfolding standard
+    label-room =
+        let r = was-readable (readLabel standard asciiClasses g (part s from to)) read in
+        let w = label-was standard asciiClasses g (part s from to) (r .0) (r .1) in
+        let room = w .room in
+        omega (arith, x .labels)
+
+    pub label-reads : Reads s (readLabel standard asciiClasses g (part s from to)) (record { answer = Readable; index = addLabel index from to })
+    label-reads =
+        let r = was-readable (readLabel standard asciiClasses g (part s from to)) read in
+        let w = label-was standard asciiClasses g (part s from to) (r .0) (r .1) in
+        given-reads s (readLabel standard asciiClasses g (part s from to)) (withLabel g (part s from to)) (addLabel index from to) (r .1 ∙ ap given (sym (w .result))) (label-added x from to h label-room)
+
+  module _ (read : reading (readStart standard g (part s from to)) ≡ Readable) where
+    start-found : (more : Table) × (readStart standard g (part s from to) ≡ given more) × StartRead standard g (part s from to) more
+    start-found =
+        let r = was-readable (readStart standard g (part s from to)) read in
+        (r .0, r .1, start-was standard g (part s from to) (r .0) (r .1))
+
+    start-size : to - from ≡ 1
+    start-size = sym (part-size s from to h) ∙ ap length (start-found .2 .byte)
+
+    pub start-room : (index .starts < 64) × (from < length s)
+    unfolding standard
+    start-room =
+        let room = start-found .2 .room in
+        let size = start-size in
+        (omega (arith, x .starts), omega (arith, h .within))
+
+    pub start-step : Reads s (readStart standard g (part s from to)) (record { answer = Readable; index = addStart index (getD s from 0) })
+    start-step =
+        let w = start-found .2 in
+        given-reads
+        s
+        (readStart standard g (part s from to))
+        (withStart g (getD s from 0))
+        (addStart index (getD s from 0))
+        (start-found .1 ∙ ap given (sym (w .result) ∙ ap (withStart g) (same-one (sym (w .byte) ∙ part-one s from to start-size (h .within)))))
+        (start-added x (getD s from 0) (start-room .0))
+      where
+        same-one : {a b : ℕ} → _≡_ {A = List ℕ} (a ∷ []) (b ∷ []) → a ≡ b
+        same-one e = cc
+
+  module _ (read : reading (readRule standard g (part s from to)) ≡ Readable) where
+    rule-found : (more : Table) × (readRule standard g (part s from to) ≡ given more) × RuleRead standard g (part s from to) more
+    rule-found =
+        let r = was-readable (readRule standard g (part s from to)) read in
+        (r .0, r .1, rule-was standard g (part s from to) (r .0) (r .1))
+
+    rule-size : from + 2 ≤ to
+    unfolding ruleBytes
+    rule-size =
+        let size = part-size s from to h in
+        let e = ap length (rule-found .2 .bytes) in
+        omega arith
+
+    pub rule-room : (index .rules < 64) × (from + 1 < length s)
+    unfolding standard
+    rule-room =
+        let room = rule-found .2 .room in
+        let size = rule-size in
+        (omega (arith, x .rules), omega (arith, h .within))
+
+    -- the bytes of the rule, apart
+    rule-bytes : let r = rule-found .2 .rule in
+        (r .type ≡ getD s from 0) × (r .label ≡ getD s (from + 1) 0) × (part s (from + 2) to ≡ contentBytes (r .content))
+    unfolding ruleBytes
+    rule-bytes = two (sym (rule-found .2 .bytes) ∙ part-two s from to rule-size (h .within))
+      where
+        two : {a b c d : ℕ} {l m : List ℕ} → _≡_ {A = List ℕ} (a ∷ b ∷ l) (c ∷ d ∷ m) → (a ≡ c) × (b ≡ d) × (m ≡ l)
+        two e = (cc, cc, cc)
+
+    pub rule-step : Reads s (readRule standard g (part s from to))
+        (record { answer = Readable; index = addRule index (getD s from 0) (getD s (from + 1) 0) (from + 2) to })
+    rule-step =
+        let w = rule-found .2 in
+        let r = w .rule in
+        let b = rule-bytes in
+        let stands : Stands s (from + 2) to (contentBytes (r .content)) =
+        record { inside = record { order = rule-size; within = h .within }; bytes-are = b .2 } in
+        given-reads
+        s
+        (readRule standard g (part s from to))
+        (withRule g r)
+        (addRule index (getD s from 0) (getD s (from + 1) 0) (from + 2) to)
+        (rule-found .1 ∙ ap given (sym (w .result)))
+        (as-read r (b .0) (b .1) (rule-added x r (from + 2) to stands (rule-room .0)))
+      where
+        as-read : {a b c d : ℕ} (q : Rule) → a ≡ c → b ≡ d → Indexes s (addRule index a b (from + 2) to) (withRule g q)
+            → Indexes s (addRule index c d (from + 2) to) (withRule g q)
+        as-read {a} {b} {c} {d} q e f i =
+            subst
+            (λ (z : ℕ). Indexes s (addRule index z d (from + 2) to) (withRule g q))
+            e
+            (subst (λ (z : ℕ). Indexes s (addRule index a z (from + 2) to) (withRule g q)) f i)
