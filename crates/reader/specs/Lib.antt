@@ -4,3 +4,6 @@ pub mod Extents
 pub mod DocumentNodes
 pub mod DocumentSteps
 pub mod TableIndex
+pub mod DocumentNodes
+pub mod DocumentSteps
+pub mod ReaderCalls

@@ -1,4 +1,5 @@
 // File readers. Every byte string has the one answer that the written meaning gives it.
+pub mod calls;
 pub mod contents;
 pub mod documents;
 pub mod fields;

@@ -1,0 +1,69 @@
+-- Clearing words front to back, and the working memory that a call leaves.
+use Prim.Native.Nat.{ℕ, suc, _+_, _-_, _≤_, _<_}
+use native.Mathlib.Numerals.{add-one}
+use native.Mathlib.Omega.{arith}
+use mathlib.Core.Bool.{true, false}
+use mathlib.Core.List.{List, [], _∷_, _++_, append-nil}
+use mathlib.Core.Path.{_≡_, refl, sym, _∙_, ap}
+use lib.Dec.{ltb}
+use lib.ListN.{length, take, drop, set, replicate, length-replicate, length-append, length-drop, replicate-append-replicate, drop-of-length-le}
+use lib.Seq.{drop-cons, set-at, append-snoc, length-take-le}
+use borrow.Author.Tests.{lt-ltb, le-ltb}
+use Rattle.grammar.specs.Limits.{standard}
+use Rattle.grammar.specs.Calls.{workTooShort, workAfter}
+
+-- so many words cleared
+abbrev pub clearedTo : ℕ → List ℕ → List ℕ
+clearedTo i words = replicate i 0 ++ drop i words
+
+module _ (words : List ℕ) (i : ℕ) where
+  pub cleared-size : i ≤ length words → length (clearedTo i words) ≡ length words
+  cleared-size h =
+      let a = length-append (replicate i 0) (drop i words) in
+      let b = length-replicate i (zero-word) in
+      let d = length-drop i words in
+      omega arith
+    where
+      zero-word : ℕ
+      zero-word = 0
+
+  pub cleared-next : i < length words → set (clearedTo i words) i 0 ≡ clearedTo (i + 1) words
+  cleared-next h =
+      ap (λ (l : List ℕ). set (replicate i 0 ++ l) i 0) (drop-cons words i 0 h)
+      ∙ set-at (replicate i 0) _ (drop (suc i) words) 0 i (length-replicate i 0)
+      ∙ sym (append-snoc (replicate i 0) 0 (drop (suc i) words))
+      ∙ ap (λ (l : List ℕ). l ++ drop (suc i) words) (replicate-append-replicate i 1 0)
+      ∙ ap (λ (n : ℕ). replicate (i + 1) 0 ++ drop n words) (sym (add-one i))
+
+  pub cleared-all : length words ≤ i → i ≤ length words → clearedTo i words ≡ replicate (length words) 0
+  cleared-all h k =
+      let e : i ≡ length words = omega arith in
+      ap (λ (l : List ℕ). replicate i 0 ++ l) (drop-of-length-le words h)
+      ∙ append-nil (replicate i 0)
+      ∙ ap (λ (n : ℕ). replicate n 0) e
+
+module _ (work : List ℕ) where
+  pub enough : 16384 ≤ length work → workTooShort standard work ≡ false
+  unfolding workTooShort standard
+  enough h = le-ltb (length work) 16384 h
+
+  pub too-short : length work < 16384 → workTooShort standard work ≡ true
+  unfolding workTooShort standard
+  too-short h = lt-ltb (length work) 16384 h
+
+  -- a call that is refused for its working memory leaves it as it came
+  pub work-kept : length work < 16384 → work ≡ workAfter standard work
+  unfolding workAfter
+  work-kept h = rw (too-short h, workAfter)
+
+  pub work-cleared : 16384 ≤ length work → replicate 16384 0 ++ drop 16384 work ≡ workAfter standard work
+  unfolding workAfter standard
+  work-cleared h = rw (enough h, workAfter)
+
+  -- the front of the working memory, cleared
+  pub front-cleared : (front : List ℕ) (n : ℕ) → n ≡ 16384 → n ≤ length work → front ≡ replicate (length (take n work)) 0
+      → front ++ drop n work ≡ workAfter standard work
+  front-cleared front n e h c =
+      ap (λ (l : List ℕ). l ++ drop n work) (c ∙ ap (λ (k : ℕ). replicate k 0) (length-take-le n work h))
+      ∙ ap (λ (k : ℕ). replicate k 0 ++ drop k work) e
+      ∙ work-cleared (omega arith)

@@ -1,0 +1,86 @@
+-- `calls::label_name` meets its contract.
+use Rattle.reader.proofs.CallLaws.{label-unanswered, label-refused, label-given}
+use borrow.Author.Needs.{needs}
+use Rattle.reader.proofs.calls.label_name.Statement.{statement}
+use Rattle.reader.proofs.calls.label_name.Tie as tie
+
+sub-result : tie.Need-sub-result
+sub-result c = search needs
+
+part-result-start : tie.Need-part-result-start
+part-result-start c = search needs
+
+part-result-end : tie.Need-part-result-end
+part-result-end c = search needs
+
+returns : tie.Need-returns
+returns c = label-unanswered (c .before .before .before .before .args .table .now) (c .before .before .before .before .args .label) (c .before .before .before .before .args .work .now) (c .before .if1 .taken)
+
+clear-work-requires : tie.Need-clear-work-requires
+clear-work-requires c κs = search needs
+
+find-label-requires : tie.Need-find-label-requires
+find-label-requires c κs = search needs
+
+enum-known-r : tie.Need-enum-known-r
+enum-known-r c = search needs
+
+number-of-requires : tie.Need-number-of-requires
+number-of-requires c κs = search needs
+
+sub-result-2 : tie.Need-sub-result-2
+sub-result-2 c = search needs
+
+part-result-start-2 : tie.Need-part-result-start-2
+part-result-start-2 c = search needs
+
+part-result-end-2 : tie.Need-part-result-end-2
+part-result-end-2 c = search needs
+
+enum-known-from : tie.Need-enum-known-from
+enum-known-from c = search needs
+
+sub-result-3 : tie.Need-sub-result-3
+sub-result-3 c = c .before .before .before .find-label .ensures .found _ _ (c .before .from .given .1) .0 .order
+
+part-result-start-3 : tie.Need-part-result-start-3
+part-result-start-3 c = c .before .before .before .find-label .ensures .found _ _ (c .before .from .given .1) .0 .order
+
+part-result-end-3 : tie.Need-part-result-end-3
+part-result-end-3 c = c .before .before .before .find-label .ensures .found _ _ (c .before .from .given .1) .0 .within
+
+same-length : tie.Need-same-length
+same-length c = search needs
+
+returns-2 : tie.Need-returns-2
+returns-2 c = label-refused (c .before .before .before .before .before .before .before .before .before .before .before .before .before .args .table .now) (c .before .before .before .before .before .before .before .before .before .before .before .before .before .args .label) (c .before .before .before .before .before .before .before .before .before .before .before .before .before .args .work .now) (c .before .before .before .before .before .before .before .before .before .before .if1 .left) _ (c .before .before .before .before .before .before .before .before .clear-work .ensures) (c .before .before .before .before .before .find-label .result) (c .before .before .before .before .before .find-label .ensures) _ (c .before .before .before .r .given .1) _ (c .before .number-of .ensures)
+
+same-length-2 : tie.Need-same-length-2
+same-length-2 c = search needs
+
+returns-3 : tie.Need-returns-3
+returns-3 c = label-given (c .before .before .before .before .before .before .before .before .before .before .before .before .args .table .now) (c .before .before .before .before .before .before .before .before .before .before .before .before .args .label) (c .before .before .before .before .before .before .before .before .before .before .before .before .args .work .now) (c .before .before .before .before .before .before .before .before .before .if1 .left) _ (c .before .before .before .before .before .before .before .clear-work .ensures) (c .before .before .before .before .find-label .result) (c .before .before .before .before .find-label .ensures) _ _ (c .before .before .from .given .1)
+
+pub label-name-spec : {M : Type 1} → statement M
+label-name-spec =
+    tie.close
+    (tie.spec
+    sub-result
+    part-result-start
+    part-result-end
+    returns
+    clear-work-requires
+    find-label-requires
+    enum-known-r
+    number-of-requires
+    sub-result-2
+    part-result-start-2
+    part-result-end-2
+    enum-known-from
+    sub-result-3
+    part-result-start-3
+    part-result-end-3
+    same-length
+    returns-2
+    same-length-2
+    returns-3)
