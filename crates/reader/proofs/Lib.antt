@@ -1,14 +1,8 @@
-pub mod ExprLaws
-pub mod ExtentLaws
 pub mod ClassTable
 pub mod NameReading
 pub mod FieldReading
-pub mod OpenLevels
-pub mod DocumentFields
-pub mod DocumentStepping
-pub mod DocumentLoop
-pub mod DocumentTrees
-pub mod DocumentAnswers
+pub mod ExprLaws
+pub mod ExtentLaws
 pub mod AnswerLaws
 pub mod TableIndexLaws
 pub mod TableFaults

@@ -483,7 +483,7 @@ pub tests-none : (words : List ℕ) (at : ℕ) → testsAt words at 0 ≡ []
 unfolding testsAt
 tests-none words at = refl
 
-pub tests-next : (words : List ℕ) (at n : ℕ) → (n ≡ 0 → ⊥) → testsAt words at n ≡ setAt words at ∷ testsAt words (at + 2) (n - 1)
+pub tests-next : (words : List ℕ) (at n : ℕ) → (n ≡ 0 → ⊥) → testsAt words at n ≡ setAt words at ∷ testsAt words (at + 4) (n - 1)
 unfolding testsAt
 tests-next words at n some =
     let e : n ≡ suc (n - 1) = omega arith in
@@ -492,24 +492,24 @@ tests-next words at n some =
 -- A round of the loop over the children.
 module _ (lim : Limits) (s words : List ℕ) (stands : ProperAt lim s 0) (top count : ℕ) where
   pub walks-round : (i : ℕ) (marks marks′ : List ℕ) (p : Passed) (b : Bool) → i < count
-      → walked marks′ p ≡ walkAt s 0 marks b (setAt words (top + 2 * i))
-      → walksAt s marks′ (eqb (i + 1) 0) (testsAt words (top + 2 * (i + 1)) (count - (i + 1)))
-      ≡ walksAt s marks b (testsAt words (top + 2 * i) (count - i))
+      → walked marks′ p ≡ walkAt s 0 marks b (setAt words (top + 4 * i))
+      → walksAt s marks′ (eqb (i + 1) 0) (testsAt words (top + 4 * (i + 1)) (count - (i + 1)))
+      ≡ walksAt s marks b (testsAt words (top + 4 * i) (count - i))
   walks-round i marks marks′ p b h e =
-      let has = setAt words (top + 2 * i) in
+      let has = setAt words (top + 4 * i) in
       let later : eqb (i + 1) 0 ≡ false = ne-eqb (i + 1) 0 (λ q. omega arith) in
-      let place : top + 2 * (i + 1) ≡ top + 2 * i + 2 = omega arith in
+      let place : top + 4 * (i + 1) ≡ top + 4 * i + 4 = omega arith in
       let left : count - (i + 1) ≡ count - i - 1 = omega arith in
       (λ j. walksAt s (e j .marks) (later j) (testsAt words (place j) (left j)))
-      ∙ sym (walks-next lim s stands marks b has (testsAt words (top + 2 * i + 2) (count - i - 1)))
-      ∙ sym (ap (walksAt s marks b) (tests-next words (top + 2 * i) (count - i) (λ q. omega arith)))
+      ∙ sym (walks-next lim s stands marks b has (testsAt words (top + 4 * i + 4) (count - i - 1)))
+      ∙ sym (ap (walksAt s marks b) (tests-next words (top + 4 * i) (count - i) (λ q. omega arith)))
 
   pub walks-over : (marks : List ℕ) (b : Bool) (i : ℕ) → i ≤ count → count ≤ i
-      → walksAt s marks b (testsAt words (top + 2 * i) (count - i)) ≡ marks
+      → walksAt s marks b (testsAt words (top + 4 * i) (count - i)) ≡ marks
   walks-over marks b i h k =
       let none : count - i ≡ 0 = omega arith in
-      ap (λ (n : ℕ). walksAt s marks b (testsAt words (top + 2 * i) n)) none
-      ∙ ap (walksAt s marks b) (tests-none words (top + 2 * i))
+      ap (λ (n : ℕ). walksAt s marks b (testsAt words (top + 4 * i) n)) none
+      ∙ ap (walksAt s marks b) (tests-none words (top + 4 * i))
       ∙ walks-none lim s stands marks b
 
 -- what the children's walks say of the content
@@ -525,5 +525,5 @@ module _ (lim : Limits) (s words : List ℕ) (whole : WholeAt lim s) (top count 
   match-some some =
       let next = tests-next words top count some in
       ap (λ (l : List (ℕ → Bool)). isMarked (walksAt s (replicate (length s) 0 ++ after) true l) 0) next
-      ∙ some-children lim s (whole .proper-at) (whole .whole) after (setAt words top) (testsAt words (top + 2) (count - 1))
+      ∙ some-children lim s (whole .proper-at) (whole .whole) after (setAt words top) (testsAt words (top + 4) (count - 1))
       ∙ ap (runAt s) (sym next)

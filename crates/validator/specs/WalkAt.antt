@@ -67,8 +67,8 @@ pub record ProperRowAt (lim : Limits) (s : List ℕ) (at n : ℕ) : Type 0 where
   pub stands : exprsAt s at n ≡ just (contents upTo next)
   pub proper : areProper lim contents ≡ true
 
--- room for the walk: a mark for each byte, and the two words of a set at base
+-- room for the walk: a mark for each byte, and the four words of a set at base
 pub record Room (s marks words : List ℕ) (base : ℕ) : Type 0 where
   pub few : length s ≤ 1024
   pub mark-each : length s ≤ length marks
-  pub two-words : base + 2 ≤ length words
+  pub four-words : base + 4 ≤ length words

@@ -54,7 +54,7 @@ fn mark(marks: &mut [u8], at: usize, ends: bool)
 
 // Whether the child, if it may come here, has the type.
 fn allowed(incoming: bool, words: &[u32], base: usize, k: usize) -> bool
-    requires { ⌜ (k < 64) × (base + 2 ≤ length (now words)) ⌝ }
+    requires { ⌜ (k < 64) × (base + 4 ≤ length (now words)) ⌝ }
     ensures { λ r. ⌜ r ≡ (incoming && setAt (now (words .entry)) base k) ⌝ }
 {
     if incoming {
@@ -244,20 +244,20 @@ fn clear(marks: &mut [u8], places: usize)
 
 // The children's walks over the content, one after the other: whether the last one can end it.
 fn walked_through(content: &[u8], marks: &mut [u8], words: &[u32], top: usize, count: usize) -> bool
-    requires { ⌜ (WholeAt standard (now content)) × (0 < count) × (Room (now content) (now marks) (now words) top) × (top + 2 * count ≤ length (now words)) ⌝ }
+    requires { ⌜ (WholeAt standard (now content)) × (0 < count) × (Room (now content) (now marks) (now words) top) × (top + 4 * count ≤ length (now words)) ⌝ }
     ensures { λ r. ⌜ r ≡ isMarked (walksAt (now (content .entry)) (now (marks .entry)) true (testsAt (now (words .entry)) top count)) 0 ⌝ }
 {
     let mut i: usize = 0;
     while i < count {
-        pass(content, 0, marks, i == 0, words, top + 2 * i);
+        pass(content, 0, marks, i == 0, words, top + 4 * i);
         i += 1;
     }
     marks[0] == 1
 }
 
-// Whether the content matches so many children, whose sets stand in the words from `top` on, two words a set.
+// Whether the content matches so many children, whose sets stand in the words from `top` on, four words a set.
 pub fn matches(content: &[u8], marks: &mut [u8], words: &[u32], top: usize, count: usize) -> bool
-    requires { ⌜ (WholeAt standard (now content)) × (Room (now content) (now marks) (now words) 0) × (top + 2 * count ≤ length (now words)) ⌝ }
+    requires { ⌜ (WholeAt standard (now content)) × (Room (now content) (now marks) (now words) 0) × (top + 4 * count ≤ length (now words)) ⌝ }
     ensures { λ r. ⌜ r ≡ runAt (now (content .entry)) (testsAt (now (words .entry)) top count) ⌝ }
 {
     clear(marks, content.len());

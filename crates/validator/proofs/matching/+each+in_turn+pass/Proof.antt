@@ -107,7 +107,7 @@ each-each-requires t c κs =
     let kept = c .before .before .before .before .before .pass .kept in
     let go = laws.rest-forward standard s (e .next) (start .args .count) row some marks b has marks2 p first in
     let inside = laws.byte-inside standard s (e .next) (laws.proper-first standard s (e .next) (start .args .count) row some) in
-    (omega arith, (laws.rest-proper standard s (e .next) (start .args .count) row some marks b has marks2 p first, record { few = room .few; mark-each = omega arith; two-words = room .two-words }))
+    (omega arith, (laws.rest-proper standard s (e .next) (start .args .count) row some marks b has marks2 p first, record { few = room .few; mark-each = omega arith; four-words = room .four-words }))
 
 each-returns-2 : (t : ℕ) → each-lts.Need-returns-2 (each-calls t) (each-at t) each.Post
 each-returns-2 t c =
@@ -172,7 +172,7 @@ in-turn-in-turn-requires t c κs =
     let kept = c .before .before .before .before .before .before .before .before .pass .kept in
     let go = laws.rest-forward standard s (e .next) (start .args .count) row some marks b has marks2 p first in
     let inside = laws.byte-inside standard s (e .next) (laws.proper-first standard s (e .next) (start .args .count) row some) in
-    (omega arith, (laws.rest-proper standard s (e .next) (start .args .count) row some marks b has marks2 p first, record { few = room .few; mark-each = omega arith; two-words = room .two-words }))
+    (omega arith, (laws.rest-proper standard s (e .next) (start .args .count) row some marks b has marks2 p first, record { few = room .few; mark-each = omega arith; four-words = room .four-words }))
 
 in-turn-returns-2 : (t : ℕ) → in-turn-lts.Need-returns-2 (in-turn-calls t) (in-turn-at t) in-turn.Post
 unfolding isMarked

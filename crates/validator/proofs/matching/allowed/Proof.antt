@@ -14,9 +14,9 @@ may-come {a} {r} {m} e h = h ∙ sym (ap (λ (b : Bool). b && m) e)
 returns : tie.Need-returns
 returns c =
     let start = c .before .before .before in
-    let small : start .args .k / 32 < 2 = omega arith in
+    let small : start .args .k / 32 < 4 = omega arith in
     may-come (c .before .if1 .taken)
-    (c .has .ensures ∙ sym (member-words (start .args .words .now) (start .args .base) 2 (start .args .k) small))
+    (c .has .ensures ∙ sym (member-words (start .args .words .now) (start .args .base) 4 (start .args .k) small))
 
 pub allowed-spec : {M : Type 1} → statement M
 allowed-spec = tie.close (tie.spec (λ c κs. search needs) returns (λ c. search needs))

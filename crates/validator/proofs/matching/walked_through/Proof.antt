@@ -19,15 +19,15 @@ abbrev Inv-loop : tie.InvT-loop
 Inv-loop content marks₀ words top count i₀ marks i =
     (i ≤ count)
     × (length marks ≡ length marks₀)
-    × (walksAt content marks (eqb i 0) (testsAt words (top + 2 * i) (count - i)) ≡ walksAt content marks₀ true (testsAt words top count))
+    × (walksAt content marks (eqb i 0) (testsAt words (top + 4 * i) (count - i)) ≡ walksAt content marks₀ true (testsAt words top count))
 
 abbrev μ-loop : tie.MeasureT-loop
 μ-loop content marks₀ words top count i₀ marks i = count - i
 
 at-first : (s marks words : List ℕ) (top count : ℕ)
-    → walksAt s marks true (testsAt words (top + 2 * 0) (count - 0)) ≡ walksAt s marks true (testsAt words top count)
+    → walksAt s marks true (testsAt words (top + 4 * 0) (count - 0)) ≡ walksAt s marks true (testsAt words top count)
 at-first s marks words top count =
-    let place : top + 2 * 0 ≡ top = omega arith in
+    let place : top + 4 * 0 ≡ top = omega arith in
     let all : count - 0 ≡ count = omega arith in
     λ j. walksAt s marks true (testsAt words (place j) (all j))
 
@@ -41,7 +41,7 @@ pass-requires c κs =
     let pre = c .before .before .before .before .before .before .pre in
     let inv = c .before .before .loop .inv in
     let room = pre .2 in
-    (pre .0 .proper-at, record { few = room .few; mark-each = omega arith; two-words = omega arith })
+    (pre .0 .proper-at, record { few = room .few; mark-each = omega arith; four-words = omega arith })
 
 loop-again : tie.Need-loop-again Inv-loop μ-loop
 loop-again c =
