@@ -432,7 +432,7 @@ module _ (s : List ℕ) (marks : List ℕ) where
   unfolding walksAt
   walks-at c next b children e = rw (e, walksAt)
 
-run-at : (s : List ℕ) (c : Content) (next : ℕ) (children : List (ℕ → Bool)) → exprAt s 0 ≡ just (c upTo next)
+pub run-at : (s : List ℕ) (c : Content) (next : ℕ) (children : List (ℕ → Bool)) → exprAt s 0 ≡ just (c upTo next)
     → runAt s children ≡ run c children
 unfolding runAt
 run-at s c next children e = rw (e, runAt)

@@ -1,2 +1,3 @@
 pub mod TypeSets
 pub mod WalkAt
+pub mod KnownTable

@@ -1,2 +1,3 @@
 // Membership and kind of tables and documents, over their readers.
 pub mod matching;
+pub mod membership;
