@@ -20,14 +20,15 @@ use Rattle.grammar.specs.Membership.{isNamed}
 use Rattle.grammar.specs.WithinLimits.{RuleWithin}
 use Rattle.sets.specs.Sets as sets
 use Rattle.sets.specs.Sets.{member, putAt, add}
-use Rattle.sets.proofs.SetLaws.{member-put, member-zeros, length-put}
+use Rattle.sets.proofs.SetLaws.{member-put, length-put, member-words}
 use Rattle.theory.proofs.ListLaws.{at-mem, keep-yes, keep-no}
 use Rattle.theory.proofs.MarkedRun.{run, holds}
 use Rattle.reader.specs.ExprAt.{_upTo_, exprAt}
-use Rattle.reader.specs.TableIndex.{part, labelFrom, labelTo, ruleType, ruleLabel, contentFrom, contentTo, RuleAt, Stands, Inside}
+use Rattle.reader.specs.TableIndex.{part, labelFrom, labelTo, startType, ruleType, ruleLabel, contentFrom, contentTo, RuleAt, Stands, Inside}
 use Rattle.reader.specs.declared.tables.TableIndex.{TableIndex}
 use Rattle.reader.proofs.ExprLaws.{expr-of}
-use Rattle.reader.proofs.TableIndexLaws.{label-at, rule-at}
+use Rattle.reader.proofs.TableIndexLaws.{label-at, start-at, rule-at}
+use Rattle.validator.specs.TypeSets.{setAt}
 use Rattle.validator.specs.WalkAt.{runAt, ProperAt, WholeAt}
 use Rattle.validator.specs.KnownTable.{Known, ruleFits, typesFor, WithIf}
 use Rattle.validator.proofs.WalkLaws.{run-at}
@@ -215,3 +216,16 @@ without-it old k flag size f =
       members = sym (ap (λ (b : Bool). elim b as (λ f. ℕ → Bool) [ true ↦ add k (member old 0) | false ↦ member old 0 ]) f);
       size = size;
     }
+
+-- A start of a table that is known.
+module _ {s : List ℕ} {index : TableIndex} {g : Table} (known : Known s index g) (i : ℕ) (below : i < index .starts) where
+  pub start-small : startType index i < 64
+  unfolding standard
+  start-small =
+      known .within .start-types (startType index i) (at-mem (g .starts) i (start-at (known .indexes) i below))
+
+-- a number of a set that was read in its words
+pub set-has : (words : List ℕ) (at k : ℕ) → k < 64 → member words at k ≡ setAt words at k
+set-has words at k h =
+    let small : k / 32 < 4 = omega arith in
+    sym (member-words words at 4 k small)

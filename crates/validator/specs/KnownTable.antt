@@ -11,7 +11,7 @@ use Rattle.grammar.specs.Table.{Rule, Table}
 use Rattle.grammar.specs.Membership.{isNamed}
 use Rattle.grammar.specs.WithinLimits.{TableWithin}
 use Rattle.sets.specs.Sets.{member, add}
-use Rattle.theory.proofs.MarkedRun.{run}
+use Rattle.theory.proofs.MarkedRun.{run, holds}
 use Rattle.reader.specs.TableIndex.{Indexes}
 use Rattle.reader.specs.declared.tables.TableIndex.{TableIndex}
 
@@ -38,3 +38,8 @@ typesFor g n tests rules = map (λ (r : Rule). r .type) (keep (ruleFits g n test
 pub record WithIf (old : List ℕ) (flag : Bool) (k : ℕ) (new : List ℕ) : Type 0 where
   pub members : member new 0 ≡ elim flag as (λ f. ℕ → Bool) [ true ↦ add k (member old 0) | false ↦ member old 0 ]
   pub size : length new ≡ 4
+
+-- a set of four words has the types of the rules that fit, whatever table is known
+pub record TypesAre (s : List ℕ) (index : TableIndex) (n : Name) (tests : List (ℕ → Bool)) (set : List ℕ) : Type 0 where
+  pub types : (g : Table) → Known s index g → member set 0 ≡ holds (typesFor g n tests (g .rules))
+  pub size : length set ≡ 4

@@ -1,3 +1,4 @@
 pub mod TypeSets
 pub mod WalkAt
 pub mod KnownTable
+pub mod KnownDocument

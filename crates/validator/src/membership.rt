@@ -3,21 +3,29 @@
 // The nodes are gone through from the last to the first, with a stack of type sets in the lent words: a node takes the sets of its
 // children from the top, in order, and leaves its own.
 use crate::matching::matches;
+use reader::documents::DocumentIndex;
 use reader::names::same_name;
 use reader::numbers::wide;
 use reader::tables::TableIndex;
 use sets::four::Set4;
+use sets::words::has;
+use sets::words::store;
 ghost use mathlib.Core.Bool.{_&&_};
 ghost use mathlib.Core.Path.{_≡_};
 ghost use Prim.Native.Nat.{_+_, _*_, _<_, _≤_};
 ghost use lib.ListN.{length};
 ghost use Rattle.grammar.specs.Limits.{standard};
 ghost use Rattle.grammar.specs.Names.{sameName};
+ghost use Rattle.grammar.specs.Lists.{any};
+ghost use Rattle.grammar.specs.Membership.{letsIn};
+ghost use Rattle.grammar.specs.Outcome.{given};
+ghost use Rattle.grammar.specs.ReadDocument.{treeOf};
 ghost use Rattle.grammar.specs.Table.{Table};
-ghost use Rattle.sets.specs.Sets.{member};
-ghost use Rattle.theory.proofs.MarkedRun.{holds};
-ghost use Rattle.validator.specs.TypeSets.{testsAt};
-ghost use Rattle.validator.specs.KnownTable.{Known, SomeTable, WithIf, typesFor};
+ghost use Rattle.grammar.specs.Tree.{Tree};
+ghost use Rattle.reader.specs.DocumentNodes.{nodesIn};
+ghost use Rattle.validator.specs.TypeSets.{setAt, testsAt};
+ghost use Rattle.validator.specs.KnownDocument.{KnownNodes, RootTypes};
+ghost use Rattle.validator.specs.KnownTable.{Known, SomeTable, WithIf, TypesAre};
 ghost use Rattle.validator.specs.WalkAt.{runAt, WholeAt, Room};
 
 // Whether a rule with this label and this content fits a node of this name, whose children's sets stand from `top` on.
@@ -61,8 +69,7 @@ fn types_of(
     count: usize,
 ) -> Set4
     requires { ⌜ (SomeTable (now table) index) × (1024 ≤ length (now marks)) × (4 ≤ length (now words)) × (top + 4 * count ≤ length (now words)) ⌝ }
-    ensures { λ r. ⌜ ((g : Table) → Known (now (table .entry)) index g
-        → member (r .words) 0 ≡ holds (typesFor g (now (name .entry)) (testsAt (now (words .entry)) top count) (g .rules))) ⌝ }
+    ensures { λ r. ⌜ TypesAre (now (table .entry)) index (now (name .entry)) (testsAt (now (words .entry)) top count) (r .words) ⌝ }
 {
     let mut types = Set4::empty();
     let mut i: usize = 0;
@@ -86,4 +93,63 @@ fn types_of(
         i += 1;
     }
     types
+}
+
+// Goes through the nodes from the last to the first, and answers where the root's set then stands.
+fn root_types(
+    table: &[u8],
+    index: TableIndex,
+    document: &[u8],
+    nodes: DocumentIndex,
+    marks: &mut [u8],
+    words: &mut [u32],
+) -> usize
+    requires { ⌜ (SomeTable (now table) index) × (KnownNodes (now document) nodes) × (1024 ≤ length (now marks)) × (4096 ≤ length (now words)) ⌝ }
+    ensures { λ r. ⌜ RootTypes (now (table .entry)) index (now (document .entry)) nodes (now (words .exit)) r ⌝ }
+{
+    let mut i = nodes.nodes;
+    let mut top = 4 * nodes.nodes;
+    while 0 < i {
+        let at = i - 1;
+        let from = nodes.names[at];
+        let to = from + nodes.sizes[at];
+        let count = nodes.children[at];
+        let types = types_of(table, index, &document[from..to], marks, words, top, count);
+        top = top + 4 * count - 4;
+        store(words, top, types);
+        i = at;
+    }
+    top
+}
+
+// Whether some start type is in the set at a word.
+fn some_start(table: &[u8], index: TableIndex, words: &[u32], at: usize) -> bool
+    requires { ⌜ (SomeTable (now table) index) × (at + 4 ≤ length (now words)) ⌝ }
+    ensures { λ r. ⌜ ((g : Table) → Known (now (table .entry)) index g → r ≡ any (setAt (now (words .entry)) at) (g .starts)) ⌝ }
+{
+    let mut i: usize = 0;
+    while i < index.starts {
+        if has(words, at, wide(index.start_type[i])) {
+            return true;
+        }
+        i += 1;
+    }
+    false
+}
+
+// Whether the table lets in the document.
+pub fn lets_in_read(
+    table: &[u8],
+    index: TableIndex,
+    document: &[u8],
+    nodes: DocumentIndex,
+    words: &mut [u32],
+) -> bool
+    requires { ⌜ (SomeTable (now table) index) × (KnownNodes (now document) nodes) × (4096 ≤ length (now words)) ⌝ }
+    ensures { λ r. ⌜ ((g : Table) → Known (now (table .entry)) index g → (t : Tree) → treeOf (nodesIn (now (document .entry)) nodes) ≡ given t
+        → r ≡ letsIn g t) ⌝ }
+{
+    let mut marks = [0u8; 1024];
+    let at = root_types(table, index, document, nodes, &mut marks, words);
+    some_start(table, index, words, at)
 }

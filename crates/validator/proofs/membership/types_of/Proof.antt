@@ -163,11 +163,16 @@ loop-again c =
 
 returns : tie.Need-returns Inv-loop μ-loop
 returns c =
-    λ g known.
     let a = c .before .before .before .before .before .before .before .args in
-    let all = known .indexes .rules in
-    c .before .loop .inv .3 g known
-    ∙ ap holds (laws.types-all g (a .name .now) (testsAt (a .words .now) (a .top) (a .count)) (c .before .loop .i) (omega arith))
+    let rounds = c .before .loop .inv in
+    record {
+      types =
+          λ g known.
+          let all = known .indexes .rules in
+          rounds .3 g known
+          ∙ ap holds (laws.types-all g (a .name .now) (testsAt (a .words .now) (a .top) (a .count)) (c .before .loop .i) (omega arith));
+      size = rounds .2;
+    }
 
 pub types-of-spec : {M : Type 1} → statement M
 types-of-spec =
