@@ -1,5 +1,5 @@
 -- The limits of files. Every definition that reads one takes this record as an argument.
-use Prim.Native.Nat.{ℕ}
+use Prim.Native.Nat.{ℕ, _≤_}
 
 pub record Limits : Type 0 where
   pub words : ℕ  -- working words that a call needs
@@ -34,3 +34,10 @@ standard =
       nodes = 1024;
       levels = 64;
     }
+
+-- A file may have as many labels, starts and rules as types, and a content may name as many types as a node has children.
+pub record LimitsAgree (lim : Limits) : Type 0 where
+  pub labels : lim .types ≤ lim .labels
+  pub starts : lim .types ≤ lim .starts
+  pub rules : lim .types ≤ lim .rules
+  pub children : lim .children ≤ lim .operands

@@ -1,12 +1,11 @@
 -- The answer that an outcome has, and back; and faults in a row: the first one is the refusal.
 use Prim.Native.Nat.{ℕ}
 use native.Mathlib.Omega.{arith}
-use mathlib.Core.Bool.{Bool, true, false}
+use mathlib.Core.Bool.{Bool, true}
 use mathlib.Core.Path.{_≡_, refl, ap}
-use Rattle.grammar.specs.Outcome.{Outcome, given, refused, _>>=_, _>>_, turnBack}
+use Rattle.grammar.specs.Outcome.{Outcome, given, refused, _>>_, turnBack}
 use Rattle.grammar.specs.Answers.{reading}
 use Rattle.grammar.specs.declared.Refusal.{Refusal}
-use Rattle.grammar.specs.declared.Reading.{Reading}
 use Rattle.grammar.specs.declared.Reading.the-variants.{Readable, Refused as Unreadable}
 
 pub fault : {B : Type 0} (b : Bool) (r : Refusal) (next : Outcome B) → b ≡ true → (turnBack b r >> next) ≡ refused r

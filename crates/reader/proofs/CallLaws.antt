@@ -2,7 +2,7 @@
 use Prim.Native.Nat.{ℕ, _≤_, _<_}
 use native.Mathlib.Omega.{arith}
 use mathlib.Core.List.{List, []}
-use mathlib.Core.Path.{_≡_, refl, sym, _∙_, ap, subst}
+use mathlib.Core.Path.{_≡_, sym, _∙_, ap, subst}
 use lib.Dec.{leb}
 use lib.ListN.{length, getD}
 use Rattle.grammar.specs.Limits.{standard}
@@ -11,7 +11,7 @@ use Rattle.grammar.specs.Table.{Table}
 use Rattle.grammar.specs.Outcome.{Outcome, given, refused, _>>=_, _>>_, turnBack, number}
 use Rattle.grammar.specs.Answers.{reading, numberAfter}
 use Rattle.grammar.specs.ReadTable.{readTable}
-use Rattle.grammar.specs.Calls.{Part, workTooShort, workAfter, partBytes, partOfLabel, tableReads, documentReads, labelName}
+use Rattle.grammar.specs.Calls.{Part, workAfter, partBytes, partOfLabel, tableReads, documentReads, labelName}
 use Rattle.grammar.specs.declared.Refusal.{Refusal}
 use Rattle.grammar.specs.declared.Refusal.the-variants.{WorkTooShort, OutOfRange}
 use Rattle.grammar.specs.declared.Reading.{Reading}

@@ -3,13 +3,12 @@
 --       → partBytes (given (partOfLabel (g .labels) i)) s ≡ n
 use Prim.Native.Nat.{ℕ, zero, suc, _+_, _≤_, _<_}
 use native.Mathlib.Omega.{arith}
-use mathlib.Core.Bool.{Bool, true, false}
-use mathlib.Core.List.{List, [], _∷_, _++_, append-assoc, List·Memᴰ}
+use mathlib.Core.List.{List, [], _∷_, _++_, append-assoc}
 use mathlib.Core.Option.{some as just}
 use mathlib.Core.Path.{_≡_, refl, sym, _∙_, ap, ap₂, subst}
 use lib.Dec.{leb}
 use lib.ListN.{length, getD, getElem?, take, drop, length-append}
-use lib.Seq.{drop-drop, drop-append-seam, drop-append-add, take-append-seam}
+use lib.Seq.{drop-drop, drop-append-add, take-append-seam}
 use borrow.Author.Tests.{le-leb, lt-leb}
 use Rattle.grammar.specs.Lists.{joinedOf}
 use Rattle.grammar.specs.Limits.{Limits, standard}
@@ -19,7 +18,7 @@ use Rattle.grammar.specs.Outcome.{Outcome, given, refused, _>>=_, _>>_, turnBac
 use Rattle.grammar.specs.Fields.{fieldBytes}
 use Rattle.grammar.specs.ReadTable.{labelTag, startTag, ruleTag, tableEndTag, readTable}
 use Rattle.grammar.specs.WriteTable.{ruleBytes, tableBytes}
-use Rattle.grammar.specs.Calls.{Part, partBytes, partOfLabel}
+use Rattle.grammar.specs.Calls.{partBytes, partOfLabel}
 use Rattle.grammar.specs.declared.Refusal.{Refusal}
 use Rattle.grammar.specs.declared.Refusal.the-variants.{OutOfRange}
 use Rattle.theory.proofs.FieldBytes.{AreBytes}

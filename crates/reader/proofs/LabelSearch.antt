@@ -4,14 +4,13 @@ use native.Mathlib.Omega.{arith}
 use mathlib.Core.Bool.{Bool, true, false}
 use mathlib.Core.List.{List}
 use mathlib.Core.Path.{_≡_, sym, _∙_, ap}
-use lib.ListN.{length, getElem?}
-use Rattle.grammar.specs.Lists.{any, isIn}
+use Rattle.grammar.specs.Lists.{any}
 use Rattle.grammar.specs.Names.{Name}
 use Rattle.grammar.specs.Table.{Table}
 use Rattle.theory.proofs.BoolLaws.{false-of, not-both}
 use Rattle.theory.proofs.ListLaws.{any-found, any-of, mem-at, at-mem, at-below}
 use Rattle.reader.specs.declared.tables.TableIndex.{TableIndex}
-use Rattle.reader.specs.TableIndex.{labelFrom, labelTo, startType, part, Stands, Indexes}
+use Rattle.reader.specs.TableIndex.{labelFrom, labelTo, startType, part, Indexes}
 use Rattle.reader.proofs.TableIndexLaws.{label-at, start-at}
 
 module _ {s : List ℕ} {index : TableIndex} {g : Table} (x : Indexes s index g) where

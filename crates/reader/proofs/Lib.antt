@@ -10,12 +10,7 @@ pub mod LabelSearch
 pub mod IndexedFaults
 pub mod TableSteps
 pub mod TableReading
-pub mod OpenLevels
-pub mod DocumentFields
-pub mod DocumentStepping
-pub mod DocumentLoop
-pub mod DocumentTrees
-pub mod DocumentAnswers
 pub mod WorkLaws
 pub mod LabelParts
 pub mod CallLaws
+pub mod TableFound

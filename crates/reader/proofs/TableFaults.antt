@@ -2,9 +2,8 @@
 use Prim.Native.Nat.{ℕ, suc, _+_, _-_, _≤_, _<_}
 use native.Mathlib.Omega.{arith}
 use native.Mathlib.Numerals.{add-one}
-use mathlib.Core.Bool.{Bool, true, false, not, _&&_, _||_}
+use mathlib.Core.Bool.{Bool, true, false, not, _&&_}
 use mathlib.Core.List.{List, [], _∷_}
-use mathlib.Core.Logic.{⊎-elim}
 use mathlib.Core.Path.{_≡_, refl, sym, _∙_, ap, ap₂}
 use lib.ListN.{length, getD, take, drop, length-drop}
 use lib.Dec.{leb}
@@ -13,14 +12,12 @@ use borrow.Author.Tests.{leb-true, le-leb, lt-leb}
 use Rattle.grammar.specs.Lists.{any, isIn}
 use Rattle.grammar.specs.Limits.{Limits}
 use Rattle.grammar.specs.Names.{sameName, Classes, isName}
-use Rattle.grammar.specs.Content.{Content}
-use Rattle.grammar.specs.Table.{Rule, Table}
+use Rattle.grammar.specs.Table.{Table}
 use Rattle.grammar.specs.Outcome.{Outcome, given, refused, _>>=_, _>>_, turnBack}
 use Rattle.grammar.specs.ReadContent.{readContent}
 use Rattle.grammar.specs.ReadTable.{isEmpty, withLabel, withStart, withRule, readLabel, readStart, readRule}
-use Rattle.grammar.specs.declared.Refusal.{Refusal}
 use Rattle.grammar.specs.declared.Refusal.the-variants.{BadField, BadName, Repeated, TooMany, OutOfRange}
-use Rattle.theory.proofs.BoolLaws.{and-left, and-right, and-intro, or-left, or-right, or-none, passes-or-fails, false-of}
+use Rattle.theory.proofs.BoolLaws.{and-left, and-right, and-intro, or-left, or-right, or-none, false-of}
 use Rattle.theory.proofs.OutcomeLaws.{no-fault}
 use Rattle.reader.specs.TableIndex.{part, Inside}
 use Rattle.reader.proofs.AnswerLaws.{fault}

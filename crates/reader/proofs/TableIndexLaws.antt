@@ -1,10 +1,10 @@
 -- Laws of indexes: what stands at each number, and the index after one label, start or rule more.
-use Prim.Native.Nat.{ℕ, zero, suc, _+_, _≤_, _<_}
+use Prim.Native.Nat.{ℕ, zero, suc, _+_, _<_}
 use native.Mathlib.Omega.{arith}
 use mathlib.Core.List.{List, [], _∷_, _++_}
 use mathlib.Core.Logic.{_⊎_, inl, inr, ⊎-elim}
-use mathlib.Core.Option.{Option, none as nothing, some as just}
-use mathlib.Core.Path.{_≡_, refl, sym, _∙_, ap, subst}
+use mathlib.Core.Option.{some as just}
+use mathlib.Core.Path.{_≡_, refl, sym, _∙_, ap}
 use lib.ListN.{length, getD, getElem?, set, length-append, length-set}
 use lib.Seq.{getD-set-same, getD-set-other}
 use Rattle.grammar.specs.Names.{Name}
@@ -13,21 +13,7 @@ use Rattle.grammar.specs.ReadTable.{withLabel, withStart, withRule}
 use Rattle.grammar.specs.ReadContent.{contentBytes}
 use Rattle.theory.proofs.ListLaws.{below-at, at-below, just-eq}
 use Rattle.reader.specs.declared.tables.TableIndex.{TableIndex}
-use Rattle.reader.specs.TableIndex.{
-  labelFrom,
-  labelTo,
-  startType,
-  ruleType,
-  ruleLabel,
-  contentFrom,
-  contentTo,
-  part,
-  Inside,
-  Stands,
-  RuleAt,
-  Rooms,
-  Indexes,
-}
+use Rattle.reader.specs.TableIndex.{labelFrom, labelTo, startType, part, Inside, Stands, RuleAt, Rooms, Indexes}
 
 -- one element more at the end: it is one of the others, or the last
 module _ {A : Type 0} where

@@ -5,14 +5,13 @@ use mathlib.Core.Bool.{true, false, not}
 use mathlib.Core.List.{List, [], _∷_}
 use mathlib.Core.Logic.{_⊎_, ⊎-elim}
 use mathlib.Core.Path.{_≡_, refl, sym, _∙_, ap, subst}
-use lib.Dec.{eqb, ltb}
+use lib.Dec.{ltb}
 use lib.ListN.{length, drop, length-drop, drop-of-length-le}
-use lib.Seq.{slice}
 use borrow.Author.Tests.{eq-eqb, ne-eqb, lt-ltb, le-ltb}
 use Rattle.grammar.specs.Limits.{standard}
 use Rattle.grammar.specs.Names.{asciiClasses}
 use Rattle.grammar.specs.Table.{Table, emptyTable}
-use Rattle.grammar.specs.Outcome.{Outcome, given, refused, _>>=_, _>>_, turnBack}
+use Rattle.grammar.specs.Outcome.{Outcome, refused, _>>=_, _>>_, turnBack}
 use Rattle.grammar.specs.Answers.{reading}
 use Rattle.grammar.specs.Fields.{Field, Fields, noBytes, pastEnd, _then_, fieldsOf}
 use Rattle.grammar.specs.ReadTable.{labelTag, startTag, ruleTag, tableEndTag, isEmpty, bytesLeft, readLabel, readStart, readRule, readTableField, readTableFields, readTable}
@@ -23,21 +22,18 @@ use Rattle.grammar.specs.declared.Reading.the-variants.{Readable, Refused as Un
 use Rattle.theory.proofs.OutcomeLaws.{given-then, no-fault, had-no-fault, given-eq}
 use Rattle.theory.proofs.FieldBytes.{fields-empty, fields-none}
 use Rattle.theory.proofs.ReadSteps.{end-field, next-field}
-use Rattle.reader.specs.declared.fields.FieldAt.the-variants.{Found, NoBytes, PastEnd}
+use Rattle.reader.specs.declared.fields.FieldAt.the-variants.{NoBytes, PastEnd}
 use Rattle.reader.specs.declared.tables.TableIndex.{TableIndex}
 use Rattle.reader.specs.declared.tables.TableRead.{TableRead}
 use Rattle.reader.specs.FieldAt.{fieldAt}
 use Rattle.reader.specs.TableIndex.{part, Inside, Indexes, Indexed, Reads, endOutcome}
 use Rattle.reader.proofs.AnswerLaws.{fault, readable, unreadable, was-readable, was-unreadable, never-given}
-use Rattle.reader.proofs.FieldReading.{FoundField, field-found, field-none, field-past}
+use Rattle.reader.proofs.FieldReading.{FoundField, field-none, field-past}
 use Rattle.reader.proofs.TableFaults.{part-size, part-slice}
 use Rattle.reader.proofs.TableSteps.{refused-reads}
 
 -- which of the three a field is, by its tag
 module _ (g : Table) (tag : ℕ) (value : List ℕ) where
-  field : Field
-  field = record { tag = tag; value = value }
-
   pub label-field : tag ≡ labelTag → readTableField standard asciiClasses g (record { tag = tag; value = value }) ≡ readLabel standard asciiClasses g value
   unfolding readTableField
   label-field e = rw (eq-eqb tag labelTag e, readTableField)

@@ -2,25 +2,23 @@
 use Prim.Native.Nat.{ℕ, _+_, _-_, _≤_, _<_}
 use native.Mathlib.Omega.{arith}
 use mathlib.Core.List.{List, [], _∷_}
-use mathlib.Core.Path.{_≡_, refl, sym, _∙_, ap, subst}
+use mathlib.Core.Path.{_≡_, sym, _∙_, ap, subst}
 use lib.ListN.{length, getD}
 use Rattle.grammar.specs.Limits.{standard}
 use Rattle.grammar.specs.Names.{asciiClasses}
 use Rattle.grammar.specs.Table.{Rule, Table}
-use Rattle.grammar.specs.Outcome.{Outcome, given, refused}
+use Rattle.grammar.specs.Outcome.{Outcome, given}
 use Rattle.grammar.specs.Answers.{reading}
 use Rattle.grammar.specs.ReadContent.{contentBytes}
 use Rattle.grammar.specs.WriteTable.{ruleBytes}
 use Rattle.grammar.specs.ReadTable.{withLabel, withStart, withRule, readLabel, readStart, readRule}
 use Rattle.grammar.specs.declared.Refusal.{Refusal}
-use Rattle.grammar.specs.declared.Reading.{Reading}
 use Rattle.grammar.specs.declared.Reading.the-variants.{Readable, Refused as Unreadable}
 use Rattle.theory.proofs.OutcomeLaws.{given-eq}
 use Rattle.theory.proofs.ReadSteps.{label-was, StartRead, start-was, RuleRead, rule-was}
 use Rattle.reader.specs.declared.tables.TableIndex.{TableIndex}
-use Rattle.reader.specs.declared.tables.TableRead.{TableRead}
 use Rattle.reader.specs.TableIndex.{part, Inside, Stands, Indexes, Reads}
-use Rattle.reader.proofs.AnswerLaws.{readable, unreadable, was-readable, was-unreadable, never-given}
+use Rattle.reader.proofs.AnswerLaws.{readable, was-readable, was-unreadable, never-given}
 use Rattle.reader.proofs.TableFaults.{part-size, part-one, part-two}
 use Rattle.reader.proofs.TableIndexLaws.{addLabel, addStart, addRule, label-added, start-added, rule-added}
 

@@ -1,12 +1,11 @@
 -- Clearing words front to back, and the working memory that a call leaves.
-use Prim.Native.Nat.{ℕ, suc, _+_, _-_, _≤_, _<_}
+use Prim.Native.Nat.{ℕ, suc, _+_, _≤_, _<_}
 use native.Mathlib.Numerals.{add-one}
 use native.Mathlib.Omega.{arith}
 use mathlib.Core.Bool.{true, false}
-use mathlib.Core.List.{List, [], _∷_, _++_, append-nil}
-use mathlib.Core.Path.{_≡_, refl, sym, _∙_, ap}
-use lib.Dec.{ltb}
-use lib.ListN.{length, take, drop, set, replicate, length-replicate, length-append, length-drop, replicate-append-replicate, drop-of-length-le}
+use mathlib.Core.List.{List, _++_, append-nil}
+use mathlib.Core.Path.{_≡_, sym, _∙_, ap}
+use lib.ListN.{length, take, drop, set, replicate, length-replicate, replicate-append-replicate, drop-of-length-le}
 use lib.Seq.{drop-cons, set-at, append-snoc, length-take-le}
 use borrow.Author.Tests.{lt-ltb, le-ltb}
 use Rattle.grammar.specs.Limits.{standard}
@@ -17,16 +16,6 @@ abbrev pub clearedTo : ℕ → List ℕ → List ℕ
 clearedTo i words = replicate i 0 ++ drop i words
 
 module _ (words : List ℕ) (i : ℕ) where
-  pub cleared-size : i ≤ length words → length (clearedTo i words) ≡ length words
-  cleared-size h =
-      let a = length-append (replicate i 0) (drop i words) in
-      let b = length-replicate i (zero-word) in
-      let d = length-drop i words in
-      omega arith
-    where
-      zero-word : ℕ
-      zero-word = 0
-
   pub cleared-next : i < length words → set (clearedTo i words) i 0 ≡ clearedTo (i + 1) words
   cleared-next h =
       ap (λ (l : List ℕ). set (replicate i 0 ++ l) i 0) (drop-cons words i 0 h)

@@ -10,6 +10,7 @@ use Rattle.grammar.specs.Table.{Rule, Table}
 use Rattle.grammar.specs.Outcome.{Outcome, given, _>>_, turnBack}
 use Rattle.grammar.specs.Fields.{Fields}
 use Rattle.grammar.specs.ReadTable.{isEmpty, bytesLeft}
+use Rattle.grammar.specs.declared.Reading.{Reading}
 use Rattle.grammar.specs.declared.Refusal.the-variants.{BadField, BytesAfterEnd}
 use Rattle.grammar.specs.Answers.{reading}
 use Rattle.grammar.specs.ReadContent.{contentBytes}
@@ -86,10 +87,23 @@ pub record Indexed (s : List ℕ) (index : TableIndex) : Type 0 where
   pub table : Table
   pub indexes : Indexes s index table
 
+-- A field's value lies here, and some table is read so far.
+pub record ValueAt (s : List ℕ) (from to : ℕ) (index : TableIndex) : Type 0 where
+  pub inside : Inside s from to
+  pub indexed : Indexed s index
+
 -- The answer is that of the outcome, and the index is that of the table that is given.
 pub record Reads (s : List ℕ) (o : Outcome Table) (r : TableRead) : Type 0 where
   pub answer : r .answer ≡ reading o
   pub index : (g : Table) → o ≡ given g → Indexes s (r .index) g
+
+-- the answer to one step more, after any table that the index is of
+abbrev pub AnswersFor : List ℕ → TableIndex → (Table → Outcome Table) → Reading → Type 0
+AnswersFor s index step r = (g : Table) → Indexes s index g → r ≡ reading (step g)
+
+-- the answer and the index after it
+abbrev pub ReadsFor : List ℕ → TableIndex → (Table → Outcome Table) → TableRead → Type 0
+ReadsFor s index step r = (g : Table) → Indexes s index g → Reads s (step g) r
 
 -- what an end field says of the table read so far
 abbrev pub endOutcome : Table → (value : List ℕ) (rest : Fields) → Outcome Table

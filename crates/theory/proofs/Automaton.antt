@@ -6,6 +6,7 @@ use mathlib.Core.List.{List, [], _∷_, List·Memᴰ, List·Memᴰ·head, List·
 use mathlib.Core.Path.{refl, subst}
 use Rattle.grammar.specs.Names.{Name, SameName}
 use Rattle.grammar.specs.Tree.{Tree, node, Forest, []ᵗ, _∷ᵗ_}
+use Rattle.theory.proofs.TreeParts.{treesOf}
 
 pub record Automaton (State : Type 0) : Type 1 where
   pub name : State → Name
@@ -37,11 +38,6 @@ module _ {State : Type 0} where
   abbrev pub AllAlive : Automaton State → List State → Type 0
   AllAlive A u = (s : State) → List·Memᴰ s u → Alive A s
 
--- the tree is one of the forest's
-pub data Among : Tree → Forest → Type 0 where
-  first : {t : Tree} {ts : Forest} → Among t (t ∷ᵗ ts)
-  later : {t u : Tree} {ts : Forest} → Among t ts → Among t (u ∷ᵗ ts)
-
 module _ {State : Type 0} (A : Automaton State) where
   -- trees that the states accept, in order
   pub record Filled (u : List State) : Type 0 where
@@ -59,7 +55,7 @@ module _ {State : Type 0} (A : Automaton State) where
   pub record FilledWith (t : Tree) (u : List State) : Type 0 where
     pub trees : Forest
     pub accepted : AcceptsAll A u trees
-    pub among : Among t trees
+    pub among : List·Memᴰ t (treesOf trees)
 
   pub fill-at : {s : State} {u : List State} {t : Tree} → List·Memᴰ s u → AllAlive A u → Accepts A s t → FilledWith t u
   fill-at {t = t} (List·Memᴰ·head {xs = u} e) alive a =
@@ -67,7 +63,7 @@ module _ {State : Type 0} (A : Automaton State) where
       record {
         trees = t ∷ᵗ rest .trees;
         accepted = accepts-next (subst (λ r. Accepts A r t) e a) (rest .accepted);
-        among = first;
+        among = List·Memᴰ·head refl;
       }
   fill-at (List·Memᴰ·tail {x = r} m) alive a =
       let here = alive r (List·Memᴰ·head refl) in
@@ -75,5 +71,5 @@ module _ {State : Type 0} (A : Automaton State) where
       record {
         trees = here .tree ∷ᵗ rest .trees;
         accepted = accepts-next (here .accepted) (rest .accepted);
-        among = later (rest .among);
+        among = List·Memᴰ·tail (rest .among);
       }

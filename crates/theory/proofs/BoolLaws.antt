@@ -1,4 +1,5 @@
--- Tests and the facts that they decide.
+-- Tests and the facts that they decide: and-left, and-right, and-intro, or-cases, or-left, or-right, or-false, and of tests made of
+-- tests and-decides, or-decides, unless-decides.
 use mathlib.Core.Bool.{Bool, true, false, not, _&&_, _||_, true≢false, false≢true}
 use mathlib.Core.Logic.{_↔_, _⊎_, inl, inr, ⊎-elim}
 use mathlib.Core.Path.{_≡_, refl, sym, _∙_, ap}

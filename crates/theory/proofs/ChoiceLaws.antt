@@ -5,7 +5,7 @@
 --   tidy-choice      tidy (choiceOf xs) ≡ written (joinedOf alternatives (map tidy xs))
 -- And of replacing twice: replace-twice : replace (replace c f) g ≡ replace c (λ k. replace (f k) g)
 use Prim.Native.Nat.{ℕ}
-use mathlib.Core.Bool.{Bool, true, false, not, _||_, false≢true}
+use mathlib.Core.Bool.{Bool, true, false, not, _||_}
 use mathlib.Core.List.{
   List,
   [],
@@ -46,6 +46,7 @@ use Rattle.theory.proofs.ListLaws.{keep-yes, keep-no, distinct-was}
 use Rattle.theory.proofs.ContentBytes.{same-content}
 use Rattle.theory.proofs.DistinctLaws.{distinct-again}
 use Rattle.theory.proofs.Alternatives.{written}
+use Rattle.theory.proofs.SimplifyWords.{is-none}
 
 abbrev pub notNone : Content → Bool
 notNone c = not (isNone c)
@@ -82,17 +83,6 @@ module _ (f g : ℕ → Content) where
     replace-all-twice (c ∷ᶜ cs) = ap₂ _∷ᶜ_ (replace-twice c) (replace-all-twice cs)
 
 -- simplifying
-pub is-none : (c : Content) → isNone c ≡ true → c ≡ none
-unfolding isNone
-is-none none e = refl
-is-none empty e = absurd (false≢true e)
-is-none (type k) e = absurd (false≢true e)
-is-none (sequence cs) e = absurd (false≢true e)
-is-none (choice cs) e = absurd (false≢true e)
-is-none (anyNumber c) e = absurd (false≢true e)
-is-none (oneOrMore c) e = absurd (false≢true e)
-is-none (optional c) e = absurd (false≢true e)
-
 simplify-operands : (xs : List Content) → simplifyAll (operands xs) ≡ map simplify xs
 unfolding operands simplify
 simplify-operands [] = refl

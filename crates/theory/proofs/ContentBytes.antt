@@ -6,7 +6,7 @@
 --   same-content : (sameContent c d ≡ true) ↔ (c ≡ d)
 -- `expression-step`, `operands-next` and the equations beside them say what `expressionOf` and `operandsOf` are, operator by operator,
 -- with no bound on the walk.
-use Prim.Native.Nat.{ℕ, zero, suc, _+_, _≤_, _<_}
+use Prim.Native.Nat.{ℕ, zero, suc, _≤_, _<_}
 use native.Mathlib.Omega.{arith}
 use mathlib.Core.Bool.{true}
 use mathlib.Core.List.{List, [], _∷_, _++_, append-assoc}

@@ -7,22 +7,10 @@
 --     tidy-counted          or tidied
 use Prim.Native.Nat.{ℕ, suc, _≤_, _<_}
 use native.Mathlib.Omega.{arith}
-use mathlib.Core.Bool.{Bool, true, false, not, _&&_}
-use mathlib.Core.List.{
-  List,
-  [],
-  _∷_,
-  List·Memᴰ,
-  List·Memᴰ·head,
-  List·Memᴰ·tail,
-  List·Memᴰ·cases-cons,
-  Memᴰ·append-left,
-  Memᴰ·append-right,
-}
-use mathlib.Core.Logic.{⊎-elim}
-use mathlib.Core.Path.{_≡_, refl, sym, ap, subst}
-use lib.Dec.{leb}
-use borrow.Author.Tests.{leb-true, le-leb, lt-ltb}
+use mathlib.Core.Bool.{Bool, true, false, not}
+use mathlib.Core.List.{List, [], _∷_, List·Memᴰ, List·Memᴰ·head, List·Memᴰ·tail, Memᴰ·append-left, Memᴰ·append-right}
+use mathlib.Core.Path.{_≡_, refl, ap}
+use borrow.Author.Tests.{lt-ltb}
 use Rattle.grammar.specs.Lists.{any, keep, distinct, joinedOf, isIn}
 use Rattle.grammar.specs.Limits.{Limits}
 use Rattle.grammar.specs.Content.{
@@ -51,7 +39,8 @@ use Rattle.grammar.specs.Size.{widestChoice, widestOf}
 use Rattle.grammar.specs.Reduce.{isNone, simplify, simplifyAll, prune}
 use Rattle.grammar.specs.Tidy.{listOf, alternatives, tidy, tidyAll}
 use Rattle.theory.proofs.BoolLaws.{and-left, and-right, and-intro}
-use Rattle.theory.proofs.ListLaws.{kept, distinct-was, joined-from}
+use Rattle.theory.proofs.ListLaws.{kept, distinct-was, joined-from, Each, each-none, each-cons}
+use Rattle.theory.proofs.ProperContents.{proper-operands}
 
 abbrev mutual
   pub Counted : Limits → Content → Type 0
@@ -76,16 +65,11 @@ mutual
   proper-counted empty lim e = tt
   proper-counted (type k) lim e = tt
   proper-counted (sequence cs) lim e =
-      let n = and-left (leb 2 (count cs) && leb (count cs) (lim .operands)) (areProper lim cs) e in (
-        leb-true 2 (count cs) (and-left (leb 2 (count cs)) (leb (count cs) (lim .operands)) n),
-        leb-true (count cs) (lim .operands) (and-right (leb 2 (count cs)) (leb (count cs) (lim .operands)) n),
-        all-proper-counted cs lim (and-right (leb 2 (count cs) && leb (count cs) (lim .operands)) (areProper lim cs) e),
-      )
+      let (some, few, proper) = proper-operands lim cs .0 e in
+      (some, few, all-proper-counted cs lim proper)
   proper-counted (choice cs) lim e =
-      let n = and-left (leb 2 (count cs) && leb (count cs) (lim .operands)) (areProper lim cs) e in (
-        leb-true 2 (count cs) (and-left (leb 2 (count cs)) (leb (count cs) (lim .operands)) n),
-        all-proper-counted cs lim (and-right (leb 2 (count cs) && leb (count cs) (lim .operands)) (areProper lim cs) e),
-      )
+      let (some, few, proper) = proper-operands lim cs .0 e in
+      (some, all-proper-counted cs lim proper)
   proper-counted (anyNumber c) lim e = proper-counted c lim e
   proper-counted (oneOrMore c) lim e = proper-counted c lim e
   proper-counted (optional c) lim e = proper-counted c lim e
@@ -105,16 +89,9 @@ mutual
   counted-proper none lim h w t = refl
   counted-proper empty lim h w t = refl
   counted-proper (type k) lim h w t = lt-ltb k (lim .types) (t k (List·Memᴰ·head refl))
-  counted-proper (sequence cs) lim h w t =
-      and-intro (leb 2 (count cs) && leb (count cs) (lim .operands)) (areProper lim cs)
-      (and-intro (leb 2 (count cs)) (leb (count cs) (lim .operands)) (le-leb 2 (count cs) (h .0))
-      (le-leb (count cs) (lim .operands) (h .1)))
-      (all-counted-proper cs lim (h .2) w t)
+  counted-proper (sequence cs) lim h w t = proper-operands lim cs .1 (h .0, h .1, all-counted-proper cs lim (h .2) w t)
   counted-proper (choice cs) lim h w t =
-      and-intro (leb 2 (count cs) && leb (count cs) (lim .operands)) (areProper lim cs)
-      (and-intro (leb 2 (count cs)) (leb (count cs) (lim .operands)) (le-leb 2 (count cs) (h .0))
-      (le-leb (count cs) (lim .operands) (omega arith)))
-      (all-counted-proper cs lim (h .1) (omega arith) t)
+      proper-operands lim cs .1 (h .0, omega arith, all-counted-proper cs lim (h .1) (omega arith) t)
   counted-proper (anyNumber c) lim h w t = counted-proper c lim h w t
   counted-proper (oneOrMore c) lim h w t = counted-proper c lim h w t
   counted-proper (optional c) lim h w t = counted-proper c lim h w t
@@ -130,16 +107,10 @@ mutual
 module _ (lim : Limits) where
   -- each content of a list is counted
   abbrev pub EachCounted : List Content → Type 0
-  EachCounted cs = (c : Content) → List·Memᴰ c cs → Counted lim c
-
-  each-none : EachCounted []
-  each-none c m = elim m [ ]
-
-  each-cons : (c : Content) (cs : List Content) → Counted lim c → EachCounted cs → EachCounted (c ∷ cs)
-  each-cons c cs p h d m = ⊎-elim (λ e. subst (Counted lim) (sym e) p) (h d) (List·Memᴰ·cases-cons m)
+  EachCounted = Each (Counted lim)
 
   each-one : (c : Content) → Counted lim c → EachCounted (c ∷ [])
-  each-one c p = each-cons c [] p each-none
+  each-one c p = each-cons (Counted lim) c [] p (each-none (Counted lim))
 
   operands-counted : (cs : List Content) → EachCounted cs → AllCounted lim (operands cs)
   unfolding operands
@@ -148,8 +119,8 @@ module _ (lim : Limits) where
 
   listed-counted : (cs : Contents) → AllCounted lim cs → EachCounted (listOf cs)
   unfolding listOf
-  listed-counted []ᶜ h = each-none
-  listed-counted (c ∷ᶜ cs) h = each-cons c (listOf cs) (h .0) (listed-counted cs (h .1))
+  listed-counted []ᶜ h = each-none (Counted lim)
+  listed-counted (c ∷ᶜ cs) h = each-cons (Counted lim) c (listOf cs) (h .0) (listed-counted cs (h .1))
 
   pub choice-counted : (cs : List Content) → EachCounted cs → Counted lim (choiceOf cs)
   unfolding choiceOf operands count
@@ -222,9 +193,9 @@ module _ (lim : Limits) where
         unless-counted (isNone (simplify c)) empty (optional (simplify c)) tt (simplify-counted c h)
 
     pub each-simplified-counted : (cs : Contents) → AllCounted lim cs → EachCounted (simplifyAll cs)
-    each-simplified-counted []ᶜ h = each-none
+    each-simplified-counted []ᶜ h = each-none (Counted lim)
     each-simplified-counted (c ∷ᶜ cs) h =
-        each-cons (simplify c) (simplifyAll cs) (simplify-counted c (h .0)) (each-simplified-counted cs (h .1))
+        each-cons (Counted lim) (simplify c) (simplifyAll cs) (simplify-counted c (h .0)) (each-simplified-counted cs (h .1))
 
   pub prune-counted : (known : List ℕ) (c : Content) → Counted lim c → Counted lim (prune known c)
   unfolding prune
@@ -274,6 +245,6 @@ module _ (lim : Limits) where
     tidy-counted (optional c) h = tidy-counted c h
 
     pub each-tidied-counted : (cs : Contents) → AllCounted lim cs → EachCounted (tidyAll cs)
-    each-tidied-counted []ᶜ h = each-none
+    each-tidied-counted []ᶜ h = each-none (Counted lim)
     each-tidied-counted (c ∷ᶜ cs) h =
-        each-cons (tidy c) (tidyAll cs) (tidy-counted c (h .0)) (each-tidied-counted cs (h .1))
+        each-cons (Counted lim) (tidy c) (tidyAll cs) (tidy-counted c (h .0)) (each-tidied-counted cs (h .1))

@@ -1,5 +1,6 @@
 -- Tables of counted contents: the steps of widening keep the contents counted, and the names among those of the two tables.
 --     union-counted    the contents of the reduced union, if those of both tables are counted
+--     map-counted      the contents of rules made of rules
 --     local-counted, single-type-counted    the contents of the forms of a table whose contents are
 --     union-name       a name of the reduced union is a name of one of the two tables
 use Prim.Native.Nat.{ℕ}
@@ -33,7 +34,7 @@ module _ (lim : Limits) where
   within-counted classes g within r m = proper-counted (r .content) lim (within .each-rule r m .content .proper)
 
   -- rules made of rules by a step that keeps contents counted
-  map-counted : (f : Rule → Rule) (rs : List Rule) → ((r : Rule) → List·Memᴰ r rs → Counted lim (f r .content))
+  pub map-counted : (f : Rule → Rule) (rs : List Rule) → ((r : Rule) → List·Memᴰ r rs → Counted lim (f r .content))
       → RulesCounted (map f rs)
   map-counted f rs h r m =
       let (s, n, e) = Memᴰ·of-map f rs m in

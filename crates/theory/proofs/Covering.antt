@@ -1,5 +1,6 @@
 -- Letting in is carried from one table to another by a relation between their types that is closed under words.
---     covered-let-in    what a table lets in, a table that covers it lets in
+--     covered-derived    a type that covers another derives all that it derives
+--     covered-let-in     what a table lets in, a table that covers it lets in
 use Prim.Native.Nat.{ℕ}
 use mathlib.Core.List.{List, List·Memᴰ, Forall₂, Forall₂·nil, Forall₂·cons}
 use Rattle.grammar.specs.Names.{Name}
@@ -21,15 +22,18 @@ module _ (G H : Table) (Cover : ℕ → ℕ → Type 0) where
     pub fits : Fits H j n word
     pub covers : Forall₂ Cover w word
 
+  abbrev pub WordsCovered : Type 0
+  WordsCovered = (k j : ℕ) (n : Name) (w : List ℕ) → Cover k j → Fits G k n w → WordCover j n w
+
   pub record Covering : Type 0 where
     pub starts : (k : ℕ) (n : Name) (w : List ℕ) → List·Memᴰ k (G .starts) → Fits G k n w → StartCover k
-    pub words : (k j : ℕ) (n : Name) (w : List ℕ) → Cover k j → Fits G k n w → WordCover j n w
+    pub words : WordsCovered
 
-module _ {G H : Table} {Cover : ℕ → ℕ → Type 0} (covering : Covering G H Cover) where
+module _ {G H : Table} {Cover : ℕ → ℕ → Type 0} (words : WordsCovered G H Cover) where
   mutual
     pub covered-derived : {k : ℕ} {t : Tree} → Derives G k t → (j : ℕ) → Cover k j → Derives H j t
     covered-derived (derives {k = k} {n = n} {w = w} f all) j c =
-        let v = covering .words k j n w c f in
+        let v = words k j n w c f in
         derives (v .fits) (covered-derived-all all (v .covers))
 
     pub covered-derived-all : {w : List ℕ} {ts : Forest} → DerivesAll G w ts → {v : List ℕ} → Forall₂ Cover w v → DerivesAll H v ts
@@ -37,6 +41,7 @@ module _ {G H : Table} {Cover : ℕ → ℕ → Type 0} (covering : Covering G H
     covered-derived-all (derives-next d all) (Forall₂·cons {b = j} c cs) =
         derives-next (covered-derived d j c) (covered-derived-all all cs)
 
+module _ {G H : Table} {Cover : ℕ → ℕ → Type 0} (covering : Covering G H Cover) where
   pub covered-let-in : LetsInAll H (LetsIn G)
   covered-let-in d l = go (l .derived)
     where
@@ -46,5 +51,5 @@ module _ {G H : Table} {Cover : ℕ → ℕ → Type 0} (covering : Covering G H
           record {
             start = s .type;
             of-table = s .of-table;
-            derived = covered-derived (derives f all) (s .type) (s .covers);
+            derived = covered-derived (covering .words) (derives f all) (s .type) (s .covers);
           }

@@ -47,8 +47,7 @@ use Rattle.grammar.specs.ReadContent.{sameContent}
 use Rattle.grammar.specs.ReadTable.{isEmpty}
 use Rattle.grammar.specs.Reduce.{isNone, simplify, simplifyAll, prune}
 use Rattle.grammar.specs.Tidy.{alternatives, tidy, tidyAll}
-use Rattle.theory.proofs.ListLaws.{keep-yes, keep-no, kept}
-use Rattle.theory.proofs.ReplacedTypes.{joined-append}
+use Rattle.theory.proofs.ListLaws.{keep-yes, keep-no, kept, joined-append}
 use Rattle.theory.proofs.ContentBytes.{same-content}
 use Rattle.theory.proofs.DistinctLaws.{distinct-again, distinct-join}
 use Rattle.theory.proofs.Alternatives.{

@@ -13,7 +13,7 @@ use mathlib.Core.List.{List, map, map-map, List·Memᴰ, Memᴰ·map}
 use mathlib.Core.Path.{_≡_, refl, sym, _∙_, ap, fun-ext}
 use lib.Dec.{eqb}
 use Rattle.grammar.specs.Lists.{any, keep, distinct, place, joinedOf, isIn, sameNumbers}
-use Rattle.grammar.specs.Content.{Content, type, typesIn, choiceOf}
+use Rattle.grammar.specs.Content.{Content, typesIn, choiceOf}
 use Rattle.grammar.specs.Tree.{Tree}
 use Rattle.grammar.specs.Table.{Rule, Table}
 use Rattle.grammar.specs.Derivation.{Derives, derives}
@@ -35,9 +35,9 @@ use Rattle.grammar.specs.LocalForm.{labelOf, typeOfLabel, ruleOfLabel}
 use Rattle.grammar.specs.SingleTypeForm.{TypeSet, ofLabel, members, typesMet, contentOfSet}
 use Rattle.grammar.specs.Tidy.{tidy}
 use Rattle.theory.proofs.ListLaws.{any-of, keep-mem, kept, keep-map, distinct-was, in-mem}
-use Rattle.theory.proofs.TableConditions.{LabelsListed}
+use Rattle.theory.proofs.TableConditions.{Labelled}
 use Rattle.theory.proofs.Fruitful.{has-word, forest-fruitful, fruitful-is}
-use Rattle.theory.proofs.NormaliseDocuments.{OfPair, same-pair, pair-words, pair-fits, normalise-listed}
+use Rattle.theory.proofs.NormaliseDocuments.{OfPair, same-pair, pair-words, pair-fits, normalise-labelled}
 use Rattle.theory.proofs.Alternatives.{written, alts, hasAlts, pairsMet, inPairsOf, retyped, pairsLeft, hasLeft, resultsOf}
 use Rattle.theory.proofs.EmittedContent.{emitted-rule, joined-map}
 use Rattle.theory.proofs.MetPairs.{met-in-pairs, word-met, word-met-in-pair}
@@ -113,7 +113,7 @@ module _ (u : Table) where
       ∙ joined-map (λ (r : Rule). typesIn (r .content)) ruleLeft (keep (λ s. isIn (pairOf u s) seen) fruitfulPairs)
       ∙ met-in-pairs (pairsOf u) (fruitful (normalise u)) pairContents (keep (λ s. isIn (pairOf u s) seen) fruitfulPairs))
 
-  module _ (listed : LabelsListed u) where
+  module _ (listed : Labelled u) where
     -- a fruitful pair has alternatives
     has-tree : (s : Rule) {p : ℕ} {t : Tree} → OfPair u p s → Derives (normalise u) p t
         → any (hasAlts (hasLeft (pairsOf u) (fruitful (normalise u)))) (pairContents s) ≡ true
@@ -132,7 +132,7 @@ module _ (u : Table) where
     pair-has s m =
         let k = kept (λ r. isIn (pairOf u r) (fruitful (normalise u))) firstRules m in
         let n = in-mem (pairOf u s) (fruitful (normalise u)) (k .1) in
-        let t = fruitful-is (normalise u) (normalise-listed u listed) (pairOf u s) .0 n in
+        let t = fruitful-is (normalise u) (normalise-labelled u listed) (pairOf u s) .0 n in
         has-tree s (record { of-table = distinct-was samePair (u .rules) (k .0); numbered = refl }) (t .1)
 
     pub emitted-merge : (target : ℕ → ℕ) (test : Rule → Bool)

@@ -4,14 +4,14 @@
 use Prim.Native.Nat.{ℕ, zero, _≤_, _<_}
 use native.Mathlib.Omega.{arith}
 use mathlib.Core.Bool.{Bool, true}
-use mathlib.Core.List.{List, map, List·Memᴰ, List·Memᴰ·eq-of-singleton, Memᴰ·of-map}
-use mathlib.Core.Path.{_≡_, sym, _∙_, ap, subst}
+use mathlib.Core.List.{List·Memᴰ, Memᴰ·of-map}
+use mathlib.Core.Path.{_≡_, sym, ap, subst}
 use lib.ListN.{length, length-append, length-map}
 use lib.Dec.{eqb}
 use Rattle.grammar.specs.Lists.{any, keep, allDistinct, numbersBelow}
 use Rattle.grammar.specs.Limits.{Limits}
 use Rattle.grammar.specs.Names.{Name, Classes}
-use Rattle.grammar.specs.Content.{Content, type, typesIn, choiceOf, replace}
+use Rattle.grammar.specs.Content.{typesIn}
 use Rattle.grammar.specs.Table.{Rule, Table}
 use Rattle.grammar.specs.WithinLimits.{NameWithin}
 use Rattle.grammar.specs.Kinds.{Kind, local, singleType}
@@ -21,21 +21,18 @@ use Rattle.grammar.specs.SingleTypeForm.{startSets, allSets, singleTypeForm}
 use Rattle.grammar.specs.Widen.{form}
 use Rattle.theory.proofs.ListLaws.{
   kept,
-  joined-from,
   mem-at,
   at-below,
   numbers-below,
   numbers-differ,
   numbers-length,
-  place-at,
   keep-differ,
+  keep-shorter,
+  place-of,
+  eqb-decides,
 }
-use Rattle.theory.proofs.Rounds.{keep-shorter}
-use Rattle.theory.proofs.ReplacedTypes.{choice-types, replace-types}
-use Rattle.theory.proofs.TableAutomaton.{label-of}
-use Rattle.theory.proofs.ReducedTable.{HasRule, ReducedTable}
-use Rattle.theory.proofs.UsedLabelsDocuments.{label-used}
-use Rattle.theory.proofs.LocalMerge.{local-form-names, local-form-labelled}
+use Rattle.theory.proofs.ReducedTable.{ReducedTable}
+use Rattle.theory.proofs.LocalMerge.{local-form-names, local-form-labelled, merged, merged-at}
 use Rattle.theory.proofs.SetsClosed.{starts-first}
 use Rattle.theory.proofs.SingleTypeMerge.{
   single-type-form-labels,
@@ -48,6 +45,8 @@ use Rattle.theory.proofs.SingleTypeMerge.{
 }
 use Rattle.theory.proofs.CountedTables.{RulesCounted, local-counted, single-type-counted}
 use Rattle.theory.proofs.NumberedTable.{Numbered}
+use Rattle.theory.proofs.TableConditions.{HasRule}
+use Rattle.theory.proofs.Standing.{merge-type}
 
 -- numbers kept of those below a bound
 module _ (test : ℕ → Bool) (n : ℕ) where
@@ -58,42 +57,15 @@ module _ (test : ℕ → Bool) (n : ℕ) where
       let b = numbers-length zero n in
       omega arith
 
--- the types in a choice of contents with other types in place
-module _ (f : ℕ → ℕ) where
-  renamed-types : (c : Content) (k : ℕ) → List·Memᴰ k (typesIn (replace c (λ j. type (f j))))
-      → (j : ℕ) × List·Memᴰ j (typesIn c) × (k ≡ f j)
-  unfolding typesIn
-  renamed-types c k m =
-      let (j, n, o) =
-      joined-from (λ j. typesIn (type (f j))) (typesIn c)
-      (subst (λ (ks : List ℕ). List·Memᴰ k ks) (replace-types (λ j. type (f j)) c) m) in
-      (j, n, List·Memᴰ·eq-of-singleton o)
-
-  renamed : Rule → Content
-  renamed r = replace (r .content) (λ j. type (f j))
-
-  chosen-types : (rs : List Rule) (k : ℕ)
-      → List·Memᴰ k (typesIn (choiceOf (map (λ (r : Rule). replace (r .content) (λ j. type (f j))) rs)))
-      → (r : Rule) × List·Memᴰ r rs × (j : ℕ) × List·Memᴰ j (typesIn (r .content)) × (k ≡ f j)
-  unfolding renamed
-  chosen-types rs k m =
-      let (c, n, o) =
-      joined-from typesIn (map renamed rs) (subst (λ (ks : List ℕ). List·Memᴰ k ks) (choice-types (map renamed rs)) m) in
-      let (r, p, e) = Memᴰ·of-map renamed rs n in
-      let (j, q, s) = renamed-types (r .content) k (subst (λ (d : Content). List·Memᴰ k (typesIn d)) (sym e) o) in
-      (r, p, j, q, s)
-
 module _ (g : Table) (reduced : ReducedTable g) where
   -- the type of a used label is its place among them
   label-below : (l : ℕ) → List·Memᴰ l (usedLabels g) → typeOfLabel g l < length (usedLabels g)
   unfolding typeOfLabel
-  label-below l m = at-below (usedLabels g) (typeOfLabel g l) (place-at l (usedLabels g) m)
+  label-below l m = at-below (usedLabels g) (typeOfLabel g l) (place-of eqb eqb-decides m)
 
   merged-below : (k : ℕ) → HasRule g k → typeOfLabel g (labelOf g k) < length (usedLabels g)
-  merged-below k h =
-      let e = ap (labelOf g) (sym (h .of-type)) ∙ label-of g (reduced .one-rule-each) (h .rule) (h .of-table) in
-      subst (λ (l : ℕ). typeOfLabel g l < length (usedLabels g)) (sym e)
-      (label-below (h .rule .label) (label-used g (reduced .labelled) (h .rule) (h .of-table)))
+  unfolding merged
+  merged-below k h = at-below (usedLabels g) (merged g k) (merged-at g reduced h)
 
   local-rules : length (localForm g .rules) ≡ length (usedLabels g)
   unfolding localForm
@@ -106,9 +78,9 @@ module _ (g : Table) (reduced : ReducedTable g) where
       let (l, o, e) = Memᴰ·of-map (ruleOfLabel g) (usedLabels g) m in
       let ofLabel = keep (λ (s : Rule). eqb (s .label) l) (g .rules) in
       let (s, t, j, u, v) =
-      chosen-types (λ j. typeOfLabel g (labelOf g j)) ofLabel k
+      merge-type (λ j. typeOfLabel g (labelOf g j)) ofLabel k
       (subst (λ (q : Rule). List·Memᴰ k (typesIn (q .content))) (sym e) n) in
-      rw v (merged-below j (reduced .content-rules s (kept (λ (s : Rule). eqb (s .label) l) (g .rules) t .0) j u))
+      rw (← v) (merged-below j (reduced .content-rules s (kept (λ (s : Rule). eqb (s .label) l) (g .rules) t .0) j u))
 
   local-rule-types : (r : Rule) → List·Memᴰ r (localForm g .rules) → r .type < length (usedLabels g)
   unfolding localForm ruleOfLabel
@@ -147,7 +119,7 @@ module _ (g : Table) (reduced : ReducedTable g) where
           starts-differ = keep-differ eqb isStart (numbersBelow used) (numbers-differ used);
           few-starts = let few = few-kept isStart used in omega arith;
           rule-types = λ r m. let b = local-rule-types r m in omega arith;
-          listed = local-form-labelled g;
+          labelled = local-form-labelled g;
           content-types = λ r m k n. let b = local-types r m k n in omega arith;
           counted = local-counted lim g counted;
         }
@@ -167,7 +139,7 @@ module _ (g : Table) (reduced : ReducedTable g) where
               let e = single-type-form-place lim g reduced i at in
               let b = at-below (singleTypeForm lim g .rules) i at in
               omega arith;
-          listed = single-type-form-labelled lim g reduced;
+          labelled = single-type-form-labelled lim g reduced;
           content-types = λ r m k n. let b = single-type-form-types lim g reduced few r m k n in omega arith;
           counted = single-type-counted lim g counted;
         }

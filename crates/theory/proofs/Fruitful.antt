@@ -2,9 +2,9 @@
 --     has-word       hasWord known c is true just where a word of c has only known types
 --     fruitful-is    a type is among `fruitful g` just where it derives some tree in g
 -- the latter where every rule's label is a label of the table (`labelled`).
-use Prim.Native.Nat.{ℕ, _<_}
+use Prim.Native.Nat.{ℕ}
 use native.Mathlib.Omega.{arith}
-use mathlib.Core.Bool.{true, not, false≢true}
+use mathlib.Core.Bool.{true, false≢true}
 use mathlib.Core.List.{
   List,
   [],
@@ -52,11 +52,11 @@ use Rattle.grammar.specs.Table.{Rule, Table}
 use Rattle.grammar.specs.Derivation.{Derives, derives, DerivesAll, derives-none, derives-next}
 use Rattle.grammar.specs.Reduce.{hasWord, haveWords, oneHasWord, newlyFruitful, fruitful}
 use Rattle.theory.proofs.BoolLaws.{and-left, and-right, and-intro, or-cases, or-left, or-right}
-use Rattle.theory.proofs.ListLaws.{kept, keep-mem, in-mem, mem-in, below-at}
-use Rattle.theory.proofs.NameLaws.{name-refl}
-use Rattle.theory.proofs.SameWords.{AllIn, all-in-none, all-in-append}
+use Rattle.theory.proofs.ListLaws.{kept, keep-mem, in-mem, mem-in, below-at, AllIn, all-in-none, all-in-append}
 use Rattle.theory.proofs.SimplifyWords.{join}
 use Rattle.theory.proofs.Rounds.{not-known, rounds-hold, rounds-closed, closed-has}
+use Rattle.theory.proofs.TableConditions.{Labelled, SomeTree}
+use Rattle.theory.proofs.NamedLabels.{label-named}
 
 module _ (known : List ℕ) where
   -- a language has a word of known types
@@ -121,20 +121,12 @@ module _ (known : List ℕ) where
           (p .1),
     )
 
--- a type derives some tree
-abbrev pub SomeTree : Table → ℕ → Type 0
-SomeTree g k = (t : Tree) × Derives g k t
-
 pub some-forest : (g : Table) (w : List ℕ) → ((k : ℕ) → List·Memᴰ k w → SomeTree g k) → (ts : Forest) × DerivesAll g w ts
 some-forest g [] h = ([]ᵗ, derives-none)
 some-forest g (k ∷ w) h =
     let t = h k (List·Memᴰ·head refl) in
     let ts = some-forest g w (λ l m. h l (List·Memᴰ·tail m)) in
     (t .0 ∷ᵗ ts .0, derives-next (t .1) (ts .1))
-
--- every rule's label is a label of the table
-abbrev pub Labelled : Table → Type 0
-Labelled g = (r : Rule) → List·Memᴰ r (g .rules) → r .label < length (g .labels)
 
 module _ (g : Table) where
   -- what a round finds: types, not known, of rules whose contents have words of known types
@@ -212,7 +204,7 @@ module _ (g : Table) where
                 rule = f .rule;
                 of-table = f .of-table;
                 of-type = f .of-type;
-                of-name = record { name = name .0; listed = name .1; same = name-refl (name .0) };
+                of-name = label-named (name .1);
                 word = w .1;
               })
               (ts .1),

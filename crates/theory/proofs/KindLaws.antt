@@ -8,12 +8,13 @@ use mathlib.Core.List.{List, List·Memᴰ}
 use mathlib.Core.Option.{some as just}
 use mathlib.Core.Path.{_≡_, sym, _∙_, ap, subst}
 use lib.ListN.{getElem?}
-use Rattle.grammar.specs.Names.{Name, SameName}
-use Rattle.grammar.specs.Table.{Rule, Table, Named, DistinctNames}
+use Rattle.grammar.specs.Names.{Name}
+use Rattle.grammar.specs.Table.{Rule, Table, DistinctNames}
 use Rattle.grammar.specs.Derivation.{Fits}
 use Rattle.grammar.specs.Kinds.{NoTwoRules, Local, Competing, SingleType}
 use Rattle.theory.proofs.ListLaws.{mem-at, just-eq}
-use Rattle.theory.proofs.NameLaws.{name-refl, name-sym, name-trans}
+use Rattle.theory.proofs.NameLaws.{name-refl}
+use Rattle.theory.proofs.NamedLabels.{one-label}
 
 pub one-rule : (g : Table) (Alike : Rule → Rule → Type 0) → NoTwoRules g Alike → (r s : Rule) → List·Memᴰ r (g .rules)
     → List·Memᴰ s (g .rules) → Alike r s → r ≡ s
@@ -22,12 +23,6 @@ one-rule g Alike no-two r s m n alike =
     let q = mem-at n in
     let e = no-two (p .0) (q .0) r s (p .1) (q .1) alike in
     just-eq (sym (q .1) ∙ subst (λ (i : ℕ). getElem? (g .rules) i ≡ just r) e (p .1))
-
--- Labels with equal names are equal.
-pub one-label : (g : Table) → DistinctNames g → {i j : ℕ} {m n : Name} → Named g i m → Named g j n → SameName m n → i ≡ j
-one-label g names {i} {j} {m} {n} p q e =
-    names i j (p .name) (q .name) (p .listed) (q .listed)
-    (name-trans (p .name) n (q .name) (name-trans (p .name) m n (p .same) e) (name-sym (q .name) n (q .same)))
 
 pub one-fitting : (g : Table) → DistinctNames g → SingleType g → {k : ℕ} {n : Name} {v w : List ℕ} (f : Fits g k n v) (h : Fits g k n w)
     → f .rule ≡ h .rule

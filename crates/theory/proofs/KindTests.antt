@@ -8,14 +8,13 @@ use mathlib.Core.List.{List, List·Memᴰ}
 use mathlib.Core.Logic.{_↔_}
 use mathlib.Core.Path.{_≡_, sym}
 use lib.Dec.{eqb}
-use borrow.Author.Tests.{eqb-true, eq-eqb}
 use Rattle.grammar.specs.Lists.{allDistinct}
 use Rattle.grammar.specs.Content.{typesIn}
 use Rattle.grammar.specs.Table.{Rule, Table}
 use Rattle.grammar.specs.Kinds.{NoTwoRules, Local, Competing, NoneCompete, SingleType}
 use Rattle.grammar.specs.KindTests.{sameLabel, samePair, isLocal, compete, noneCompete, isSingleType}
 use Rattle.theory.proofs.BoolLaws.{and-decides, unless-decides}
-use Rattle.theory.proofs.ListLaws.{differ-at, all-differ, any-decides, all-decides}
+use Rattle.theory.proofs.ListLaws.{differ-at, all-differ, any-decides, all-decides, eqb-decides}
 
 -- where a symmetric test decides whether two rules are alike: the rules are all distinct just where no two are alike
 module _ (same : Rule → Rule → Bool) (Alike : Rule → Rule → Type 0) (same-sym : (r s : Rule) → same r s ≡ true → same s r ≡ true)
@@ -26,13 +25,10 @@ module _ (same : Rule → Rule → Bool) (Alike : Rule → Rule → Type 0) (sam
     λ h. all-differ same (g .rules) (λ i j r s p q e. h i j r s p q (alike r s .0 e)),
   )
 
-equal : (m n : ℕ) → (eqb m n ≡ true) ↔ (m ≡ n)
-equal m n = (eqb-true m n, eq-eqb m n)
-
 -- rules with one label
 pub same-label : (r s : Rule) → (sameLabel r s ≡ true) ↔ (r .label ≡ s .label)
 unfolding sameLabel
-same-label r s = equal (r .label) (s .label)
+same-label r s = eqb-decides (r .label) (s .label)
 
 same-label-sym : (r s : Rule) → sameLabel r s ≡ true → sameLabel s r ≡ true
 same-label-sym r s e = same-label s r .1 (sym (same-label r s .0 e))
@@ -45,9 +41,9 @@ is-local g = no-two sameLabel (λ r s. r .label ≡ s .label) same-label-sym sam
 pub same-pair : (r s : Rule) → (samePair r s ≡ true) ↔ ((r .type ≡ s .type) × (r .label ≡ s .label))
 unfolding samePair
 same-pair r s =
-    and-decides (eqb (r .type) (s .type)) (eqb (r .label) (s .label)) (equal (r .type) (s .type)) (equal (r .label) (s .label))
+    and-decides (eqb (r .type) (s .type)) (eqb (r .label) (s .label)) (eqb-decides (r .type) (s .type)) (eqb-decides (r .label) (s .label))
 
-same-pair-sym : (r s : Rule) → samePair r s ≡ true → samePair s r ≡ true
+pub same-pair-sym : (r s : Rule) → samePair r s ≡ true → samePair s r ≡ true
 same-pair-sym r s e = let p = same-pair r s .0 e in same-pair s r .1 (sym (p .0), sym (p .1))
 
 -- two types have rules with one label
@@ -81,8 +77,8 @@ competing g k l = (
         and-decides
         _
         _
-        (equal (r .type) k)
-        (any-decides _ (g .rules) (λ s. and-decides _ _ (equal (s .type) l) (same-label r s))))
+        (eqb-decides (r .type) k)
+        (any-decides _ (g .rules) (λ s. and-decides _ _ (eqb-decides (s .type) l) (same-label r s))))
 
 pub none-compete : (g : Table) (types : List ℕ) → (noneCompete g types ≡ true) ↔ NoneCompete g types
 unfolding noneCompete
@@ -97,7 +93,7 @@ none-compete g types = (λ e k l m n. d .0 e k m l n, λ h. d .1 (λ k m l n. h 
         all-decides
         _
         types
-        (λ l. unless-decides (eqb k l) (compete g k l) (equal k l) (competing g k l)))
+        (λ l. unless-decides (eqb k l) (compete g k l) (eqb-decides k l) (competing g k l)))
 
 pub is-single-type : (g : Table) → (isSingleType g ≡ true) ↔ SingleType g
 unfolding isSingleType

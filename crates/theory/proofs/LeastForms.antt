@@ -2,7 +2,7 @@
 --     least-form : ReducedTable g → the form has at most as many types as there may be → LeastForm kind g (form lim kind g)
 -- and the number of its rules tells whether the worklist of the single-type sets ended.
 use Prim.Native.Nat.{ℕ, _≤_}
-use mathlib.Core.Path.{_≡_, refl, subst}
+use mathlib.Core.Path.{subst}
 use lib.ListN.{length}
 use Rattle.grammar.specs.Limits.{Limits}
 use Rattle.grammar.specs.Table.{Table}

@@ -2,13 +2,12 @@
 --     least-inclusive    old tables and additions that let in more give results that let in more
 --     least-alone        the result depends on the documents alone
 --     least-already      a table of the kind that lets in the addition already is its own least widening
-use mathlib.Core.Path.{_≡_}
 use mathlib.Core.Logic.{_↔_}
 use Rattle.grammar.specs.Tree.{Tree}
 use Rattle.grammar.specs.Table.{Table, DistinctNames}
 use Rattle.grammar.specs.Derivation.{LetsIn}
 use Rattle.grammar.specs.Kinds.{Kind, OfKind}
-use Rattle.grammar.specs.Least.{Addition, Added, LetsInAll, Rival, LeastWidening}
+use Rattle.grammar.specs.Least.{Addition, Added, LetsInAll, LeastWidening}
 
 module _ (kind : Kind) (old old′ : Table) (added added′ : Addition) (result result′ : Table) where
   pub least-inclusive : LeastWidening kind old added result → LeastWidening kind old′ added′ result′ → DistinctNames result′

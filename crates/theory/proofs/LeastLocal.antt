@@ -10,9 +10,10 @@ use Rattle.grammar.specs.Kinds.{Local}
 use Rattle.grammar.specs.Least.{LetsInAll}
 use Rattle.theory.proofs.NameLaws.{name-refl}
 use Rattle.theory.proofs.KindLaws.{local-compete}
-use Rattle.theory.proofs.Automaton.{Automaton, Accepts, accepts, AcceptsDocument, AllAlive, fill-at, Among}
+use Rattle.theory.proofs.Automaton.{Automaton, Accepts, accepts, AcceptsDocument, AllAlive, fill-at}
 use Rattle.theory.proofs.Merge.{Merge}
 use Rattle.theory.proofs.LeastMerge.{StartMember, AllSole, among-derived, least-merge}
+use Rattle.theory.proofs.TreeParts.{treesOf}
 
 -- a start state, or in a step, all of it alive, of a state that is reached
 pub data Reached {State : Type 0} (A : Automaton State) : State → Type 0 where
@@ -40,7 +41,7 @@ module _ {State : Type 0} {A : Automaton State} (H : Table) (keeps : LetsInAll H
       (reached-derived reached (node (A .name r) (filled .trees)) (accepts (name-refl (A .name r)) step (filled .accepted)) .derived)
       (filled .among)
     where
-      go : {n : Name} {ts : Forest} {k : ℕ} → Derives H k (node n ts) → Among t ts → Derived H t
+      go : {n : Name} {ts : Forest} {k : ℕ} → Derives H k (node n ts) → List·Memᴰ t (treesOf ts) → Derived H t
       go (derives f all) among = let d = among-derived all among in record { type = d .type; derived = d .derived }
 
 module _ {State : Type 0} {A : Automaton State} {G : Table} {Member : ℕ → State → Type 0} (merged : LocalMerge A G Member)

@@ -3,7 +3,7 @@
 --                    states accept (Tells), lets in all that the merge lets in
 -- Its types cover the merged types: they derive all that the members accept.
 use Prim.Native.Nat.{ℕ}
-use mathlib.Core.List.{List, List·Memᴰ, List·Memᴰ·head, List·Memᴰ·tail, Forall₂, Forall₂·nil, Forall₂·cons}
+use mathlib.Core.List.{List, List·Memᴰ, List·Memᴰ·head, List·Memᴰ·tail, Forall₂, Forall₂·nil, Forall₂·cons, List·Memᴰ·cases-cons}
 use mathlib.Core.Path.{_≡_, refl, sym, subst}
 use Rattle.grammar.specs.Names.{Name, SameName}
 use Rattle.grammar.specs.Tree.{Tree, node, Forest}
@@ -12,7 +12,6 @@ use Rattle.grammar.specs.Derivation.{Fits, Derives, derives, DerivesAll, derive
 use Rattle.grammar.specs.Kinds.{Competing}
 use Rattle.grammar.specs.Least.{LetsInAll}
 use Rattle.theory.proofs.NameLaws.{name-sym, name-trans}
-use Rattle.theory.proofs.KindLaws.{one-label}
 use Rattle.theory.proofs.Automaton.{
   Automaton,
   Accepts,
@@ -23,12 +22,12 @@ use Rattle.theory.proofs.Automaton.{
   AcceptsDocument,
   Alive,
   fill,
-  Among,
-  first,
-  later,
 }
 use Rattle.theory.proofs.Merge.{Merge}
 use Rattle.theory.proofs.Covering.{StartCover, WordCover, covered-let-in}
+use Rattle.theory.proofs.TreeParts.{treesOf}
+use mathlib.Core.Logic.{⊎-elim}
+use Rattle.theory.proofs.NamedLabels.{one-label}
 
 -- a type of the word that derives the tree
 pub record DerivedIn (H : Table) (w : List ℕ) (t : Tree) : Type 0 where
@@ -36,11 +35,15 @@ pub record DerivedIn (H : Table) (w : List ℕ) (t : Tree) : Type 0 where
   pub within : List·Memᴰ type w
   pub derived : Derives H type t
 
-pub among-derived : {H : Table} {w : List ℕ} {t : Tree} {ts : Forest} → DerivesAll H w ts → Among t ts → DerivedIn H w t
-among-derived (derives-next {k = k} d all) first = record { type = k; within = List·Memᴰ·head refl; derived = d }
-among-derived (derives-next d all) (later a) =
-    let r = among-derived all a in
-    record { type = r .type; within = List·Memᴰ·tail (r .within); derived = r .derived }
+pub among-derived : {H : Table} {w : List ℕ} {t : Tree} {ts : Forest} → DerivesAll H w ts → List·Memᴰ t (treesOf ts) → DerivedIn H w t
+among-derived derives-none m = elim m [ ]
+among-derived {H} (derives-next {k = k} d all) m =
+    ⊎-elim
+    (λ e. record { type = k; within = List·Memᴰ·head refl; derived = subst (λ (t : Tree). Derives H k t) (sym e) d })
+    (λ n.
+    let r = among-derived all n in
+    record { type = r .type; within = List·Memᴰ·tail (r .within); derived = r .derived })
+    (List·Memᴰ·cases-cons m)
 
 -- The tree is derived by a type that is j if it has a label with j in common.
 pub record Sole (H : Table) (j : ℕ) (t : Tree) : Type 0 where

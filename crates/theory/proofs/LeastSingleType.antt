@@ -13,9 +13,10 @@ use Rattle.grammar.specs.Kinds.{SingleType}
 use Rattle.grammar.specs.Least.{LetsInAll}
 use Rattle.theory.proofs.Standing.{word-stands}
 use Rattle.theory.proofs.KindLaws.{one-fitting}
-use Rattle.theory.proofs.Automaton.{Automaton, accepts, AcceptsDocument, AllAlive, fill, fill-at, Among}
+use Rattle.theory.proofs.Automaton.{Automaton, accepts, AcceptsDocument, AllAlive, fill, fill-at}
 use Rattle.theory.proofs.Merge.{Merge}
 use Rattle.theory.proofs.LeastMerge.{Sole, StartMember, Covers, AllSole, among-derived, member-named, least-merge}
+use Rattle.theory.proofs.TreeParts.{treesOf}
 
 module _ {State : Type 0} (A : Automaton State) (G : Table) (Member : ℕ → State → Type 0) where
   -- the state stands in a step, all of it alive, of a member of the type
@@ -61,16 +62,16 @@ module _ {State : Type 0} {A : Automaton State} {G : Table} {Member : ℕ → St
       (accepts (member-named (single .merge) f (r .member)) (r .step) (filled .accepted)))
       (filled .among)
     where
-      go : {ts : Forest} → Derives H j (node n ts) → Among t ts → Sole H i t
+      go : {ts : Forest} → Derives H j (node n ts) → List·Memᴰ t (treesOf ts) → Sole H i t
       go (derives h′ ds) among =
           let d = among-derived ds among in
           record {
             type = d .type;
             derived = d .derived;
             alone =
-                kind .contents (h .rule) (h .of-table) i (d .type) (word-stands (h .rule .content) (h .word) q)
+                kind .contents (h .rule) (h .of-table) i (d .type) (word-stands (h .rule .content) v (h .word) i q)
                 (subst (λ (r : Rule). List·Memᴰ (d .type) (typesIn (r .content))) (one-fitting H names kind h′ h)
-                (word-stands (h′ .rule .content) (h′ .word) (d .within)));
+                (word-stands (h′ .rule .content) _ (h′ .word) (d .type) (d .within)));
           }
 
   pub least-single-type : LetsInAll H (LetsIn G)

@@ -1,6 +1,7 @@
 pub mod BoolLaws
 pub mod ListLaws
 pub mod NameLaws
+pub mod NamedLabels
 pub mod WordLaws
 pub mod Matching
 pub mod Membership
@@ -8,6 +9,7 @@ pub mod KindTests
 pub mod ContentBytes
 pub mod FieldBytes
 pub mod PaperTheorem
+pub mod TreeParts
 pub mod Automaton
 pub mod Covering
 pub mod KindLaws
@@ -39,11 +41,10 @@ pub mod CarryDerivations
 pub mod Reached
 pub mod ReduceDocuments
 pub mod PathLaws
-pub mod PositionLaws
 pub mod NormaliseDocuments
-pub mod ReplacedTypes
 pub mod SampleMembers
-pub mod SampleMerge
+pub mod SampleRules
+pub mod ProperContents
 pub mod TableConditions
 pub mod UniteDocuments
 pub mod VisitedTrees

@@ -1,7 +1,15 @@
--- What the words of grammar's Lists mean, in terms of membership and positions.
+-- What the words of grammar's Lists mean, in terms of membership and positions. Of any lists:
+--     any-found, any-of, all-at, all-of, kept, keep-mem       tests of elements, and what is kept
+--     distinct-was, distinct-has, distinct-mem                the distinct elements
+--     at-mem, mem-at, at-below, below-at, at-joined, at-else  what stands at a place
+--     place-found, place-of, place-same, same-place           the place of an element
+--     differ-at, all-differ, distinct-new, distinct-end       lists of which all elements are distinct
+--     joined-from, joined-mem, joined-append                  lists of lists, joined
+--     map-at, at-map, related-map, related-at, related-mem    images, and lists related element by element
+-- Of numbers: in-mem, mem-in, same-numbers, numbers-below, one-place, and AllIn (all of one list are in another).
 use Prim.Native.Nat.{ℕ, zero, suc, _+_, _≤_, _<_}
 use native.Mathlib.Omega.{arith}
-use mathlib.Core.Bool.{Bool, true, false, not, _&&_, _||_, true≢false, false≢true}
+use mathlib.Core.Bool.{Bool, true, false, not, _||_, false≢true}
 use mathlib.Core.List.{
   List,
   [],
@@ -41,8 +49,6 @@ use Rattle.grammar.specs.Lists.{
   numbersFrom,
   numbersBelow,
 }
-use Rattle.theory.proofs.BoolLaws.{and-left, and-right, and-intro, or-cases, or-left, or-right, not-both, passes-or-fails}
-use Rattle.theory.proofs.BoolLaws.{false-of}
 use Rattle.theory.proofs.BoolLaws.{
   and-left,
   and-right,
@@ -50,10 +56,11 @@ use Rattle.theory.proofs.BoolLaws.{
   or-cases,
   or-left,
   or-right,
-  or-false,
-  false-of,
   not-both,
   passes-or-fails,
+  same-test,
+  false-of,
+  or-false,
 }
 
 module _ {A : Type 0} where
@@ -142,6 +149,14 @@ module _ {A : Type 0} where
             (r .0, List·Memᴰ·tail (keep-mem (λ w. not (same z w)) (r .1) (ap not e)), r .2))
             (passes-or-fails (same z (r .0)))
 
+  -- of a test that decides equality: each element is among the distinct
+  pub distinct-mem : (same : A → A → Bool) → ((x y : A) → (same x y ≡ true) ↔ (x ≡ y)) → {x : A} {xs : List A} → List·Memᴰ x xs
+      → List·Memᴰ x (distinct same xs)
+  distinct-mem same decides {x} m =
+      let r =
+      distinct-has same (λ y. decides y y .1 refl) (λ y z w p q. decides y w .1 (decides y z .0 p ∙ decides z w .0 q)) m in
+      Memᴰ·cast (sym (decides (r .0) x .0 (r .2))) (r .1)
+
   -- positions
   pub at-mem : (xs : List A) (i : ℕ) {x : A} → getElem? xs i ≡ just x → List·Memᴰ x xs
   at-mem [] i e = absurd (no-thing e)
@@ -165,6 +180,14 @@ module _ {A : Type 0} where
   below-at (y ∷ ys) zero h = (y, refl)
   below-at (y ∷ ys) (suc i) h = below-at ys i (omega arith)
 
+  pub at-joined : (xs ys : List A) (i : ℕ) → i < length xs → getElem? (xs ++ ys) i ≡ getElem? xs i
+  at-joined [] ys i h = absurd (omega arith)
+  at-joined (x ∷ xs) ys zero h = refl
+  at-joined (x ∷ xs) ys (suc i) h = at-joined xs ys i (omega arith)
+
+  pub at-front : (xs ys : List A) (i : ℕ) {x : A} → getElem? xs i ≡ just x → getElem? (xs ++ ys) i ≡ just x
+  at-front xs ys i e = at-joined xs ys i (at-below xs i e) ∙ e
+
   pub just-eq : {x y : A} → _≡_ {A = Option A} (just x) (just y) → y ≡ x
   just-eq e = cc
 
@@ -185,6 +208,36 @@ module _ {A : Type 0} where
       go false q ih =
           let r = ih (rw q at e) in
           (r .0, rw (q, place) (r .1), r .2)
+
+  -- of a test that decides equality: an element that is listed stands at its place
+  pub place-of : (same : A → A → Bool) → ((x y : A) → (same x y ≡ true) ↔ (x ≡ y)) → {x : A} {xs : List A} → List·Memᴰ x xs
+      → getElem? xs (place same x xs) ≡ just x
+  place-of same decides {x} {xs} m =
+      let (y, at, e) = place-found same x xs (any-of (same x) m (decides x x .1 refl)) in
+      at ∙ ap {B = Option A} just (sym (decides x y .0 e))
+
+  -- elements that are the same have one place, and elements found at one place are the same
+  module _ (same : A → A → Bool) (same-sym : (x y : A) → same x y ≡ true → same y x ≡ true)
+      (same-trans : (x y z : A) → same x y ≡ true → same y z ≡ true → same x z ≡ true) where
+    pub place-same : (x y : A) → same x y ≡ true → (xs : List A) → place same x xs ≡ place same y xs
+    unfolding place
+    place-same x y e [] = refl
+    place-same x y e (z ∷ zs) = go (same y z) refl (place-same x y e zs)
+      where
+        alike : same x z ≡ same y z
+        alike = same-test (same x z) (same y z) (same-trans y x z (same-sym x y e), same-trans x y z e)
+
+        go : (b : Bool) → same y z ≡ b → place same x zs ≡ place same y zs → place same x (z ∷ zs) ≡ place same y (z ∷ zs)
+        go true q ih = rw (alike ∙ q, q, place)
+        go false q ih = rw (alike ∙ q, q, place) (ap suc ih)
+
+    pub same-place : (x y : A) (xs : List A) → any (same x) xs ≡ true → any (same y) xs ≡ true → place same x xs ≡ place same y xs
+        → same x y ≡ true
+    same-place x y xs p q e =
+        let (u, at, xu) = place-found same x xs p in
+        let (v, bt, yv) = place-found same y xs q in
+        let w : u ≡ v = just-eq (sym bt ∙ subst (λ (i : ℕ). getElem? xs i ≡ just u) e at) in
+        same-trans x v y (subst (λ (z : A). same x z ≡ true) w xu) (same-sym y v yv)
 
   -- no two elements are the same, by positions
   module _ (same : A → A → Bool) (same-sym : (x y : A) → same x y ≡ true → same y x ≡ true) where
@@ -233,6 +286,24 @@ module _ {A B : Type 0} where
   joined-mem f {y = y} (List·Memᴰ·head {xs = zs} q) m = Memᴰ·append-left (joinedOf f zs) (subst (λ z. List·Memᴰ y (f z)) q m)
   joined-mem f (List·Memᴰ·tail {x = z} n) m = Memᴰ·append-right (f z) (joined-mem f n m)
 
+-- each element of a list has a property
+module _ {A : Type 0} (P : A → Type 0) where
+  abbrev pub Each : List A → Type 0
+  Each xs = (x : A) → List·Memᴰ x xs → P x
+
+  pub each-none : Each []
+  each-none x m = elim m [ ]
+
+  pub each-cons : (x : A) (xs : List A) → P x → Each xs → Each (x ∷ xs)
+  each-cons x xs p h y m = ⊎-elim (λ e. subst P (sym e) p) (h y) (List·Memᴰ·cases-cons m)
+
+  pub each-append : (xs ys : List A) → Each xs → Each ys → Each (xs ++ ys)
+  each-append xs ys p q y m = ⊎-elim (p y) (q y) (List·Memᴰ·append-cases xs m)
+
+  -- one element more at the end
+  pub each-end : (xs : List A) (x : A) → Each xs → P x → Each (xs ++ (x ∷ []))
+  each-end xs x h p = each-append xs (x ∷ []) h (each-cons x [] p each-none)
+
 -- numbers
 pub in-mem : (n : ℕ) (ns : List ℕ) → isIn n ns ≡ true → List·Memᴰ n ns
 unfolding isIn
@@ -241,6 +312,16 @@ in-mem n ns e = let r = any-found (eqb n) ns e in Memᴰ·cast (eqb-true n (r .0
 pub mem-in : {n : ℕ} {ns : List ℕ} → List·Memᴰ n ns → isIn n ns ≡ true
 unfolding isIn
 mem-in {n} m = any-of (eqb n) m (eq-eqb n n refl)
+
+-- all numbers of one list are in another
+abbrev pub AllIn : List ℕ → List ℕ → Type 0
+AllIn ks = Each (λ k. List·Memᴰ k ks)
+
+pub all-in-none : (ks : List ℕ) → AllIn ks []
+all-in-none ks = each-none (λ k. List·Memᴰ k ks)
+
+pub all-in-append : (ks u v : List ℕ) → AllIn ks u → AllIn ks v → AllIn ks (u ++ v)
+all-in-append ks = each-append (λ k. List·Memᴰ k ks)
 
 pub same-numbers : (ms ns : List ℕ) → sameNumbers ms ns ≡ true → ms ≡ ns
 unfolding sameNumbers
@@ -256,6 +337,9 @@ pub same-numbers-refl : (ns : List ℕ) → sameNumbers ns ns ≡ true
 unfolding sameNumbers
 same-numbers-refl [] = refl
 same-numbers-refl (n ∷ ns) = and-intro (eqb n n) (sameNumbers ns ns) (eq-eqb n n refl) (same-numbers-refl ns)
+
+pub numbers-decide : (ms ns : List ℕ) → (sameNumbers ms ns ≡ true) ↔ (ms ≡ ns)
+numbers-decide ms ns = (same-numbers ms ns, λ e. rw e (same-numbers-refl ns))
 
 -- where the test of one element decides its fact: some element has it, every element has it
 module _ {A : Type 0} {P : A → Type 0} (test : A → Bool) (xs : List A) (decides : (x : A) → (test x ≡ true) ↔ P x) where
@@ -311,19 +395,18 @@ module _ {A : Type 0} (same : A → A → Bool) (same-sym : (x y : A) → same x
           any-one z (List·Memᴰ·head q) s = ap (same x) (sym q) ∙ s
           any-one z (List·Memᴰ·tail m) s = elim m [ ]
 
--- one element more at the end
-pub each-end : {A : Type 0} (P : A → Type 0) (xs : List A) (x : A) → ((y : A) → List·Memᴰ y xs → P y) → P x → (y : A)
-    → List·Memᴰ y (xs ++ (x ∷ [])) → P y
-each-end {A} P xs x h p y m = ⊎-elim (h y) (only y) (List·Memᴰ·append-cases xs m)
-  where
-    only : (z : A) → List·Memᴰ z (x ∷ []) → P z
-    only z (List·Memᴰ·head q) = subst P (sym q) p
-    only z (List·Memᴰ·tail n) = elim n [ ]
+pub joined-append : {A B : Type 0} (f : A → List B) (xs ys : List A) → joinedOf f (xs ++ ys) ≡ joinedOf f xs ++ joinedOf f ys
+unfolding joinedOf
+joined-append f [] ys = refl
+joined-append {A} {B} f (x ∷ xs) ys =
+    ap (λ (zs : List B). f x ++ zs) (joined-append f xs ys) ∙ sym (append-assoc (f x) (joinedOf f xs) (joinedOf f ys))
 
 pub joined-end : {A B : Type 0} (f : A → List B) (xs : List A) (x : A) → joinedOf f (xs ++ (x ∷ [])) ≡ joinedOf f xs ++ f x
 unfolding joinedOf
-joined-end f [] x = append-nil (f x)
-joined-end {A} {B} f (y ∷ ys) x = ap (λ (l : List B). f y ++ l) (joined-end f ys x) ∙ sym (append-assoc (f y) (joinedOf f ys) (f x))
+joined-end {A} {B} f xs x = joined-append f xs (x ∷ []) ∙ ap (λ (l : List B). joinedOf f xs ++ l) (append-nil (f x))
+
+pub eqb-decides : (m n : ℕ) → (eqb m n ≡ true) ↔ (m ≡ n)
+eqb-decides m n = (eqb-true m n, eq-eqb m n)
 
 pub eqb-sym : (m n : ℕ) → eqb m n ≡ true → eqb n m ≡ true
 eqb-sym m n e = eq-eqb n m (sym (eqb-true m n e))
@@ -373,12 +456,6 @@ pub numbers-differ : (n : ℕ) → allDistinct eqb (numbersBelow n) ≡ true
 unfolding numbersBelow
 numbers-differ n = from-differ zero n
 
--- a number that is listed stands at its place
-pub place-at : (n : ℕ) (ns : List ℕ) → List·Memᴰ n ns → getElem? ns (place eqb n ns) ≡ just n
-place-at n ns m =
-    let r = place-found eqb n ns (any-of (eqb n) m (eq-eqb n n refl)) in
-    r .1 ∙ ap {B = Option ℕ} just (sym (eqb-true n (r .0) (r .2)))
-
 pub one-place : (ns : List ℕ) (i j : ℕ) {m n : ℕ} → allDistinct eqb ns ≡ true → getElem? ns i ≡ just m → getElem? ns j ≡ just n → m ≡ n → i ≡ j
 one-place ns i j {m} {n} d p q e = differ-at eqb (λ x y t. eq-eqb y x (sym (eqb-true x y t))) ns i j m n d p q (eq-eqb m n e)
 
@@ -422,10 +499,13 @@ module _ {A : Type 0} where
       go false false e d ih = rw (e, d, keep) (omega arith)
 
   -- the element at a place, or else another
-  pub at-or-else : (xs : List A) (i : ℕ) (x : A) → i < length xs → getElem? xs i ≡ just (getD xs i x)
-  at-or-else [] i x h = absurd (omega arith)
-  at-or-else (y ∷ ys) zero x h = refl
-  at-or-else (y ∷ ys) (suc i) x h = at-or-else ys i x (omega arith)
+  pub at-else : (xs : List A) (i : ℕ) (d : A) {x : A} → getElem? xs i ≡ just x → getD xs i d ≡ x
+  at-else [] i d e = let z : _≡_ {A = ℕ} 0 1 = cc in absurd (omega arith)
+  at-else (x ∷ xs) zero d e = sym (just-eq e)
+  at-else (x ∷ xs) (suc i) d e = at-else xs i d e
+
+  pub at-or-else : (xs : List A) (i : ℕ) (d : A) → i < length xs → getElem? xs i ≡ just (getD xs i d)
+  at-or-else xs i d h = let (x, e) = below-at xs i h in e ∙ ap just (sym (at-else xs i d e))
 
 module _ {A B : Type 0} where
   -- mapped elements, by positions
@@ -450,6 +530,10 @@ module _ {A B : Type 0} where
         → Forall₂ S ys xs
     related-turn turn Forall₂·nil = Forall₂·nil
     related-turn turn (Forall₂·cons {a = x} {b = y} r rs) = Forall₂·cons (turn x y r) (related-turn turn rs)
+
+    pub related-length : {xs : List A} {ys : List B} → Forall₂ R xs ys → length xs ≡ length ys
+    related-length Forall₂·nil = refl
+    related-length (Forall₂·cons r rs) = ap suc (related-length rs)
 
     pub related-at : {xs : List A} {ys : List B} → Forall₂ R xs ys → (i : ℕ) {y : B} → getElem? ys i ≡ just y
         → (x : A) × (getElem? xs i ≡ just x) × R x y
@@ -510,3 +594,12 @@ unfolding keep
 keep-all test [] h = refl
 keep-all {A} test (x ∷ xs) h =
     keep-yes test x xs (h x (List·Memᴰ·head refl)) ∙ ap (λ (l : List A). x ∷ l) (keep-all test xs (λ y m. h y (List·Memᴰ·tail m)))
+
+pub keep-shorter : {A : Type 0} (test : A → Bool) (xs : List A) → length (keep test xs) ≤ length xs
+unfolding keep
+keep-shorter test [] = omega arith
+keep-shorter test (x ∷ xs) = go (passes-or-fails (test x)) (keep-shorter test xs)
+  where
+    go : (test x ≡ true) ⊎ (test x ≡ false) → length (keep test xs) ≤ length xs → length (keep test (x ∷ xs)) ≤ length (x ∷ xs)
+    go (inl e) ih = rw (keep-yes test x xs e) (omega arith)
+    go (inr e) ih = rw (keep-no test x xs e) (omega arith)

@@ -14,7 +14,7 @@ use lib.ListN.{length, getElem?, getD}
 use borrow.Author.Tests.{eqb-true, eq-eqb}
 use Rattle.grammar.specs.Lists.{any, keep, numbersBelow}
 use Rattle.grammar.specs.Names.{Name, SameName}
-use Rattle.grammar.specs.Content.{Content, type, Word, replace}
+use Rattle.grammar.specs.Content.{type, Word}
 use Rattle.grammar.specs.Table.{Rule, Table, Named, DistinctNames}
 use Rattle.grammar.specs.Derivation.{Fits, LetsIn}
 use Rattle.grammar.specs.Kinds.{Local}
@@ -30,37 +30,38 @@ use Rattle.theory.proofs.ListLaws.{
   at-below,
   just-eq,
   numbers-below,
-  place-at,
   one-place,
-  at-map,
   related-map,
   related-turn,
+  place-of,
+  eqb-decides,
 }
-use Rattle.theory.proofs.WordLaws.{choice-words, rename-words}
+use Rattle.theory.proofs.WordLaws.{merge-words}
 use Rattle.theory.proofs.Merge.{Forth, Back, StartType, accepted-let-in}
 use Rattle.theory.proofs.LeastMerge.{StartMember}
 use Rattle.theory.proofs.LeastLocal.{Reached, LocalMerge, least-local}
 use Rattle.theory.proofs.TableAutomaton.{
-  Labelled,
   Steps,
   typeName,
   tableAutomaton,
   label-of,
   fits-steps,
   table-accepts,
+  label-rule,
+  table-kept,
 }
-use Rattle.theory.proofs.ReducedTable.{HasRule, ReducedTable}
-use Rattle.theory.proofs.ReducedAutomaton.{rule-that-fits, type-alive, step-rules, step-alive, type-reached}
+use Rattle.theory.proofs.ReducedTable.{ReducedTable}
+use Rattle.theory.proofs.ReducedAutomaton.{type-alive, step-rules, step-alive, type-reached}
 use Rattle.theory.proofs.UsedLabelsDocuments.{used-below, used-differ, label-used}
+use Rattle.theory.proofs.TableConditions.{Labelled, HasRule, rule-that-fits}
+use Rattle.theory.proofs.NoTwo.{no-two-map}
 
 module _ (g : Table) where
   pub local-form-local : Local (localForm g)
   unfolding localForm ruleOfLabel
-  local-form-local i j r s p q e =
-      let a = at-map (ruleOfLabel g) (usedLabels g) i p in
-      let b = at-map (ruleOfLabel g) (usedLabels g) j q in
-      one-place (usedLabels g) i j (used-differ g) (a .1) (b .1)
-      (ap (λ (t : Rule). t .label) (a .2) ∙ e ∙ sym (ap (λ (t : Rule). t .label) (b .2)))
+  local-form-local =
+      no-two-map (ruleOfLabel g) (λ r s. r .label ≡ s .label) (usedLabels g)
+      (λ i j l m p q e. one-place (usedLabels g) i j (used-differ g) p q e)
 
   pub local-form-names : DistinctNames g → DistinctNames (localForm g)
   unfolding localForm
@@ -90,53 +91,40 @@ module _ (g : Table) where
     word : Word (rule .content) source
     renamed : w ≡ map merged source
 
-  alternative : Rule → Content
-  alternative r = replace (r .content) (λ k. type (merged k))
-
-  ofLabel : ℕ → List Rule
-  ofLabel l = keep (λ (r : Rule). eqb (r .label) l) (g .rules)
-
   merged-word : (l : ℕ) {w : List ℕ} → Word (ruleOfLabel g l .content) w → MergedWord l w
-  unfolding ruleOfLabel merged alternative ofLabel
+  unfolding ruleOfLabel merged
   merged-word l {w} v =
-      let o = choice-words (map alternative (ofLabel l)) w .0 v in
-      let a = Memᴰ·of-map alternative (ofLabel l) (o .listed) in
-      let k = kept (λ (r : Rule). eqb (r .label) l) (g .rules) (a .1) in
-      let u = rename-words merged (a .0 .content) w .0 (subst (λ (c : Content). Word c w) (sym (a .2)) (o .word)) in
+      let u = merge-words merged (keep (λ (r : Rule). eqb (r .label) l) (g .rules)) w .0 v in
+      let k = kept (λ (r : Rule). eqb (r .label) l) (g .rules) (u .listed) in
       record {
-        rule = a .0;
+        rule = u .rule;
         of-table = k .0;
-        of-label = eqb-true (a .0 .label) l (k .1);
+        of-label = eqb-true (u .rule .label) l (k .1);
         source = u .source;
-        word = u .in-language;
+        word = u .word;
         renamed = u .renamed;
       }
 
   word-merged : (r : Rule) → List·Memᴰ r (g .rules) → (u : List ℕ) → Word (r .content) u
       → Word (ruleOfLabel g (r .label) .content) (map merged u)
-  unfolding ruleOfLabel merged alternative ofLabel
+  unfolding ruleOfLabel merged
   word-merged r m u v =
-      choice-words (map alternative (ofLabel (r .label))) (map merged u) .1
+      merge-words merged (keep (λ (s : Rule). eqb (s .label) (r .label)) (g .rules)) (map merged u) .1
       (record {
-        content = alternative r;
-        listed =
-            Memᴰ·map alternative
-            (keep-mem (λ (s : Rule). eqb (s .label) (r .label)) m (eq-eqb (r .label) (r .label) refl));
-        word = rename-words merged (r .content) (map merged u) .1 (record { source = u; in-language = v; renamed = refl });
+        rule = r;
+        listed = keep-mem (λ (s : Rule). eqb (s .label) (r .label)) m (eq-eqb (r .label) (r .label) refl);
+        source = u;
+        word = v;
+        renamed = refl;
       })
 
 module _ (g : Table) (reduced : ReducedTable g) where
-  -- the label of a type with a rule is that of its rule, and it is used
-  label-rule : {k : ℕ} (h : HasRule g k) → labelOf g k ≡ h .rule .label
-  label-rule h =
-      subst (λ (j : ℕ). labelOf g j ≡ h .rule .label) (h .of-type)
-      (label-of g (reduced .one-rule-each) (h .rule) (h .of-table))
-
-  merged-at : {k : ℕ} → HasRule g k → getElem? (usedLabels g) (merged g k) ≡ just (labelOf g k)
+  -- the label of a type with a rule is used
+  pub merged-at : {k : ℕ} → HasRule g k → getElem? (usedLabels g) (merged g k) ≡ just (labelOf g k)
   unfolding merged typeOfLabel
   merged-at {k} h =
-      place-at (labelOf g k) (usedLabels g)
-      (subst (λ (l : ℕ). List·Memᴰ l (usedLabels g)) (sym (label-rule h))
+      place-of eqb eqb-decides
+      (subst (λ (l : ℕ). List·Memᴰ l (usedLabels g)) (sym (label-rule g (reduced .one-rule-each) h))
       (label-used g (reduced .labelled) (h .rule) (h .of-table)))
 
   -- What fits a type fits the type that merges it.
@@ -146,7 +134,7 @@ module _ (g : Table) (reduced : ReducedTable g) where
       record {
         rule = ruleOfLabel g (f .rule .label);
         of-table = Memᴰ·map (ruleOfLabel g) (label-used g (reduced .labelled) (f .rule) (f .of-table));
-        of-type = ap (typeOfLabel g) (sym (label-rule (rule-that-fits f)));
+        of-type = ap (typeOfLabel g) (sym (label-rule g (reduced .one-rule-each) (rule-that-fits f)));
         of-name = record { name = f .of-name .name; listed = f .of-name .listed; same = f .of-name .same };
         word = word-merged g (f .rule) (f .of-table) u (f .word);
       }
@@ -279,4 +267,4 @@ module _ (g : Table) (reduced : ReducedTable g) where
   pub local-form-least : (H : Table) → DistinctNames H → Local H → LetsInAll H (LetsIn g) → LetsInAll H (LetsIn (localForm g))
   local-form-least H names local keeps =
       least-local local-form-merge H names local
-      (λ d a. keeps d (table-accepts g (reduced .one-rule-each) (reduced .labelled) d .0 a))
+      (table-kept g (reduced .one-rule-each) (reduced .labelled) H keeps)

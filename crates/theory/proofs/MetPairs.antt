@@ -30,7 +30,6 @@ use Rattle.grammar.specs.Content.{
 }
 use Rattle.grammar.specs.Reduce.{hasWord, haveWords, oneHasWord, isNone, simplify, simplifyAll, prune}
 use Rattle.theory.proofs.ListLaws.{keep-yes, keep-no}
-use Rattle.theory.proofs.SameWords.{operands-types, choice-types}
 use Rattle.theory.proofs.Alternatives.{
   onlyIf,
   hasAlts,
@@ -45,8 +44,10 @@ use Rattle.theory.proofs.Alternatives.{
   hasLeft,
   not-not,
 }
-use Rattle.theory.proofs.ChoiceLaws.{notNone, is-none, replace-choice, simplify-choice, word-choice}
+use Rattle.theory.proofs.ChoiceLaws.{notNone, replace-choice, simplify-choice, word-choice}
 use Rattle.theory.proofs.EmittedContent.{unless, joined-twice, markPair, pairsMarked, some-none, pruned-marked}
+use Rattle.theory.proofs.Standing.{operands-types, choice-types}
+use Rattle.theory.proofs.SimplifyWords.{is-none}
 
 -- none has no types: to drop it, or to put another content without types in its place, changes nothing
 types-of-none : (c : Content) → isNone c ≡ true → typesIn c ≡ []

@@ -1,6 +1,5 @@
 -- Equality of names is an equivalence. What stands above uses only this of it.
-use mathlib.Core.Bool.{true}
-use mathlib.Core.Path.{_≡_, refl, sym, _∙_, subst}
+use mathlib.Core.Path.{subst}
 use Rattle.grammar.specs.Names.{Name, sameName, SameName}
 use Rattle.theory.proofs.ListLaws.{same-numbers, same-numbers-refl}
 

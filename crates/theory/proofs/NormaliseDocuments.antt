@@ -5,7 +5,7 @@
 --     pair-derives           a type derives a node iff one of its pairs does in the normal form
 --     normalise-types        no two rules of the normal form have one type
 --     normalise-labels       the labels are g's, so (normalise-names) no two have equal names if no two of g's do
---     normalise-listed       each rule's label stays among the labels
+--     normalise-labelled     each rule's label stays among the labels
 --     normalise-contents     each type that stands in a content of the normal form has a rule there
 --     normalise-starts       and so has each start
 use Prim.Native.Nat.{ℕ, _<_}
@@ -22,6 +22,9 @@ use mathlib.Core.List.{
   Memᴰ·map,
   Memᴰ·of-map,
   List·Memᴰ·eq-of-singleton,
+  Forall₂,
+  Forall₂·nil,
+  Forall₂·cons,
 }
 use mathlib.Core.Logic.{_↔_}
 use mathlib.Core.Path.{_≡_, refl, sym, _∙_, ap, subst}
@@ -34,44 +37,37 @@ use Rattle.grammar.specs.Content.{Content, Word, type, choiceOf, typesIn}
 use Rattle.grammar.specs.Tree.{Tree, Forest}
 use Rattle.grammar.specs.Table.{Rule, Table, Named, DistinctNames}
 use Rattle.grammar.specs.Derivation.{Fits, Derives, derives, DerivesAll, derives-none, derives-next, LetsIn}
-use Rattle.grammar.specs.Kinds.{NoTwoRules}
 use Rattle.grammar.specs.KindTests.{samePair}
 use Rattle.grammar.specs.Normalise.{pairOf, pairsOf, inPairs, ruleOfPair, normalise}
-use Rattle.theory.proofs.BoolLaws.{and-left, and-right, and-intro}
-use Rattle.theory.proofs.ListLaws.{any-of, kept, keep-mem, distinct-was, distinct-has, joined-from, joined-mem}
+use Rattle.theory.proofs.ListLaws.{
+  any-of,
+  kept,
+  keep-mem,
+  distinct-was,
+  distinct-has,
+  joined-from,
+  joined-mem,
+  place-same,
+  same-place,
+  related-turn,
+}
 use Rattle.theory.proofs.WordLaws.{choice-words, Spells, spells-none, spells-next, replace-words}
-use Rattle.theory.proofs.PositionLaws.{place-same, same-place, no-two-map, no-two-weaken, no-two-distinct}
-use Rattle.theory.proofs.ReplacedTypes.{choice-types, replace-types}
-use Rattle.theory.proofs.TableConditions.{LabelsListed, HasRule}
+use Rattle.theory.proofs.TableConditions.{Labelled, HasRule, AllRuled, OneRuleEach}
+use Rattle.theory.proofs.NoTwo.{no-two-map, no-two-weaken, no-two-distinct}
+use Rattle.theory.proofs.Standing.{choice-type, replace-type}
+use Rattle.theory.proofs.KindTests.{same-pair as pair-decides, same-pair-sym as pair-sym}
+use Rattle.theory.proofs.Covering.{covered-derived, WordsCovered}
+use Rattle.theory.proofs.NamedLabels.{same-labels-named}
 
 -- Rules are of one pair when type and label are equal.
-pub one-pair : (r s : Rule) → (r .type ≡ s .type) × (r .label ≡ s .label) → samePair r s ≡ true
-unfolding samePair
-one-pair r s e =
-    and-intro (eqb (r .type) (s .type)) (eqb (r .label) (s .label)) (eq-eqb (r .type) (s .type) (e .0))
-    (eq-eqb (r .label) (s .label) (e .1))
-
-pub pair-type : (r s : Rule) → samePair r s ≡ true → r .type ≡ s .type
-unfolding samePair
-pair-type r s e = eqb-true (r .type) (s .type) (and-left (eqb (r .type) (s .type)) (eqb (r .label) (s .label)) e)
-
-pub pair-label : (r s : Rule) → samePair r s ≡ true → r .label ≡ s .label
-unfolding samePair
-pair-label r s e = eqb-true (r .label) (s .label) (and-right (eqb (r .type) (s .type)) (eqb (r .label) (s .label)) e)
-
 pub pair-refl : (r : Rule) → samePair r r ≡ true
-pair-refl r = one-pair r r (refl, refl)
-
-pub pair-sym : (r s : Rule) → samePair r s ≡ true → samePair s r ≡ true
-pair-sym r s e = one-pair s r (sym (pair-type r s e), sym (pair-label r s e))
+pair-refl r = pair-decides r r .1 (refl, refl)
 
 pub pair-trans : (r s t : Rule) → samePair r s ≡ true → samePair s t ≡ true → samePair r t ≡ true
-pair-trans r s t e f = one-pair r t (pair-type r s e ∙ pair-type s t f, pair-label r s e ∙ pair-label s t f)
-
--- two words of one length, related type by type
-pub data Pairwise (R : ℕ → ℕ → Type 0) : List ℕ → List ℕ → Type 0 where
-  pairwise-none : Pairwise R [] []
-  pairwise-next : {k l : ℕ} {u v : List ℕ} → R k l → Pairwise R u v → Pairwise R (k ∷ u) (l ∷ v)
+pair-trans r s t e f =
+    let (p, q) = pair-decides r s .0 e in
+    let (u, v) = pair-decides s t .0 f in
+    pair-decides r t .1 (p ∙ u, q ∙ v)
 
 module _ (g : Table) where
   -- the rule is of the table, and this is its pair
@@ -121,11 +117,11 @@ module _ (g : Table) where
           let (s, m, e) = firstOf (a .of-pair .of-table) in
           Memᴰ·cast (sym (a .of-pair .numbered) ∙ sym (pair-same s r e))
           (Memᴰ·map (pairOf g)
-          (keep-mem (λ (r : Rule). eqb (r .type) k) m (eq-eqb (s .type) k (pair-type s r e ∙ a .of-type))))
+          (keep-mem (λ (r : Rule). eqb (r .type) k) m (eq-eqb (s .type) k (pair-decides s r .0 e .0 ∙ a .of-type))))
 
   -- A word of a content in pairs is a word of the content, each type become one of its pairs.
   abbrev pub InPairs : List ℕ → List ℕ → Type 0
-  InPairs = Pairwise (λ k p. List·Memᴰ p (pairsOf g k))
+  InPairs = Forall₂ (λ k p. List·Memᴰ p (pairsOf g k))
 
   pub record PairWord (c : Content) (w : List ℕ) : Type 0 where
     pub source : List ℕ
@@ -141,23 +137,23 @@ module _ (g : Table) where
       there : Word (choiceOfPairs k) w → (p : ℕ) × List·Memᴰ p (pairsOf g k) × (w ≡ p ∷ [])
       there v =
           let o = choice-words (map type (pairsOf g k)) w .0 v in
-          let (p, m, e) = Memᴰ·of-map type (pairsOf g k) (o .listed) in
-          (p, m, subst (λ (c : Content). Word c w) (sym e) (o .word))
+          let (p, m, e) = Memᴰ·of-map type (pairsOf g k) (o .1) in
+          (p, m, subst (λ (c : Content). Word c w) (sym e) (o .2))
 
       back : (p : ℕ) × List·Memᴰ p (pairsOf g k) × (w ≡ p ∷ []) → Word (choiceOfPairs k) w
       back t =
           choice-words (map type (pairsOf g k)) w .1
-          (record { content = type (t .0); listed = Memᴰ·map type (t .1); word = t .2 })
+          (type (t .0), Memᴰ·map type (t .1), t .2)
 
   spelled : {u w : List ℕ} → Spells (λ k. Word (choiceOfPairs k)) u w → InPairs u w
-  spelled spells-none = pairwise-none
+  spelled spells-none = Forall₂·nil
   spelled (spells-next {k = k} {u = u} {v = v} {w = w} a s) =
       let (p, m, e) = one-letter k v .0 a in
-      subst (λ (z : List ℕ). InPairs (k ∷ u) (z ++ w)) (sym e) (pairwise-next m (spelled s))
+      subst (λ (z : List ℕ). InPairs (k ∷ u) (z ++ w)) (sym e) (Forall₂·cons m (spelled s))
 
   spell : {u w : List ℕ} → InPairs u w → Spells (λ k. Word (choiceOfPairs k)) u w
-  spell pairwise-none = spells-none
-  spell (pairwise-next {k = k} {l = p} m s) = spells-next (one-letter k (p ∷ []) .1 (p, m, refl)) (spell s)
+  spell Forall₂·nil = spells-none
+  spell (Forall₂·cons {a = k} {b = p} m s) = spells-next (one-letter k (p ∷ []) .1 (p, m, refl)) (spell s)
 
   pub pair-words : (c : Content) (w : List ℕ) → Word (inPairs g c) w ↔ PairWord c w
   unfolding inPairs
@@ -205,12 +201,9 @@ module _ (g : Table) where
     pub of-name : Named g (rule .label) n
     pub word : PairWord (rule .content) w
 
-  same-named : (l : ℕ) (n : Name) → Named (normalise g) l n ↔ Named g l n
+  pub normalise-labels : normalise g .labels ≡ g .labels
   unfolding normalise
-  same-named l n = (
-    λ p. record { name = p .name; listed = p .listed; same = p .same },
-    λ p. record { name = p .name; listed = p .listed; same = p .same },
-  )
+  normalise-labels = refl
 
   pub pair-fits : (p : ℕ) (n : Name) (w : List ℕ) → Fits (normalise g) p n w ↔ PairFits p n w
   unfolding ruleOfPair
@@ -221,7 +214,7 @@ module _ (g : Table) where
       there f r m e =
           let v = subst (λ (q : Rule). Word (q .content) w) (sym e) (f .word) in
           let o = choice-words (contentsOf r) w .0 (subst (λ (c : Content). Word c w) (joined-content r) v) in
-          let (s, l, q, c) = listed-content r (o .listed) in
+          let (s, l, q, c) = listed-content r (o .1) in
           record {
             rule = s;
             of-pair =
@@ -230,9 +223,9 @@ module _ (g : Table) where
                   numbered = sym (pair-same r s q) ∙ ap (λ (q : Rule). q .type) e ∙ f .of-type;
                 };
             of-name =
-                subst (λ (l : ℕ). Named g l n) (pair-label r s q)
-                (same-named (r .label) n .0 (subst (λ (q : Rule). Named (normalise g) (q .label) n) (sym e) (f .of-name)));
-            word = pair-words (s .content) w .0 (subst (λ (c : Content). Word c w) (sym c) (o .word));
+                subst (λ (l : ℕ). Named g l n) (pair-decides r s .0 q .1)
+                (same-labels-named normalise-labels (subst (λ (q : Rule). Named (normalise g) (q .label) n) (sym e) (f .of-name)));
+            word = pair-words (s .content) w .0 (subst (λ (c : Content). Word c w) (sym c) (o .2));
           }
 
       back : PairFits p n w → Fits (normalise g) p n w
@@ -243,36 +236,38 @@ module _ (g : Table) where
             rule = ruleOfPair g r;
             of-table = rule-normal m;
             of-type = pair-same r s e ∙ f .of-pair .numbered;
-            of-name = same-named (r .label) n .1 (subst (λ (l : ℕ). Named g l n) (sym (pair-label r s e)) (f .of-name));
+            of-name = same-labels-named (sym normalise-labels) (subst (λ (l : ℕ). Named g l n) (sym (pair-decides r s .0 e .1)) (f .of-name));
             word =
                 subst (λ (c : Content). Word c w) (sym (joined-content r))
-                (choice-words (contentsOf r) w .1
-                (record {
-                  content = inPairs g (s .content);
-                  listed = content-listed r s (f .of-pair .of-table) e;
-                  word = pair-words (s .content) w .1 (f .word);
-                }));
+                (choice-words (contentsOf r) w .1 (
+                  inPairs g (s .content),
+                  content-listed r s (f .of-pair .of-table) e,
+                  pair-words (s .content) w .1 (f .word),
+                ));
           }
 
   -- a derivation of the normal form from a pair of a type is one of the table from the type
-  mutual
-    down : {p : ℕ} {t : Tree} → Derives (normalise g) p t → (k : ℕ) → List·Memᴰ p (pairsOf g k) → Derives g k t
-    down (derives {k = p} {n = n} {w = w} f ds) k m =
-        let a = pair-fits p n w .0 f in
-        let b = pairs-of k p .0 m in
-        derives
-        (record {
-          rule = a .rule;
-          of-table = a .of-pair .of-table;
-          of-type = pair-type (a .rule) (b .rule) (same-pair (a .rule) (b .rule) (a .of-pair) (b .of-pair)) ∙ b .of-type;
-          of-name = a .of-name;
-          word = a .word .word;
-        })
-        (down-all ds (a .word .source) (a .word .paired))
-
-    down-all : {w : List ℕ} {ts : Forest} → DerivesAll (normalise g) w ts → (u : List ℕ) → InPairs u w → DerivesAll g u ts
-    down-all derives-none u pairwise-none = derives-none
-    down-all (derives-next d ds) u (pairwise-next {k = k} {u = v} m a) = derives-next (down d k m) (down-all ds v a)
+  down : {p : ℕ} {t : Tree} → Derives (normalise g) p t → (k : ℕ) → List·Memᴰ p (pairsOf g k) → Derives g k t
+  down = covered-derived {Cover = λ p k. List·Memᴰ p (pairsOf g k)} words
+    where
+      words : WordsCovered (normalise g) g (λ p k. List·Memᴰ p (pairsOf g k))
+      words p k n w m f =
+          let a = pair-fits p n w .0 f in
+          let b = pairs-of k p .0 m in
+          record {
+            word = a .word .source;
+            fits =
+                record {
+                  rule = a .rule;
+                  of-table = a .of-pair .of-table;
+                  of-type =
+                      pair-decides (a .rule) (b .rule) .0 (same-pair (a .rule) (b .rule) (a .of-pair) (b .of-pair)) .0
+                      ∙ b .of-type;
+                  of-name = a .of-name;
+                  word = a .word .word;
+                };
+            covers = related-turn (λ k p m. m) (a .word .paired);
+          }
 
   -- and each derivation of the table is one of the normal form from some pair
   mutual
@@ -294,11 +289,11 @@ module _ (g : Table) where
         )
 
     up-all : {u : List ℕ} {ts : Forest} → DerivesAll g u ts → (w : List ℕ) × InPairs u w × DerivesAll (normalise g) w ts
-    up-all derives-none = ([], pairwise-none, derives-none)
+    up-all derives-none = ([], Forall₂·nil, derives-none)
     up-all (derives-next d ds) =
         let (p, m, e) = up d in
         let (w, a, es) = up-all ds in
-        (p ∷ w, pairwise-next m a, derives-next e es)
+        (p ∷ w, Forall₂·cons m a, derives-next e es)
 
   pub pair-derives : (k : ℕ) (t : Tree) → Derives g k t ↔ ((p : ℕ) × List·Memᴰ p (pairsOf g k) × Derives (normalise g) p t)
   pair-derives k t = (up, λ a. down (a .2) k (a .1))
@@ -317,7 +312,7 @@ module _ (g : Table) where
           let (p, m, e) = pair-derives (l .start) d .0 (l .derived) in
           record { start = p; of-table = joined-mem (pairsOf g) (l .of-table) m; derived = e }
 
-  pub normalise-types : NoTwoRules (normalise g) (λ r s. r .type ≡ s .type)
+  pub normalise-types : OneRuleEach (normalise g)
   unfolding normalise
   normalise-types =
       no-two-map (ruleOfPair g) (λ r s. r .type ≡ s .type) (distinct samePair (g .rules))
@@ -327,17 +322,13 @@ module _ (g : Table) where
       same-pair r s (record { of-table = distinct-was samePair (g .rules) m; numbered = e })
       (record { of-table = distinct-was samePair (g .rules) n; numbered = refl })))
 
-  pub normalise-labels : normalise g .labels ≡ g .labels
-  unfolding normalise
-  normalise-labels = refl
-
   pub normalise-names : DistinctNames g → DistinctNames (normalise g)
   unfolding normalise
   normalise-names h = h
 
-  pub normalise-listed : LabelsListed g → LabelsListed (normalise g)
+  pub normalise-labelled : Labelled g → Labelled (normalise g)
   unfolding normalise ruleOfPair
-  normalise-listed h r m =
+  normalise-labelled h r m =
       let (s, n, e) = normal-rule m in
       subst (λ (q : Rule). q .label < length (g .labels)) e (h s (distinct-was samePair (g .rules) n))
 
@@ -364,30 +355,21 @@ module _ (g : Table) where
     where
       there : List·Memᴰ p (typesIn (inPairs g c)) → (k : ℕ) × List·Memᴰ k (typesIn c) × List·Memᴰ p (pairsOf g k)
       there m =
-          let (k, n, q) =
-          joined-from (λ k. typesIn (choiceOfPairs k)) (typesIn c)
-          (subst (λ (l : List ℕ). List·Memᴰ p l) (replace-types choiceOfPairs c) m) in
-          let (d, o, s) =
-          joined-from typesIn (map type (pairsOf g k))
-          (subst (λ (l : List ℕ). List·Memᴰ p l) (choice-types (map type (pairsOf g k))) q) in
+          let (k, n, q) = replace-type choiceOfPairs p c .0 m in
+          let (d, o, s) = choice-type p (map type (pairsOf g k)) .0 q in
           let (l, t, e) = Memᴰ·of-map type (pairsOf g k) o in
           (k, n, Memᴰ·cast (List·Memᴰ·eq-of-singleton (subst (λ (d : Content). List·Memᴰ p (typesIn d)) (sym e) s)) t)
 
       back : (k : ℕ) × List·Memᴰ k (typesIn c) × List·Memᴰ p (pairsOf g k) → List·Memᴰ p (typesIn (inPairs g c))
       back a =
-          subst (λ (l : List ℕ). List·Memᴰ p l) (sym (replace-types choiceOfPairs c))
-          (joined-mem (λ k. typesIn (choiceOfPairs k)) (a .1)
-          (subst (λ (l : List ℕ). List·Memᴰ p l) (sym (choice-types (map type (pairsOf g (a .0)))))
-          (joined-mem typesIn (Memᴰ·map type (a .2)) (List·Memᴰ·head refl))))
+          replace-type choiceOfPairs p c .1
+          (a .0, a .1, choice-type p (map type (pairsOf g (a .0))) .1 (type p, Memᴰ·map type (a .2), List·Memᴰ·head refl))
 
-  pub normalise-contents : (r : Rule) → List·Memᴰ r (normalise g .rules) → (p : ℕ) → List·Memᴰ p (typesIn (r .content))
-      → HasRule (normalise g) p
+  pub normalise-contents : AllRuled (normalise g)
   normalise-contents r m p n =
       let (s, o, e) = normal-rule m in
       let c : r .content ≡ choiceOf (contentsOf s) = sym (ap (λ (q : Rule). q .content) e) ∙ joined-content s in
-      let (d, l, q) =
-      joined-from typesIn (contentsOf s)
-      (subst (λ (z : List ℕ). List·Memᴰ p z) (ap typesIn c ∙ choice-types (contentsOf s)) n) in
+      let (d, l, q) = choice-type p (contentsOf s) .0 (subst (λ (z : Content). List·Memᴰ p (typesIn z)) c n) in
       let (t, a, b, f) = listed-content s l in
       let (k, h, i) = pair-stands (t .content) p .0 (subst (λ (z : Content). List·Memᴰ p (typesIn z)) (sym f) q) in
       pair-has-rule k p i

@@ -1,17 +1,18 @@
 -- Tables as the forms and the sample give them: the types are numbers below the number of rules, and contents are counted.
 --     numbered-within      such a table, of no more labels than rules and not too large, is one that a file can hold
 --     finished-numbered    it stays such when only its used labels are kept and its contents are tidied
--- where a file may have as many labels, starts and rules as types (`LimitsAgree`).
+--     table-small          what not being too large says
+-- where the limits agree, as those of the paper do (`standard-agree`).
 use Prim.Native.Nat.{ℕ, _≤_, _<_}
 use native.Mathlib.Omega.{arith}
 use mathlib.Core.Bool.{Bool, true, false}
-use mathlib.Core.List.{List, [], List·Memᴰ, Memᴰ·of-map}
-use mathlib.Core.Path.{_≡_, refl, sym, ap, subst}
+use mathlib.Core.List.{[], List·Memᴰ, Memᴰ·of-map}
+use mathlib.Core.Path.{_≡_, subst}
 use lib.ListN.{length, length-map, getD}
 use lib.Dec.{eqb, ltb}
 use borrow.Author.Tests.{ltb-false}
 use Rattle.grammar.specs.Lists.{any, allDistinct}
-use Rattle.grammar.specs.Limits.{Limits, standard}
+use Rattle.grammar.specs.Limits.{Limits, standard, LimitsAgree}
 use Rattle.grammar.specs.Names.{Name, sameName, Classes}
 use Rattle.grammar.specs.Content.{Content, typesIn, nesting}
 use Rattle.grammar.specs.Table.{Rule, Table, DistinctNames}
@@ -22,22 +23,16 @@ use Rattle.grammar.specs.Size.{widestChoice, contentTooLarge, tooLarge}
 use Rattle.grammar.specs.UsedLabels.{usedLabels, withUsedLabels}
 use Rattle.grammar.specs.Tidy.{tidyTable}
 use Rattle.theory.proofs.BoolLaws.{or-false, false-of, not-both}
-use Rattle.theory.proofs.ListLaws.{any-of, at-mem, at-or-else, all-differ}
-use Rattle.theory.proofs.TableConditions.{LabelsListed}
-use Rattle.theory.proofs.ContentBytes.{content-bytes-injective}
-use Rattle.theory.proofs.TidyWords.{tidy-types}
-use Rattle.theory.proofs.TidyTable.{tidy-labels}
-use Rattle.theory.proofs.UsedLabelsDocuments.{used-below, used-labels-names, used-labels-labelled, used-labels-count}
-use Rattle.theory.proofs.Counted.{Counted, counted-proper, tidy-counted}
+use Rattle.theory.proofs.ListLaws.{any-of, at-mem, at-or-else, all-differ, related-mem, related-length}
+use Rattle.theory.proofs.TableConditions.{Labelled}
+use Rattle.theory.proofs.TidyTable.{tidy-labels, tidy-same-rules}
+use Rattle.theory.proofs.UsedLabelsDocuments.{used-below, used-labels-names, used-labels-count, used-labels-same-rules}
+use Rattle.theory.proofs.Counted.{counted-proper, tidy-counted}
+use Rattle.theory.proofs.FinishedForm.{finished}
+use Rattle.theory.proofs.SameRules.{SameRules, same-labelled}
+use Rattle.theory.proofs.CountedTables.{RulesCounted, map-counted}
 
--- A file may have as many labels, starts and rules as types, and a content may name as many types as a node has children.
-pub record LimitsAgree (lim : Limits) : Type 0 where
-  pub labels : lim .types ≤ lim .labels
-  pub starts : lim .types ≤ lim .starts
-  pub rules : lim .types ≤ lim .rules
-  pub children : lim .children ≤ lim .operands
-
--- those of the paper do
+-- the limits of the paper agree
 pub standard-agree : LimitsAgree standard
 unfolding standard
 standard-agree = record { labels = omega arith; starts = omega arith; rules = omega arith; children = omega arith }
@@ -49,9 +44,9 @@ pub record Numbered (lim : Limits) (classes : Classes) (g : Table) : Type 0 wher
   pub starts-differ : allDistinct eqb (g .starts) ≡ true
   pub few-starts : length (g .starts) ≤ length (g .rules)
   pub rule-types : (r : Rule) → List·Memᴰ r (g .rules) → r .type < length (g .rules)
-  pub listed : LabelsListed g
+  pub labelled : Labelled g
   pub content-types : (r : Rule) → List·Memᴰ r (g .rules) → (k : ℕ) → List·Memᴰ k (typesIn (r .content)) → k < length (g .rules)
-  pub counted : (r : Rule) → List·Memᴰ r (g .rules) → Counted lim (r .content)
+  pub counted : RulesCounted lim (g .rules)
 
 -- what is not too large
 record ContentSmall (lim : Limits) (c : Content) : Type 0 where
@@ -106,7 +101,7 @@ module _ (lim : Limits) (classes : Classes) (agree : LimitsAgree lim) (g : Table
         each-rule =
             λ r m.
             let t = h .rule-types r m in
-            record { type = omega arith; label = h .listed r m; content = content r m };
+            record { type = omega arith; label = h .labelled r m; content = content r m };
         rules = omega arith;
         size = small .size;
       }
@@ -123,57 +118,40 @@ module _ (lim : Limits) (classes : Classes) (agree : LimitsAgree lim) (g : Table
             nests = s .nests;
           }
 
--- a rule with the type of another and no other types in its content, which is counted if the other's is
-record RuleLike (lim : Limits) (r : Rule) (rules : List Rule) : Type 0 where
-  other : Rule
-  of-table : List·Memᴰ other rules
-  type : r .type ≡ other .type
-  types : (k : ℕ) → List·Memᴰ k (typesIn (r .content)) → List·Memᴰ k (typesIn (other .content))
-  counted : Counted lim (other .content) → Counted lim (r .content)
-
 module _ (lim : Limits) (classes : Classes) where
-  -- a table with the starts of another, as many rules like its rules, and names of it
-  like-numbered : (g h : Table) → h .starts ≡ g .starts → length (h .rules) ≡ length (g .rules)
-      → ((r : Rule) → List·Memᴰ r (h .rules) → RuleLike lim r (g .rules))
-      → ((n : Name) → List·Memᴰ n (h .labels) → List·Memᴰ n (g .labels)) → DistinctNames h → LabelsListed h
+  -- a table with rules as those of another, counted, and names of it
+  like-numbered : {Label : ℕ → ℕ → Type 0} (g h : Table) → SameRules Label g h
+      → ((n : Name) → List·Memᴰ n (h .labels) → List·Memᴰ n (g .labels)) → DistinctNames h → RulesCounted lim (h .rules)
       → Numbered lim classes g → Numbered lim classes h
-  like-numbered g h starts rules like named differ listed n =
+  like-numbered g h same named differ counted n =
+      let starts = same .starts in
+      let rules = related-length (same .rules) in
       record {
         names = λ x m. n .names x (named x m);
         names-differ = differ;
-        start-types = λ k m. rw rules (n .start-types k (rw starts at m));
-        starts-differ = rw starts (n .starts-differ);
-        few-starts = rw (starts, rules) (n .few-starts);
+        start-types = λ k m. rw (← rules) (n .start-types k (rw starts m));
+        starts-differ = rw (← starts) (n .starts-differ);
+        few-starts = rw (← starts, ← rules) (n .few-starts);
         rule-types =
             λ r m.
-            let s = like r m in
-            let same = s .type in
-            let below = n .rule-types (s .other) (s .of-table) in
+            let (s, o, a) = related-mem (same .rules) m in
+            let e = a .type in
+            let below = n .rule-types s o in
             omega arith;
-        listed = listed;
+        labelled = same-labelled same (n .labelled);
         content-types =
-            λ r m k p. let s = like r m in rw rules (n .content-types (s .other) (s .of-table) k (s .types k p));
-        counted = λ r m. let s = like r m in s .counted (n .counted (s .other) (s .of-table));
+            λ r m k p.
+            let (s, o, a) = related-mem (same .rules) m in
+            rw (← rules) (n .content-types s o k (a .types k .1 p));
+        counted = counted;
       }
 
   used-numbered : (g : Table) → Numbered lim classes g → Numbered lim classes (withUsedLabels g)
   unfolding withUsedLabels
   used-numbered g n =
-      like-numbered g (withUsedLabels g) refl (length-map (g .rules) _) like named (used-labels-names g (n .names-differ))
-      (used-labels-labelled g (n .listed)) n
+      like-numbered g (withUsedLabels g) (used-labels-same-rules g (n .labelled)) named (used-labels-names g (n .names-differ))
+      (map-counted lim _ (g .rules) (n .counted)) n
     where
-      like : (r : Rule) → List·Memᴰ r (withUsedLabels g .rules) → RuleLike lim r (g .rules)
-      like r m =
-          let (s, o, e) = Memᴰ·of-map _ (g .rules) m in
-          let c = ap (λ (q : Rule). q .content) e in
-          record {
-            other = s;
-            of-table = o;
-            type = sym (ap (λ (q : Rule). q .type) e);
-            types = λ k p. subst (λ (x : Content). List·Memᴰ k (typesIn x)) (sym c) p;
-            counted = λ h. subst (Counted lim) c h;
-          }
-
       named : (x : Name) → List·Memᴰ x (withUsedLabels g .labels) → List·Memᴰ x (g .labels)
       named x m =
           let (l, p, e) = Memᴰ·of-map (λ l. getD (g .labels) l []) (usedLabels g) m in
@@ -183,35 +161,16 @@ module _ (lim : Limits) (classes : Classes) where
   tidy-numbered : (g : Table) → Numbered lim classes g → Numbered lim classes (tidyTable g)
   unfolding tidyTable
   tidy-numbered g n =
-      like-numbered g (tidyTable g) refl (length-map (g .rules) _) like (λ x m. m) (n .names-differ) listed n
-    where
-      like : (r : Rule) → List·Memᴰ r (tidyTable g .rules) → RuleLike lim r (g .rules)
-      like r m =
-          let (s, o, e) = Memᴰ·of-map _ (g .rules) m in
-          let c = ap (λ (q : Rule). q .content) e in
-          record {
-            other = s;
-            of-table = o;
-            type = sym (ap (λ (q : Rule). q .type) e);
-            types =
-                λ k p.
-                tidy-types content-bytes-injective k (s .content) .0
-                (subst (λ (x : Content). List·Memᴰ k (typesIn x)) (sym c) p);
-            counted = λ h. subst (Counted lim) c (tidy-counted lim (s .content) h);
-          }
+      like-numbered g (tidyTable g) (tidy-same-rules g) (λ x m. m) (n .names-differ)
+      (map-counted lim _ (g .rules) (λ r m. tidy-counted lim (r .content) (n .counted r m))) n
 
-      listed : LabelsListed (tidyTable g)
-      listed r m =
-          let (s, o, e) = Memᴰ·of-map _ (g .rules) m in
-          subst (λ (q : Rule). q .label < length (g .labels)) e (n .listed s o)
-
-  pub finished-numbered : (g : Table) → Numbered lim classes g → Numbered lim classes (tidyTable (withUsedLabels g))
+  pub finished-numbered : (g : Table) → Numbered lim classes g → Numbered lim classes (finished g)
   finished-numbered g n = tidy-numbered (withUsedLabels g) (used-numbered g n)
 
-pub finished-rules : (g : Table) → length (tidyTable (withUsedLabels g) .rules) ≡ length (g .rules)
+pub finished-rules : (g : Table) → length (finished g .rules) ≡ length (g .rules)
 unfolding tidyTable withUsedLabels
 finished-rules g = simp length-map
 
 -- of used labels there are no more than rules
-pub finished-labels : (g : Table) → length (tidyTable (withUsedLabels g) .labels) ≤ length (tidyTable (withUsedLabels g) .rules)
+pub finished-labels : (g : Table) → length (finished g .labels) ≤ length (finished g .rules)
 finished-labels g = rw (finished-rules g, tidy-labels (withUsedLabels g)) (used-labels-count g)

@@ -1,6 +1,5 @@
 -- The eight cases that the paper marks P, as instances of the written meaning, under one theorem: `paper-theorem`.
 -- The tables and documents stand in grammar's PaperTables, what is computed of them in its PaperCases.
-use Prim.Native.Nat.{ℕ}
 use mathlib.Core.List.{[]}
 use mathlib.Core.Path.{_≡_}
 use lib.ListN.{length}

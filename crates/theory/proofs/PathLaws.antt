@@ -1,6 +1,7 @@
 -- Equality of paths is an equivalence, and goes by the last name and the path above:
 --     path-refl, path-sym, path-trans
---     path-parts    equal paths have equal last names, and equal paths above them
+--     path-parts     equal paths have equal last names, and equal paths above them
+--     path-append    and so they are equal
 use mathlib.Core.Bool.{true, false, false≢true}
 use mathlib.Core.List.{List, [], _∷_, _++_}
 use mathlib.Core.Path.{_≡_, refl}
@@ -49,3 +50,13 @@ path-parts (a ∷ p) (b ∷ q) m n e =
     let rest = samePath (p ++ (m ∷ [])) (q ++ (n ∷ [])) in
     let r = path-parts p q m n (and-right same rest e) in
     (and-intro same (samePath p q) (and-left same rest e) (r .0), r .1)
+
+pub path-append : (p q : List Name) (m n : Name) → SamePath p q → SameName m n → SamePath (p ++ (m ∷ [])) (q ++ (n ∷ []))
+unfolding samePath
+path-append [] [] m n e f = and-intro (sameName m n) true f refl
+path-append [] (b ∷ q) m n e f = absurd (false≢true e)
+path-append (a ∷ p) [] m n e f = absurd (false≢true e)
+path-append (a ∷ p) (b ∷ q) m n e f =
+    let same = sameName a b in
+    and-intro same (samePath (p ++ (m ∷ [])) (q ++ (n ∷ []))) (and-left same (samePath p q) e)
+    (path-append p q m n (and-right same (samePath p q) e) f)

@@ -7,33 +7,20 @@ use Prim.Native.Nat.{ℕ}
 use native.Mathlib.Omega.{arith}
 use mathlib.Core.List.{List, [], map, List·Memᴰ, Memᴰ·cast, Memᴰ·map}
 use mathlib.Core.Logic.{_↔_}
-use mathlib.Core.Path.{_≡_, sym}
+use mathlib.Core.Path.{_≡_, sym, refl}
 use lib.ListN.{length, length-map}
 use Rattle.grammar.specs.Lists.{keep, isIn, joinedOf}
 use Rattle.grammar.specs.Content.{typesIn}
-use Rattle.grammar.specs.Names.{Name}
 use Rattle.grammar.specs.Tree.{Tree}
-use Rattle.grammar.specs.Table.{Rule, Table, Named}
+use Rattle.grammar.specs.Table.{Rule, Table}
 use Rattle.grammar.specs.Derivation.{Derives}
 use Rattle.grammar.specs.Reduce.{newlyReached, reached, withoutUnreached}
 use Rattle.theory.proofs.ListLaws.{kept, keep-mem, in-mem, mem-in, joined-from, joined-mem}
-use Rattle.theory.proofs.SameWords.{StandsIn, types-of-word}
 use Rattle.theory.proofs.Rounds.{not-known, rounds-start, rounds-hold, rounds-closed, closed-has}
 use Rattle.theory.proofs.CarryDerivations.{carry-tree}
-
-pub data ReachedFrom (g : Table) : ℕ → Type 0 where
-  from-start : {k : ℕ} → List·Memᴰ k (g .starts) → ReachedFrom g k
-  through : {r : Rule} {k : ℕ} → List·Memᴰ r (g .rules) → ReachedFrom g (r .type) → StandsIn k (r .content) → ReachedFrom g k
-
--- the type has a rule
-pub record Ruled (g : Table) (k : ℕ) : Type 0 where
-  pub rule : Rule
-  pub of-table : List·Memᴰ rule (g .rules)
-  pub of-type : rule .type ≡ k
-
--- every type that stands in a content has a rule
-abbrev pub AllRuled : Table → Type 0
-AllRuled g = (r : Rule) (k : ℕ) → List·Memᴰ r (g .rules) → StandsIn k (r .content) → Ruled g k
+use Rattle.theory.proofs.TableConditions.{Reaches, from-start, through, AllRuled}
+use Rattle.theory.proofs.Standing.{StandsIn, word-stands}
+use Rattle.theory.proofs.NamedLabels.{same-labels-named}
 
 module _ (g : Table) where
   -- what a round finds: types, not known, that stand in the contents of known types
@@ -73,12 +60,9 @@ module _ (g : Table) where
       let p = kept (λ (s : Rule). isIn (s .type) (reached g)) (g .rules) m in
       (p .0, in-mem (r .type) (reached g) (p .1))
 
-  pub names-remain : (l : ℕ) (n : Name) → Named g l n ↔ Named (withoutUnreached g) l n
+  labels-remain : g .labels ≡ withoutUnreached g .labels
   unfolding withoutUnreached
-  names-remain l n = (
-    λ m. record { name = m .name; listed = m .listed; same = m .same },
-    λ m. record { name = m .name; listed = m .listed; same = m .same },
-  )
+  labels-remain = refl
 
   module _ (ruled : AllRuled g) where
     reached-closed : newlyReached g (reached g) ≡ []
@@ -87,7 +71,7 @@ module _ (g : Table) where
         rounds-closed (newlyReached g) (map (λ (r : Rule). r .type) (g .rules)) (λ known k m. newly-found known k m .new)
         (λ known k m.
         let f = newly-found known k m in
-        let r = ruled (f .rule) k (f .of-table) (f .standing) in
+        let r = ruled (f .rule) (f .of-table) k (f .standing) in
         Memᴰ·cast (sym (r .of-type)) (Memᴰ·map (λ (r : Rule). r .type) (r .of-table)))
         (length (g .rules))
         (g .starts)
@@ -100,16 +84,16 @@ module _ (g : Table) where
         closed-has (newlyReached g) (reached g) k reached-closed
         (λ n. found-newly (reached g) k (record { rule = r; of-table = m; of-known = p; standing = s; new = n }))
 
-    reached-there : {k : ℕ} → ReachedFrom g k → List·Memᴰ k (reached g)
+    reached-there : {k : ℕ} → Reaches g k → List·Memᴰ k (reached g)
     unfolding reached
     reached-there (from-start {k = k} m) = rounds-start (newlyReached g) (length (g .rules)) (g .starts) k m
     reached-there (through {r = r} {k = k} m p s) = reached-on r k m (reached-there p) s
 
-    pub reached-is : (k : ℕ) → List·Memᴰ k (reached g) ↔ ReachedFrom g k
+    pub reached-is : (k : ℕ) → List·Memᴰ k (reached g) ↔ Reaches g k
     unfolding reached
     reached-is k = (
       λ m.
-          rounds-hold (newlyReached g) (ReachedFrom g)
+          rounds-hold (newlyReached g) (Reaches g)
           (λ known h l n.
           let f = newly-found known l n in
           through (f .of-table) (h (f .rule .type) (f .of-known)) (f .standing))
@@ -121,7 +105,7 @@ module _ (g : Table) where
       reached-there,
     )
 
-    pub reached-remains : {k : ℕ} → ReachedFrom g k → ReachedFrom (withoutUnreached g) k
+    pub reached-remains : {k : ℕ} → Reaches g k → Reaches (withoutUnreached g) k
     unfolding withoutUnreached
     reached-remains (from-start m) = from-start m
     reached-remains (through {r = r} m p s) = through (rule-remains r m (reached-there p)) (reached-remains p) s
@@ -136,10 +120,10 @@ module _ (g : Table) where
               rule = f .rule;
               of-table = rule-remains (f .rule) (f .of-table) m;
               of-type = f .of-type;
-              of-name = names-remain (f .rule .label) n .0 (f .of-name);
+              of-name = same-labels-named labels-remain (f .of-name);
               word = f .word;
             },
-            λ x i. reached-on (f .rule) x (f .of-table) m (types-of-word (f .rule .content) w (f .word) x i),
+            λ x i. reached-on (f .rule) x (f .of-table) m (word-stands (f .rule .content) w (f .word) x i),
           ))
           d
           p,
@@ -150,7 +134,7 @@ module _ (g : Table) where
               rule = f .rule;
               of-table = rule-was (f .rule) (f .of-table) .0;
               of-type = f .of-type;
-              of-name = names-remain (f .rule .label) n .1 (f .of-name);
+              of-name = same-labels-named (sym labels-remain) (f .of-name);
               word = f .word;
             },
             λ x i. tt,

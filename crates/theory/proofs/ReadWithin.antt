@@ -2,7 +2,7 @@
 --   read-within : readTable lim classes bytes ≡ given g → TableWithin lim classes g
 --   read-was : AreBytes bytes → readTable lim classes bytes ≡ given g → tableBytes g ≡ bytes
 -- (The bytes of a table spell the lengths of fields in one way. Numbers above 255 could spell them otherwise.)
-use Prim.Native.Nat.{ℕ, _+_, _≤_, _<_}
+use Prim.Native.Nat.{ℕ, _≤_, _<_}
 use native.Mathlib.Omega.{arith}
 use mathlib.Core.Bool.{Bool, true, false, not}
 use mathlib.Core.List.{List, [], _∷_, _++_, append-assoc, append-nil, List·Memᴰ, Memᴰ·append-right}

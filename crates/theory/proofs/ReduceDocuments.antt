@@ -20,28 +20,19 @@ use Rattle.grammar.specs.Lists.{keep, isIn}
 use Rattle.grammar.specs.Names.{Name}
 use Rattle.grammar.specs.Content.{Content, Word}
 use Rattle.grammar.specs.Tree.{Tree, Forest}
-use Rattle.grammar.specs.Table.{Rule, Table, Named}
+use Rattle.grammar.specs.Table.{Rule, Table}
 use Rattle.grammar.specs.Kinds.{NoTwoRules}
 use Rattle.grammar.specs.Derivation.{Fits, Derives, derives, DerivesAll, LetsIn}
 use Rattle.grammar.specs.Reduce.{prune, fruitful, withoutUnfruitful, reached, withoutUnreached, reduce}
 use Rattle.theory.proofs.ListLaws.{kept, keep-mem, in-mem, mem-in}
 use Rattle.theory.proofs.NoTwo.{no-two-keep, no-two-map}
-use Rattle.theory.proofs.SameWords.{StandsIn}
-use Rattle.theory.proofs.SimplifyWords.{prune-words, WordWith, prune-standing}
-use Rattle.theory.proofs.Fruitful.{SomeTree, Labelled, tree-fruitful, forest-fruitful, fruitful-is}
+use Rattle.theory.proofs.SimplifyWords.{prune-words, prune-standing}
+use Rattle.theory.proofs.Fruitful.{tree-fruitful, forest-fruitful, fruitful-is}
 use Rattle.theory.proofs.CarryDerivations.{carry-tree}
-use Rattle.theory.proofs.Reached.{
-  ReachedFrom,
-  from-start,
-  Ruled,
-  AllRuled,
-  reached-is,
-  reached-on,
-  rule-remains,
-  rule-was,
-  reached-remains,
-  reached-trees,
-}
+use Rattle.theory.proofs.Reached.{reached-is, reached-on, rule-remains, rule-was, reached-remains, reached-trees}
+use Rattle.theory.proofs.TableConditions.{Labelled, HasRule, Reaches, from-start, SomeTree, AllRuled, OneRuleEach}
+use Rattle.theory.proofs.Standing.{StandsIn, WordWith}
+use Rattle.theory.proofs.NamedLabels.{same-labels-named}
 
 pub reduce-labels : (g : Table) → reduce g .labels ≡ g .labels
 unfolding reduce withoutUnreached withoutUnfruitful
@@ -71,12 +62,9 @@ module _ (g : Table) where
       let p = kept (λ (s : Rule). isIn (s .type) (fruitful g)) (g .rules) (o .1) in
       record { rule = o .0; of-table = p .0; of-fruitful = in-mem (o .0 .type) (fruitful g) (p .1); of-rule = o .2 }
 
-  fruitful-names : (l : ℕ) (n : Name) → Named g l n ↔ Named (withoutUnfruitful g) l n
+  fruitful-labels : g .labels ≡ withoutUnfruitful g .labels
   unfolding withoutUnfruitful
-  fruitful-names l n = (
-    λ m. record { name = m .name; listed = m .listed; same = m .same },
-    λ m. record { name = m .name; listed = m .listed; same = m .same },
-  )
+  fruitful-labels = refl
 
   fruitful-trees : (k : ℕ) (t : Tree) → Derives g k t ↔ Derives (withoutUnfruitful g) k t
   fruitful-trees k t = (
@@ -90,7 +78,7 @@ module _ (g : Table) where
             rule = pruned (f .rule);
             of-table = fruitful-rule (f .rule) (f .of-table) (Memᴰ·cast (f .of-type) (tree-fruitful g (derives f a)));
             of-type = f .of-type;
-            of-name = fruitful-names (f .rule .label) n .0 (f .of-name);
+            of-name = same-labels-named fruitful-labels (f .of-name);
             word = prune-words (fruitful g) (f .rule .content) w .1 (f .word, forest-fruitful g a);
           }
 
@@ -102,7 +90,7 @@ module _ (g : Table) where
             rule = o .rule;
             of-table = o .of-table;
             of-type = ap (λ (r : Rule). r .type) (o .of-rule) ∙ f .of-type;
-            of-name = fruitful-names (o .rule .label) n .1 (rw (ap (λ (r : Rule). r .label) (o .of-rule)) (f .of-name));
+            of-name = same-labels-named {g = withoutUnfruitful g} (sym fruitful-labels) (rw (ap (λ (r : Rule). r .label) (o .of-rule)) (f .of-name));
             word = prune-words (fruitful g) (o .rule .content) w .0 v .0;
           }
 
@@ -125,11 +113,11 @@ module _ (g : Table) where
 
   module _ (labelled : Labelled g) where
     fruitful-ruled : AllRuled (withoutUnfruitful g)
-    fruitful-ruled r k m s =
+    fruitful-ruled r m k s =
         let p = fruitful-standing r k m s .1 in
         rule-of (fruitful-is g labelled k .0 p .1) p
       where
-        rule-of : {k : ℕ} {t : Tree} → Derives g k t → List·Memᴰ k (fruitful g) → Ruled (withoutUnfruitful g) k
+        rule-of : {k : ℕ} {t : Tree} → Derives g k t → List·Memᴰ k (fruitful g) → HasRule (withoutUnfruitful g) k
         rule-of (derives f a) p =
             record {
               rule = pruned (f .rule);
@@ -192,7 +180,7 @@ module _ (g : Table) where
         let o = fruitful-was r (p .0) in
         reduce-tree (r .type) (Memᴰ·cast (sym (ap (λ (s : Rule). s .type) (o .of-rule))) (o .of-fruitful)) (p .1)
 
-    pub reduce-reached : (r : Rule) → List·Memᴰ r (reduce g .rules) → ReachedFrom (reduce g) (r .type)
+    pub reduce-reached : (r : Rule) → List·Memᴰ r (reduce g .rules) → Reaches (reduce g) (r .type)
     unfolding reduce
     reduce-reached r m =
         reached-remains (withoutUnfruitful g) fruitful-ruled
@@ -200,9 +188,9 @@ module _ (g : Table) where
 
     pub reduce-ruled : AllRuled (reduce g)
     unfolding reduce
-    reduce-ruled r k m s =
+    reduce-ruled r m k s =
         let p = reduce-was r m in
-        let o = fruitful-ruled r k (p .0) s in
+        let o = fruitful-ruled r (p .0) k s in
         let q = reached-on (withoutUnfruitful g) fruitful-ruled r k (p .0) (p .1) s in
         record {
           rule = o .rule;
@@ -210,9 +198,9 @@ module _ (g : Table) where
           of-type = o .of-type;
         }
 
-    pub reduce-standing : (r : Rule) (k : ℕ) → List·Memᴰ r (reduce g .rules) → StandsIn k (r .content)
+    pub reduce-standing : (r : Rule) → List·Memᴰ r (reduce g .rules) → (k : ℕ) → StandsIn k (r .content)
         → WordWith k (Word (r .content))
-    reduce-standing r k m s = fruitful-standing r k (reduce-was r m .0) s .0
+    reduce-standing r m k s = fruitful-standing r k (reduce-was r m .0) s .0
 
     pub reduce-labelled : Labelled (reduce g)
     reduce-labelled r m =
@@ -245,8 +233,8 @@ module _ (Alike : ℕ → ℕ → ℕ → ℕ → Type 0) where
   unfolding reduce withoutUnreached withoutUnfruitful
   reduce-no-two g h =
       no-two-keep AlikeRules (λ (r : Rule). isIn (r .type) (reached (withoutUnfruitful g))) (withoutUnfruitful g .rules)
-      (no-two-map (pruned g) AlikeRules AlikeRules (λ r s a. a) (keep (λ (r : Rule). isIn (r .type) (fruitful g)) (g .rules))
+      (no-two-map (pruned g) AlikeRules (keep (λ (r : Rule). isIn (r .type) (fruitful g)) (g .rules))
       (no-two-keep AlikeRules (λ (r : Rule). isIn (r .type) (fruitful g)) (g .rules) h))
 
-pub reduce-one-rule : (g : Table) → NoTwoRules g (λ r s. r .type ≡ s .type) → NoTwoRules (reduce g) (λ r s. r .type ≡ s .type)
+pub reduce-one-rule : (g : Table) → OneRuleEach g → OneRuleEach (reduce g)
 reduce-one-rule = reduce-no-two (λ k l m n. k ≡ m)

@@ -5,17 +5,14 @@
 use Prim.Native.Nat.{ℕ}
 use mathlib.Core.List.{List, List·Memᴰ}
 use mathlib.Core.Path.{refl, subst}
-use Rattle.grammar.specs.Names.{Name}
 use Rattle.grammar.specs.Table.{Table}
-use Rattle.grammar.specs.Derivation.{Fits, Derives}
+use Rattle.grammar.specs.Derivation.{Derives}
 use Rattle.theory.proofs.Standing.{word-stands}
 use Rattle.theory.proofs.Automaton.{Alive, AllAlive}
 use Rattle.theory.proofs.LeastLocal.{Reached, at-start, by-step}
 use Rattle.theory.proofs.TableAutomaton.{Steps, tableAutomaton, type-accepts}
-use Rattle.theory.proofs.ReducedTable.{HasRule, Reaches, from-start, from-content, ReducedTable}
-
-abbrev pub rule-that-fits : {g : Table} {k : ℕ} {n : Name} {w : List ℕ} → Fits g k n w → HasRule g k
-rule-that-fits f = record { rule = f .rule; of-table = f .of-table; of-type = f .of-type }
+use Rattle.theory.proofs.ReducedTable.{ReducedTable}
+use Rattle.theory.proofs.TableConditions.{HasRule, Reaches, from-start, through}
 
 module _ (g : Table) (reduced : ReducedTable g) where
   pub type-alive : {k : ℕ} → HasRule g k → Alive (tableAutomaton g) k
@@ -30,15 +27,15 @@ module _ (g : Table) (reduced : ReducedTable g) where
 
   -- the types of a step have rules
   pub step-rules : {k : ℕ} {u : List ℕ} → Steps g k u → (j : ℕ) → List·Memᴰ j u → HasRule g j
-  step-rules step j at =
-      reduced .content-rules (step .rule) (step .of-table) j (word-stands (step .rule .content) (step .word) at)
+  step-rules {u = u} step j at =
+      reduced .content-rules (step .rule) (step .of-table) j (word-stands (step .rule .content) u (step .word) j at)
 
   pub step-alive : {k : ℕ} {u : List ℕ} → Steps g k u → AllAlive (tableAutomaton g) u
   step-alive step j at = type-alive (step-rules step j at)
 
   pub type-reached : {k : ℕ} → Reaches g k → Reached (tableAutomaton g) k
   type-reached (from-start m) = at-start m
-  type-reached (from-content {k = k} {r = r} before m at) =
+  type-reached (through {r = r} {k = k} m before at) =
       let w = reduced .content-words r m k at in
-      let step : Steps g (r .type) (w .word) = record { rule = r; of-table = m; of-type = refl; word = w .of-content } in
-      by-step (type-reached before) step (step-alive step) (w .stands)
+      let step : Steps g (r .type) (w .0) = record { rule = r; of-table = m; of-type = refl; word = w .1 } in
+      by-step (type-reached before) step (step-alive step) (w .2)

@@ -2,24 +2,21 @@
 --     reduced-union       ReducedTable (reducedUnion lim old addition)
 --     union-documents     LetsIn (reducedUnion lim old addition) d ↔ (LetsIn old d ⊎ LetsIn addition d)
 --     union-nothing       it has no start just where neither lets in a document
-use Prim.Native.Nat.{ℕ}
-use mathlib.Core.List.{List, [], List·Memᴰ}
+use mathlib.Core.List.{[]}
 use mathlib.Core.Logic.{_↔_, _⊎_, Iff·trans}
 use mathlib.Core.Path.{_≡_}
 use Rattle.grammar.specs.Limits.{Limits}
 use Rattle.grammar.specs.Names.{Classes}
 use Rattle.grammar.specs.Tree.{Tree}
-use Rattle.grammar.specs.Table.{Rule, Table, DistinctNames}
-use Rattle.grammar.specs.Derivation.{Derives, derives, LetsIn}
+use Rattle.grammar.specs.Table.{Table, DistinctNames}
+use Rattle.grammar.specs.Derivation.{LetsIn}
 use Rattle.grammar.specs.WithinLimits.{TableWithin}
 use Rattle.grammar.specs.Unite.{unite}
 use Rattle.grammar.specs.Normalise.{normalise}
-use Rattle.grammar.specs.Reduce.{reduce}
 use Rattle.grammar.specs.Widen.{reducedUnion}
-use Rattle.theory.proofs.TableConditions.{LabelsListed, within-below, within-listed, within-names}
-use Rattle.theory.proofs.UniteDocuments.{unite-documents, unite-labels, unite-names}
-use Rattle.theory.proofs.NormaliseDocuments.{normalise-documents, normalise-types, normalise-names, normalise-listed}
-use Rattle.theory.proofs.Reached.{ReachedFrom, from-start as first, through}
+use Rattle.theory.proofs.TableConditions.{Labelled, within-below, within-labelled, within-names, derived-rule}
+use Rattle.theory.proofs.UniteDocuments.{unite-documents, unite-labelled, unite-names}
+use Rattle.theory.proofs.NormaliseDocuments.{normalise-documents, normalise-types, normalise-names, normalise-labelled}
 use Rattle.theory.proofs.ReduceDocuments.{
   reduce-labels,
   reduce-documents,
@@ -32,14 +29,7 @@ use Rattle.theory.proofs.ReduceDocuments.{
   reduce-labelled,
   reduce-one-rule,
 }
-use Rattle.theory.proofs.ReducedTable.{HasRule, Reaches, from-start, from-content, ReducedTable}
-
-derived-rule : {g : Table} {k : ℕ} {t : Tree} → Derives g k t → HasRule g k
-derived-rule (derives f all) = record { rule = f .rule; of-table = f .of-table; of-type = f .of-type }
-
-reaches : {g : Table} {k : ℕ} → ReachedFrom g k → Reaches g k
-reaches (first m) = from-start m
-reaches (through m r s) = from-content (reaches r) m s
+use Rattle.theory.proofs.ReducedTable.{ReducedTable}
 
 module _ (lim : Limits) (classes : Classes) (old addition : Table) (old-within : TableWithin lim classes old)
     (addition-within : TableWithin lim classes addition) where
@@ -49,11 +39,11 @@ module _ (lim : Limits) (classes : Classes) (old addition : Table) (old-within :
   abbrev normal : Table
   normal = normalise united
 
-  united-listed : LabelsListed united
-  united-listed = unite-labels lim old addition (within-listed lim classes old old-within) (within-listed lim classes addition addition-within)
+  united-labelled : Labelled united
+  united-labelled = unite-labelled lim old addition (within-labelled lim classes old old-within) (within-labelled lim classes addition addition-within)
 
-  normal-listed : LabelsListed normal
-  normal-listed = normalise-listed united united-listed
+  normal-labelled : Labelled normal
+  normal-labelled = normalise-labelled united united-labelled
 
   normal-names : DistinctNames normal
   normal-names =
@@ -65,28 +55,28 @@ module _ (lim : Limits) (classes : Classes) (old addition : Table) (old-within :
   reduced-union =
       record {
         one-rule-each = reduce-one-rule normal (normalise-types united);
-        labelled = reduce-labelled normal normal-listed;
+        labelled = reduce-labelled normal normal-labelled;
         names = λ i j m n p q e. normal-names i j m n (rw (← reduce-labels normal) p) (rw (← reduce-labels normal) q) e;
-        start-rules = λ k m. derived-rule (reduce-starts normal normal-listed k m .1);
-        content-rules = λ r m k s. let o = reduce-ruled normal normal-listed r k m s in record { rule = o .rule; of-table = o .of-table; of-type = o .of-type };
-        content-words = λ r m k s. let o = reduce-standing normal normal-listed r k m s in record { word = o .0; of-content = o .1; stands = o .2 };
-        derives-some = reduce-fruitful normal normal-listed;
-        reaches = λ r m. reaches (reduce-reached normal normal-listed r m);
+        start-rules = λ k m. derived-rule (reduce-starts normal normal-labelled k m .1);
+        content-rules = reduce-ruled normal normal-labelled;
+        content-words = reduce-standing normal normal-labelled;
+        derives-some = reduce-fruitful normal normal-labelled;
+        reaches = reduce-reached normal normal-labelled;
       }
 
   normal-documents : (d : Tree) → LetsIn normal d ↔ (LetsIn old d ⊎ LetsIn addition d)
   normal-documents d =
       Iff·trans (normalise-documents united d)
-      (unite-documents lim old addition (within-below lim classes old old-within) (within-listed lim classes old old-within)
-      (within-listed lim classes addition addition-within) d)
+      (unite-documents lim old addition (within-below lim classes old old-within) (within-labelled lim classes old old-within)
+      (within-labelled lim classes addition addition-within) d)
 
   pub union-documents : (d : Tree) → LetsIn (reducedUnion lim old addition) d ↔ (LetsIn old d ⊎ LetsIn addition d)
   unfolding reducedUnion
-  union-documents d = Iff·trans (reduce-documents normal normal-listed d) (normal-documents d)
+  union-documents d = Iff·trans (reduce-documents normal normal-labelled d) (normal-documents d)
 
   pub union-nothing : (reducedUnion lim old addition .starts ≡ []) ↔ ((d : Tree) → (LetsIn old d ⊎ LetsIn addition d) → ⊥)
   unfolding reducedUnion
   union-nothing = (
-    λ e d l. reduce-nothing normal normal-listed .0 e d (normal-documents d .1 l),
-    λ h. reduce-nothing normal normal-listed .1 (λ d l. h d (normal-documents d .0 l)),
+    λ e d l. reduce-nothing normal normal-labelled .0 e d (normal-documents d .1 l),
+    λ h. reduce-nothing normal normal-labelled .1 (λ d l. h d (normal-documents d .0 l)),
   )

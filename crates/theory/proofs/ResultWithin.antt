@@ -5,12 +5,10 @@
 --   result-bytes        and AreBytes (tableBytes result)
 -- for limits that agree. So too of a widening by a document within the limits: document-result-within, -read-back, -bytes,
 -- and of its sample: sample-read-back, sample-bytes.
-use Prim.Native.Nat.{ℕ, _≤_}
-use mathlib.Core.Bool.{false}
 use mathlib.Core.List.{List·Memᴰ}
 use mathlib.Core.Logic.{⊎-elim}
 use mathlib.Core.Path.{_≡_, sym, subst}
-use Rattle.grammar.specs.Limits.{Limits}
+use Rattle.grammar.specs.Limits.{Limits, LimitsAgree}
 use Rattle.grammar.specs.Names.{Name, Classes}
 use Rattle.grammar.specs.Tree.{Tree}
 use Rattle.grammar.specs.Table.{Table}
@@ -20,7 +18,6 @@ use Rattle.grammar.specs.Outcome.{given}
 use Rattle.grammar.specs.ReadTable.{readTable}
 use Rattle.grammar.specs.WriteTable.{tableBytes}
 use Rattle.grammar.specs.WithinLimits.{NameWithin, TableWithin}
-use Rattle.grammar.specs.Size.{tooLarge}
 use Rattle.grammar.specs.Widen.{form, reducedUnion, widenByTable, sampleTable, widen}
 use Rattle.theory.proofs.OutcomeLaws.{was-given}
 use Rattle.theory.proofs.FieldBytes.{AreBytes}
@@ -28,15 +25,7 @@ use Rattle.theory.proofs.TableBytes.{table-read-back}
 use Rattle.theory.proofs.ReducedUnion.{reduced-union}
 use Rattle.theory.proofs.WidenLeast.{unsized, widened}
 use Rattle.theory.proofs.CountedTables.{within-counted, union-counted, union-name}
-use Rattle.theory.proofs.NumberedTable.{
-  LimitsAgree,
-  TableSmall,
-  table-small,
-  numbered-within,
-  finished-numbered,
-  finished-rules,
-  finished-labels,
-}
+use Rattle.theory.proofs.NumberedTable.{numbered-within, finished-numbered, finished-labels}
 use Rattle.theory.proofs.FormsNumbered.{form-numbered}
 use Rattle.theory.proofs.DocumentWithin.{DocumentWithin}
 use Rattle.theory.proofs.SampleWithin.{sample-within}
@@ -52,26 +41,20 @@ module _ (lim : Limits) (classes : Classes) (agree : LimitsAgree lim) where
     union-named : (n : Name) → List·Memᴰ n (reduced .labels) → NameWithin lim classes n
     union-named n m = ⊎-elim (old-within .names n) (addition-within .names n) (union-name lim old addition n m)
 
-    unsized-within : TableSmall lim (unsized lim kind old addition) → TableWithin lim classes (unsized lim kind old addition)
-    unsized-within small =
-        numbered-within lim classes agree (unsized lim kind old addition)
-        (finished-numbered lim classes (form lim kind reduced)
-        (form-numbered reduced (reduced-union lim classes old addition old-within addition-within) lim classes union-named
-        (union-counted lim old addition (within-counted lim classes old old-within)
-        (within-counted lim classes addition addition-within))
-        kind
-        (subst (λ (n : ℕ). n ≤ lim .types) (finished-rules (form lim kind reduced)) (small .few))))
-        (finished-labels (form lim kind reduced))
-        small
-
     module _ (result : Table) (e : widenByTable lim kind old addition ≡ given result) where
       pub result-within : TableWithin lim classes result
       result-within =
           let w = widened lim kind old addition result e in
           subst (TableWithin lim classes) (sym (w .made))
-          (unsized-within
-          (table-small lim (unsized lim kind old addition)
-          (subst (λ (g : Table). tooLarge lim g ≡ false) (w .made) (w .of-size))))
+          (numbered-within lim classes agree (unsized lim kind old addition)
+          (finished-numbered lim classes (form lim kind reduced)
+          (form-numbered reduced (reduced-union lim classes old addition old-within addition-within) lim classes union-named
+          (union-counted lim old addition (within-counted lim classes old old-within)
+          (within-counted lim classes addition addition-within))
+          kind
+          (w .few)))
+          (finished-labels (form lim kind reduced))
+          (w .small))
 
       pub result-read-back : readTable lim classes (tableBytes result) ≡ given result
       result-read-back = table-read-back lim classes result result-within

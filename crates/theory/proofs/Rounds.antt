@@ -20,18 +20,28 @@ use mathlib.Core.List.{
   Memᴰ·append-left,
   Memᴰ·append-right,
   List·Memᴰ·append-cases,
-  Memᴰ·cast,
 }
 use mathlib.Core.Logic.{_↔_, _⊎_, inl, inr, ⊎-elim}
 use mathlib.Core.Path.{_≡_, refl, sym, _∙_, ap, subst}
 use lib.ListN.{length}
 use lib.Dec.{eqb}
-use borrow.Author.Tests.{eqb-true, eq-eqb, not-true}
+use borrow.Author.Tests.{not-true}
 use Rattle.grammar.specs.Lists.{keep, distinct, isIn}
 use Rattle.grammar.specs.Reduce.{rounds, notKnown}
 use Rattle.theory.proofs.BoolLaws.{false-of, not-both, passes-or-fails}
-use Rattle.theory.proofs.ListLaws.{keep-yes, keep-no, kept, keep-mem, distinct-was, distinct-has, in-mem, mem-in}
-use Rattle.theory.proofs.SameWords.{AllIn}
+use Rattle.theory.proofs.ListLaws.{
+  keep-yes,
+  keep-no,
+  kept,
+  keep-mem,
+  distinct-was,
+  in-mem,
+  mem-in,
+  keep-shorter,
+  distinct-mem,
+  eqb-decides,
+  AllIn,
+}
 
 -- a stricter test keeps fewer
 module _ {A : Type 0} (strict lax : A → Bool) (stricter : (x : A) → strict x ≡ true → lax x ≡ true) where
@@ -59,15 +69,6 @@ module _ {A : Type 0} (strict lax : A → Bool) (stricter : (x : A) → strict x
       rw (keep-no strict y ys (ap strict (sym e) ∙ p), keep-yes lax y ys (ap lax (sym e) ∙ q)) (omega arith)
   keep-less (List·Memᴰ·tail {x = y} {xs = ys} m) p q = fewer-at 1 y ys (keep-less m p q)
 
-pub keep-shorter : {A : Type 0} (test : A → Bool) (xs : List A) → length (keep test xs) ≤ length xs
-unfolding keep
-keep-shorter test [] = omega arith
-keep-shorter test (x ∷ xs) = go (passes-or-fails (test x)) (keep-shorter test xs)
-  where
-    go : (test x ≡ true) ⊎ (test x ≡ false) → length (keep test xs) ≤ length xs → length (keep test (x ∷ xs)) ≤ length (x ∷ xs)
-    go (inl e) ih = rw (keep-yes test x xs e) (omega arith)
-    go (inr e) ih = rw (keep-no test x xs e) (omega arith)
-
 -- a number that is not among some
 absent : (k : ℕ) (ks : List ℕ) → (List·Memᴰ k ks → ⊥) → not (isIn k ks) ≡ true
 absent k ks h = ap not (false-of (isIn k ks) (λ e. h (in-mem k ks e)))
@@ -87,9 +88,7 @@ not-known known types k = (there, back)
 
     back : List·Memᴰ k types × (List·Memᴰ k known → ⊥) → List·Memᴰ k (distinct eqb (keep (λ l. not (isIn l known)) types))
     back p =
-        let m = keep-mem (λ l. not (isIn l known)) (p .0) (absent k known (p .1)) in
-        let d = distinct-has eqb (λ l. eq-eqb l l refl) (λ l m n p q. eq-eqb l n (eqb-true l m p ∙ eqb-true m n q)) m in
-        Memᴰ·cast (sym (eqb-true (d .0) k (d .2))) (d .1)
+        distinct-mem eqb eqb-decides (keep-mem (λ l. not (isIn l known)) (p .0) (absent k known (p .1)))
 
 module _ (newly : List ℕ → List ℕ) where
   -- where a round adds nothing, what it would add if it were new is known

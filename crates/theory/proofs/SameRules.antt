@@ -7,9 +7,9 @@
 --     same-labelled       the rules' labels are among the labels if those of the other are
 --     same-turn           all of this holds the other way round
 use Prim.Native.Nat.{ℕ}
-use mathlib.Core.List.{List, [], _∷_, List·Memᴰ, Forall₂, Forall₂·nil, Forall₂·cons}
+use mathlib.Core.List.{List, List·Memᴰ, Forall₂}
 use mathlib.Core.Logic.{_↔_}
-use mathlib.Core.Path.{_≡_, refl, sym, _∙_, subst}
+use mathlib.Core.Path.{_≡_, sym, _∙_, subst}
 use lib.ListN.{getElem?}
 use Rattle.grammar.specs.Names.{Name}
 use Rattle.grammar.specs.Content.{Word, typesIn}
@@ -19,8 +19,8 @@ use Rattle.grammar.specs.Derivation.{Fits, LetsIn}
 use Rattle.grammar.specs.Kinds.{NoTwoRules, Local, Competing, NoneCompete, SingleType}
 use Rattle.grammar.specs.Least.{LetsInAll}
 use Rattle.theory.proofs.ListLaws.{at-below, below-at, related-turn, related-at, related-mem}
-use Rattle.theory.proofs.Covering.{covered-let-in}
-use Rattle.theory.proofs.TableAutomaton.{OneRuleEach, Labelled}
+use Rattle.theory.proofs.TableConditions.{Labelled, OneRuleEach}
+use Rattle.theory.proofs.CarryDerivations.{carry-tree}
 
 -- Label l m: the number l of a label in the one table is m in the other
 pub record SameRule (Label : ℕ → ℕ → Type 0) (r s : Rule) : Type 0 where
@@ -54,10 +54,6 @@ module _ {Label : ℕ → ℕ → Type 0} where
         rules = related-turn rule-turn (same .rules);
       }
 
-same-word : (w : List ℕ) → Forall₂ (λ (k j : ℕ). k ≡ j) w w
-same-word [] = Forall₂·nil
-same-word (k ∷ w) = Forall₂·cons refl (same-word w)
-
 module _ {Label : ℕ → ℕ → Type 0} {g h : Table} (same : SameRules Label g h) where
   -- what fits in the one table fits in the other
   same-fits : {k : ℕ} {n : Name} {w : List ℕ} → Fits h k n w → Fits g k n w
@@ -78,17 +74,12 @@ module _ {Label : ℕ → ℕ → Type 0} {g h : Table} (same : SameRules Label 
       }
 
   pub same-let-in : LetsInAll g (LetsIn h)
-  same-let-in =
-      covered-let-in
-      {Cover = λ k j. k ≡ j}
-      (record {
-        starts =
-            λ k n w m f.
-            record { type = k; of-table = subst (λ (l : List ℕ). List·Memᴰ k l) (sym (same .starts)) m; covers = refl };
-        words =
-            λ k j n w e f.
-            record { word = w; fits = same-fits (subst (λ (i : ℕ). Fits h i n w) e f); covers = same-word w };
-      })
+  same-let-in d l =
+      record {
+        start = l .start;
+        of-table = subst (λ (ks : List ℕ). List·Memᴰ (l .start) ks) (sym (same .starts)) (l .of-table);
+        derived = carry-tree h g (λ k. Unit {0}) (λ k n w ts p f a. (same-fits f, λ j m. tt)) (l .derived) tt;
+      }
 
   no-two-kept : {Alike : Rule → Rule → Type 0}
       → ((r r′ s s′ : Rule) → SameRule Label r s → SameRule Label r′ s′ → Alike s s′ → Alike r r′) → NoTwoRules g Alike

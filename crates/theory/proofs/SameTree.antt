@@ -5,9 +5,10 @@ use Prim.Native.Nat.{ℕ}
 use mathlib.Core.List.{List}
 use Rattle.grammar.specs.Names.{Name, SameName}
 use Rattle.grammar.specs.Tree.{Tree, node, Forest, []ᵗ, _∷ᵗ_}
-use Rattle.grammar.specs.Table.{Table, Named}
+use Rattle.grammar.specs.Table.{Table}
 use Rattle.grammar.specs.Derivation.{Fits, Derives, derives, DerivesAll, derives-none, derives-next, LetsIn}
 use Rattle.theory.proofs.NameLaws.{name-refl, name-sym, name-trans}
+use Rattle.theory.proofs.NamedLabels.{same-named}
 
 mutual
   pub data SameTree : Tree → Tree → Type 0 where
@@ -44,10 +45,6 @@ mutual
 
 module _ {g : Table} where
   -- a rule is of every name equal to one of its names
-  pub same-named : {label : ℕ} {m n : Name} → Named g label m → SameName m n → Named g label n
-  same-named {m = m} {n = n} p e =
-      record { name = p .name; listed = p .listed; same = name-trans (p .name) m n (p .same) e }
-
   pub same-fits : {k : ℕ} {m n : Name} {w : List ℕ} → Fits g k m w → SameName m n → Fits g k n w
   same-fits f e =
       record {

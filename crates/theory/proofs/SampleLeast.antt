@@ -1,30 +1,38 @@
 -- The sample of a document is the least table that lets it in, among single-type and among local tables:
---     sample-lets-in       (SampleMembers) the sample lets in the document
---     sample-single-type   it is single-type
---     sample-least         every rival of either kind that lets in the document lets in all of the sample
+--     sample-lets-in        (SampleMembers) the sample lets in the document
+--     sample-single-type    it is single-type
+--     sample-least          every rival of either kind that lets in the document lets in all of the sample
 use Prim.Native.Nat.{ℕ, zero}
-use mathlib.Core.List.{List, [], _∷_, List·Memᴰ, List·Memᴰ·head, List·Memᴰ·tail, List·Memᴰ·eq-of-singleton, Forall₂, Forall₂·nil, Forall₂·cons}
-use mathlib.Core.Logic.{inl, inr}
-use mathlib.Core.Path.{_≡_, refl, sym, subst}
+use mathlib.Core.List.{List, List·Memᴰ, Forall₂, [], _∷_, _++_}
+use mathlib.Core.Path.{_≡_, refl, sym, subst, _∙_, ap}
 use Rattle.grammar.specs.Names.{Name}
-use Rattle.grammar.specs.Tree.{Tree, node, Forest, []ᵗ, _∷ᵗ_}
-use Rattle.grammar.specs.Table.{Table, DistinctNames}
+use Rattle.grammar.specs.Tree.{Tree}
+use Rattle.grammar.specs.Table.{Table, DistinctNames, Rule, Named}
 use Rattle.grammar.specs.Derivation.{Fits, LetsIn}
-use Rattle.grammar.specs.Kinds.{Kind, OfKind}
+use Rattle.grammar.specs.Kinds.{Kind, OfKind, SingleType, NoneCompete}
 use Rattle.grammar.specs.Least.{LetsInAll}
-use Rattle.grammar.specs.Sample.{sample}
+use Rattle.grammar.specs.Sample.{sample, Visit, ruleAt, contentAt}
 use Rattle.theory.proofs.NameLaws.{name-refl}
 use Rattle.theory.proofs.Automaton.{AllAlive}
-use Rattle.theory.proofs.Merge.{Merge, Forth, Back, StartType}
+use Rattle.theory.proofs.Merge.{Merge, Forth, Back}
 use Rattle.theory.proofs.LeastSingleType.{SingleTypeMerge, Arises}
-use Rattle.theory.proofs.TreeAutomaton.{treesOf, children, treeAutomaton, tree-alive, least-document}
-use Rattle.theory.proofs.VisitedTrees.{rootName, childrenOf, OneOfTrees}
-use Rattle.theory.proofs.SampleMerge.{sample-starts}
+use Rattle.theory.proofs.TreeAutomaton.{treeAutomaton, tree-alive, least-document}
+use Rattle.theory.proofs.SampleRules.{
+  seen,
+  pathType,
+  path-type,
+  path-types,
+  path-ends,
+  ends-agree,
+  child-visited,
+  sample-rule,
+  sample-types,
+  visit-named,
+  content-type,
+  sample-start,
+}
 use Rattle.theory.proofs.SampleMembers.{
   Member,
-  Members,
-  members-none,
-  members-next,
   member-names,
   member-fits,
   fits-member,
@@ -32,25 +40,14 @@ use Rattle.theory.proofs.SampleMembers.{
   root-member,
   start-member,
 }
+use Rattle.theory.proofs.TreeParts.{children, rootName}
+use Rattle.grammar.specs.Content.{typesIn}
+use Rattle.theory.proofs.PathLaws.{path-sym, path-trans, path-append}
+use Rattle.theory.proofs.NamedLabels.{one-name}
 
 module _ (d : Tree) where
-  each-member : {w : List ℕ} {ts : Forest} → Members d w ts → Forall₂ (Member d) w (treesOf ts)
-  each-member members-none = Forall₂·nil
-  each-member (members-next m ms) = Forall₂·cons m (each-member ms)
-
   all-alive : (u : List Tree) → AllAlive (treeAutomaton d) u
   all-alive u t m = tree-alive d t
-
-  children-members : {w : List ℕ} (t : Tree) → Members d w (childrenOf t) → Forall₂ (Member d) w (children t)
-  children-members (node n ts) ms = each-member ms
-
-  listed : (ts : Forest) {t : Tree} → OneOfTrees ts t → List·Memᴰ t (treesOf ts)
-  listed []ᵗ o = absurd o
-  listed (s ∷ᵗ ts) (inl e) = List·Memᴰ·head e
-  listed (s ∷ᵗ ts) (inr o) = List·Memᴰ·tail (listed ts o)
-
-  child-listed : (s : Tree) {t : Tree} → OneOfTrees (childrenOf s) t → List·Memᴰ t (children s)
-  child-listed (node n ts) o = listed ts o
 
   forward : (k : ℕ) (s : Tree) (u : List Tree) → Member d k s → u ≡ children s → Forth (treeAutomaton d) (sample d) (Member d) k s u
   forward k s u m step =
@@ -58,7 +55,7 @@ module _ (d : Tree) where
       record {
         word = w .word;
         fits = w .fits;
-        members = subst (λ (v : List Tree). Forall₂ (Member d) (w .word) v) (sym step) (children-members s (w .members));
+        members = subst (λ (v : List Tree). Forall₂ (Member d) (w .word) v) (sym step) (w .members);
       }
 
   backward : (k : ℕ) (n : Name) (w : List ℕ) → Fits (sample d) k n w → Back (treeAutomaton d) (sample d) (Member d) k n w
@@ -70,12 +67,9 @@ module _ (d : Tree) where
         named = m .named;
         next = children (m .tree);
         step = refl;
-        members = children-members (m .tree) (m .members);
+        members = m .members;
         alive = all-alive (children (m .tree));
       }
-
-  only-start : (k : ℕ) → List·Memᴰ k (sample d .starts) → k ≡ zero
-  only-start k m = List·Memᴰ·eq-of-singleton (subst (λ (ks : List ℕ). List·Memᴰ k ks) (sample-starts d) m)
 
   sample-merge : Merge (treeAutomaton d) (sample d) (Member d)
   sample-merge =
@@ -87,7 +81,7 @@ module _ (d : Tree) where
             λ s e.
             record {
               type = zero;
-              of-table = subst (λ (ks : List ℕ). List·Memᴰ zero ks) (sym (sample-starts d)) (List·Memᴰ·head refl);
+              of-table = sample-start d zero .1 refl;
               member = subst (λ (t : Tree). Member d zero t) (sym e) (root-member d);
             };
       }
@@ -102,7 +96,7 @@ module _ (d : Tree) where
         next = children (c .tree);
         step = refl;
         alive = all-alive (children (c .tree));
-        within = child-listed (c .tree) (c .child);
+        within = c .child;
       }
 
   single-merge : SingleTypeMerge (treeAutomaton d) (sample d) (Member d)
@@ -110,8 +104,50 @@ module _ (d : Tree) where
       record {
         merge = sample-merge;
         arises = arises;
-        start-states = λ k m t a. start-member d (subst (λ (j : ℕ). Member d j t) (only-start k m) a);
+        start-states = λ k m t a. start-member d (subst (λ (j : ℕ). Member d j t) (sample-start d k .0 m) a);
       }
 
   pub sample-least : (kind : Kind) (H : Table) → DistinctNames H → OfKind kind H → LetsIn H d → LetsInAll H (LetsIn (sample d))
   sample-least = least-document d single-merge
+
+  -- the label of a rule of the type of a child's path has the child's name
+  child-named : (v : Visit) → List·Memᴰ v (seen d) → (n : Name) → List·Memᴰ n (v .children) → (r : Rule)
+      → List·Memᴰ r (sample d .rules) → r .type ≡ pathType d (v .path ++ (n ∷ [])) → Named (sample d) (r .label) n
+  unfolding ruleAt
+  child-named v m n c r o e =
+      let (u, p, same) = sample-rule d o in
+      let w = child-visited d v m n c in
+      let paths =
+      path-types d u (w .visit) p (w .visited) .0
+      (ap (λ (q : Rule). q .type) same ∙ e ∙ ap (pathType d) (sym (w .at-path))) in
+      subst (λ (q : Rule). Named (sample d) (q .label) n) same
+      (visit-named d u n p .1
+      (ends-agree (path-ends d [] u p) (record { above = v .path; ends = w .at-path }) paths))
+
+  -- Types that stand in one content and have rules with one label are types of equal paths.
+  none-compete : (p : List Name) → NoneCompete (sample d) (typesIn (contentAt (seen d) p))
+  none-compete p k l m n c =
+      let a = content-type d p k m in
+      let b = content-type d p l n in
+      let u = a .visit in
+      let v = b .visit in
+      let x = child-named u (a .visited) (a .name) (a .child) (c .rule₁) (c .of-table₁) (c .of-type₁ ∙ sym (a .of-type)) in
+      let y = child-named v (b .visited) (b .name) (b .child) (c .rule₂) (c .of-table₂) (c .of-type₂ ∙ sym (b .of-type)) in
+      let names = one-name (subst (λ (i : ℕ). Named (sample d) i (a .name)) (c .one-label) x) y in
+      let above = path-trans (u .path) p (v .path) (path-sym p (u .path) (a .at-path)) (b .at-path) in
+      sym (a .of-type)
+      ∙ path-type d (u .path ++ (a .name ∷ [])) (v .path ++ (b .name ∷ []))
+      (path-append (u .path) (v .path) (a .name) (b .name) above names)
+      ∙ b .of-type
+
+  pub sample-single-type : SingleType (sample d)
+  unfolding ruleAt
+  sample-single-type =
+      record {
+        rules = λ i j r s p q e. sample-types d i j r s p q (e .0);
+        starts = λ k l m n c. sample-start d k .0 m ∙ sym (sample-start d l .0 n);
+        contents =
+            λ r m.
+            let (v, n, e) = sample-rule d m in
+            subst (λ (q : Rule). NoneCompete (sample d) (typesIn (q .content))) e (none-compete (v .path));
+      }

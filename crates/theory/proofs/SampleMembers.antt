@@ -7,8 +7,21 @@
 --     sample-lets-in     the sample lets in the document
 use Prim.Native.Nat.{ℕ, zero}
 use mathlib.Core.Bool.{false≢true}
-use mathlib.Core.List.{List, [], _∷_, _++_, map, List·Memᴰ, List·Memᴰ·head, Memᴰ·of-map}
-use mathlib.Core.Logic.{inl, inr, ⊎-elim}
+use mathlib.Core.List.{
+  List,
+  [],
+  _∷_,
+  _++_,
+  map,
+  List·Memᴰ,
+  List·Memᴰ·head,
+  Memᴰ·of-map,
+  Forall₂,
+  Forall₂·nil,
+  Forall₂·cons,
+  List·Memᴰ·tail,
+}
+use mathlib.Core.Logic.{⊎-elim}
 use mathlib.Core.Path.{_≡_, refl, sym, _∙_, ap, subst}
 use Rattle.grammar.specs.Names.{Name, SameName}
 use Rattle.grammar.specs.Tree.{Tree, node, Forest, []ᵗ, _∷ᵗ_}
@@ -16,7 +29,7 @@ use Rattle.grammar.specs.Derivation.{Fits, Derives, derives, DerivesAll, derive
 use Rattle.grammar.specs.Sample.{Visit, rootNames, samePath, sample}
 use Rattle.theory.proofs.NameLaws.{name-refl}
 use Rattle.theory.proofs.PathLaws.{SamePath, path-sym, path-parts}
-use Rattle.theory.proofs.SampleMerge.{
+use Rattle.theory.proofs.SampleRules.{
   pathType,
   childTypes,
   path-type,
@@ -26,12 +39,9 @@ use Rattle.theory.proofs.SampleMerge.{
   path-ends,
   sample-fits,
   sample-root,
-  sample-starts,
+  sample-start,
 }
 use Rattle.theory.proofs.VisitedTrees.{
-  rootName,
-  childrenOf,
-  OneOfTrees,
   StandsAt,
   root-stands,
   visitOf,
@@ -42,6 +52,7 @@ use Rattle.theory.proofs.VisitedTrees.{
   Ends,
   stands-ends,
 }
+use Rattle.theory.proofs.TreeParts.{rootName, childrenOf, treesOf, children}
 
 -- a path that ends with a name is not empty
 not-empty : (p : List Name) {n : Name} → Ends p n → SamePath p [] → ⊥
@@ -58,11 +69,6 @@ module _ (d : Tree) where
     pub stands : StandsAt d [] path t
     pub of-type : pathType d path ≡ k
 
-  -- types and trees, member by member
-  pub data Members : List ℕ → Forest → Type 0 where
-    members-none : Members [] []ᵗ
-    members-next : {k : ℕ} {w : List ℕ} {t : Tree} {ts : Forest} → Member k t → Members w ts → Members (k ∷ w) (t ∷ᵗ ts)
-
   -- members of one type stand at equal paths
   pub same-paths : {k : ℕ} {s t : Tree} (a : Member k s) (b : Member k t) → SamePath (a .path) (b .path)
   same-paths {s = s} {t = t} a b =
@@ -78,23 +84,23 @@ module _ (d : Tree) where
   member-names a b = ends-agree (ends a) (ends b) (same-paths a b)
 
   -- the children of a tree at a path are members of the types of their paths
-  forest-members : (p : List Name) (ts : Forest) → ((c : Tree) → OneOfTrees ts c → StandsAt d [] (p ++ (rootName c ∷ [])) c)
-      → Members (map (λ n. pathType d (p ++ (n ∷ []))) (rootNames ts)) ts
+  forest-members : (p : List Name) (ts : Forest) → ((c : Tree) → List·Memᴰ c (treesOf ts) → StandsAt d [] (p ++ (rootName c ∷ [])) c)
+      → Forall₂ Member (map (λ n. pathType d (p ++ (n ∷ []))) (rootNames ts)) (treesOf ts)
   unfolding rootNames
-  forest-members p []ᵗ h = members-none
+  forest-members p []ᵗ h = Forall₂·nil
   forest-members p (node n us ∷ᵗ ts) h =
-      members-next (record { path = p ++ (n ∷ []); stands = h (node n us) (inl refl); of-type = refl })
-      (forest-members p ts (λ c o. h c (inr o)))
+      Forall₂·cons (record { path = p ++ (n ∷ []); stands = h (node n us) (List·Memᴰ·head refl); of-type = refl })
+      (forest-members p ts (λ c o. h c (List·Memᴰ·tail o)))
 
-  children-members : {k : ℕ} {t : Tree} (a : Member k t) → Members (childTypes d (visitOf (a .path) t)) (childrenOf t)
+  children-members : {k : ℕ} {t : Tree} (a : Member k t) → Forall₂ Member (childTypes d (visitOf (a .path) t)) (children t)
   children-members {t = t} a = forest-members (a .path) (childrenOf t) (λ c. stands-child d [] (a .path) t c (a .stands))
 
-  pub record WordOf (k : ℕ) (n : Name) (ts : Forest) : Type 0 where
+  pub record WordOf (k : ℕ) (n : Name) (ts : List Tree) : Type 0 where
     pub word : List ℕ
     pub fits : Fits (sample d) k n word
-    pub members : Members word ts
+    pub members : Forall₂ Member word ts
 
-  pub member-fits : {k : ℕ} {t : Tree} → Member k t → (n : Name) → SameName (rootName t) n → WordOf k n (childrenOf t)
+  pub member-fits : {k : ℕ} {t : Tree} → Member k t → (n : Name) → SameName (rootName t) n → WordOf k n (children t)
   member-fits {k} {t} a n e =
       let w = childTypes d (visitOf (a .path) t) in
       record {
@@ -115,7 +121,7 @@ module _ (d : Tree) where
     pub tree : Tree
     pub member : Member k tree
     pub named : SameName (rootName tree) n
-    pub members : Members w (childrenOf tree)
+    pub members : Forall₂ Member w (children tree)
 
   pub fits-member : (k : ℕ) (n : Name) (w : List ℕ) → Fits (sample d) k n w → MemberOf k n w
   fits-member k n w f =
@@ -128,7 +134,7 @@ module _ (d : Tree) where
         member = m;
         named = subst (λ (u : Visit). SameName (u .name) n) (o .visits) (a .of-name);
         members =
-            subst (λ (z : List ℕ). Members z (childrenOf (o .tree))) (sym (a .children ∙ ap (childTypes d) (o .visits)))
+            subst (λ (z : List ℕ). Forall₂ Member z (children (o .tree))) (sym (a .children ∙ ap (childTypes d) (o .visits)))
             (children-members m);
       }
 
@@ -136,7 +142,7 @@ module _ (d : Tree) where
   pub record ChildOf (k : ℕ) (t : Tree) : Type 0 where
     pub tree : Tree
     pub member : Member k tree
-    pub child : OneOfTrees (childrenOf tree) t
+    pub child : List·Memᴰ t (children tree)
 
   arises : {l : ℕ} {t : Tree} (a : Member l t) (q : List Name) {m : Name} → Ends q m → (n : Name)
       → SamePath (a .path) (q ++ (n ∷ []))
@@ -193,14 +199,14 @@ module _ (d : Tree) where
         let w = member-fits a n (name-refl n) in
         derives (w .fits) (members-derive ts (w .members))
 
-    members-derive : (ts : Forest) {w : List ℕ} → Members w ts → DerivesAll (sample d) w ts
-    members-derive []ᵗ members-none = derives-none
-    members-derive (t ∷ᵗ ts) (members-next a more) = derives-next (member-derives t a) (members-derive ts more)
+    members-derive : (ts : Forest) {w : List ℕ} → Forall₂ Member w (treesOf ts) → DerivesAll (sample d) w ts
+    members-derive []ᵗ Forall₂·nil = derives-none
+    members-derive (t ∷ᵗ ts) (Forall₂·cons a more) = derives-next (member-derives t a) (members-derive ts more)
 
   pub sample-lets-in : LetsIn (sample d) d
   sample-lets-in =
       record {
         start = zero;
-        of-table = subst (λ (z : List ℕ). List·Memᴰ zero z) (sym (sample-starts d)) (List·Memᴰ·head refl);
+        of-table = sample-start d zero .1 refl;
         derived = member-derives d root-member;
       }

@@ -3,17 +3,16 @@
 -- A document that is read is within the limits (document-within).
 use Prim.Native.Nat.{ℕ, zero, suc, _≤_, _<_}
 use native.Mathlib.Omega.{arith}
-use mathlib.Core.Bool.{Bool, true}
-use mathlib.Core.List.{List, [], _∷_, _++_, map, List·Memᴰ, List·Memᴰ·head, List·Memᴰ·eq-of-singleton, Memᴰ·map, Memᴰ·of-map}
+use mathlib.Core.Bool.{true}
+use mathlib.Core.List.{List, [], _∷_, _++_, map, List·Memᴰ, List·Memᴰ·head, Memᴰ·of-map}
 use mathlib.Core.Path.{_≡_, refl, sym, _∙_, ap, subst}
 use lib.ListN.{length, length-map, getD}
 use lib.Dec.{eqb}
 use borrow.Author.Tests.{eq-eqb}
-use Rattle.grammar.specs.Lists.{any, keep, distinct, place, allDistinct, numbersBelow}
-use Rattle.grammar.specs.Limits.{Limits}
+use Rattle.grammar.specs.Lists.{any, distinct, allDistinct, numbersBelow}
+use Rattle.grammar.specs.Limits.{Limits, LimitsAgree}
 use Rattle.grammar.specs.Names.{Name, sameName, SameName, Classes}
-use Rattle.grammar.specs.Content.{Content, type, typesIn, typesInAll, count, operands, choiceOf}
-use Rattle.grammar.specs.ReadContent.{sameContent}
+use Rattle.grammar.specs.Content.{Content, type, typesIn, count, operands}
 use Rattle.grammar.specs.Tree.{Tree, node}
 use Rattle.grammar.specs.Table.{Rule, Table}
 use Rattle.grammar.specs.Derivation.{Fits}
@@ -22,24 +21,11 @@ use Rattle.grammar.specs.declared.Refusal.the-variants.{ResultTooLarge}
 use Rattle.grammar.specs.WithinLimits.{NameWithin, TableWithin}
 use Rattle.grammar.specs.UsedLabels.{usedLabels, withUsedLabels}
 use Rattle.grammar.specs.Size.{tooLarge}
-use Rattle.grammar.specs.Sample.{
-  Visit,
-  visits,
-  samePath,
-  pathsOf,
-  namesOf,
-  sequenceOf,
-  childSequence,
-  contentAt,
-  ruleAt,
-  sample,
-}
+use Rattle.grammar.specs.Sample.{Visit, visits, samePath, pathsOf, namesOf, sequenceOf, contentAt, ruleAt, sample}
 use Rattle.grammar.specs.Widen.{ofSize, sampleTable}
 use Rattle.theory.proofs.ListLaws.{
   any-of,
-  kept,
   distinct-was,
-  joined-from,
   place-found,
   at-mem,
   at-below,
@@ -50,23 +36,29 @@ use Rattle.theory.proofs.ListLaws.{
   keep-all,
 }
 use Rattle.theory.proofs.NameLaws.{name-refl}
-use Rattle.theory.proofs.PathLaws.{path-refl}
 use Rattle.theory.proofs.OutcomeLaws.{had-no-fault, given-eq}
-use Rattle.theory.proofs.ReplacedTypes.{choice-types}
 use Rattle.theory.proofs.UsedLabelsDocuments.{used-labels-count}
-use Rattle.theory.proofs.SampleMerge.{
+use Rattle.theory.proofs.SampleRules.{
   seen,
   pathType,
   childTypes,
   child-visited,
   sample-fits,
   sample-names,
-  sample-listed,
+  sample-labelled,
   sample-starts,
+  oneVisit,
+  path-found,
+  sample-rule,
+  content-type,
+  content-at,
+  sequencesAt,
+  sequence-at,
+  sample-start,
 }
 use Rattle.theory.proofs.Counted.{Counted, AllCounted, choice-counted}
 use Rattle.theory.proofs.DocumentWithin.{DocumentWithin}
-use Rattle.theory.proofs.NumberedTable.{LimitsAgree, Numbered, table-small, numbered-within}
+use Rattle.theory.proofs.NumberedTable.{Numbered, table-small, numbered-within}
 
 -- the sequence of some types
 operands-count : (cs : List Content) → count (operands cs) ≡ length cs
@@ -88,61 +80,34 @@ sequence-counted lim (k ∷ l ∷ ls) h =
     let m = length-map ls type in
     (omega arith, omega arith, types-counted lim (k ∷ l ∷ ls))
 
-turn-types : (ks : List ℕ) → typesInAll (operands (map type ks)) ≡ ks
-unfolding typesInAll operands
-turn-types [] = refl
-turn-types (k ∷ ks) = ap (λ (l : List ℕ). k ∷ l) (turn-types ks)
-
-sequence-types : (ks : List ℕ) → typesIn (sequenceOf ks) ≡ ks
-unfolding sequenceOf typesIn
-sequence-types [] = refl
-sequence-types (k ∷ []) = refl
-sequence-types (k ∷ l ∷ ls) = turn-types (k ∷ l ∷ ls)
-
 first-visit : (d : Tree) → (v : Visit) × List·Memᴰ v (visits d [])
 unfolding visits
 first-visit (node n ts) = (_, List·Memᴰ·head refl)
 
 module _ (d : Tree) where
-  abbrev oneVisit : Visit → Visit → Bool
-  oneVisit u v = samePath (u .path) (v .path)
-
   -- There are as many rules as paths.
-  paths-are : pathsOf (seen d) ≡ map (λ (v : Visit). v .path) (distinct oneVisit (seen d))
+  paths-are : pathsOf (seen d) ≡ map (λ (v : Visit). v .path) (distinct (oneVisit d) (seen d))
   unfolding pathsOf
   paths-are = distinct-map (λ (v : Visit). v .path) samePath (seen d)
 
   rules-are : length (sample d .rules) ≡ length (pathsOf (seen d))
   unfolding sample
   rules-are =
-      length-map (distinct oneVisit (seen d)) (ruleAt (seen d))
-      ∙ sym (ap length paths-are ∙ length-map (distinct oneVisit (seen d)) (λ (v : Visit). v .path))
+      length-map (distinct (oneVisit d) (seen d)) (ruleAt (seen d))
+      ∙ sym (ap length paths-are ∙ length-map (distinct (oneVisit d) (seen d)) (λ (v : Visit). v .path))
 
-  rule-of : {r : Rule} → List·Memᴰ r (sample d .rules)
-      → (v : Visit) × List·Memᴰ v (distinct oneVisit (seen d)) × (ruleAt (seen d) v ≡ r)
-  unfolding sample
-  rule-of m = Memᴰ·of-map (ruleAt (seen d)) (distinct oneVisit (seen d)) m
+  path-below : (v : Visit) → List·Memᴰ v (seen d) → pathType d (v .path) < length (sample d .rules)
+  path-below v m =
+      let (p, i, s) = place-found samePath (v .path) (pathsOf (seen d)) (path-found d v m) in
+      let b = at-below (pathsOf (seen d)) (pathType d (v .path)) i in
+      let l = rules-are in
+      omega arith
 
   rule-below : (r : Rule) → List·Memᴰ r (sample d .rules) → r .type < length (sample d .rules)
   unfolding ruleAt
   rule-below r m =
-      let (v, n, e) = rule-of m in
-      let at = subst (λ (ps : List (List Name)). List·Memᴰ (v .path) ps) (sym paths-are) (Memᴰ·map (λ (v : Visit). v .path) n) in
-      let (p, i, s) = place-found samePath (v .path) (pathsOf (seen d)) (any-of (samePath (v .path)) at (path-refl (v .path))) in
-      let b = at-below (pathsOf (seen d)) (place samePath (v .path) (pathsOf (seen d))) i in
-      let t = ap (λ (q : Rule). q .type) e in
-      let l = rules-are in
-      omega arith
-
-  visit-fits : (v : Visit) → List·Memᴰ v (seen d) → Fits (sample d) (pathType d (v .path)) (v .name) (childTypes d v)
-  visit-fits v m =
-      sample-fits d (pathType d (v .path)) (v .name) (childTypes d v) .1
-      (record { visit = v; visited = m; of-type = refl; of-name = name-refl (v .name); children = refl })
-
-  path-below : (v : Visit) → List·Memᴰ v (seen d) → pathType d (v .path) < length (sample d .rules)
-  path-below v m =
-      let f = visit-fits v m in
-      subst (λ (k : ℕ). k < length (sample d .rules)) (f .of-type) (rule-below (f .rule) (f .of-table))
+      let (v, n, e) = sample-rule d m in
+      subst (λ (q : Rule). q .type < length (sample d .rules)) e (path-below v n)
 
   child-below : (v : Visit) → List·Memᴰ v (seen d) → (n : Name) → List·Memᴰ n (v .children)
       → pathType d (v .path ++ (n ∷ [])) < length (sample d .rules)
@@ -150,47 +115,34 @@ module _ (d : Tree) where
       let u = child-visited d v m n c in
       subst (λ (p : List Name). pathType d p < length (sample d .rules)) (u .at-path) (path-below (u .visit) (u .visited))
 
-  -- the contents of a path: sequences of children of visits
-  sequencesAt : List Name → List Content
-  sequencesAt p = distinct sameContent (map (childSequence (seen d)) (keep (λ (v : Visit). samePath p (v .path)) (seen d)))
-
-  content-from : (p : List Name) {c : Content} → List·Memᴰ c (sequencesAt p)
-      → (v : Visit) × List·Memᴰ v (seen d) × (sequenceOf (childTypes d v) ≡ c)
-  unfolding sequencesAt childSequence
-  content-from p m =
-      let (v, n, e) =
-      Memᴰ·of-map (childSequence (seen d)) (keep (λ (v : Visit). samePath p (v .path)) (seen d))
-      (distinct-was sameContent (map (childSequence (seen d)) (keep (λ (v : Visit). samePath p (v .path)) (seen d))) m) in
-      (v, kept (λ (v : Visit). samePath p (v .path)) (seen d) n .0, e)
-
-  content-is : {r : Rule} → List·Memᴰ r (sample d .rules) → (p : List Name) × (r .content ≡ choiceOf (sequencesAt p))
-  unfolding ruleAt contentAt sequencesAt
-  content-is m = let (v, n, e) = rule-of m in (v .path, sym (ap (λ (q : Rule). q .content) e))
+  content-is : {r : Rule} → List·Memᴰ r (sample d .rules) → (p : List Name) × (r .content ≡ contentAt (seen d) p)
+  unfolding ruleAt
+  content-is m = let (v, n, e) = sample-rule d m in (v .path, sym (ap (λ (q : Rule). q .content) e))
 
   content-below : (r : Rule) → List·Memᴰ r (sample d .rules) → (k : ℕ) → List·Memᴰ k (typesIn (r .content))
       → k < length (sample d .rules)
   content-below r m k n =
       let (p, e) = content-is m in
-      let (c, l, o) =
-      joined-from typesIn (sequencesAt p)
-      (subst (λ (ks : List ℕ). List·Memᴰ k ks) (ap typesIn e ∙ choice-types (sequencesAt p)) n) in
-      let (v, s, q) = content-from p l in
-      let t : List·Memᴰ k (childTypes d v) =
-      subst (λ (ks : List ℕ). List·Memᴰ k ks) (ap typesIn (sym q) ∙ sequence-types (childTypes d v)) o in
-      let (x, y, z) = Memᴰ·of-map (λ x. pathType d (v .path ++ (x ∷ []))) (v .children) t in
-      subst (λ (i : ℕ). i < length (sample d .rules)) z (child-below v s x y)
+      let c = content-type d p k (subst (λ (z : Content). List·Memᴰ k (typesIn z)) e n) in
+      subst (λ (i : ℕ). i < length (sample d .rules)) (c .of-type) (child-below (c .visit) (c .visited) (c .name) (c .child))
 
   content-counted : (lim : Limits) → ((v : Visit) → List·Memᴰ v (seen d) → length (v .children) ≤ lim .operands) → (r : Rule)
       → List·Memᴰ r (sample d .rules) → Counted lim (r .content)
   content-counted lim few r m =
       let (p, e) = content-is m in
-      subst (Counted lim) (sym e)
-      (choice-counted lim (sequencesAt p)
+      subst (Counted lim) (sym (e ∙ content-at d p))
+      (choice-counted lim (sequencesAt d p)
       (λ c l.
-      let (v, s, q) = content-from p l in
-      let n = few v s in
+      let s = sequence-at d p c .0 l in
+      let v = s .visit in
+      let n = few v (s .visited) in
       let o = length-map (v .children) (λ x. pathType d (v .path ++ (x ∷ []))) in
-      subst (Counted lim) q (sequence-counted lim (childTypes d v) (omega arith))))
+      subst (Counted lim) (s .sequence) (sequence-counted lim (childTypes d v) (omega arith))))
+
+  visit-fits : (v : Visit) → List·Memᴰ v (seen d) → Fits (sample d) (pathType d (v .path)) (v .name) (childTypes d v)
+  visit-fits v m =
+      sample-fits d (pathType d (v .path)) (v .name) (childTypes d v) .1
+      (record { visit = v; visited = m; of-type = refl; of-name = name-refl (v .name); children = refl })
 
   name-from : (n : Name) → List·Memᴰ n (sample d .labels) → (v : Visit) × List·Memᴰ v (seen d) × (v .name ≡ n)
   unfolding sample namesOf
@@ -236,12 +188,12 @@ module _ (lim : Limits) (classes : Classes) (agree : LimitsAgree lim) (d : Tree)
         names-differ = sample-names d;
         start-types =
             λ k o.
-            let z = List·Memᴰ·eq-of-singleton (subst (λ (ks : List ℕ). List·Memᴰ k ks) (sample-starts d) o) in
+            let z = sample-start d k .0 o in
             omega arith;
         starts-differ = rw (sample-starts d);
         few-starts = rw (sample-starts d) (omega arith);
         rule-types = rule-below d;
-        listed = sample-listed d;
+        labelled = sample-labelled d;
         content-types = content-below d;
         counted =
             content-counted d lim

@@ -47,7 +47,6 @@ use Rattle.theory.proofs.ListLaws.{
   keep-mem,
   keep-map,
   distinct-was,
-  distinct-has,
   at-mem,
   mem-at,
   at-below,
@@ -61,18 +60,14 @@ use Rattle.theory.proofs.ListLaws.{
   same-numbers-refl,
   numbers-at,
   numbers-below,
-}
-use Rattle.theory.proofs.PositionLaws.{
-  NoTwo,
   at-joined,
-  no-two-append,
-  no-two-keep,
-  no-two-weaken,
-  no-two-distinct,
-  no-two-map,
+  distinct-mem,
+  eqb-decides,
 }
-use Rattle.theory.proofs.TableAutomaton.{label-of}
-use Rattle.theory.proofs.ReducedTable.{HasRule, ReducedTable}
+use Rattle.theory.proofs.TableAutomaton.{label-rule}
+use Rattle.theory.proofs.ReducedTable.{ReducedTable}
+use Rattle.theory.proofs.TableConditions.{HasRule}
+use Rattle.theory.proofs.NoTwo.{no-two-append, no-two-keep, no-two-map, no-two-weaken, no-two-distinct, NoTwo}
 
 -- the worklist
 module _ (g : Table) where
@@ -190,19 +185,14 @@ set-met g s t = (there, back)
 
     back : OneLabelSet g (typesMet g s) t → List·Memᴰ t (setsMet g s)
     back o =
-        let (l, p, e) =
-        distinct-has eqb (λ n. eq-eqb n n refl)
-        (λ x y z p q. eq-eqb x z (eqb-true x y p ∙ eqb-true y z q))
-        (Memᴰ·map (labelOf g) (o .listed))
-        in
-        Memᴰ·cast (o .alike ∙ ap (ofLabel g (typesMet g s)) (sym (eqb-true l (labelOf g (o .type)) e)))
-        (Memᴰ·map (ofLabel g (typesMet g s)) p)
+        Memᴰ·cast (o .alike)
+        (Memᴰ·map (ofLabel g (typesMet g s)) (distinct-mem eqb eqb-decides (Memᴰ·map (labelOf g) (o .listed))))
 
 module _ (g : Table) (reduced : ReducedTable g) where
   pub label-below : {k : ℕ} → HasRule g k → labelOf g k < length (g .labels)
   label-below h =
       subst (λ (l : ℕ). l < length (g .labels))
-      (sym (label-of g (reduced .one-rule-each) (h .rule) (h .of-table)) ∙ ap (labelOf g) (h .of-type))
+      (sym (label-rule g (reduced .one-rule-each) h))
       (reduced .labelled (h .rule) (h .of-table))
 
   pub of-label : (types : List ℕ) (l k : ℕ) → List·Memᴰ k (ofLabel g types l) ↔ InSet g types l k
@@ -216,12 +206,12 @@ module _ (g : Table) (reduced : ReducedTable g) where
       there m =
           let (r, n, e) = Memᴰ·of-map (λ (r : Rule). r .type) (keep test (g .rules)) m in
           let (p, t) = kept test (g .rules) n in
+          let h : HasRule g k = record { rule = r; of-table = p; of-type = e } in
           record {
-            has-rule = record { rule = r; of-table = p; of-type = e };
+            has-rule = h;
             listed = Memᴰ·cast (sym e) (in-mem (r .type) types (and-right (eqb (r .label) l) (isIn (r .type) types) t));
             label =
-                ap (labelOf g) (sym e)
-                ∙ label-of g (reduced .one-rule-each) r p
+                label-rule g (reduced .one-rule-each) h
                 ∙ eqb-true (r .label) l (and-left (eqb (r .label) l) (isIn (r .type) types) t);
           }
 
@@ -230,7 +220,7 @@ module _ (g : Table) (reduced : ReducedTable g) where
           let r = h .has-rule .rule in
           let e = h .has-rule .of-type in
           let m = h .has-rule .of-table in
-          let d : r .label ≡ l = sym (label-of g (reduced .one-rule-each) r m) ∙ ap (labelOf g) e ∙ h .label in
+          let d : r .label ≡ l = sym (label-rule g (reduced .one-rule-each) (h .has-rule)) ∙ h .label in
           Memᴰ·cast (sym e)
           (Memᴰ·map (λ (r : Rule). r .type)
           (keep-mem test m

@@ -1,10 +1,11 @@
 -- Simplifying keeps the words of a content, and leaves none nowhere inside it:
+--     is-none           what isNone tells
 --     simplify-words    Word (simplify c) w ↔ Word c w
 --     prune-words       Word (prune known c) w ↔ Word c w, and every type of w is known
 --     simplify-clean    simplify c is none, or it is clean
 --     clean-word        a clean content has a word
 --     clean-standing    every type that stands in a clean content stands in a word of it (all types of a word of a content stand
---                       in the content: types-of-word of SameWords)
+--                       in the content: word-stands of Standing)
 --     prune-standing    every type that stands in a pruned content stands in a word of it, and is known
 use Prim.Native.Nat.{ℕ}
 use mathlib.Core.Bool.{Bool, true, false, not, false≢true}
@@ -57,35 +58,24 @@ use Rattle.grammar.specs.Content.{
 }
 use Rattle.grammar.specs.Reduce.{isNone, simplify, simplifyAll, prune}
 use Rattle.theory.proofs.BoolLaws.{or-cases, not-both, false-of}
-use Rattle.theory.proofs.ListLaws.{any-of, kept, keep-mem, in-mem, mem-in}
-use Rattle.theory.proofs.WordLaws.{Spells, spells-none, spells-next, replace-words}
-use Rattle.theory.proofs.SameWords.{
-  SameWords,
-  same-trans,
-  same-joined,
-  same-repeated,
-  same-either,
-  AllIn,
-  all-in-none,
-  all-in-append,
-  StandsIn,
-  choice-word,
-  operands-word,
-}
+use Rattle.theory.proofs.ListLaws.{any-of, kept, keep-mem, in-mem, mem-in, AllIn, all-in-none, all-in-append}
+use Rattle.theory.proofs.WordLaws.{Spells, spells-none, spells-next, replace-words, choice-words, operands-words}
+use Rattle.theory.proofs.SameWords.{SameWords, same-trans, same-joined, same-repeated, same-either}
+use Rattle.theory.proofs.Standing.{StandsIn, WordWith}
 
-none-is : (c : Content) → isNone c ≡ true → c ≡ none
+pub is-none : (c : Content) → isNone c ≡ true → c ≡ none
 unfolding isNone
-none-is none e = refl
-none-is empty e = absurd (false≢true e)
-none-is (type k) e = absurd (false≢true e)
-none-is (sequence cs) e = absurd (false≢true e)
-none-is (choice cs) e = absurd (false≢true e)
-none-is (anyNumber c) e = absurd (false≢true e)
-none-is (oneOrMore c) e = absurd (false≢true e)
-none-is (optional c) e = absurd (false≢true e)
+is-none none e = refl
+is-none empty e = absurd (false≢true e)
+is-none (type k) e = absurd (false≢true e)
+is-none (sequence cs) e = absurd (false≢true e)
+is-none (choice cs) e = absurd (false≢true e)
+is-none (anyNumber c) e = absurd (false≢true e)
+is-none (oneOrMore c) e = absurd (false≢true e)
+is-none (optional c) e = absurd (false≢true e)
 
 no-word : (c : Content) (w : List ℕ) → isNone c ≡ true → Word c w → ⊥
-no-word c w e v = subst (λ (d : Content). Word d w) (none-is c e) v
+no-word c w e v = subst (λ (d : Content). Word d w) (is-none c e) v
 
 none-in-turn : (cs : List Content) (w : List ℕ) → any isNone cs ≡ true → InTurn (operands cs) w → ⊥
 unfolding any operands
@@ -105,11 +95,11 @@ sequence-words cs false e w = Iff·rfl
 some-words : (cs : List Content) → SameWords (Word (choiceOf (keep (λ c. not (isNone c)) cs))) (OfOne (operands cs))
 some-words cs w = (
   λ v.
-      let h = choice-word w (keep (λ c. not (isNone c)) cs) .0 v in
-      operands-word w cs .1 (h .0, kept (λ c. not (isNone c)) cs (h .1) .0, h .2),
+      let h = choice-words (keep (λ c. not (isNone c)) cs) w .0 v in
+      operands-words cs w .1 (h .0, kept (λ c. not (isNone c)) cs (h .1) .0, h .2),
   λ v.
-      let h = operands-word w cs .0 v in
-      choice-word w (keep (λ c. not (isNone c)) cs) .1
+      let h = operands-words cs w .0 v in
+      choice-words (keep (λ c. not (isNone c)) cs) w .1
       (h .0, keep-mem (λ c. not (isNone c)) (h .1) (ap not (false-of (isNone (h .0)) (λ e. no-word (h .0) w e (h .2)))), h .2),
 )
 
@@ -311,13 +301,10 @@ mutual
 
 -- and each of its types stands in one
 module _ (k : ℕ) where
-  abbrev pub WordWith : Language → Type 0
-  WordWith L = (w : List ℕ) × L w × List·Memᴰ k w
-
-  front-with : (L M : Language) → WordWith L → SomeWord M → WordWith (Joined L M)
+  front-with : (L M : Language) → WordWith k L → SomeWord M → WordWith k (Joined L M)
   front-with L M p q = (p .0 ++ q .0, join L M (p .1) (q .1), Memᴰ·append-left (q .0) (p .2))
 
-  back-with : (L M : Language) → SomeWord L → WordWith M → WordWith (Joined L M)
+  back-with : (L M : Language) → SomeWord L → WordWith k M → WordWith k (Joined L M)
   back-with L M p q = (p .0 ++ q .0, join L M (p .1) (q .1), Memᴰ·append-right (p .0) (q .2))
 
   stands-in-none : StandsIn k none → ⊥
@@ -327,7 +314,7 @@ module _ (k : ℕ) where
   mutual
     unfolding typesIn typesInAll
 
-    pub clean-standing : {c : Content} → Clean c → StandsIn k c → WordWith (Word c)
+    pub clean-standing : {c : Content} → Clean c → StandsIn k c → WordWith k (Word c)
     clean-standing clean-empty m = elim m [ ]
     clean-standing (clean-type {k = l}) m = (l ∷ [], refl, m)
     clean-standing (clean-sequence a) m = standing-in-turn a m
@@ -343,7 +330,7 @@ module _ (k : ℕ) where
         front-with (Word c) (Repeated (Word c)) (clean-standing p m) ([], no-more)
     clean-standing (clean-optional p) m = let v = clean-standing p m in (v .0, inr (v .1), v .2)
 
-    standing-in-turn : {cs : Contents} → AllClean cs → List·Memᴰ k (typesInAll cs) → WordWith (InTurn cs)
+    standing-in-turn : {cs : Contents} → AllClean cs → List·Memᴰ k (typesInAll cs) → WordWith k (InTurn cs)
     standing-in-turn none-left m = elim m [ ]
     standing-in-turn (one-clean {c = c} {cs = cs} p a) m =
         ⊎-elim
@@ -351,7 +338,7 @@ module _ (k : ℕ) where
         (λ n. back-with (Word c) (InTurn cs) (clean-word p) (standing-in-turn a n))
         (List·Memᴰ·append-cases (typesIn c) m)
 
-    standing-of-one : {cs : Contents} → AllClean cs → List·Memᴰ k (typesInAll cs) → WordWith (OfOne cs)
+    standing-of-one : {cs : Contents} → AllClean cs → List·Memᴰ k (typesInAll cs) → WordWith k (OfOne cs)
     standing-of-one none-left m = elim m [ ]
     standing-of-one (one-clean {c = c} p a) m =
         ⊎-elim
@@ -360,10 +347,10 @@ module _ (k : ℕ) where
         (List·Memᴰ·append-cases (typesIn c) m)
 
   pub prune-standing : (known : List ℕ) (c : Content) → StandsIn k (prune known c)
-      → WordWith (Word (prune known c)) × List·Memᴰ k known
+      → WordWith k (Word (prune known c)) × List·Memᴰ k known
   prune-standing known c m = go (prune-clean known c)
     where
-      go : NoneOrClean (prune known c) → WordWith (Word (prune known c)) × List·Memᴰ k known
+      go : NoneOrClean (prune known c) → WordWith k (Word (prune known c)) × List·Memᴰ k known
       go (inl e) = absurd (stands-in-none (subst (StandsIn k) e m))
       go (inr p) =
           let v = clean-standing p m in

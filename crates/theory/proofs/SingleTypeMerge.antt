@@ -8,54 +8,17 @@
 --     single-type-form-place     the i-th rule is that of type i
 --     single-type-form-length    there are as many rules as sets; starts and types in contents are below that (-starts, -types)
 use Prim.Native.Nat.{ℕ, _≤_, _<_}
-use mathlib.Core.List.{
-  List,
-  [],
-  _∷_,
-  _++_,
-  append-nil,
-  map,
-  map-append,
-  List·Memᴰ,
-  List·Memᴰ·head,
-  List·Memᴰ·tail,
-  Memᴰ·cast,
-  Memᴰ·map,
-  Memᴰ·of-map,
-  Forall₂,
-  Forall₂·nil,
-  Forall₂·cons,
-}
+use mathlib.Core.List.{List, [], _∷_, map, List·Memᴰ, List·Memᴰ·head, Memᴰ·cast, Memᴰ·map, Memᴰ·of-map, Forall₂}
 use mathlib.Core.Logic.{_↔_}
 use mathlib.Core.Option.{some as just}
 use mathlib.Core.Path.{_≡_, refl, sym, _∙_, ap, subst}
 use lib.ListN.{length, length-map, getElem?, getD}
-use Rattle.grammar.specs.Lists.{place, joinedOf, sameNumbers}
+use Rattle.grammar.specs.Lists.{place, sameNumbers}
 use Rattle.grammar.specs.Limits.{Limits}
 use Rattle.grammar.specs.Names.{Name, SameName}
-use Rattle.grammar.specs.Content.{
-  Content,
-  none,
-  empty,
-  type,
-  sequence,
-  choice,
-  anyNumber,
-  oneOrMore,
-  optional,
-  Contents,
-  []ᶜ,
-  _∷ᶜ_,
-  Word,
-  typesIn,
-  typesInAll,
-  operands,
-  choiceOf,
-  replace,
-  replaceAll,
-}
+use Rattle.grammar.specs.Content.{Word, typesIn}
 use Rattle.grammar.specs.Table.{Rule, Table, Named, DistinctNames}
-use Rattle.grammar.specs.Derivation.{Fits, Derives, LetsIn}
+use Rattle.grammar.specs.Derivation.{Fits, LetsIn}
 use Rattle.grammar.specs.Kinds.{Competing, SingleType}
 use Rattle.grammar.specs.Least.{LetsInAll}
 use Rattle.grammar.specs.LocalForm.{labelOf}
@@ -71,36 +34,28 @@ use Rattle.grammar.specs.SingleTypeForm.{
   singleTypeForm,
 }
 use Rattle.theory.proofs.ListLaws.{
-  any-of,
   at-mem,
   mem-at,
   at-below,
   below-at,
   just-eq,
-  place-found,
-  joined-from,
-  same-numbers,
-  same-numbers-refl,
   numbers-below,
+  at-else,
+  at-map,
+  at-front,
+  related-map,
+  related-turn,
+  place-of,
+  numbers-decide,
 }
-use Rattle.theory.proofs.PositionLaws.{at-front, at-else, map-at}
 use Rattle.theory.proofs.NameLaws.{name-refl}
-use Rattle.theory.proofs.WordLaws.{choice-words, rename-words}
-use Rattle.theory.proofs.Standing.{word-stands}
-use Rattle.theory.proofs.Automaton.{Automaton, AllAlive}
+use Rattle.theory.proofs.WordLaws.{merge-words}
+use Rattle.theory.proofs.Standing.{word-stands, merge-type}
+use Rattle.theory.proofs.Automaton.{Automaton}
 use Rattle.theory.proofs.Merge.{Forth, Back, StartType, accepted-let-in}
 use Rattle.theory.proofs.LeastSingleType.{Arises, SingleTypeMerge, least-single-type}
-use Rattle.theory.proofs.TableAutomaton.{
-  typeName,
-  Steps,
-  tableAutomaton,
-  OneRuleEach,
-  Labelled,
-  label-of,
-  type-accepts,
-  table-accepts,
-}
-use Rattle.theory.proofs.ReducedTable.{HasRule, ReducedTable}
+use Rattle.theory.proofs.TableAutomaton.{typeName, Steps, tableAutomaton, table-accepts, table-kept}
+use Rattle.theory.proofs.ReducedTable.{ReducedTable}
 use Rattle.theory.proofs.SetsClosed.{
   OneLabelSet,
   founded-member,
@@ -120,39 +75,8 @@ use Rattle.theory.proofs.SetsClosed.{
   sets-distinct,
   each-set,
 }
-
--- the types that stand in a renamed content, and in a choice
-module _ (h : ℕ → ℕ) where
-  mutual
-    unfolding replace replaceAll typesIn typesInAll
-
-    renamed-types : (c : Content) → typesIn (replace c (λ k. type (h k))) ≡ map h (typesIn c)
-    renamed-types none = refl
-    renamed-types empty = refl
-    renamed-types (type k) = refl
-    renamed-types (sequence cs) = renamed-types-all cs
-    renamed-types (choice cs) = renamed-types-all cs
-    renamed-types (anyNumber c) = renamed-types c
-    renamed-types (oneOrMore c) = renamed-types c
-    renamed-types (optional c) = renamed-types c
-
-    renamed-types-all : (cs : Contents) → typesInAll (replaceAll cs (λ k. type (h k))) ≡ map h (typesInAll cs)
-    renamed-types-all []ᶜ = refl
-    renamed-types-all (c ∷ᶜ cs) =
-        ap (λ (l : List ℕ). l ++ typesInAll (replaceAll cs (λ k. type (h k)))) (renamed-types c)
-        ∙ ap (λ (l : List ℕ). map h (typesIn c) ++ l) (renamed-types-all cs)
-        ∙ sym (map-append h (typesIn c) (typesInAll cs))
-
-operands-types : (cs : List Content) → typesInAll (operands cs) ≡ joinedOf typesIn cs
-unfolding operands joinedOf typesInAll
-operands-types [] = refl
-operands-types (c ∷ cs) = ap (λ (l : List ℕ). typesIn c ++ l) (operands-types cs)
-
-choice-types : (cs : List Content) → typesIn (choiceOf cs) ≡ joinedOf typesIn cs
-unfolding choiceOf operands joinedOf typesIn
-choice-types [] = refl
-choice-types (c ∷ []) = sym (append-nil (typesIn c))
-choice-types (c ∷ d ∷ ds) = operands-types (c ∷ d ∷ ds)
+use Rattle.theory.proofs.TableConditions.{Labelled, OneRuleEach, HasRule}
+use Rattle.theory.proofs.ReducedAutomaton.{step-alive}
 
 -- the first of a set with members
 first-member : (s : TypeSet) {k : ℕ} → List·Memᴰ k s → List·Memᴰ (getD s 0 0) s
@@ -162,10 +86,6 @@ first-member (k ∷ s) m = List·Memᴰ·head refl
 -- the number of the set of a type's label among those met in a set
 abbrev setNumber : Table → List TypeSet → TypeSet → ℕ → ℕ
 setNumber g sets s k = place sameNumbers (ofLabel g (typesMet g s) (labelOf g k)) sets
-
--- what the rule of a member gives to the content of a set
-abbrev replaced : Table → List TypeSet → TypeSet → Rule → Content
-replaced g sets s r = replace (r .content) (λ k. type (setNumber g sets s k))
 
 -- a word of a set's content: that of a member's rule, types replaced by the number of their set
 record WordOfSet (g : Table) (sets : List TypeSet) (s : TypeSet) (w : List ℕ) : Type 0 where
@@ -182,23 +102,19 @@ word-of-set g sets s w = (there, back)
   where
     there : Word (contentOfSet g sets s) w → WordOfSet g sets s w
     there v =
-        let o = choice-words (map (replaced g sets s) (members g s)) w .0 v in
-        let (r, m, e) = Memᴰ·of-map (replaced g sets s) (members g s) (o .listed) in
-        let p = member-rule g s r .0 m in
-        let q =
-        rename-words (setNumber g sets s) (r .content) w .0 (subst (λ (c : Content). Word c w) (sym e) (o .word))
-        in
-        record { rule = r; of-table = p .0; of-set = p .1; source = q .source; word = q .in-language; renamed = q .renamed }
+        let u = merge-words (setNumber g sets s) (members g s) w .0 v in
+        let p = member-rule g s (u .rule) .0 (u .listed) in
+        record { rule = u .rule; of-table = p .0; of-set = p .1; source = u .source; word = u .word; renamed = u .renamed }
 
     back : WordOfSet g sets s w → Word (contentOfSet g sets s) w
     back h =
-        choice-words (map (replaced g sets s) (members g s)) w .1
+        merge-words (setNumber g sets s) (members g s) w .1
         (record {
-          content = replaced g sets s (h .rule);
-          listed = Memᴰ·map (replaced g sets s) (member-rule g s (h .rule) .1 (h .of-table, h .of-set));
-          word =
-              rename-words (setNumber g sets s) (h .rule .content) w .1
-              (record { source = h .source; in-language = h .word; renamed = h .renamed });
+          rule = h .rule;
+          listed = member-rule g s (h .rule) .1 (h .of-table, h .of-set);
+          source = h .source;
+          word = h .word;
+          renamed = h .renamed;
         })
 
 -- A type that stands in a set's content is the number of the set of a type met.
@@ -206,18 +122,9 @@ type-of-set : (g : Table) (sets : List TypeSet) (s : TypeSet) (k : ℕ) → List
     → (j : ℕ) × List·Memᴰ j (typesMet g s) × (setNumber g sets s j ≡ k)
 unfolding contentOfSet
 type-of-set g sets s k m =
-    let (c, n, p) =
-    joined-from typesIn (map (replaced g sets s) (members g s))
-    (subst (λ (l : List ℕ). List·Memᴰ k l) (choice-types (map (replaced g sets s) (members g s))) m)
-    in
-    let (r, q, e) = Memᴰ·of-map (replaced g sets s) (members g s) n in
-    let (j, o, d) =
-    Memᴰ·of-map (setNumber g sets s) (typesIn (r .content))
-    (subst (λ (l : List ℕ). List·Memᴰ k l) (renamed-types (setNumber g sets s) (r .content))
-    (subst (λ (c : Content). List·Memᴰ k (typesIn c)) (sym e) p))
-    in
+    let (r, q, j, o, e) = merge-type (setNumber g sets s) (members g s) k m in
     let (a, b) = member-rule g s r .0 q in
-    (j, type-met g s j .1 (record { rule = r; of-table = a; of-set = b; stands = o }), d)
+    (j, type-met g s j .1 (record { rule = r; of-table = a; of-set = b; stands = o }), e)
 
 -- the members of the i-th type: those of the i-th set
 pub record MemberOf (lim : Limits) (g : Table) (i k : ℕ) : Type 0 where
@@ -263,9 +170,7 @@ module _ (lim : Limits) (g : Table) where
   module _ (reduced : ReducedTable g) where
     -- A set that is found at a place is found there alone.
     number-at : {s : TypeSet} → List·Memᴰ s sets → getElem? sets (place sameNumbers s sets) ≡ just s
-    number-at {s} m =
-        let (t, at, e) = place-found sameNumbers s sets (any-of (sameNumbers s) m (same-numbers-refl s)) in
-        subst (λ (u : TypeSet). getElem? sets (place sameNumbers s sets) ≡ just u) (sym (same-numbers s t e)) at
+    number-at m = place-of sameNumbers numbers-decide m
 
     one-place : {s t : TypeSet} {i j : ℕ} → getElem? sets i ≡ just s → getElem? sets j ≡ just t → s ≡ t → i ≡ j
     one-place {s} {t} {i} {j} p q e = sets-distinct lim g reduced i j s t p q e
@@ -274,7 +179,7 @@ module _ (lim : Limits) (g : Table) where
     rule-at : (i : ℕ) {r : Rule} → getElem? (form .rules) i ≡ just r
         → (s : TypeSet) × (getElem? sets i ≡ just s) × (ruleOfSet g sets s ≡ r)
     unfolding singleTypeForm
-    rule-at i e = map-at (ruleOfSet g sets) sets i e
+    rule-at i e = at-map (ruleOfSet g sets) sets i e
 
     pub single-type-form-place : (i : ℕ) {r : Rule} → getElem? (singleTypeForm lim g .rules) i ≡ just r → r .type ≡ i
     unfolding ruleOfSet
@@ -451,7 +356,7 @@ module _ (lim : Limits) (g : Table) where
                 word = word-of-set g sets (f .set) w .1 (f .word);
               }
 
-      -- types of a word of a member's rule: they are met, they are members of the sets that they are replaced by, and alive
+      -- types of a word of a member's rule: they are met, they are members of the sets that they are replaced by
       word-met : {s : TypeSet} {w : List ℕ} (v : WordOfSet g sets s w) {j : ℕ} → List·Memᴰ j (v .source)
           → List·Memᴰ j (typesMet g s)
       word-met {s} v {j} m =
@@ -460,31 +365,15 @@ module _ (lim : Limits) (g : Table) where
             rule = v .rule;
             of-table = v .of-table;
             of-set = v .of-set;
-            stands = word-stands (v .rule .content) (v .word) m;
+            stands = word-stands (v .rule .content) (v .source) (v .word) j m;
           })
-
-      renamed-members : {s : TypeSet} → List·Memᴰ s sets → (u : List ℕ)
-          → ((j : ℕ) → List·Memᴰ j u → List·Memᴰ j (typesMet g s)) → Forall₂ Member (map (setNumber g sets s) u) u
-      renamed-members m [] met = Forall₂·nil
-      renamed-members m (j ∷ u) met =
-          Forall₂·cons (met-member m (met j (List·Memᴰ·head refl))) (renamed-members m u (λ i n. met i (List·Memᴰ·tail n)))
 
       word-members : {s : TypeSet} → List·Memᴰ s sets → {w : List ℕ} (v : WordOfSet g sets s w)
           → Forall₂ Member w (v .source)
       word-members {s} m v =
           subst (λ (z : List ℕ). Forall₂ Member z (v .source)) (sym (v .renamed))
-          (renamed-members m (v .source) (λ j n. word-met v n))
-
-      word-alive : (r : Rule) → List·Memᴰ r (g .rules) → {u : List ℕ} → Word (r .content) u → AllAlive (tableAutomaton g) u
-      word-alive r m v k n =
-          let h = reduced .content-rules r m k (word-stands (r .content) v n) in
-          let (t, d) = reduced .derives-some (h .rule) (h .of-table) in
-          record {
-            tree = t;
-            accepted =
-                type-accepts g (reduced .one-rule-each) (reduced .labelled) k t .1
-                (subst (λ (j : ℕ). Derives g j t) (h .of-type) d);
-          }
+          (related-turn {R = λ j i. Member i j} (λ j i p. p)
+          (related-map (setNumber g sets s) (v .source) (λ j n. met-member m (word-met v n))))
 
       abbrev automaton : Automaton ℕ
       automaton = tableAutomaton g
@@ -520,14 +409,17 @@ module _ (lim : Limits) (g : Table) where
       backward k n w f =
           let h = fits-set k n w .0 f in
           let v = h .word in
+          let step : Steps g (v .rule .type) (v .source) =
+          record { rule = v .rule; of-table = v .of-table; of-type = refl; word = v .word }
+          in
           record {
             state = v .rule .type;
             member = record { set = h .set; at = h .at; listed = v .of-set };
             named = h .named;
             next = v .source;
-            step = record { rule = v .rule; of-table = v .of-table; of-type = refl; word = v .word };
+            step = step;
             members = word-members (at-mem sets k (h .at)) v;
-            alive = word-alive (v .rule) (v .of-table) (v .word);
+            alive = step-alive g reduced step;
           }
 
       one-name : (k r s : ℕ) → Member k r → Member k s → SameName (typeName g r) (typeName g s)
@@ -580,13 +472,16 @@ module _ (lim : Limits) (g : Table) where
               → Arises automaton form Member k s
           from t at r =
               let v = reduced .content-words (r .rule) (r .of-table) s (r .stands) in
+              let step : Steps g (r .rule .type) (v .0) =
+              record { rule = r .rule; of-table = r .of-table; of-type = refl; word = v .1 }
+              in
               record {
                 state = r .rule .type;
                 member = record { set = t; at = at; listed = r .of-set };
-                next = v .word;
-                step = record { rule = r .rule; of-table = r .of-table; of-type = refl; word = v .of-content };
-                alive = word-alive (r .rule) (r .of-table) (v .of-content);
-                within = v .stands;
+                next = v .0;
+                step = step;
+                alive = step-alive g reduced step;
+                within = v .2;
               }
 
       start-states : (k : ℕ) → List·Memᴰ k (form .starts) → (s : ℕ) → Member k s → List·Memᴰ s (g .starts)
@@ -612,4 +507,4 @@ module _ (lim : Limits) (g : Table) where
           → LetsInAll H (LetsIn (singleTypeForm lim g))
       single-type-form-least H names kind keeps =
           least-single-type single-type-form-merge H names kind
-          (λ d a. keeps d (table-accepts g (reduced .one-rule-each) (reduced .labelled) d .0 a))
+          (table-kept g (reduced .one-rule-each) (reduced .labelled) H keeps)

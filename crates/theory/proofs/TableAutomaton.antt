@@ -1,17 +1,17 @@
 -- The automaton of a table in which each type has at most one rule, with a label among the labels: its states are the types, and a
 -- type steps to the words of its rule's content.
+--     label-rule       the label of a type is that of its rule
 --     type-accepts     a type accepts just what it derives
 --     table-accepts    the automaton accepts just what the table lets in
 --     table-kept       so a table that lets in all that this one lets in lets in all that the automaton accepts
-use Prim.Native.Nat.{ℕ, zero, suc, _<_}
-use native.Mathlib.Omega.{arith}
+use Prim.Native.Nat.{ℕ}
 use mathlib.Core.Bool.{Bool}
 use mathlib.Core.List.{List, [], _∷_, List·Memᴰ, List·Memᴰ·head, List·Memᴰ·not-nil}
 use mathlib.Core.Logic.{_↔_}
 use mathlib.Core.Option.{some as just}
 use mathlib.Core.Path.{_≡_, refl, sym, ap, subst}
 use lib.Dec.{eqb}
-use lib.ListN.{length, getElem?, getD}
+use lib.ListN.{getElem?, getD}
 use borrow.Author.Tests.{eqb-true, eq-eqb}
 use Rattle.grammar.specs.Lists.{keep}
 use Rattle.grammar.specs.Names.{Name, SameName}
@@ -19,10 +19,9 @@ use Rattle.grammar.specs.Content.{Word}
 use Rattle.grammar.specs.Tree.{Tree, Forest}
 use Rattle.grammar.specs.Table.{Rule, Table}
 use Rattle.grammar.specs.Derivation.{Fits, Derives, derives, DerivesAll, derives-none, derives-next, LetsIn}
-use Rattle.grammar.specs.Kinds.{NoTwoRules}
 use Rattle.grammar.specs.Least.{LetsInAll}
 use Rattle.grammar.specs.LocalForm.{labelOf}
-use Rattle.theory.proofs.ListLaws.{kept, keep-mem, below-at}
+use Rattle.theory.proofs.ListLaws.{kept, keep-mem, below-at, at-else}
 use Rattle.theory.proofs.KindLaws.{one-rule}
 use Rattle.theory.proofs.Automaton.{
   Automaton,
@@ -33,6 +32,7 @@ use Rattle.theory.proofs.Automaton.{
   accepts-next,
   AcceptsDocument,
 }
+use Rattle.theory.proofs.TableConditions.{Labelled, OneRuleEach, HasRule}
 
 -- the name of a type: that of its one rule's label
 unfoldable pub typeName : Table → ℕ → Name
@@ -47,17 +47,6 @@ pub record Steps (g : Table) (k : ℕ) (w : List ℕ) : Type 0 where
 
 abbrev pub tableAutomaton : Table → Automaton ℕ
 tableAutomaton g = record { name = typeName g; Step = Steps g; Start = λ k. List·Memᴰ k (g .starts) }
-
-abbrev pub OneRuleEach : Table → Type 0
-OneRuleEach g = NoTwoRules g (λ r s. r .type ≡ s .type)
-
-abbrev pub Labelled : Table → Type 0
-Labelled g = (r : Rule) → List·Memᴰ r (g .rules) → r .label < length (g .labels)
-
-at-else : {A : Type 0} (xs : List A) (i : ℕ) (d : A) {x : A} → getElem? xs i ≡ just x → getD xs i d ≡ x
-at-else [] i d e = let z : _≡_ {A = ℕ} 0 1 = cc in absurd (omega arith)
-at-else (y ∷ ys) zero d e = cc
-at-else (y ∷ ys) (suc i) d e = at-else ys i d e
 
 module _ (g : Table) (one-each : OneRuleEach g) where
   pub label-of : (r : Rule) → List·Memᴰ r (g .rules) → labelOf g (r .type) ≡ r .label
@@ -74,6 +63,9 @@ module _ (g : Table) (one-each : OneRuleEach g) where
           let k = kept of-type (g .rules) (subst (λ (l : List Rule). List·Memᴰ s l) (sym e) (List·Memᴰ·head refl)) in
           let same : s ≡ r = one-rule g (λ r s. r .type ≡ s .type) one-each s r (k .0) m (eqb-true (s .type) (r .type) (k .1)) in
           rw (e, labelOf) (ap (λ (q : Rule). q .label) same)
+
+  pub label-rule : {k : ℕ} (h : HasRule g k) → labelOf g k ≡ h .rule .label
+  label-rule h = subst (λ (j : ℕ). labelOf g j ≡ h .rule .label) (h .of-type) (label-of (h .rule) (h .of-table))
 
   pub type-name : (r : Rule) → List·Memᴰ r (g .rules) → {n : Name} → getElem? (g .labels) (r .label) ≡ just n → typeName g (r .type) ≡ n
   unfolding typeName

@@ -1,6 +1,6 @@
 -- A table that a file can hold is read back from its bytes:
 --   table-read-back : TableWithin lim classes g → readTable lim classes (tableBytes g) ≡ given g
-use Prim.Native.Nat.{ℕ, _+_, _≤_, _<_}
+use Prim.Native.Nat.{ℕ, _≤_, _<_}
 use native.Mathlib.Omega.{arith}
 use mathlib.Core.Bool.{true, false}
 use mathlib.Core.List.{List, [], _∷_, _++_, append-assoc, append-nil, List·Memᴰ, List·Memᴰ·head, Memᴰ·append-right}

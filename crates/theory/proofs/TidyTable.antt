@@ -1,4 +1,5 @@
--- Tidying the contents of a table, where tidying keeps a content's words and the types that stand in it:
+-- Tidying the contents of a table:
+--     tidy-same-rules     its rules are those of the table, up to equal words and types (SameRules), and so:
 --     tidy-documents      the tidied table lets in what the table lets in
 --     tidy-local          it is local, tidy-single-type single-type, if the table is
 --     tidy-one-rule       each type has at most one rule if it has so in the table
@@ -6,19 +7,18 @@
 --     tidy-names          no two labels have equal names if so in the table
 --     tidy-labelled       the rules' labels are among the labels if so in the table
 use Prim.Native.Nat.{ℕ}
-use mathlib.Core.List.{List, List·Memᴰ}
 use mathlib.Core.Logic.{_↔_}
 use mathlib.Core.Path.{_≡_, refl, sym, _∙_, ap}
 use lib.ListN.{getElem?}
-use Rattle.grammar.specs.Content.{Content, Word, typesIn}
 use Rattle.grammar.specs.Tree.{Tree}
 use Rattle.grammar.specs.Table.{Table, DistinctNames}
 use Rattle.grammar.specs.Derivation.{LetsIn}
 use Rattle.grammar.specs.Kinds.{Local, SingleType}
-use Rattle.grammar.specs.Tidy.{tidy, tidyTable}
+use Rattle.grammar.specs.Tidy.{tidyTable}
 use Rattle.theory.proofs.ListLaws.{related-map}
-use Rattle.theory.proofs.TableAutomaton.{OneRuleEach, Labelled}
 use Rattle.theory.proofs.SameRules.{SameRules, same-documents, same-local, same-single-type, same-one-rule, same-labelled}
+use Rattle.theory.proofs.TableConditions.{Labelled, OneRuleEach}
+use Rattle.theory.proofs.TidyWords.{tidy-words, tidy-types}
 
 module _ (g : Table) where
   pub tidy-labels : tidyTable g .labels ≡ g .labels
@@ -33,11 +33,9 @@ module _ (g : Table) where
   unfolding tidyTable
   tidy-names names = names
 
-module _ (tidy-words : (c : Content) (w : List ℕ) → Word (tidy c) w ↔ Word c w)
-    (tidy-types : (c : Content) (k : ℕ) → List·Memᴰ k (typesIn (tidy c)) ↔ List·Memᴰ k (typesIn c)) (g : Table) where
-  same-rules : SameRules (λ l m. l ≡ m) g (tidyTable g)
+  pub tidy-same-rules : SameRules (λ l m. l ≡ m) g (tidyTable g)
   unfolding tidyTable
-  same-rules =
+  tidy-same-rules =
       record {
         names = λ l m e. ap (λ (i : ℕ). getElem? (g .labels) i) e;
         one-label = λ l m l′ m′ p q. (λ e. sym p ∙ e ∙ q, λ e. p ∙ e ∙ sym q);
@@ -49,21 +47,21 @@ module _ (tidy-words : (c : Content) (w : List ℕ) → Word (tidy c) w ↔ Word
               type = refl;
               label = refl;
               words = λ w. let e = tidy-words (r .content) w in (e .1, e .0);
-              types = λ k. let e = tidy-types (r .content) k in (e .1, e .0);
+              types = λ k. let e = tidy-types k (r .content) in (e .1, e .0);
             });
       }
 
   pub tidy-documents : (d : Tree) → LetsIn (tidyTable g) d ↔ LetsIn g d
-  tidy-documents = same-documents same-rules
+  tidy-documents = same-documents tidy-same-rules
 
   pub tidy-local : Local g → Local (tidyTable g)
-  tidy-local = same-local same-rules
+  tidy-local = same-local tidy-same-rules
 
   pub tidy-single-type : SingleType g → SingleType (tidyTable g)
-  tidy-single-type = same-single-type same-rules
+  tidy-single-type = same-single-type tidy-same-rules
 
   pub tidy-one-rule : OneRuleEach g → OneRuleEach (tidyTable g)
-  tidy-one-rule = same-one-rule same-rules
+  tidy-one-rule = same-one-rule tidy-same-rules
 
   pub tidy-labelled : Labelled g → Labelled (tidyTable g)
-  tidy-labelled = same-labelled same-rules
+  tidy-labelled = same-labelled tidy-same-rules

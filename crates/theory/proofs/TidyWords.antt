@@ -1,9 +1,7 @@
 -- Tidying keeps the words of a content, and neither adds nor loses types:
 --     tidy-words    Word (tidy c) w ↔ Word c w
 --     tidy-types    a type stands in tidy c just where it stands in c
--- both where contents of equal bytes are equal (`injective`).
 use Prim.Native.Nat.{ℕ}
-use mathlib.Core.Bool.{true}
 use mathlib.Core.List.{
   List,
   [],
@@ -17,7 +15,7 @@ use mathlib.Core.List.{
   List·Memᴰ·append-cases,
 }
 use mathlib.Core.Logic.{_↔_, Iff·rfl, Iff·trans, ⊎-elim}
-use mathlib.Core.Path.{_≡_, refl, sym, ap, subst}
+use mathlib.Core.Path.{_≡_, refl, ap, subst}
 use Rattle.grammar.specs.Lists.{distinct, joinedOf}
 use Rattle.grammar.specs.Content.{
   Content,
@@ -40,21 +38,13 @@ use Rattle.grammar.specs.Content.{
   typesIn,
   typesInAll,
 }
-use Rattle.grammar.specs.ReadContent.{contentBytes, sameContent}
+use Rattle.grammar.specs.ReadContent.{sameContent}
 use Rattle.grammar.specs.Tidy.{listOf, alternatives, tidy, tidyAll}
-use Rattle.theory.proofs.ListLaws.{same-numbers, same-numbers-refl, distinct-was, distinct-has, joined-from, joined-mem}
-use Rattle.theory.proofs.SameWords.{
-  SameWords,
-  same-joined,
-  same-repeated,
-  same-either,
-  HoldsOfOne,
-  choice-word,
-  operands-word,
-  StandsIn,
-  choice-type,
-  operands-type,
-}
+use Rattle.theory.proofs.ListLaws.{distinct-was, joined-from, joined-mem, distinct-mem}
+use Rattle.theory.proofs.SameWords.{SameWords, same-joined, same-repeated, same-either}
+use Rattle.theory.proofs.ContentBytes.{same-content}
+use Rattle.theory.proofs.WordLaws.{HoldsOfOne, choice-words, operands-words}
+use Rattle.theory.proofs.Standing.{StandsIn, operands-type, choice-type}
 
 operands-listed : (cs : Contents) → operands (listOf cs) ≡ cs
 unfolding operands listOf
@@ -68,92 +58,79 @@ same-append {k} {u} {u′} {v} {v′} p q = (
   λ m. ⊎-elim (λ n. Memᴰ·append-left v (p .1 n)) (λ n. Memᴰ·append-right u (q .1 n)) (List·Memᴰ·append-cases u′ m),
 )
 
-module _ (injective : (c d : Content) → contentBytes c ≡ contentBytes d → c ≡ d) where
-  same-content : (c d : Content) → sameContent c d ≡ true → c ≡ d
-  unfolding sameContent
-  same-content c d e = injective c d (same-numbers (contentBytes c) (contentBytes d) e)
+-- a property that a choice has where one of its operands has it
+module _ (P : Content → Type 0) (choice-has : (cs : List Content) → P (choiceOf cs) ↔ HoldsOfOne P cs)
+    (operands-have : (cs : List Content) → P (choice (operands cs)) ↔ HoldsOfOne P cs) where
+  alone : (c : Content) → HoldsOfOne P (c ∷ []) ↔ P c
+  alone c = (λ h. subst P (List·Memᴰ·eq-of-singleton (h .1)) (h .2), λ p. (c, List·Memᴰ·head refl, p))
 
-  same-content-refl : (c : Content) → sameContent c c ≡ true
-  unfolding sameContent
-  same-content-refl c = same-numbers-refl (contentBytes c)
+  pub alternatives-have : (c : Content) → HoldsOfOne P (alternatives c) ↔ P c
+  unfolding alternatives
+  alternatives-have none = alone none
+  alternatives-have empty = alone empty
+  alternatives-have (type k) = alone (type k)
+  alternatives-have (sequence cs) = alone (sequence cs)
+  alternatives-have (choice cs) = (
+    λ h. subst (λ (ds : Contents). P (choice ds)) (operands-listed cs) (operands-have (listOf cs) .1 h),
+    λ p. operands-have (listOf cs) .0 (rw (operands-listed cs) p),
+  )
+  alternatives-have (anyNumber c) = alone (anyNumber c)
+  alternatives-have (oneOrMore c) = alone (oneOrMore c)
+  alternatives-have (optional c) = alone (optional c)
 
-  same-content-trans : (b c d : Content) → sameContent b c ≡ true → sameContent c d ≡ true → sameContent b d ≡ true
-  same-content-trans b c d p q = rw (same-content b c p) q
+  pub tidy-choice-has : (cs : List Content)
+      → P (choiceOf (distinct sameContent (joinedOf alternatives cs))) ↔ P (choice (operands cs))
+  tidy-choice-has cs = (λ p. operands-have cs .1 (there p), λ p. back (operands-have cs .0 p))
+    where
+      there : P (choiceOf (distinct sameContent (joinedOf alternatives cs))) → HoldsOfOne P cs
+      there p =
+          let h = choice-has (distinct sameContent (joinedOf alternatives cs)) .0 p in
+          let j = joined-from alternatives cs (distinct-was sameContent (joinedOf alternatives cs) (h .1)) in
+          (j .0, j .1, alternatives-have (j .0) .0 (h .0, j .2, h .2))
 
-  -- a property that a choice has where one of its operands has it
-  module _ (P : Content → Type 0) (choice-has : (cs : List Content) → P (choiceOf cs) ↔ HoldsOfOne P cs)
-      (operands-have : (cs : List Content) → P (choice (operands cs)) ↔ HoldsOfOne P cs) where
-    alone : (c : Content) → HoldsOfOne P (c ∷ []) ↔ P c
-    alone c = (λ h. subst P (List·Memᴰ·eq-of-singleton (h .1)) (h .2), λ p. (c, List·Memᴰ·head refl, p))
+      back : HoldsOfOne P cs → P (choiceOf (distinct sameContent (joinedOf alternatives cs)))
+      back h =
+          let a = alternatives-have (h .0) .1 (h .2) in
+          choice-has (distinct sameContent (joinedOf alternatives cs)) .1
+          (a .0, distinct-mem sameContent same-content (joined-mem alternatives (h .1) (a .1)), a .2)
 
-    pub alternatives-have : (c : Content) → HoldsOfOne P (alternatives c) ↔ P c
-    unfolding alternatives
-    alternatives-have none = alone none
-    alternatives-have empty = alone empty
-    alternatives-have (type k) = alone (type k)
-    alternatives-have (sequence cs) = alone (sequence cs)
-    alternatives-have (choice cs) = (
-      λ h. subst (λ (ds : Contents). P (choice ds)) (operands-listed cs) (operands-have (listOf cs) .1 h),
-      λ p. operands-have (listOf cs) .0 (rw (operands-listed cs) p),
-    )
-    alternatives-have (anyNumber c) = alone (anyNumber c)
-    alternatives-have (oneOrMore c) = alone (oneOrMore c)
-    alternatives-have (optional c) = alone (optional c)
+mutual
+  unfolding tidy tidyAll operands
 
-    pub tidy-choice-has : (cs : List Content)
-        → P (choiceOf (distinct sameContent (joinedOf alternatives cs))) ↔ P (choice (operands cs))
-    tidy-choice-has cs = (λ p. operands-have cs .1 (there p), λ p. back (operands-have cs .0 p))
-      where
-        there : P (choiceOf (distinct sameContent (joinedOf alternatives cs))) → HoldsOfOne P cs
-        there p =
-            let h = choice-has (distinct sameContent (joinedOf alternatives cs)) .0 p in
-            let j = joined-from alternatives cs (distinct-was sameContent (joinedOf alternatives cs) (h .1)) in
-            (j .0, j .1, alternatives-have (j .0) .0 (h .0, j .2, h .2))
+  pub tidy-words : (c : Content) → SameWords (Word (tidy c)) (Word c)
+  tidy-words none = λ w. Iff·rfl
+  tidy-words empty = λ w. Iff·rfl
+  tidy-words (type k) = λ w. Iff·rfl
+  tidy-words (sequence cs) = λ w. tidy-in-turn cs w
+  tidy-words (choice cs) =
+      λ w. Iff·trans (tidy-choice-has (λ c. Word c w) (λ cs. choice-words cs w) (λ cs. operands-words cs w) (tidyAll cs)) (tidy-of-one cs w)
+  tidy-words (anyNumber c) = same-repeated (λ w. tidy-words c w)
+  tidy-words (oneOrMore c) = same-joined (λ w. tidy-words c w) (same-repeated (λ w. tidy-words c w))
+  tidy-words (optional c) = same-either (λ w. Iff·rfl) (λ w. tidy-words c w)
 
-        back : HoldsOfOne P cs → P (choiceOf (distinct sameContent (joinedOf alternatives cs)))
-        back h =
-            let a = alternatives-have (h .0) .1 (h .2) in
-            let d = distinct-has sameContent same-content-refl same-content-trans (joined-mem alternatives (h .1) (a .1)) in
-            choice-has (distinct sameContent (joinedOf alternatives cs)) .1
-            (d .0, d .1, subst P (sym (same-content (d .0) (a .0) (d .2))) (a .2))
+  tidy-in-turn : (cs : Contents) → SameWords (InTurn (operands (tidyAll cs))) (InTurn cs)
+  tidy-in-turn []ᶜ = λ w. Iff·rfl
+  tidy-in-turn (c ∷ᶜ cs) = same-joined (λ w. tidy-words c w) (λ w. tidy-in-turn cs w)
 
+  tidy-of-one : (cs : Contents) → SameWords (OfOne (operands (tidyAll cs))) (OfOne cs)
+  tidy-of-one []ᶜ = λ w. Iff·rfl
+  tidy-of-one (c ∷ᶜ cs) = same-either (λ w. tidy-words c w) (λ w. tidy-of-one cs w)
+
+module _ (k : ℕ) where
   mutual
-    unfolding tidy tidyAll operands
+    unfolding tidy tidyAll operands typesIn typesInAll
 
-    pub tidy-words : (c : Content) → SameWords (Word (tidy c)) (Word c)
-    tidy-words none = λ w. Iff·rfl
-    tidy-words empty = λ w. Iff·rfl
-    tidy-words (type k) = λ w. Iff·rfl
-    tidy-words (sequence cs) = λ w. tidy-in-turn cs w
-    tidy-words (choice cs) =
-        λ w. Iff·trans (tidy-choice-has (λ c. Word c w) (choice-word w) (operands-word w) (tidyAll cs)) (tidy-of-one cs w)
-    tidy-words (anyNumber c) = same-repeated (λ w. tidy-words c w)
-    tidy-words (oneOrMore c) = same-joined (λ w. tidy-words c w) (same-repeated (λ w. tidy-words c w))
-    tidy-words (optional c) = same-either (λ w. Iff·rfl) (λ w. tidy-words c w)
+    pub tidy-types : (c : Content) → StandsIn k (tidy c) ↔ StandsIn k c
+    tidy-types none = Iff·rfl
+    tidy-types empty = Iff·rfl
+    tidy-types (type l) = Iff·rfl
+    tidy-types (sequence cs) = tidy-all-types cs
+    tidy-types (choice cs) =
+        Iff·trans (tidy-choice-has (StandsIn k) (choice-type k) (operands-type k) (tidyAll cs)) (tidy-all-types cs)
+    tidy-types (anyNumber c) = tidy-types c
+    tidy-types (oneOrMore c) = tidy-types c
+    tidy-types (optional c) = tidy-types c
 
-    tidy-in-turn : (cs : Contents) → SameWords (InTurn (operands (tidyAll cs))) (InTurn cs)
-    tidy-in-turn []ᶜ = λ w. Iff·rfl
-    tidy-in-turn (c ∷ᶜ cs) = same-joined (λ w. tidy-words c w) (λ w. tidy-in-turn cs w)
-
-    tidy-of-one : (cs : Contents) → SameWords (OfOne (operands (tidyAll cs))) (OfOne cs)
-    tidy-of-one []ᶜ = λ w. Iff·rfl
-    tidy-of-one (c ∷ᶜ cs) = same-either (λ w. tidy-words c w) (λ w. tidy-of-one cs w)
-
-  module _ (k : ℕ) where
-    mutual
-      unfolding tidy tidyAll operands typesIn typesInAll
-
-      pub tidy-types : (c : Content) → StandsIn k (tidy c) ↔ StandsIn k c
-      tidy-types none = Iff·rfl
-      tidy-types empty = Iff·rfl
-      tidy-types (type l) = Iff·rfl
-      tidy-types (sequence cs) = tidy-all-types cs
-      tidy-types (choice cs) =
-          Iff·trans (tidy-choice-has (StandsIn k) (choice-type k) (operands-type k) (tidyAll cs)) (tidy-all-types cs)
-      tidy-types (anyNumber c) = tidy-types c
-      tidy-types (oneOrMore c) = tidy-types c
-      tidy-types (optional c) = tidy-types c
-
-      tidy-all-types : (cs : Contents) → List·Memᴰ k (typesInAll (operands (tidyAll cs))) ↔ List·Memᴰ k (typesInAll cs)
-      tidy-all-types []ᶜ = Iff·rfl
-      tidy-all-types (c ∷ᶜ cs) = same-append (tidy-types c) (tidy-all-types cs)
+    tidy-all-types : (cs : Contents) → List·Memᴰ k (typesInAll (operands (tidyAll cs))) ↔ List·Memᴰ k (typesInAll cs)
+    tidy-all-types []ᶜ = Iff·rfl
+    tidy-all-types (c ∷ᶜ cs) = same-append (tidy-types c) (tidy-all-types cs)

@@ -5,10 +5,9 @@
 --     document-kept       a table that lets in the document lets in all that this automaton accepts
 --     least-document      a table of either kind that lets in the document lets in all that a single-type merge of it lets in
 use Prim.Native.Nat.{ℕ}
-use mathlib.Core.List.{List, [], _∷_}
+use mathlib.Core.List.{List}
 use mathlib.Core.Logic.{_↔_}
 use mathlib.Core.Path.{_≡_, refl, subst}
-use Rattle.grammar.specs.Names.{Name}
 use Rattle.grammar.specs.Tree.{Tree, node, Forest, []ᵗ, _∷ᵗ_}
 use Rattle.grammar.specs.Table.{Table, DistinctNames}
 use Rattle.grammar.specs.Derivation.{LetsIn}
@@ -27,16 +26,7 @@ use Rattle.theory.proofs.Automaton.{
   Alive,
 }
 use Rattle.theory.proofs.LeastSingleType.{SingleTypeMerge, least-single-type}
-
-abbrev pub rootName : Tree → Name
-rootName (node n ts) = n
-
-abbrev pub treesOf : Forest → List Tree
-treesOf []ᵗ = []
-treesOf (t ∷ᵗ ts) = t ∷ treesOf ts
-
-abbrev pub children : Tree → List Tree
-children (node n ts) = treesOf ts
+use Rattle.theory.proofs.TreeParts.{rootName, treesOf, children}
 
 abbrev pub treeAutomaton : Tree → Automaton Tree
 treeAutomaton d = record { name = rootName; Step = λ t u. u ≡ children t; Start = λ t. t ≡ d }

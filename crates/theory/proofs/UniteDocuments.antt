@@ -1,7 +1,7 @@
 -- Unite keeps the documents:
 --     unite-documents    where old's types are below the limit and rules' labels are among the labels, the united table lets in a
 --                        document iff the old table or the addition does
---     unite-labels       each rule's label is among the united labels
+--     unite-labelled     each rule's label is among the united labels
 --     unite-names        no two of the united labels have equal names, if no two of old's do and no two of the addition's
 --     unite-apart        a rule of old and a rule of the addition never have one type in the united table
 use Prim.Native.Nat.{ℕ, _+_, _<_}
@@ -10,20 +10,15 @@ use mathlib.Core.Bool.{Bool, true, false, not}
 use mathlib.Core.List.{
   List,
   [],
-  _∷_,
   _++_,
   map,
   List·Memᴰ,
-  List·Memᴰ·head,
-  List·Memᴰ·tail,
   List·Memᴰ·append-cases,
-  nil≢cons,
-  head-eq-of-cons-eq,
-  tail-eq-of-cons-eq,
   Memᴰ·append-left,
   Memᴰ·append-right,
   Memᴰ·map,
   Memᴰ·of-map,
+  Forall₂,
 }
 use mathlib.Core.Logic.{_↔_, _⊎_, inl, inr, ⊎-elim}
 use mathlib.Core.Option.{some}
@@ -34,17 +29,34 @@ use Rattle.grammar.specs.Lists.{any, keep, place}
 use Rattle.grammar.specs.Limits.{Limits}
 use Rattle.grammar.specs.Names.{Name, sameName, SameName}
 use Rattle.grammar.specs.Content.{Word}
-use Rattle.grammar.specs.Tree.{Tree, Forest}
+use Rattle.grammar.specs.Tree.{Tree}
 use Rattle.grammar.specs.Table.{Rule, Table, Named, DistinctNames}
-use Rattle.grammar.specs.Derivation.{Fits, Derives, derives, DerivesAll, derives-none, derives-next, LetsIn}
+use Rattle.grammar.specs.Derivation.{Fits, Derives, LetsIn}
 use Rattle.grammar.specs.Unite.{unitedLabels, shifted, added, unite}
 use Rattle.theory.proofs.BoolLaws.{not-both, passes-or-fails}
-use Rattle.theory.proofs.ListLaws.{any-of, any-found, keep-mem, kept, place-found, at-mem, at-below, below-at, just-eq}
-use Rattle.theory.proofs.NameLaws.{name-refl, name-sym, name-trans}
+use Rattle.theory.proofs.ListLaws.{
+  any-of,
+  any-found,
+  keep-mem,
+  kept,
+  place-found,
+  at-mem,
+  at-below,
+  below-at,
+  at-else,
+  at-joined,
+  at-front,
+  related-map,
+  related-turn,
+}
+use Rattle.theory.proofs.NameLaws.{name-refl, name-sym}
 use Rattle.theory.proofs.WordLaws.{rename-words}
-use Rattle.theory.proofs.PositionLaws.{at-joined, at-front, at-else, no-two-append, no-two-keep}
 use Rattle.theory.proofs.Standing.{word-stands}
-use Rattle.theory.proofs.TableConditions.{TypesBelow, LabelsListed}
+use Rattle.theory.proofs.TableConditions.{TypesBelow, Labelled}
+use Rattle.theory.proofs.NoTwo.{no-two-append, no-two-keep}
+use Rattle.theory.proofs.Covering.{covered-derived, WordsCovered}
+use Rattle.theory.proofs.CarryDerivations.{carry-tree}
+use Rattle.theory.proofs.NamedLabels.{label-named, same-named, one-name}
 
 module _ (lim : Limits) (old addition : Table) where
   abbrev united : Table
@@ -89,12 +101,7 @@ module _ (lim : Limits) (old addition : Table) where
       }
 
   -- a label of the addition gets the number of an equal name
-  record Relabelled (r : Rule) (m : Name) : Type 0 where
-    pub name : Name
-    pub listed : getElem? (united .labels) (inUnited r .label) ≡ some name
-    pub same : SameName m name
-
-  relabelled : (r : Rule) (m : Name) → getElem? (addition .labels) (r .label) ≡ some m → Relabelled r m
+  relabelled : (r : Rule) (m : Name) → getElem? (addition .labels) (r .label) ≡ some m → Named united (inUnited r .label) m
   unfolding unite
   relabelled r m e =
       let found = added-name m (at-mem (addition .labels) (r .label) e) in
@@ -105,29 +112,17 @@ module _ (lim : Limits) (old addition : Table) where
             subst (λ (n : Name). getElem? (unitedLabels old addition) (place sameName n (unitedLabels old addition)) ≡ some y)
             (sym (at-else (addition .labels) (r .label) [] e))
             at;
-        same = same;
+        same = name-sym m y same;
       }
 
   added-named : (r : Rule) (n : Name) → Named addition (r .label) n → Named united (inUnited r .label) n
-  added-named r n p =
-      let q = relabelled r (p .name) (p .listed) in
-      record {
-        name = q .name;
-        listed = q .listed;
-        same = name-trans (q .name) (p .name) n (name-sym (p .name) (q .name) (q .same)) (p .same);
-      }
+  added-named r n p = same-named (relabelled r (p .name) (p .listed)) (p .same)
 
   named-added : (r : Rule) (n : Name) → r .label < length (addition .labels) → Named united (inUnited r .label) n
       → Named addition (r .label) n
   named-added r n h p =
       let (m, at) = below-at (addition .labels) (r .label) h in
-      let q = relabelled r m at in
-      let e = just-eq (sym (q .listed) ∙ p .listed) in
-      record {
-        name = m;
-        listed = at;
-        same = name-trans m (q .name) n (q .same) (subst (λ (l : Name). SameName l n) e (p .same));
-      }
+      same-named (label-named at) (one-name (relabelled r m at) p)
 
   -- a rule of the united table is a rule of old or of the addition
   rule-of : {r : Rule} → List·Memᴰ r (united .rules)
@@ -168,21 +163,19 @@ module _ (lim : Limits) (old addition : Table) where
       }
 
   -- a derivation of old, or of the addition, is one of the united table
-  mutual
-    pub old-derives : {k : ℕ} {t : Tree} → Derives old k t → Derives united k t
-    old-derives (derives f ds) = derives (old-fits f) (old-derives-all ds)
+  old-derives : {k : ℕ} {t : Tree} → Derives old k t → Derives united k t
+  old-derives d = carry-tree old united (λ k. Unit {0}) (λ k n w ts p f a. (old-fits f, λ l m. tt)) d tt
 
-    pub old-derives-all : {w : List ℕ} {ts : Forest} → DerivesAll old w ts → DerivesAll united w ts
-    old-derives-all derives-none = derives-none
-    old-derives-all (derives-next d ds) = derives-next (old-derives d) (old-derives-all ds)
-
-  mutual
-    pub added-derives : {k : ℕ} {t : Tree} → Derives addition k t → Derives united (shifted lim k) t
-    added-derives (derives f ds) = derives (added-fits f) (added-derives-all ds)
-
-    pub added-derives-all : {w : List ℕ} {ts : Forest} → DerivesAll addition w ts → DerivesAll united (map (shifted lim) w) ts
-    added-derives-all derives-none = derives-none
-    added-derives-all (derives-next d ds) = derives-next (added-derives d) (added-derives-all ds)
+  added-derives : {k : ℕ} {t : Tree} → Derives addition k t → Derives united (shifted lim k) t
+  added-derives {k} d = covered-derived {Cover = λ k j. j ≡ shifted lim k} words d (shifted lim k) refl
+    where
+      words : WordsCovered addition united (λ k j. j ≡ shifted lim k)
+      words k j n w e f =
+          record {
+            word = map (shifted lim) w;
+            fits = subst (λ (i : ℕ). Fits united i n (map (shifted lim) w)) (sym e) (added-fits f);
+            covers = related-map (shifted lim) w (λ l m. refl);
+          }
 
   added-type : (s : Rule) → inUnited s .type ≡ lim .types + s .type
   unfolding added
@@ -194,8 +187,8 @@ module _ (lim : Limits) (old addition : Table) where
     unite-apart r s m e = let h = below .rules r m in let f = added-type s in omega arith
 
     -- a derivation of the united table from a type below the limit is one of old
-    fits-old : LabelsListed old → {k : ℕ} {n : Name} {w : List ℕ} → k < lim .types → Fits united k n w → Fits old k n w
-    fits-old listed {k} {n} {w} h f = ⊎-elim here (λ t. absurd (there t)) (rule-of (f .of-table))
+    fits-old : Labelled old → {k : ℕ} {n : Name} {w : List ℕ} → k < lim .types → Fits united k n w → Fits old k n w
+    fits-old labelled {k} {n} {w} h f = ⊎-elim here (λ t. absurd (there t)) (rule-of (f .of-table))
       where
         here : List·Memᴰ (f .rule) (old .rules) → Fits old k n w
         here m =
@@ -203,7 +196,7 @@ module _ (lim : Limits) (old addition : Table) where
               rule = f .rule;
               of-table = m;
               of-type = f .of-type;
-              of-name = named-old (f .rule .label) n (listed (f .rule) m) (f .of-name);
+              of-name = named-old (f .rule .label) n (labelled (f .rule) m) (f .of-name);
               word = f .word;
             }
 
@@ -214,20 +207,11 @@ module _ (lim : Limits) (old addition : Table) where
             omega arith
 
     fits-below : {k : ℕ} {n : Name} {w : List ℕ} → Fits old k n w → (l : ℕ) → List·Memᴰ l w → l < lim .types
-    fits-below f l m = below .contents (f .rule) (f .of-table) l (word-stands (f .rule .content) (f .word) m)
+    fits-below {w = w} f l m = below .contents (f .rule) (f .of-table) l (word-stands (f .rule .content) w (f .word) l m)
 
-    mutual
-      pub derives-old : {k : ℕ} {t : Tree} → Derives united k t → LabelsListed old → k < lim .types → Derives old k t
-      derives-old (derives f ds) listed h =
-          let e = fits-old listed h f in
-          derives e (derives-old-all ds listed (fits-below e))
-
-      pub derives-old-all : {w : List ℕ} {ts : Forest} → DerivesAll united w ts → LabelsListed old
-          → ((k : ℕ) → List·Memᴰ k w → k < lim .types) → DerivesAll old w ts
-      derives-old-all derives-none listed h = derives-none
-      derives-old-all (derives-next {k = k} d ds) listed h =
-          derives-next (derives-old d listed (h k (List·Memᴰ·head refl)))
-          (derives-old-all ds listed (λ l m. h l (List·Memᴰ·tail m)))
+    derives-old : Labelled old → {k : ℕ} {t : Tree} → Derives united k t → k < lim .types → Derives old k t
+    derives-old labelled =
+        carry-tree united old (λ k. k < lim .types) (λ k n w ts h f a. let e = fits-old labelled h f in (e, fits-below e))
 
     -- a derivation of the united table from a shifted type is one of the addition
     record FitsAdded (k : ℕ) (n : Name) (w : List ℕ) : Type 0 where
@@ -235,10 +219,10 @@ module _ (lim : Limits) (old addition : Table) where
       fits : Fits addition k n source
       renamed : w ≡ map (shifted lim) source
 
-    fits-added : LabelsListed addition → {j : ℕ} {n : Name} {w : List ℕ} → Fits united j n w → (k : ℕ) → j ≡ shifted lim k
+    fits-added : Labelled addition → {j : ℕ} {n : Name} {w : List ℕ} → Fits united j n w → (k : ℕ) → j ≡ shifted lim k
         → FitsAdded k n w
     unfolding added
-    fits-added listed {j} {n} {w} f k e = ⊎-elim (λ m. absurd (here m)) (λ t. there (t .0) (t .1) (t .2)) (rule-of (f .of-table))
+    fits-added labelled {j} {n} {w} f k e = ⊎-elim (λ m. absurd (here m)) (λ t. there (t .0) (t .1) (t .2)) (rule-of (f .of-table))
       where
         here : List·Memᴰ (f .rule) (old .rules) → ⊥
         here m = let h = below .rules (f .rule) m in let g = f .of-type ∙ e in omega arith
@@ -255,31 +239,31 @@ module _ (lim : Limits) (old addition : Table) where
                     rule = s;
                     of-table = m;
                     of-type = omega arith;
-                    of-name = named-added s n (listed s m) (subst (λ (r : Rule). Named united (r .label) n) (sym q) (f .of-name));
+                    of-name = named-added s n (labelled s m) (subst (λ (r : Rule). Named united (r .label) n) (sym q) (f .of-name));
                     word = v .in-language;
                   };
               renamed = v .renamed;
             }
 
-    mutual
-      pub derives-added : {j : ℕ} {t : Tree} → Derives united j t → LabelsListed addition → (k : ℕ) → j ≡ shifted lim k
-          → Derives addition k t
-      derives-added (derives f ds) listed k e =
-          let a = fits-added listed f k e in
-          derives (a .fits) (derives-added-all ds listed (a .source) (a .renamed))
+    derives-added : Labelled addition → {j : ℕ} {t : Tree} → Derives united j t → (k : ℕ) → j ≡ shifted lim k → Derives addition k t
+    derives-added labelled = covered-derived {Cover = λ j k. j ≡ shifted lim k} words
+      where
+        words : WordsCovered united addition (λ j k. j ≡ shifted lim k)
+        words j k n w e f =
+            let a = fits-added labelled f k e in
+            record {
+              word = a .source;
+              fits = a .fits;
+              covers =
+                  subst (λ (v : List ℕ). Forall₂ (λ j k. j ≡ shifted lim k) v (a .source)) (sym (a .renamed))
+                  (related-turn {R = λ k j. j ≡ shifted lim k} (λ k j p. p)
+                  (related-map (shifted lim) (a .source) (λ l m. refl)));
+            }
 
-      pub derives-added-all : {v : List ℕ} {ts : Forest} → DerivesAll united v ts → LabelsListed addition → (w : List ℕ)
-          → v ≡ map (shifted lim) w → DerivesAll addition w ts
-      derives-added-all derives-none listed [] e = derives-none
-      derives-added-all derives-none listed (k ∷ w) e = absurd (nil≢cons e)
-      derives-added-all (derives-next d ds) listed [] e = absurd (nil≢cons (sym e))
-      derives-added-all (derives-next d ds) listed (k ∷ w) e =
-          derives-next (derives-added d listed k (head-eq-of-cons-eq e)) (derives-added-all ds listed w (tail-eq-of-cons-eq e))
-
-    pub unite-documents : LabelsListed old → LabelsListed addition → (d : Tree)
+    pub unite-documents : Labelled old → Labelled addition → (d : Tree)
         → LetsIn (unite lim old addition) d ↔ (LetsIn old d ⊎ LetsIn addition d)
     unfolding unite
-    unite-documents old-listed added-listed d = (apart, ⊎-elim of-old of-addition)
+    unite-documents old-labelled added-labelled d = (apart, ⊎-elim of-old of-addition)
       where
         apart : LetsIn united d → LetsIn old d ⊎ LetsIn addition d
         apart l =
@@ -289,11 +273,11 @@ module _ (lim : Limits) (old addition : Table) where
             (record {
               start = l .start;
               of-table = m;
-              derived = derives-old (l .derived) old-listed (below .starts (l .start) m);
+              derived = derives-old old-labelled (l .derived) (below .starts (l .start) m);
             }))
             (λ m.
             let (k, n, e) = Memᴰ·of-map (shifted lim) (addition .starts) m in
-            inr (record { start = k; of-table = n; derived = derives-added (l .derived) added-listed k (sym e) }))
+            inr (record { start = k; of-table = n; derived = derives-added added-labelled (l .derived) k (sym e) }))
             (List·Memᴰ·append-cases (old .starts) (l .of-table))
 
         of-old : LetsIn old d → LetsIn united d
@@ -313,18 +297,17 @@ module _ (lim : Limits) (old addition : Table) where
             }
 
   -- Each rule's label is among the united labels.
-  pub unite-labels : LabelsListed old → LabelsListed addition → LabelsListed united
-  unite-labels old-listed added-listed r m = ⊎-elim here (λ t. there (t .0) (t .1) (t .2)) (rule-of m)
+  pub unite-labelled : Labelled old → Labelled addition → Labelled united
+  unite-labelled old-labelled added-labelled r m = ⊎-elim here (λ t. there (t .0) (t .1) (t .2)) (rule-of m)
     where
       here : List·Memᴰ r (old .rules) → r .label < length (united .labels)
       here n =
-          let (x, at) = below-at (old .labels) (r .label) (old-listed r n) in
-          let p : Named old (r .label) x = record { name = x; listed = at; same = name-refl x } in
-          at-below (united .labels) (r .label) (old-named (r .label) x p .listed)
+          let (x, at) = below-at (old .labels) (r .label) (old-labelled r n) in
+          at-below (united .labels) (r .label) (old-named (r .label) x (label-named at) .listed)
 
       there : (s : Rule) → List·Memᴰ s (addition .rules) → inUnited s ≡ r → r .label < length (united .labels)
       there s n e =
-          let (x, at) = below-at (addition .labels) (s .label) (added-listed s n) in
+          let (x, at) = below-at (addition .labels) (s .label) (added-labelled s n) in
           subst (λ (q : Rule). q .label < length (united .labels)) e
           (at-below (united .labels) (inUnited s .label) (relabelled s x at .listed))
 

@@ -1,4 +1,5 @@
 -- Keeping only the used labels, of a table whose rules' labels are among its labels:
+--     used-labels-same-rules     its rules are those of the table, up to the numbers of labels (SameRules), and so:
 --     used-labels-documents      it lets in what the table lets in
 --     used-labels-local          it is local, used-labels-single-type single-type, if the table is
 --     used-labels-one-rule       each type has at most one rule if it has so in the table
@@ -11,12 +12,12 @@ use mathlib.Core.Bool.{true, false}
 use mathlib.Core.List.{List, [], _∷_, List·Memᴰ, List·Memᴰ·head, List·Memᴰ·tail}
 use mathlib.Core.Logic.{_↔_}
 use mathlib.Core.Option.{some as just}
-use mathlib.Core.Path.{_≡_, refl, sym, _∙_, ap, subst}
+use mathlib.Core.Path.{_≡_, refl, sym, _∙_, subst}
 use lib.Dec.{eqb}
 use lib.ListN.{length, getElem?, getD, length-map}
 use borrow.Author.Tests.{eqb-true, eq-eqb}
-use Rattle.grammar.specs.Lists.{any, keep, place, allDistinct, numbersBelow}
-use Rattle.grammar.specs.Names.{Name}
+use Rattle.grammar.specs.Lists.{any, keep, allDistinct, numbersBelow}
+use Rattle.grammar.specs.Names.{Name, SameName}
 use Rattle.grammar.specs.Tree.{Tree}
 use Rattle.grammar.specs.Table.{Rule, Table, DistinctNames}
 use Rattle.grammar.specs.Derivation.{LetsIn}
@@ -30,17 +31,18 @@ use Rattle.theory.proofs.ListLaws.{
   just-eq,
   numbers-below,
   numbers-differ,
-  place-at,
   one-place,
   keep-differ,
   keep-either,
   at-or-else,
   map-at,
-  at-map,
   related-map,
+  place-of,
+  eqb-decides,
 }
-use Rattle.theory.proofs.TableAutomaton.{OneRuleEach, Labelled}
 use Rattle.theory.proofs.SameRules.{SameRules, same-documents, same-local, same-single-type, same-one-rule, same-labelled}
+use Rattle.theory.proofs.TableConditions.{Labelled, OneRuleEach}
+use Rattle.theory.proofs.NoTwo.{no-two-map}
 
 -- the used labels: labels of rules, among the labels, each once
 module _ (g : Table) where
@@ -64,16 +66,16 @@ module _ (g : Table) where
   nameOf : ℕ → Name
   nameOf l = getD (g .labels) l []
 
-  abbrev Stands : ℕ → ℕ → Type 0
+  abbrev pub Stands : ℕ → ℕ → Type 0
   Stands l i = getElem? (usedLabels g) i ≡ just l
 
   name-at : (l i : ℕ) → Stands l i → getElem? (g .labels) l ≡ just (nameOf l)
   unfolding nameOf
   name-at l i p = at-or-else (g .labels) l [] (used-below (at-mem (usedLabels g) i p))
 
-  same-rules : Labelled g → SameRules Stands g (withUsedLabels g)
+  pub used-labels-same-rules : Labelled g → SameRules Stands g (withUsedLabels g)
   unfolding nameOf withUsedLabels
-  same-rules labelled =
+  used-labels-same-rules labelled =
       record {
         names = λ l i p. name-at l i p ∙ sym (map-at nameOf (usedLabels g) i p);
         one-label =
@@ -87,37 +89,33 @@ module _ (g : Table) where
             (λ r m.
             record {
               type = refl;
-              label = place-at (r .label) (usedLabels g) (label-used labelled r m);
+              label = place-of eqb eqb-decides (label-used labelled r m);
               words = λ w. (λ v. v, λ v. v);
               types = λ k. (λ v. v, λ v. v);
             });
       }
 
   pub used-labels-documents : Labelled g → (d : Tree) → LetsIn (withUsedLabels g) d ↔ LetsIn g d
-  used-labels-documents labelled = same-documents (same-rules labelled)
+  used-labels-documents labelled = same-documents (used-labels-same-rules labelled)
 
   pub used-labels-local : Labelled g → Local g → Local (withUsedLabels g)
-  used-labels-local labelled = same-local (same-rules labelled)
+  used-labels-local labelled = same-local (used-labels-same-rules labelled)
 
   pub used-labels-single-type : Labelled g → SingleType g → SingleType (withUsedLabels g)
-  used-labels-single-type labelled = same-single-type (same-rules labelled)
+  used-labels-single-type labelled = same-single-type (used-labels-same-rules labelled)
 
   pub used-labels-one-rule : Labelled g → OneRuleEach g → OneRuleEach (withUsedLabels g)
-  used-labels-one-rule labelled = same-one-rule (same-rules labelled)
+  used-labels-one-rule labelled = same-one-rule (used-labels-same-rules labelled)
 
   pub used-labels-labelled : Labelled g → Labelled (withUsedLabels g)
-  used-labels-labelled labelled = same-labelled (same-rules labelled) labelled
+  used-labels-labelled labelled = same-labelled (used-labels-same-rules labelled) labelled
 
   pub used-labels-names : DistinctNames g → DistinctNames (withUsedLabels g)
   unfolding nameOf withUsedLabels
-  used-labels-names names i j m n p q e =
-      let a = at-map nameOf (usedLabels g) i p in
-      let b = at-map nameOf (usedLabels g) j q in
-      one-place (usedLabels g) i j used-differ (a .1) (b .1)
-      (names (a .0) (b .0) m n
-      (name-at (a .0) i (a .1) ∙ ap just (a .2))
-      (name-at (b .0) j (b .1) ∙ ap just (b .2))
-      e)
+  used-labels-names names =
+      no-two-map nameOf SameName (usedLabels g)
+      (λ i j l m p q e.
+      one-place (usedLabels g) i j used-differ p q (names l m (nameOf l) (nameOf m) (name-at l i p) (name-at m j q) e))
 
 -- different numbers that are all one number are at most one
 at-most-one : (n : ℕ) (ns : List ℕ) → allDistinct eqb ns ≡ true → ((m : ℕ) → List·Memᴰ m ns → n ≡ m) → length ns ≤ 1

@@ -21,17 +21,7 @@ use mathlib.Core.Path.{_≡_, refl, sym, _∙_, ap, subst}
 use Rattle.grammar.specs.Names.{Name}
 use Rattle.grammar.specs.Tree.{Tree, node, Forest, []ᵗ, _∷ᵗ_}
 use Rattle.grammar.specs.Sample.{Visit, rootNames, visits, visitsAll}
-
-abbrev pub rootName : Tree → Name
-rootName (node n ts) = n
-
-abbrev pub childrenOf : Tree → Forest
-childrenOf (node n ts) = ts
-
--- the tree is one of these
-abbrev pub OneOfTrees : Forest → Tree → Type 0
-OneOfTrees []ᵗ = λ t. ⊥
-OneOfTrees (s ∷ᵗ ts) = λ t. (t ≡ s) ⊎ OneOfTrees ts t
+use Rattle.theory.proofs.TreeParts.{rootName, childrenOf, treesOf, children}
 
 -- the tree t stands at the path p in a document, whose root stands below the path `above`
 abbrev mutual
@@ -103,38 +93,38 @@ mutual
       (List·Memᴰ·append-cases (visits t above) m)
 
 -- each root's name is the name of one of the trees
-pub root-named : (ts : Forest) {n : Name} → List·Memᴰ n (rootNames ts) → (t : Tree) × OneOfTrees ts t × (rootName t ≡ n)
+pub root-named : (ts : Forest) {n : Name} → List·Memᴰ n (rootNames ts) → (t : Tree) × List·Memᴰ t (treesOf ts) × (rootName t ≡ n)
 unfolding rootNames
 root-named []ᵗ m = elim m [ ]
 root-named (node n us ∷ᵗ ts) m =
     ⊎-elim
-    (λ e. (node n us, inl refl, sym e))
-    (λ q. let (t, o, e) = root-named ts q in (t, inr o, e))
+    (λ e. (node n us, List·Memᴰ·head refl, sym e))
+    (λ q. let (t, o, e) = root-named ts q in (t, List·Memᴰ·tail o, e))
     (List·Memᴰ·cases-cons m)
 
 -- children
-roots-stand : (ts : Forest) (above : List Name) (c : Tree) → OneOfTrees ts c → StandsAmong ts above (above ++ (rootName c ∷ [])) c
-roots-stand []ᵗ above c o = absurd o
+roots-stand : (ts : Forest) (above : List Name) (c : Tree) → List·Memᴰ c (treesOf ts) → StandsAmong ts above (above ++ (rootName c ∷ [])) c
+roots-stand []ᵗ above c o = elim o [ ]
 roots-stand (s ∷ᵗ ts) above c o =
     ⊎-elim
     (λ e.
     inl (subst (λ (z : Tree). StandsAt s above (above ++ (rootName z ∷ [])) z) (sym e) (root-stands s above)))
     (λ q. inr (roots-stand ts above c q))
-    o
+    (List·Memᴰ·cases-cons o)
 
 mutual
-  pub stands-child : (d : Tree) (above p : List Name) (t c : Tree) → StandsAt d above p t → OneOfTrees (childrenOf t) c
+  pub stands-child : (d : Tree) (above p : List Name) (t c : Tree) → StandsAt d above p t → List·Memᴰ c (children t)
       → StandsAt d above (p ++ (rootName c ∷ [])) c
   stands-child (node n ts) above p t c s o =
       ⊎-elim
       (λ e.
       inr
       (subst (λ (q : List Name). StandsAmong ts (above ++ (n ∷ [])) (q ++ (rootName c ∷ [])) c) (sym (e .0))
-      (roots-stand ts (above ++ (n ∷ [])) c (subst (λ (u : Tree). OneOfTrees (childrenOf u) c) (e .1) o))))
+      (roots-stand ts (above ++ (n ∷ [])) c (subst (λ (u : Tree). List·Memᴰ c (children u)) (e .1) o))))
       (λ q. inr (stands-child-all ts (above ++ (n ∷ [])) p t c q o))
       s
 
-  stands-child-all : (ts : Forest) (above p : List Name) (t c : Tree) → StandsAmong ts above p t → OneOfTrees (childrenOf t) c
+  stands-child-all : (ts : Forest) (above p : List Name) (t c : Tree) → StandsAmong ts above p t → List·Memᴰ c (children t)
       → StandsAmong ts above (p ++ (rootName c ∷ [])) c
   stands-child-all []ᵗ above p t c s o = absurd s
   stands-child-all (u ∷ᵗ ts) above p t c s o =
@@ -145,7 +135,7 @@ pub record Parent (Stands : List Name → Tree → Type 0) (p : List Name) (t : 
   pub path : List Name
   pub tree : Tree
   pub stands : Stands path tree
-  pub child : OneOfTrees (childrenOf tree) t
+  pub child : List·Memᴰ t (children tree)
   pub below : p ≡ path ++ (rootName t ∷ [])
 
 parent-more : (S S′ : List Name → Tree → Type 0) → ((p : List Name) (t : Tree) → S p t → S′ p t) → (p : List Name) (t : Tree)
@@ -174,18 +164,18 @@ mutual
       s
 
   stands-parent-all : (ts : Forest) (above p : List Name) (t : Tree) → StandsAmong ts above p t
-      → ((p ≡ above ++ (rootName t ∷ [])) × OneOfTrees ts t) ⊎ Parent (StandsAmong ts above) p t
+      → ((p ≡ above ++ (rootName t ∷ [])) × List·Memᴰ t (treesOf ts)) ⊎ Parent (StandsAmong ts above) p t
   stands-parent-all []ᵗ above p t s = absurd s
   stands-parent-all (u ∷ᵗ ts) above p t s =
       ⊎-elim
       (λ q.
       ⊎-elim
-      (λ r. inl (r .0, inl (r .1)))
+      (λ r. inl (r .0, List·Memᴰ·head (r .1)))
       (λ r. inr (parent-more (StandsAt u above) (StandsAmong (u ∷ᵗ ts) above) (λ p t. inl) p t r))
       (stands-parent u above p t q))
       (λ q.
       ⊎-elim
-      (λ r. inl (r .0, inr (r .1)))
+      (λ r. inl (r .0, List·Memᴰ·tail (r .1)))
       (λ r. inr (parent-more (StandsAmong ts above) (StandsAmong (u ∷ᵗ ts) above) (λ p t. inr) p t r))
       (stands-parent-all ts above p t q))
       s

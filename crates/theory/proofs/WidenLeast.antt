@@ -4,46 +4,42 @@
 -- for tables that a file can hold. 13 is given just where neither lets in a document: `no-document`.
 use Prim.Native.Nat.{ℕ, _≤_}
 use native.Mathlib.Omega.{arith}
-use mathlib.Core.Bool.{Bool, true, false, _||_, false≢true}
+use mathlib.Core.Bool.{Bool, true, false, false≢true}
 use mathlib.Core.List.{List, [], _∷_}
 use mathlib.Core.Logic.{_↔_, _⊎_, inl, inr, ⊎-elim}
-use mathlib.Core.Path.{_≡_, refl, sym, _∙_, ap, subst}
-use lib.ListN.{length, length-map}
-use lib.Dec.{ltb}
-use borrow.Author.Tests.{ltb-false}
+use mathlib.Core.Path.{_≡_, refl, sym, subst}
+use lib.ListN.{length}
 use Rattle.grammar.specs.Limits.{Limits}
 use Rattle.grammar.specs.Names.{Classes}
 use Rattle.grammar.specs.Tree.{Tree}
 use Rattle.grammar.specs.Table.{Table}
 use Rattle.grammar.specs.Derivation.{LetsIn}
 use Rattle.grammar.specs.Kinds.{Kind}
-use Rattle.grammar.specs.Least.{Addition, byTable, byDocument, LetsInAll, Rival, LeastWidening}
-use Rattle.grammar.specs.Outcome.{Outcome, given, refused, _>>=_, _>>_, turnBack}
+use Rattle.grammar.specs.Least.{byTable, byDocument, LetsInAll, LeastWidening}
+use Rattle.grammar.specs.Outcome.{given, refused, _>>_, turnBack}
 use Rattle.grammar.specs.declared.Refusal.the-variants.{NoDocument, ResultTooLarge}
 use Rattle.grammar.specs.WithinLimits.{TableWithin}
 use Rattle.grammar.specs.ReadTable.{isEmpty}
-use Rattle.grammar.specs.UsedLabels.{withUsedLabels}
-use Rattle.grammar.specs.Tidy.{tidyTable}
 use Rattle.grammar.specs.Size.{tooLarge}
 use Rattle.grammar.specs.Widen.{form, ofSize, reducedUnion, widenByTable, sampleTable, widen}
 use Rattle.grammar.specs.Sample.{sample}
-use Rattle.theory.proofs.BoolLaws.{or-false}
 use Rattle.theory.proofs.OutcomeLaws.{given-eq, was-given, had-no-fault}
 use Rattle.theory.proofs.ReducedUnion.{reduced-union, union-documents, union-nothing}
 use Rattle.theory.proofs.FinishedForm.{LeastForm, finished, finished-least}
 use Rattle.theory.proofs.LeastForms.{least-form}
 use Rattle.theory.proofs.SampleMembers.{sample-lets-in}
 use Rattle.theory.proofs.SampleLeast.{sample-least}
+use Rattle.theory.proofs.NumberedTable.{TableSmall, table-small, finished-rules}
 
 -- the table before its size is looked at
 abbrev pub unsized : Limits → Kind → Table → Table → Table
 unsized lim kind old addition = finished (form lim kind (reducedUnion lim old addition))
 
--- a widening that gave a table made this one, which is not too large
+-- a widening that gave a table made this one, which is not too large, of a form that has no more types than there may be
 pub record Widened (lim : Limits) (kind : Kind) (old addition result : Table) : Type 0 where
   pub made : result ≡ unsized lim kind old addition
-  pub of-size : tooLarge lim result ≡ false
-  pub has-start : isEmpty (reducedUnion lim old addition .starts) ≡ false
+  pub small : TableSmall lim (unsized lim kind old addition)
+  pub few : length (form lim kind (reducedUnion lim old addition) .rules) ≤ lim .types
 
 pub widened : (lim : Limits) (kind : Kind) (old addition result : Table) → widenByTable lim kind old addition ≡ given result
     → Widened lim kind old addition result
@@ -51,19 +47,9 @@ unfolding widenByTable ofSize
 widened lim kind old addition result e =
     let a = had-no-fault (isEmpty (reducedUnion lim old addition .starts)) NoDocument (ofSize lim (unsized lim kind old addition)) result e in
     let b = had-no-fault (tooLarge lim (unsized lim kind old addition)) ResultTooLarge (given (unsized lim kind old addition)) result (a .1) in
-    let q = given-eq (b .1) in
-    record { made = sym q; of-size = subst (λ (g : Table). tooLarge lim g ≡ false) q (b .0); has-start = a .0 }
-
--- not too large: at most as many rules as there may be types
-few-rules : (lim : Limits) (g : Table) → tooLarge lim g ≡ false → length (g .rules) ≤ lim .types
-unfolding tooLarge
-few-rules lim g e =
-    ltb-false (lim .types) (length (g .rules))
-    (or-false (ltb (lim .types) (length (g .rules))) _ (or-false (ltb (lim .types) (length (g .rules)) || _) _ e .0) .0)
-
-rules-finished : (g : Table) → length (finished g .rules) ≡ length (g .rules)
-unfolding tidyTable withUsedLabels
-rules-finished g = simp length-map
+    let small = table-small lim (unsized lim kind old addition) (b .0) in
+    let rules = finished-rules (form lim kind (reducedUnion lim old addition)) in
+    record { made = sym (given-eq (b .1)); small = small; few = subst (λ (n : ℕ). n ≤ lim .types) rules (small .few) }
 
 -- a table of any size is given or refused by 14
 not-thirteen : (lim : Limits) (g : Table) → ofSize lim g ≡ refused NoDocument → ⊥
@@ -83,10 +69,7 @@ module _ (lim : Limits) (classes : Classes) (kind : Kind) (old addition : Table)
   pub result-least : (result : Table) → widenByTable lim kind old addition ≡ given result → LeastForm kind reduced result
   result-least result e =
       let w = widened lim kind old addition result e in
-      let few = few-rules lim (unsized lim kind old addition) (subst (λ (g : Table). tooLarge lim g ≡ false) (w .made) (w .of-size)) in
-      let f =
-      least-form lim kind reduced (reduced-union lim classes old addition old-within addition-within)
-      (subst (λ (n : ℕ). n ≤ lim .types) (rules-finished (form lim kind reduced)) few) in
+      let f = least-form lim kind reduced (reduced-union lim classes old addition old-within addition-within) (w .few) in
       subst (λ (g : Table). LeastForm kind reduced g) (sym (w .made)) (finished-least kind reduced (form lim kind reduced) f)
 
   in-union : (d : Tree) → LetsIn old d ⊎ LetsIn addition d → LetsIn reduced d

@@ -5,7 +5,7 @@ use Prim.Native.Nat.{ℕ}
 use mathlib.Core.List.{List}
 use mathlib.Core.Logic.{_↔_, _⊎_, inr}
 use mathlib.Core.Path.{_≡_, refl, sym, _∙_, subst}
-use Rattle.grammar.specs.Limits.{Limits}
+use Rattle.grammar.specs.Limits.{Limits, LimitsAgree}
 use Rattle.grammar.specs.Names.{Classes}
 use Rattle.grammar.specs.Tree.{Tree}
 use Rattle.grammar.specs.Table.{Table}
@@ -20,7 +20,6 @@ use Rattle.grammar.specs.Widen.{widen, widenByTable, sampleTable}
 use Rattle.grammar.specs.Claim.{ReadsAs, WritesLeast}
 use Rattle.grammar.specs.declared.Refusal.the-variants.{NoDocument}
 use Rattle.theory.proofs.ReadWithin.{read-within}
-use Rattle.theory.proofs.NumberedTable.{LimitsAgree}
 use Rattle.theory.proofs.DocumentWithin.{document-within}
 use Rattle.theory.proofs.SampleWithin.{sample-within}
 use Rattle.theory.proofs.SampleMembers.{sample-lets-in}

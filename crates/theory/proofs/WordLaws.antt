@@ -2,8 +2,23 @@
 --     choice-words     a word of the choice of some contents is a word of one of them
 --     replace-words    a word of a replaced content spells a word of the content: each type by a word of what replaces it
 --     rename-words     where types replace types, the words are the renamed words
+--     merge-words      so those of the choice of some rules' contents with types replaced by types
 use Prim.Native.Nat.{ℕ}
-use mathlib.Core.List.{List, [], _∷_, _++_, append-assoc, append-nil, map, List·Memᴰ, List·Memᴰ·head, List·Memᴰ·tail}
+use mathlib.Core.List.{
+  List,
+  [],
+  _∷_,
+  _++_,
+  append-assoc,
+  append-nil,
+  map,
+  List·Memᴰ,
+  List·Memᴰ·head,
+  List·Memᴰ·tail,
+  List·Memᴰ·cases-cons,
+  Memᴰ·map,
+  Memᴰ·of-map,
+}
 use mathlib.Core.Logic.{_↔_, _⊎_, inl, inr, ⊎-elim}
 use mathlib.Core.Path.{_≡_, refl, sym, _∙_, ap, subst}
 use Rattle.grammar.specs.Content.{
@@ -32,38 +47,38 @@ use Rattle.grammar.specs.Content.{
   replace,
   replaceAll,
 }
+use Rattle.grammar.specs.Table.{Rule}
 
--- a word of one of some contents
-pub record OneOf (cs : List Content) (w : List ℕ) : Type 0 where
-  pub content : Content
-  pub listed : List·Memᴰ content cs
-  pub word : Word content w
+-- a property holds of one of some contents
+abbrev pub HoldsOfOne : (Content → Type 0) → List Content → Type 0
+HoldsOfOne P cs = (c : Content) × List·Memᴰ c cs × P c
 
-pub of-one : (cs : List Content) {w : List ℕ} → OneOf cs w → OfOne (operands cs) w
+of-one : (cs : List Content) {w : List ℕ} → HoldsOfOne (λ c. Word c w) cs → OfOne (operands cs) w
 unfolding operands
-of-one [] o = elim (o .listed) [ ]
-of-one (c ∷ cs) {w} o = go (o .content) (o .listed) (o .word) (λ p. of-one cs p)
-  where
-    go : (d : Content) → List·Memᴰ d (c ∷ cs) → Word d w → (OneOf cs w → OfOne (operands cs) w) → OfOne (operands (c ∷ cs)) w
-    go d (List·Memᴰ·head e) v ih = inl (subst (λ (x : Content). Word x w) e v)
-    go d (List·Memᴰ·tail m) v ih = inr (ih (record { content = d; listed = m; word = v }))
+of-one [] o = elim (o .1) [ ]
+of-one (c ∷ cs) {w} o =
+    ⊎-elim
+    (λ e. inl (subst (λ (x : Content). Word x w) e (o .2)))
+    (λ m. inr (of-one cs (o .0, m, o .2)))
+    (List·Memᴰ·cases-cons (o .1))
 
-pub one-of : (cs : List Content) {w : List ℕ} → OfOne (operands cs) w → OneOf cs w
+one-of : (cs : List Content) {w : List ℕ} → OfOne (operands cs) w → HoldsOfOne (λ c. Word c w) cs
 unfolding operands
 one-of [] o = absurd o
-one-of (c ∷ cs) (inl v) = record { content = c; listed = List·Memᴰ·head refl; word = v }
-one-of (c ∷ cs) (inr v) =
-    let o = one-of cs v in
-    record { content = o .content; listed = List·Memᴰ·tail (o .listed); word = o .word }
+one-of (c ∷ cs) (inl v) = (c, List·Memᴰ·head refl, v)
+one-of (c ∷ cs) (inr v) = let o = one-of cs v in (o .0, List·Memᴰ·tail (o .1), o .2)
 
-pub choice-words : (cs : List Content) (w : List ℕ) → Word (choiceOf cs) w ↔ OneOf cs w
+pub operands-words : (cs : List Content) (w : List ℕ) → Word (choice (operands cs)) w ↔ HoldsOfOne (λ c. Word c w) cs
+operands-words cs w = (one-of cs, of-one cs)
+
+pub choice-words : (cs : List Content) (w : List ℕ) → Word (choiceOf cs) w ↔ HoldsOfOne (λ c. Word c w) cs
 unfolding choiceOf operands
-choice-words [] w = (λ v. absurd v, λ o. elim (o .listed) [ ])
+choice-words [] w = (λ v. absurd v, λ o. elim (o .1) [ ])
 choice-words (c ∷ []) w = (
-  λ v. record { content = c; listed = List·Memᴰ·head refl; word = v },
+  λ v. (c, List·Memᴰ·head refl, v),
   λ o. ⊎-elim (λ v. v) (λ v. absurd v) (of-one (c ∷ []) o),
 )
-choice-words (c ∷ d ∷ ds) w = (one-of (c ∷ d ∷ ds), of-one (c ∷ d ∷ ds))
+choice-words (c ∷ d ∷ ds) w = operands-words (c ∷ d ∷ ds) w
 
 -- w spells u: a word of the language that stands for each type of u, joined in order
 pub data Spells (F : ℕ → Language) : List ℕ → List ℕ → Type 0 where
@@ -269,4 +284,33 @@ module _ (h : ℕ → ℕ) where
           in-language = r .in-language;
           spelling = subst (λ (z : List ℕ). Spells (λ k. Word (type (h k))) (r .source) z) (sym (r .renamed)) (respelled (r .source));
         }),
+  )
+
+-- a word of the content of one of some rules, renamed
+pub record RenamedWord (h : ℕ → ℕ) (rs : List Rule) (w : List ℕ) : Type 0 where
+  pub rule : Rule
+  pub listed : List·Memᴰ rule rs
+  pub source : List ℕ
+  pub word : Word (rule .content) source
+  pub renamed : w ≡ map h source
+
+module _ (h : ℕ → ℕ) (rs : List Rule) (w : List ℕ) where
+  renamed-content : Rule → Content
+  renamed-content r = replace (r .content) (λ k. type (h k))
+
+  pub merge-words : Word (choiceOf (map (λ (r : Rule). replace (r .content) (λ k. type (h k))) rs)) w ↔ RenamedWord h rs w
+  unfolding renamed-content
+  merge-words = (
+    λ v.
+        let (c, listed, word) = choice-words (map renamed-content rs) w .0 v in
+        let (r, m, e) = Memᴰ·of-map renamed-content rs listed in
+        let u = rename-words h (r .content) w .0 (subst (λ (c : Content). Word c w) (sym e) word) in
+        record { rule = r; listed = m; source = u .source; word = u .in-language; renamed = u .renamed },
+    λ v.
+        choice-words (map renamed-content rs) w .1 (
+          renamed-content (v .rule),
+          Memᴰ·map renamed-content (v .listed),
+          rename-words h (v .rule .content) w .1
+              (record { source = v .source; in-language = v .word; renamed = v .renamed }),
+        ),
   )

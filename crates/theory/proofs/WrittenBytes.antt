@@ -2,7 +2,7 @@
 --   table-bytes-small : BytesAgree lim classes → TableWithin lim classes g → AreBytes (tableBytes g)
 use Prim.Native.Nat.{ℕ, zero, suc, _/_, _%_, _≤_, _<_}
 use native.Mathlib.Omega.{arith}
-use mathlib.Core.Bool.{true, _&&_}
+use mathlib.Core.Bool.{true}
 use mathlib.Core.List.{
   List,
   [],
@@ -46,6 +46,7 @@ use Rattle.grammar.specs.WithinLimits.{TableWithin}
 use Rattle.theory.proofs.BoolLaws.{and-left, and-right}
 use Rattle.theory.proofs.ListLaws.{all-at, joined-from, numbers-length}
 use Rattle.theory.proofs.FieldBytes.{AreBytes}
+use Rattle.theory.proofs.ProperContents.{proper-operands}
 
 -- limits of files of bytes
 pub record BytesAgree (lim : Limits) (classes : Classes) : Type 0 where
@@ -127,22 +128,6 @@ name-small classes (b ∷ bs) l e = small-cons b bs first rest
 
 -- contents
 module _ (lim : Limits) (classes : Classes) (agree : BytesAgree lim classes) where
-  -- the count and the operands of a proper sequence or choice
-  record ProperOperands (cs : Contents) : Type 0 where
-    few : count cs < 256
-    proper : areProper lim cs ≡ true
-
-  proper-operands : (cs : Contents) → (leb 2 (count cs) && leb (count cs) (lim .operands) && areProper lim cs) ≡ true
-      → ProperOperands cs
-  proper-operands cs e =
-      let b = agree .operands in
-      let q = and-left (leb 2 (count cs) && leb (count cs) (lim .operands)) (areProper lim cs) e in
-      let n = leb-true (count cs) (lim .operands) (and-right (leb 2 (count cs)) (leb (count cs) (lim .operands)) q) in
-      record {
-        few = omega arith;
-        proper = and-right (leb 2 (count cs) && leb (count cs) (lim .operands)) (areProper lim cs) e;
-      }
-
   mutual
     unfolding contentBytes operandBytes isProper areProper
 
@@ -154,11 +139,13 @@ module _ (lim : Limits) (classes : Classes) (agree : BytesAgree lim classes) whe
         let q = ltb-true k (lim .types) e in
         small-cons 2 (k ∷ []) (omega arith) (small-cons k [] (omega arith) small-none)
     content-small (sequence cs) e =
-        let p = proper-operands cs e in
-        small-cons 3 _ (omega arith) (small-cons (count cs) _ (p .few) (operands-small cs (p .proper)))
+        let b = agree .operands in
+        let (some, few, proper) = proper-operands lim cs .0 e in
+        small-cons 3 _ (omega arith) (small-cons (count cs) _ (omega arith) (operands-small cs proper))
     content-small (choice cs) e =
-        let p = proper-operands cs e in
-        small-cons 4 _ (omega arith) (small-cons (count cs) _ (p .few) (operands-small cs (p .proper)))
+        let b = agree .operands in
+        let (some, few, proper) = proper-operands lim cs .0 e in
+        small-cons 4 _ (omega arith) (small-cons (count cs) _ (omega arith) (operands-small cs proper))
     content-small (anyNumber c) e = small-cons 5 (contentBytes c) (omega arith) (content-small c e)
     content-small (oneOrMore c) e = small-cons 6 (contentBytes c) (omega arith) (content-small c e)
     content-small (optional c) e = small-cons 7 (contentBytes c) (omega arith) (content-small c e)

@@ -3,7 +3,7 @@ use Prim.Native.Nat.{_-_, _≤_}
 use native.Mathlib.Omega.{arith}
 use mathlib.Core.Path.{_≡_, refl, _∙_, ap}
 use lib.ListN.{length, set, length-set}
-use Rattle.reader.proofs.WorkLaws.{clearedTo, cleared-size, cleared-next, cleared-all}
+use Rattle.reader.proofs.WorkLaws.{clearedTo, cleared-next, cleared-all}
 use Rattle.reader.proofs.calls.clear.Statement.{statement}
 use Rattle.reader.proofs.calls.clear.Tie as tie
 

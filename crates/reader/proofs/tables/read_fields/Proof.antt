@@ -51,7 +51,7 @@ returns c =
 
 after-field-requires : tie.Need-after-field-requires Inv-loop μ-loop
 after-field-requires c κs =
-    (found-inside (field-found (c .before .before .before .before .before .before .before .before .args .s .now) (c .before .before .before .before .before .loop .at) (sym (c .before .before .before .before .field-at .ensures) ∙ c .before .before .tag .given .1)), indexed (c .before .before .before .before .before .loop .inv))
+    record { inside = found-inside (field-found (c .before .before .before .before .before .before .before .before .args .s .now) (c .before .before .before .before .before .loop .at) (sym (c .before .before .before .before .field-at .ensures) ∙ c .before .before .tag .given .1)); indexed = indexed (c .before .before .before .before .before .loop .inv) }
 
 enum-told : tie.Need-enum-told Inv-loop μ-loop
 enum-told c =

@@ -1,7 +1,5 @@
 -- `tables::read_table` meets its contract.
 use mathlib.Core.Path.{sym, subst}
-use Rattle.grammar.specs.Limits.{standard}
-use Rattle.grammar.specs.Names.{asciiClasses}
 use Rattle.grammar.specs.Outcome.{Outcome}
 use Rattle.grammar.specs.Table.{Table}
 use Rattle.grammar.specs.declared.Refusal.the-variants.{InputTooLong}

@@ -1,0 +1,58 @@
+-- `starts::start_answer` meets its contract: each return is a case of the definition, in its order.
+use native.Mathlib.Omega.{arith}
+use mathlib.Core.Path.{sym, _∙_}
+use Rattle.reader.proofs.IndexedFaults.{start-not-one, start-after-rule, start-again, start-one-too-many, start-out, start-reads}
+use borrow.Author.Needs.{needs}
+use Rattle.reader.proofs.starts.start_answer.Statement.{statement}
+use Rattle.reader.proofs.starts.start_answer.Tie as tie
+
+sub-if1 : tie.Need-sub-if1
+sub-if1 c = search needs
+
+returns : tie.Need-returns
+returns c =
+    λ g x. sym (start-not-one x (c .before .before .pre .inside) (c .if1 .taken))
+
+returns-2 : tie.Need-returns-2
+returns-2 c =
+    λ g x. sym (start-after-rule x (c .before .before .before .pre .inside) (c .before .if1 .left) (c .if2 .taken))
+
+shared-slice-read-kind : tie.Need-shared-slice-read-kind
+shared-slice-read-kind c = search needs
+
+wide-requires : tie.Need-wide-requires
+wide-requires c κs = search needs
+
+repeated-start-requires : tie.Need-repeated-start-requires
+repeated-start-requires c κs = search needs
+
+returns-3 : tie.Need-returns-3
+returns-3 c =
+    λ g x. sym (start-again x (c .before .before .before .before .before .before .before .pre .inside) (c .before .before .before .before .before .if1 .left) (c .before .before .before .before .if2 .left) (sym (c .before .repeated-start .ensures g x) ∙ c .if3 .taken))
+
+returns-4 : tie.Need-returns-4
+returns-4 c =
+    λ g x. sym (start-one-too-many x (c .before .before .before .before .before .before .before .before .pre .inside) (c .before .before .before .before .before .before .if1 .left) (c .before .before .before .before .before .if2 .left) (sym (c .before .before .repeated-start .ensures g x) ∙ c .before .if3 .left) (c .if4 .taken))
+
+returns-5 : tie.Need-returns-5
+returns-5 c =
+    λ g x. sym (start-out x (c .before .before .before .before .before .before .before .before .before .pre .inside) (c .before .before .before .before .before .before .before .if1 .left) (c .before .before .before .before .before .before .if2 .left) (sym (c .before .before .before .repeated-start .ensures g x) ∙ c .before .before .if3 .left) (c .before .if4 .left) (omega (arith, c .before .before .before .before .wide .ensures .0, c .if5 .taken)))
+
+returns-6 : tie.Need-returns-6
+returns-6 c =
+    λ g x. sym (start-reads x (c .before .before .before .before .before .before .before .before .before .pre .inside) (c .before .before .before .before .before .before .before .if1 .left) (c .before .before .before .before .before .before .if2 .left) (sym (c .before .before .before .repeated-start .ensures g x) ∙ c .before .before .if3 .left) (c .before .if4 .left) (omega (arith, c .before .before .before .before .wide .ensures .0, c .if5 .left)))
+
+pub start-answer-spec : {M : Type 1} → statement M
+start-answer-spec =
+    tie.close
+    (tie.spec
+    sub-if1
+    returns
+    returns-2
+    shared-slice-read-kind
+    wide-requires
+    repeated-start-requires
+    returns-3
+    returns-4
+    returns-5
+    returns-6)
