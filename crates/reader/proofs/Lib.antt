@@ -1,8 +1,14 @@
+pub mod ExprLaws
+pub mod ExtentLaws
 pub mod ClassTable
 pub mod NameReading
 pub mod FieldReading
-pub mod ExprLaws
-pub mod ExtentLaws
+pub mod OpenLevels
+pub mod DocumentFields
+pub mod DocumentStepping
+pub mod DocumentLoop
+pub mod DocumentTrees
+pub mod DocumentAnswers
 pub mod AnswerLaws
 pub mod TableIndexLaws
 pub mod TableFaults
