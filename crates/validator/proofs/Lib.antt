@@ -1,3 +1,4 @@
 pub mod WalkLaws
 pub mod TypeLaws
 pub mod StackLaws
+pub mod VerdictLaws

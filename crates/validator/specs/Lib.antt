@@ -2,3 +2,4 @@ pub mod TypeSets
 pub mod WalkAt
 pub mod KnownTable
 pub mod KnownDocument
+pub mod ValidatorCalls

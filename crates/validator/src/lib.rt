@@ -1,3 +1,4 @@
 // Membership and kind of tables and documents, over their readers.
+pub mod calls;
 pub mod matching;
 pub mod membership;
