@@ -1,2 +1,5 @@
 // Membership and kind of tables and documents, over their readers.
+pub mod calls;
 pub mod kinds;
+pub mod matching;
+pub mod membership;

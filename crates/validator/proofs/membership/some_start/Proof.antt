@@ -1,0 +1,78 @@
+-- `some_start` meets its contract: no start before `i` is in the set.
+use Prim.Native.Nat.{ℕ, _-_, _<_}
+use native.Mathlib.Omega.{arith}
+use mathlib.Core.Bool.{Bool, false}
+use mathlib.Core.Path.{_≡_, sym, _∙_, ap}
+use borrow.Author.Count.{below-more}
+use borrow.Author.Needs.{needs}
+use Rattle.reader.specs.TableIndex.{startType}
+use Rattle.reader.proofs.LabelSearch.{start-passes, no-start-passes}
+use Rattle.sets.specs.Sets.{member}
+use Rattle.validator.specs.TypeSets.{setAt}
+use Rattle.validator.proofs.TypeLaws.{start-small, set-has}
+use Rattle.validator.proofs.membership.some_start.Statement.{statement}
+use Rattle.validator.proofs.membership.some_start.Tie as tie
+
+abbrev Inv-loop : tie.InvT-loop
+Inv-loop table words at index i₀ i = (k : ℕ) → k < i → setAt words at (startType index k) ≡ false
+
+abbrev μ-loop : tie.MeasureT-loop
+μ-loop table words at index i₀ i = index .starts - i
+
+element-copy-out-wide : tie.Need-element-copy-out-wide Inv-loop μ-loop
+element-copy-out-wide c = omega (arith, c .before .before .before .before .pre .0 .known .indexes .few-starts)
+
+has-requires : tie.Need-has-requires Inv-loop μ-loop
+has-requires c κs =
+    let small = start-small (c .before .before .before .before .before .before .pre .0 .known) (c .before .before .before .loop .i) (c .before .before .loop-test .taken) in
+    let read = c .wide .ensures .0 in
+    let room = c .before .before .before .before .before .before .pre .1 in
+    omega arith
+
+returns : tie.Need-returns Inv-loop μ-loop
+returns c =
+    let a = c .before .before .before .before .before .before .before .before .args in
+    let i = c .before .before .before .before .before .loop .i in
+    let below = c .before .before .before .before .loop-test .taken in
+    let small = start-small (c .before .before .before .before .before .before .before .before .pre .0 .known) i below in
+    λ g known.
+    sym (start-passes (known .indexes) (setAt (a .words .now) (a .at)) i below
+    (sym (set-has (a .words .now) (a .at) (startType (a .t2) i) small)
+    ∙ sym (c .before .has .ensures ∙ ap (λ (k : ℕ). member (a .words .now) (a .at) k) (c .before .before .wide .ensures .0))
+    ∙ c .if1 .taken))
+
+add-i : tie.Need-add-i Inv-loop μ-loop
+add-i c = omega (arith, c .before .before .before .before .before .before .before .before .pre .0 .known .indexes .few-starts)
+
+loop-again : tie.Need-loop-again Inv-loop μ-loop
+loop-again c =
+    let a = c .before .before .before .before .before .before .before .before .args in
+    let i = c .before .before .before .before .before .loop .i in
+    let small = start-small (c .before .before .before .before .before .before .before .before .pre .0 .known) i (c .before .before .before .before .loop-test .taken) in
+    below-more _ i (c .before .before .before .before .before .loop .inv)
+    (sym (set-has (a .words .now) (a .at) (startType (a .t2) i) small)
+    ∙ sym (c .before .has .ensures ∙ ap (λ (k : ℕ). member (a .words .now) (a .at) k) (c .before .before .wide .ensures .0))
+    ∙ c .if1 .left)
+
+returns-2 : tie.Need-returns-2 Inv-loop μ-loop
+returns-2 c =
+    let a = c .before .before .before .before .args in
+    let inv = c .before .loop .inv in
+    let over = c .loop-test .left in
+    λ g known. sym (no-start-passes (known .indexes) (setAt (a .words .now) (a .at)) (λ i h. inv i (omega arith)))
+
+pub some-start-spec : {M : Type 1} → statement M
+some-start-spec =
+    tie.close
+    (tie.spec
+    Inv-loop
+    μ-loop
+    (λ c k h. absurd (omega arith))
+    element-copy-out-wide
+    (λ c κs. search needs)
+    has-requires
+    returns
+    add-i
+    (λ c. omega arith)
+    loop-again
+    returns-2)

@@ -1,0 +1,28 @@
+-- A document that was read, known by where its nodes stand; and what is left when all its nodes are gone through.
+use Prim.Native.Nat.{ℕ, _+_, _≤_}
+use mathlib.Core.List.{List}
+use mathlib.Core.Path.{_≡_}
+use lib.ListN.{length}
+use Rattle.grammar.specs.Table.{Table}
+use Rattle.grammar.specs.Tree.{Tree}
+use Rattle.grammar.specs.Outcome.{given}
+use Rattle.grammar.specs.ReadDocument.{treeOf}
+use Rattle.grammar.specs.Membership.{typesOf}
+use Rattle.theory.proofs.MarkedRun.{holds}
+use Rattle.reader.specs.DocumentNodes.{Indexed, nodesIn}
+use Rattle.reader.specs.declared.documents.DocumentIndex.{DocumentIndex}
+use Rattle.reader.specs.declared.tables.TableIndex.{TableIndex}
+use Rattle.reader.proofs.DocumentTrees.{treeCount, Enough}
+use Rattle.validator.specs.KnownTable.{Known}
+use Rattle.validator.specs.TypeSets.{setAt}
+
+-- the nodes are one whole tree
+pub record KnownNodes (d : List ℕ) (nodes : DocumentIndex) : Type 0 where
+  pub indexed : Indexed d (nodes .names) (nodes .sizes) (nodes .children) (nodes .nodes)
+  pub one-tree : treeCount (nodesIn d nodes) ≡ 1
+  pub enough : Enough (nodesIn d nodes)
+
+-- the set at a word has the types of the root
+pub record RootTypes (s : List ℕ) (index : TableIndex) (d : List ℕ) (nodes : DocumentIndex) (words : List ℕ) (at : ℕ) : Type 0 where
+  pub inside : at + 4 ≤ length words
+  pub types : (g : Table) → Known s index g → (t : Tree) → treeOf (nodesIn d nodes) ≡ given t → setAt words at ≡ holds (typesOf g t)
