@@ -1,13 +1,18 @@
 // The answers of the calls, as numbers.
 ghost use mathlib.Core.Path.{_≡_};
-ghost use Rattle.grammar.specs.Answers.{readingNumbers};
+ghost use Rattle.grammar.specs.Answers.{readingNumbers, verdictNumbers};
+ghost use Rattle.vectors.specs.Checksum.{checksum};
 use crate::places::place_of;
 use crate::sums::byte_sum;
 use grammar::Reading;
+use grammar::Verdict;
 use reader::calls::document_reads;
 use reader::calls::label_name;
 use reader::calls::number_of;
 use reader::calls::table_reads;
+use validator::calls::is_local;
+use validator::calls::is_single_type;
+use validator::calls::lets_in;
 
 // A refusal's number or 0, the value, and the checksum of what was written or, for a name, of the part that came back.
 pub struct Told {
@@ -36,8 +41,36 @@ fn of_reading(answer: Reading, outsum: u32) -> Told
     }
 }
 
+// The numbers of a call that decides.
+fn of_verdict(answer: Verdict, outsum: u32) -> Told
+    ensures refusal { λ r. ⌜ r .refusal ≡ verdictNumbers answer .refusal ⌝ }
+    ensures value { λ r. ⌜ r .value ≡ verdictNumbers answer .value ⌝ }
+    ensures outsum { λ r. ⌜ r .outsum ≡ outsum ⌝ }
+{
+    match answer {
+        Verdict::Yes => Told {
+            refusal: 0,
+            value: 1,
+            outsum: outsum,
+        },
+        Verdict::No => Told {
+            refusal: 0,
+            value: 0,
+            outsum: outsum,
+        },
+        Verdict::Refused(r) => Told {
+            refusal: number_of(r),
+            value: 0,
+            outsum: outsum,
+        },
+    }
+}
+
 // The numbers of a name: where it stands, times 65,536, and its length.
-fn of_name(refusal: u32, table: &[u8], name: &[u8]) -> Told {
+fn of_name(refusal: u32, table: &[u8], name: &[u8]) -> Told
+    ensures refusal { λ r. ⌜ r .refusal ≡ refusal ⌝ }
+    ensures outsum { λ r. ⌜ r .outsum ≡ checksum (now (name .entry)) ⌝ }
+{
     let outsum = byte_sum(name);
     if refusal != 0 {
         return Told {
@@ -74,7 +107,9 @@ pub fn answer(
         1 => of_reading(table_reads(first, work), byte_sum(out)),
         2 => of_reading(document_reads(first, work), byte_sum(out)),
         3 => label_told(first, label as usize, work),
-        // 4 lets_in(first, second, work), 5 is_local(first, work), 6 is_single_type(first, work): with crate validator
+        4 => of_verdict(lets_in(first, second, work), byte_sum(out)),
+        5 => of_verdict(is_local(first, work), byte_sum(out)),
+        6 => of_verdict(is_single_type(first, work), byte_sum(out)),
         // 7 sample(first, out, work), 8 to 11 the widenings of first by second: with crate widening
         _ => Told {
             refusal: 99,
