@@ -1,1 +1,2 @@
 // Widening tables by a table or by a document to the least local or single-type table.
+pub mod drafts;
