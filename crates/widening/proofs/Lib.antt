@@ -1,3 +1,6 @@
 pub mod RowLaws
 pub mod KeptLaws
 pub mod FinishLaws
+pub mod VisitedNodes
+pub mod NumberingLaws
+pub mod SampleByNodes
