@@ -4,3 +4,5 @@ pub mod FinishLaws
 pub mod VisitedNodes
 pub mod NumberingLaws
 pub mod SampleByNodes
+pub mod FillLaws
+pub mod ParentLaws

@@ -17,6 +17,15 @@ use Rattle.theory.proofs.ListLaws.{keep-yes, keep-no, any-found, any-of, distin
 use Rattle.theory.proofs.DistinctLaws.{keep-append, keep-swap, keep-within}
 
 module _ {A : Type 0} where
+  -- where the first is the same, or is not
+  pub place-yes : (same : A → A → Bool) (x y : A) (ys : List A) → same x y ≡ true → place same x (y ∷ ys) ≡ zero
+  unfolding place
+  place-yes same x y ys e = rw (e, place)
+
+  pub place-no : (same : A → A → Bool) (x y : A) (ys : List A) → same x y ≡ false → place same x (y ∷ ys) ≡ suc (place same x ys)
+  unfolding place
+  place-no same x y ys e = rw (e, place)
+
   -- places in joined lists
   pub place-front : (same : A → A → Bool) (x : A) (xs ys : List A) → any (same x) xs ≡ true → place same x (xs ++ ys) ≡ place same x xs
   unfolding place any

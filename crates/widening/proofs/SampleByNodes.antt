@@ -27,13 +27,34 @@ use Rattle.theory.proofs.NameLaws.{name-refl, name-sym, name-trans}
 use Rattle.theory.proofs.PathLaws.{SamePath, path-refl, path-sym, path-trans, path-parts}
 use Rattle.theory.proofs.SampleMerge.{pathType, path-type, path-types}
 use Rattle.reader.proofs.DocumentTrees.{treeCount, Enough}
-use Rattle.widening.specs.SampleNodes.{parentsFrom, parentsOf, visitsFrom}
-use Rattle.widening.proofs.NumberingLaws.{listed-from, place-map, distinct-finer, numbers-within}
-use Rattle.widening.proofs.VisitedNodes.{
-  visits-nodes,
+use Rattle.widening.specs.SampleNodes.{
+  parentsFrom,
+  parentsOf,
+  visitsFrom,
   pathsIn,
   childrenIn,
   namesIn,
+  found,
+  nameAt,
+  pathAt,
+  parentAt,
+  visitAt,
+  kidsOf,
+  typeAt,
+  aboveAt,
+  sameAt,
+  sameNamed,
+  firstsOf,
+  labelled,
+  sequenceAt,
+  ofType,
+  contentOf,
+  ruleOf,
+  sampleOf,
+}
+use Rattle.widening.proofs.NumberingLaws.{listed-from, place-map, distinct-finer, numbers-within}
+use Rattle.widening.proofs.VisitedNodes.{
+  visits-nodes,
   visit-names,
   parents-many,
   path-step,
@@ -92,27 +113,6 @@ some-path : (p : List Name) (m : Name) → SamePath (p ++ (m ∷ [])) [] → ⊥
 unfolding samePath
 some-path [] m e = false≢true e
 some-path (a ∷ p) m e = false≢true e
-
-module _ (ns : List Node) where
-  abbrev pub found : List Visit
-  found = visitsFrom ([] ∷ []) ns
-
-  -- the name, the path, the parent and the visit of a node
-  abbrev pub nameAt : ℕ → Name
-  nameAt i = getD (namesIn ns) i []
-
-  abbrev pub pathAt : ℕ → List Name
-  pathAt i = getD (pathsIn found) i []
-
-  abbrev pub parentAt : ℕ → ℕ
-  parentAt i = getD (parentsOf ns) i 0
-
-  abbrev pub visitAt : ℕ → Visit
-  visitAt i = record { name = nameAt i; path = pathAt i; children = getD (childrenIn found) i [] }
-
-  -- the children of a node: the later nodes of which it is the parent
-  abbrev pub kidsOf : ℕ → List ℕ
-  kidsOf i = keep (λ j. eqb (parentAt j) i) (numbersFrom (suc i) (length ns - suc i))
 
 -- the root's path is its name
 pub root-path : (ns : List Node) → treeCount ns ≡ 1 → pathAt ns zero ≡ nameAt ns zero ∷ []
@@ -208,44 +208,6 @@ module _ (ns : List Node) (one : treeCount ns ≡ 1) (enough : Enough ns) where
       ∙ pick-keep (parentAt ns) (nameAt ns) i (suc i) m
 
 
-
-module _ (ns : List Node) (d : Tree) where
-  -- the type of a node, and what its parent's type is: none for the root
-  abbrev pub typeAt : ℕ → ℕ
-  typeAt i = pathType d (pathAt ns i)
-
-  abbrev pub aboveAt : ℕ → ℕ
-  aboveAt zero = zero
-  aboveAt (suc i) = suc (typeAt (parentAt ns (suc i)))
-
-  abbrev pub sameAt : ℕ → ℕ → Bool
-  sameAt i j = samePath (pathAt ns i) (pathAt ns j)
-
-  abbrev pub sameNamed : ℕ → ℕ → Bool
-  sameNamed i j = sameName (nameAt ns i) (nameAt ns j)
-
-  -- the first node of each path, and of these the first of each name
-  abbrev pub firstsOf : List ℕ
-  firstsOf = distinct sameAt (numbersBelow (length ns))
-
-  abbrev pub labelled : List ℕ
-  labelled = distinct sameNamed firstsOf
-
-  -- the child sequence of a node, and the choice of those of a type
-  abbrev pub sequenceAt : ℕ → Content
-  sequenceAt i = sequenceOf (map typeAt (kidsOf ns i))
-
-  abbrev pub ofType : ℕ → List ℕ
-  ofType k = keep (λ i. eqb (typeAt i) k) (numbersBelow (length ns))
-
-  abbrev pub contentOf : ℕ → Content
-  contentOf k = choiceOf (distinct sameContent (map sequenceAt (ofType k)))
-
-  abbrev pub ruleOf : ℕ → Rule
-  ruleOf i = record { type = typeAt i; label = place sameNamed i labelled; content = contentOf (typeAt i) }
-
-  abbrev pub sampleOf : Table
-  sampleOf = record { labels = map (nameAt ns) labelled; starts = zero ∷ []; rules = map ruleOf firstsOf }
 
 module _ (ns : List Node) (one : treeCount ns ≡ 1) (enough : Enough ns) (d : Tree) (tree : treeOf ns ≡ given d) where
   pub visits-at : visits d [] ≡ map (visitAt ns) (numbersBelow (length ns))

@@ -19,7 +19,7 @@ use Rattle.grammar.specs.ReadDocument.{Node, forestOf, firstTrees, otherTrees, 
 use Rattle.grammar.specs.Sample.{Visit, rootNames, visits, visitsAll}
 use Rattle.theory.proofs.OutcomeLaws.{given-eq}
 use Rattle.reader.proofs.DocumentTrees.{treeCount, Enough}
-use Rattle.widening.specs.SampleNodes.{parentsFrom, parentsOf, visitsFrom}
+use Rattle.widening.specs.SampleNodes.{parentsFrom, visitsFrom, pathsIn, childrenIn, namesIn}
 
 -- the visits of trees, each with its own path above
 visitsPer : Forest → List (List Name) → List Visit
@@ -61,16 +61,6 @@ visits-nodes (n ∷ ns) d e =
     ap (λ (t : Tree). visits t []) (sym same)
     ∙ sym (ap (λ (l : List Visit). visits root [] ++ l) (per-none later) ∙ append-nil (visits root []))
     ∙ per-nodes (n ∷ ns) ([] ∷ [])
-
--- what a list of visits or nodes says at a place
-abbrev pub pathsIn : List Visit → List (List Name)
-pathsIn vs = map (λ (v : Visit). v .path) vs
-
-abbrev pub childrenIn : List Visit → List (List Name)
-childrenIn vs = map (λ (v : Visit). v .children) vs
-
-abbrev pub namesIn : List Node → List Name
-namesIn ns = map (λ (n : Node). n .name) ns
 
 -- as many are left for those to come as there are trees to come
 pub handed-many : {A : Type 0} (k : ℕ) (a : A) (tops : List A) (m : ℕ) → suc (length tops) ≡ suc (m - k) → k ≤ m → length (replicate k a ++ tops) ≡ m
