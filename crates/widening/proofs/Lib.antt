@@ -6,3 +6,4 @@ pub mod NumberingLaws
 pub mod SampleByNodes
 pub mod FillLaws
 pub mod ParentLaws
+pub mod TypeLaws

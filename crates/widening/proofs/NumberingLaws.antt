@@ -4,14 +4,16 @@
 --   number-stays   : the place found then is the place in the end
 --   distinct-finer : the distinct ones of a finer test first make no difference
 --   place-map, listed-from : numbers of images; a list by its places
-use Prim.Native.Nat.{ℕ, zero, suc, _+_, _≤_, _<_}
+use Prim.Native.Nat.{ℕ, zero, suc, _+_, _-_, _≤_, _<_}
 use native.Mathlib.Omega.{arith}
+use native.Mathlib.Numerals.{add-one}
 use mathlib.Core.Bool.{Bool, true, false, not, _||_, true≢false}
-use mathlib.Core.List.{List, [], _∷_, _++_, map, append-nil, append-assoc, List·Memᴰ, List·Memᴰ·cases-cons}
-use mathlib.Core.Logic.{⊎-elim}
+use mathlib.Core.List.{List, [], _∷_, _++_, map, append-nil, append-assoc, List·Memᴰ, List·Memᴰ·head, List·Memᴰ·tail, List·Memᴰ·cases-cons}
+use mathlib.Core.Logic.{_⊎_, inl, inr, ⊎-elim}
 use mathlib.Core.Path.{_≡_, refl, sym, _∙_, ap, subst}
-use lib.ListN.{length, getD}
-use Rattle.grammar.specs.Lists.{any, keep, distinct, place, numbersFrom}
+use lib.ListN.{length, getD, set, take}
+use lib.Seq.{length-take-le, take-suc-set, take-set-le}
+use Rattle.grammar.specs.Lists.{any, keep, distinct, place, numbersFrom, numbersBelow}
 use Rattle.theory.proofs.BoolLaws.{false-of, not-both, or-false, or-left, or-right, same-test}
 use Rattle.theory.proofs.ListLaws.{keep-yes, keep-no, any-found, any-of, distinct-was, distinct-has}
 use Rattle.theory.proofs.DistinctLaws.{keep-append, keep-swap, keep-within}
@@ -257,3 +259,81 @@ unfolding numbersFrom
 numbers-within from zero m = elim m [ ]
 numbers-within from (suc n) {k} m =
     ⊎-elim (λ e. omega arith) (λ q. let r = numbers-within (suc from) n q in omega arith) (List·Memᴰ·cases-cons m)
+
+pub numbers-end : (n : ℕ) → numbersBelow (n + 1) ≡ numbersBelow n ++ (n ∷ [])
+unfolding numbersBelow
+numbers-end n =
+    let z : zero + n ≡ n = omega arith in
+    ap (numbersFrom zero) (add-one n) ∙ numbers-next zero n ∙ ap (λ (k : ℕ). numbersFrom zero n ++ (k ∷ [])) z
+
+numbers-parts : (a m k : ℕ) → numbersFrom a (m + suc k) ≡ numbersFrom a m ++ ((a + m) ∷ numbersFrom (suc (a + m)) k)
+unfolding numbersFrom
+numbers-parts a zero k =
+    let z : zero + suc k ≡ suc k = omega arith in
+    let y : a ≡ a + 0 = omega arith in
+    ap (numbersFrom a) z ∙ ap (λ (n : ℕ). n ∷ numbersFrom (suc n) k) y
+numbers-parts a (suc m) k =
+    let z : suc m + suc k ≡ suc (m + suc k) = omega arith in
+    let y : suc a + m ≡ a + suc m = omega arith in
+    ap (numbersFrom a) z
+    ∙ ap (λ (l : List ℕ). a ∷ l)
+    (numbers-parts (suc a) m k ∙ ap (λ (n : ℕ). numbersFrom (suc a) m ++ (n ∷ numbersFrom (suc n) k)) y)
+
+pub numbers-split : (n i : ℕ) → i < n → (later : List ℕ) × (numbersBelow n ≡ numbersBelow i ++ i ∷ later)
+unfolding numbersBelow
+numbers-split n i h =
+    let z : n ≡ i + suc (n - suc i) = omega arith in
+    let y : zero + i ≡ i = omega arith in
+    (numbersFrom (suc i) (n - suc i),
+     ap (numbersFrom zero) z
+     ∙ numbers-parts zero i (n - suc i)
+     ∙ ap (λ (k : ℕ). numbersFrom zero i ++ (k ∷ numbersFrom (suc k) (n - suc i))) y)
+
+-- tests that agree find the same place
+pub place-agree : {A : Type 0} (p q : A → A → Bool) (x : A) (xs : List A) → ((y : A) → List·Memᴰ y xs → p x y ≡ q x y)
+    → place p x xs ≡ place q x xs
+unfolding place
+place-agree p q x [] h = refl
+place-agree p q x (y ∷ ys) h = go (q x y) refl (place-agree p q x ys (λ z m. h z (List·Memᴰ·tail m)))
+  where
+    go : (b : Bool) → q x y ≡ b → place p x ys ≡ place q x ys → place p x (y ∷ ys) ≡ place q x (y ∷ ys)
+    go true e ih = place-yes p x y ys (h y (List·Memᴰ·head refl) ∙ e) ∙ sym (place-yes q x y ys e)
+    go false e ih = place-no p x y ys (h y (List·Memᴰ·head refl) ∙ e) ∙ ap suc ih ∙ sym (place-no q x y ys e)
+
+-- one more in a list of distinct ones that grows in an array
+pub record OneMore (same : ℕ → ℕ → Bool) (done : List ℕ) (x : ℕ) (firsts : List ℕ) (count more r : ℕ) : Type 0 where
+  pub listed : take more (set firsts count x) ≡ distinct same (done ++ (x ∷ []))
+  pub placed : r < more
+  pub most : more ≤ count + 1
+  pub grows : count ≤ more
+
+pub one-more : (same : ℕ → ℕ → Bool) → ((x : ℕ) → same x x ≡ true) → ((x y : ℕ) → same x y ≡ true → same y x ≡ true)
+    → ((x y z : ℕ) → same x y ≡ true → same y z ≡ true → same x z ≡ true) → (done : List ℕ) (x : ℕ) (firsts : List ℕ) (count more r : ℕ)
+    → take count firsts ≡ distinct same done → count < length firsts → r ≡ place same x (distinct same done)
+    → ((r ≡ count) × (more ≡ count + 1)) ⊎ ((r ≡ count → ⊥) × (more ≡ count)) → OneMore same done x firsts count more r
+one-more same rf sm tr done x firsts count more r e h p (inl (a, b)) =
+    let long : length (distinct same done) ≡ count = sym (ap length e) ∙ length-take-le count firsts (omega arith) in
+    record {
+      listed =
+          ap (λ (k : ℕ). take k (set firsts count x)) (b ∙ add-one count)
+          ∙ take-suc-set firsts count x h
+          ∙ ap (λ (l : List ℕ). l ++ (x ∷ [])) e
+          ∙ sym (number-new same rf sm tr done x (sym p ∙ a ∙ sym long));
+      placed = omega arith;
+      most = omega arith;
+      grows = omega arith;
+    }
+one-more same rf sm tr done x firsts count more r e h p (inr (a, b)) =
+    let long : length (distinct same done) ≡ count = sym (ap length e) ∙ length-take-le count firsts (omega arith) in
+    let most = place-most same x (distinct same done) in
+    let below : r < count = omega (arith, a) in
+    record {
+      listed =
+          ap (λ (k : ℕ). take k (set firsts count x)) b
+          ∙ take-set-le count firsts count x (omega arith)
+          ∙ e
+          ∙ sym (number-old same rf sm tr done x (omega arith));
+      placed = omega arith;
+      most = omega arith;
+      grows = omega arith;
+    }

@@ -52,7 +52,7 @@ use Rattle.widening.specs.SampleNodes.{
   ruleOf,
   sampleOf,
 }
-use Rattle.widening.proofs.NumberingLaws.{listed-from, place-map, distinct-finer, numbers-within}
+use Rattle.widening.proofs.NumberingLaws.{listed-from, place-map, distinct-finer, numbers-within, numbers-split, number-stays}
 use Rattle.widening.proofs.VisitedNodes.{
   visits-nodes,
   visit-names,
@@ -389,3 +389,20 @@ module _ (ns : List Node) (one : treeCount ns ≡ 1) (enough : Enough ns) (d : T
       (λ i m. rule-is i (numbers-below (length ns) i .0 (distinct-was (sameAt ns d) idx m))) in
       let labels = labels-are in
       λ k. record { labels = labels k; starts = zero ∷ []; rules = rules k }
+
+  paths-are : pathsOf (visits d []) ≡ map (pathAt ns) (firstsOf ns d)
+  unfolding pathsOf
+  paths-are =
+      ap (λ (l : List Visit). distinct samePath (map (λ (v : Visit). v .path) l)) visits-at
+      ∙ ap (distinct samePath) (map-map (λ (v : Visit). v .path) (visitAt ns) (numbersBelow (length ns)))
+      ∙ distinct-map (pathAt ns) samePath (numbersBelow (length ns))
+
+  -- a node's type is its place among the first nodes of the paths before it
+  pub type-place : (i : ℕ) → i < length ns → typeAt ns d i ≡ place (sameAt ns d) i (distinct (sameAt ns d) (numbersBelow i))
+  type-place i h =
+      let (later, e) = numbers-split (length ns) i h in
+      ap (place samePath (pathAt ns i)) paths-are
+      ∙ place-map (pathAt ns) samePath i (firstsOf ns d)
+      ∙ ap (λ (l : List ℕ). place (sameAt ns d) i (distinct (sameAt ns d) l)) e
+      ∙ number-stays (sameAt ns d) (λ x. path-refl (pathAt ns x)) (λ x y. path-sym (pathAt ns x) (pathAt ns y))
+      (λ x y z. path-trans (pathAt ns x) (pathAt ns y) (pathAt ns z)) (numbersBelow i) i later

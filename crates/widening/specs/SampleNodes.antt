@@ -134,3 +134,43 @@ pub record KeyAt (s names sizes keys : List ℕ) (i : ℕ) : Type 0 where
 pub record KeysAt (s names sizes keys firsts : List ℕ) (count : ℕ) : Type 0 where
   pub few : count ≤ length firsts
   pub each : (t : ℕ) → t < count → KeyAt s names sizes keys (getD firsts t 0)
+
+-- The nodes that arrays hold are those of one tree: where the names stand, and what the parents are.
+pub record Whole (s names sizes parents : List ℕ) (n : ℕ) : Type 0 where
+  pub list : List Node
+  pub tree : Tree
+  pub is-tree : treeOf list ≡ given tree
+  pub one : treeCount list ≡ 1
+  pub enough : Enough list
+  pub many : length list ≡ n
+  pub names-are : (i : ℕ) → i < n → nameIn s names sizes i ≡ nameAt list i
+  pub parents-are : take n parents ≡ parentsOf list
+  pub within : (i : ℕ) → i < n → getD names i 0 + getD sizes i 0 ≤ length s
+  pub few : n ≤ 1024
+  pub names-held : n ≤ length names
+  pub sizes-held : n ≤ length sizes
+  pub parents-held : n ≤ length parents
+
+-- what a node's key is: none for the root, else from its parent's type
+abbrev pub aboveIn : List ℕ → ℕ → ℕ → ℕ
+aboveIn types parent zero = zero
+aboveIn types parent (suc i) = suc (getD types parent 0)
+
+-- the types that arrays hold are those of the nodes up to here, and the first node of each type
+pub record TypedTo (ns : List Node) (d : Tree) (types firsts : List ℕ) (count i : ℕ) : Type 0 where
+  pub types-are : (j : ℕ) → j < i → getD types j 0 ≡ typeAt ns d j
+  pub small : (j : ℕ) → j < i → getD types j 0 < count
+  pub firsts-are : take count firsts ≡ distinct (sameAt ns d) (numbersBelow i)
+  pub few : count ≤ i
+
+-- nodes' names
+abbrev pub sameNameIn : (s names sizes : List ℕ) → ℕ → ℕ → Bool
+sameNameIn s names sizes i j = sameName (nameIn s names sizes i) (nameIn s names sizes j)
+
+-- the labels of listed nodes up to here, and the first node of each label
+pub record LabelledTo (s names sizes nodes labels firsts : List ℕ) (count t : ℕ) : Type 0 where
+  pub labels-are : (j : ℕ) → j < t
+      → getD labels j 0 ≡ place (sameNameIn s names sizes) (getD nodes j 0) (distinct (sameNameIn s names sizes) (take t nodes))
+  pub small : (j : ℕ) → j < t → getD labels j 0 < count
+  pub firsts-are : take count firsts ≡ distinct (sameNameIn s names sizes) (take t nodes)
+  pub few : count ≤ t
