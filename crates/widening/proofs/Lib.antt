@@ -7,3 +7,5 @@ pub mod SampleByNodes
 pub mod FillLaws
 pub mod ParentLaws
 pub mod TypeLaws
+pub mod WideLaws
+pub mod PutLaws
