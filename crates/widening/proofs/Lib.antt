@@ -9,3 +9,4 @@ pub mod ParentLaws
 pub mod TypeLaws
 pub mod WideLaws
 pub mod PutLaws
+pub mod KidLaws

@@ -1,3 +1,4 @@
 pub mod Drafts
 pub mod SampleNodes
 pub mod Writing
+pub mod SampleContents

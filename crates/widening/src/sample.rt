@@ -1,11 +1,22 @@
 // The sample of a document: one type for each path of names, written as a table.
+use crate::drafts::Gathering;
+use crate::drafts::settle;
 use reader::names::same_name;
-ghost use Prim.Native.Nat.{ℕ, _+_, _-_, _≤_, _<_};
-ghost use mathlib.Core.List.{_++_};
+ghost use Prim.Native.Nat.{ℕ, suc, _+_, _-_, _*_, _≤_, _<_};
+ghost use mathlib.Core.List.{[], _∷_, _++_};
 ghost use mathlib.Core.Path.{_≡_};
 ghost use mathlib.Core.Logic.{_⊎_};
+ghost use lib.Dec.{eqb};
 ghost use lib.ListN.{length, getD, take, drop, replicate};
 ghost use Rattle.grammar.specs.Lists.{place};
+ghost use Rattle.grammar.specs.Lists.{numbersBelow};
+ghost use Rattle.grammar.specs.ReadContent.{contentBytes};
+ghost use Rattle.theory.proofs.Gathering.{gathered};
+ghost use Rattle.widening.specs.Drafts.{Kept};
+ghost use Rattle.widening.specs.Writing.{Put};
+ghost use Rattle.widening.specs.SampleContents.{
+    kidTypes, kidBytes, kidsBytes, Kids, sequenceIn, sequencesAmong, GathersIn,
+};
 ghost use Rattle.widening.specs.SampleNodes.{
     parentsOf, CountedTree, sameKey, KeyAt, KeysAt, Whole, aboveIn, TypedTo, LabelledTo,
 };
@@ -154,5 +165,105 @@ fn labels_of(s: &[u8], names: &[usize], sizes: &[usize], keys: &[usize], nodes: 
         of: of,
         firsts: firsts,
         count: count,
+    }
+}
+
+// Writes a node's type, if it is a child of the node `i`.
+fn put_kid(scratch: &mut [u8], at: usize, parent: usize, i: usize, kind: usize) -> usize
+    requires { ⌜ (at ≤ length (now scratch)) × (parent ≡ i → at + 2 ≤ length (now scratch)) × (kind < 256) ⌝ }
+    ensures { λ r. ⌜ Put (now (scratch .entry)) at (kidBytes (eqb parent i) kind) (now (scratch .exit)) r ⌝ }
+{
+    if parent != i {
+        return at;
+    }
+    scratch[at] = 2;
+    scratch[at + 1] = kind as u8;
+    at + 2
+}
+
+// Writes the types of a node's children, one after the other.
+fn put_kids(scratch: &mut [u8], at: usize, parents: &[usize], types: &[usize], nodes: usize, i: usize, kids: usize) -> usize
+    requires { ⌜ Kids (now parents) (now types) nodes i kids × (at + 2 * kids ≤ length (now scratch)) ⌝ }
+    ensures { λ r. ⌜ Put (now (scratch .entry)) at (kidsBytes (now (parents .entry)) (now (types .entry)) i (nodes - suc i)) (now (scratch .exit)) r ⌝ }
+{
+    let mut end = at;
+    let mut j = i + 1;
+    while j < nodes {
+        end = put_kid(scratch, end, parents[j], i, types[j]);
+        j += 1;
+    }
+    end
+}
+
+// Writes the child sequence of a node: no child is empty, one child is the type itself.
+fn put_sequence(scratch: &mut [u8], at: usize, parents: &[usize], types: &[usize], nodes: usize, i: usize, kids: usize) -> usize
+    requires { ⌜ Kids (now parents) (now types) nodes i kids × (at + 2 + 2 * kids ≤ length (now scratch)) ⌝ }
+    ensures { λ r. ⌜ Put (now (scratch .entry)) at (contentBytes (sequenceIn (now (parents .entry)) (now (types .entry)) nodes i)) (now (scratch .exit)) r ⌝ }
+{
+    if kids == 0 {
+        scratch[at] = 1;
+        return at + 1;
+    }
+    if kids == 1 {
+        return put_kids(scratch, at, parents, types, nodes, i, kids);
+    }
+    scratch[at] = 3;
+    scratch[at + 1] = kids as u8;
+    put_kids(scratch, at + 2, parents, types, nodes, i, kids)
+}
+
+// Gathers the child sequence of a node, if it is of the type `k`, among those that stand in the draft.
+fn one_more(
+    scratch: &mut [u8],
+    parents: &[usize],
+    types: &[usize],
+    nodes: usize,
+    kids: usize,
+    k: usize,
+    i: usize,
+    count: usize,
+    end: usize,
+) -> Gathering
+    requires { ⌜ Kids (now parents) (now types) nodes i kids × Kept (now scratch) 4 count end × (end ≤ 1028) × (2048 ≤ length (now scratch)) ⌝ }
+    ensures { λ r. ⌜ ((q : Kept (now (scratch .entry)) 4 count end)
+        → GathersIn (now (scratch .exit)) (gathered (q .list) (sequencesAmong (now (parents .entry)) (now (types .entry)) nodes k (i ∷ []))) r) ⌝ }
+{
+    if types[i] != k {
+        return Gathering::Upto {
+            next: 0,
+            count,
+            end,
+        };
+    }
+    let fresh = put_sequence(scratch, end, parents, types, nodes, i, kids);
+    settle(scratch, 4, count, end, fresh, 1028, 0)
+}
+
+// Gathers the child sequences of the nodes of a type.
+fn gather(scratch: &mut [u8], parents: &[usize], types: &[usize], children: &[usize], nodes: usize, k: usize) -> Gathering
+    requires { ⌜ (2048 ≤ length (now scratch)) × (nodes ≤ length (now children))
+        × ((i : ℕ) → i < nodes → Kids (now parents) (now types) nodes i (getD (now children) i 0)) ⌝ }
+    ensures { λ r. ⌜ GathersIn (now (scratch .exit))
+        (gathered [] (sequencesAmong (now (parents .entry)) (now (types .entry)) nodes k (numbersBelow nodes))) r ⌝ }
+{
+    let mut count: usize = 0;
+    let mut end: usize = 4;
+    let mut i: usize = 0;
+    while i < nodes {
+        match one_more(scratch, parents, types, nodes, children[i], k, i, count, end) {
+            Gathering::TooLarge => {
+                return Gathering::TooLarge;
+            }
+            Gathering::Upto { next, count: more, end: fresh } => {
+                count = more;
+                end = fresh;
+            }
+        }
+        i += 1;
+    }
+    Gathering::Upto {
+        next: 0,
+        count,
+        end,
     }
 }
