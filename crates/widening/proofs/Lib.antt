@@ -10,3 +10,4 @@ pub mod TypeLaws
 pub mod WideLaws
 pub mod PutLaws
 pub mod KidLaws
+pub mod SequenceLaws

@@ -1,3 +1,6 @@
+-- `one_more` meets its contract.
+use native.Mathlib.Omega.{arith}
+use Rattle.widening.proofs.SequenceLaws.{row-other, newest-is, row-own}
 use borrow.Author.Needs.{needs}
 use Rattle.widening.proofs.sample.one_more.Statement.{statement}
 use Rattle.widening.proofs.sample.one_more.Tie as tie
@@ -16,7 +19,10 @@ shared-slice-read-if1 c = search needs
 
 -- src/sample.rt:232:9
 returns : tie.Need-returns
-returns c = ?
+returns c =
+    λ q.
+    let a = c .before .before .before .before .before .args in
+    row-other (a .parents .now) (a .types .now) (a .nodes) (a .k) _ _ _ (a .i) (c .if1 .taken) (c .before .before .before .before .before .pre .2) q
 
 -- src/sample.rt:238:9
 put-sequence-requires : tie.Need-put-sequence-requires
@@ -24,7 +30,9 @@ put-sequence-requires c κs = search needs
 
 -- src/sample.rt:239:5
 settle-requires : tie.Need-settle-requires
-settle-requires c κs = ?
+settle-requires c κs =
+    let a = c .before .before .before .before .before .before .before .before .before .before .args in
+    (newest-is (a .parents .now) (a .types .now) (a .nodes) (a .k) (a .i) (c .before .before .before .put-sequence .ensures) (c .before .before .before .before .before .before .before .before .before .before .pre .1), c .before .before .before .before .before .before .before .before .before .before .pre .2)
 
 -- src/sample.rt:216:1
 same-length : tie.Need-same-length
@@ -32,7 +40,10 @@ same-length c = search needs
 
 -- src/sample.rt:216:1
 returns-2 : tie.Need-returns-2
-returns-2 c = ?
+returns-2 c =
+    λ q.
+    let a = c .before .before .before .before .before .before .before .before .before .before .before .args in
+    row-own (a .parents .now) (a .types .now) (a .nodes) (a .k) (a .i) (c .before .before .before .before .put-sequence .ensures) q (c .settle .result) (c .before .before .before .before .before .before .if1 .left) (c .settle .ensures (newest-is (a .parents .now) (a .types .now) (a .nodes) (a .k) (a .i) (c .before .before .before .before .put-sequence .ensures) q))
 
 pub one-more-spec : {M : Type 1} → statement M
 one-more-spec =
