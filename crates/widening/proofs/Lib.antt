@@ -11,3 +11,5 @@ pub mod WideLaws
 pub mod PutLaws
 pub mod KidLaws
 pub mod SequenceLaws
+pub mod FlatLaws
+pub mod RuleLaws

@@ -121,3 +121,10 @@ module _ (parents types : List ℕ) (n k : ℕ) where
 
     pub gather-next : {m c stop : ℕ} → r ≡ Upto m c stop → Row after 4 c (gathered [] (among (numbersBelow (i + 1)))) stop × (stop ≤ 1028)
     gather-next e = subst (λ (x : Gathering). GathersIn after (gathered [] (among (numbersBelow (i + 1)))) x) e so-far
+
+-- what a gathering's answer says
+pub upto-row : (d : List ℕ) (ds : List Content) (r : Gathering) {m c e : ℕ} → GathersIn d ds r → r ≡ Upto m c e → Row d 4 c ds e × (e ≤ 1028)
+upto-row d ds r g e = subst (λ (x : Gathering). GathersIn d ds x) e g
+
+pub stop-wide : (d : List ℕ) (ds : List Content) (r : Gathering) → GathersIn d ds r → r ≡ TooLarge → TooWide 1024 ds
+stop-wide d ds r g e = subst (λ (x : Gathering). GathersIn d ds x) e g

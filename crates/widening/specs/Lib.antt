@@ -2,3 +2,4 @@ pub mod Drafts
 pub mod SampleNodes
 pub mod Writing
 pub mod SampleContents
+pub mod SampleTable

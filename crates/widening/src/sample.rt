@@ -1,6 +1,9 @@
 // The sample of a document: one type for each path of names, written as a table.
 use crate::drafts::Gathering;
+use crate::drafts::finish;
 use crate::drafts::settle;
+use crate::writing::Drafted;
+use crate::writing::put_field;
 use reader::names::same_name;
 ghost use Prim.Native.Nat.{ℕ, suc, _+_, _-_, _*_, _≤_, _<_};
 ghost use mathlib.Core.List.{[], _∷_, _++_};
@@ -16,6 +19,11 @@ ghost use Rattle.widening.specs.Drafts.{Kept};
 ghost use Rattle.widening.specs.Writing.{Put};
 ghost use Rattle.widening.specs.SampleContents.{
     kidTypes, kidBytes, kidsBytes, Kids, sequenceIn, sequencesAmong, GathersIn,
+};
+ghost use Rattle.widening.specs.Writing.{Puts};
+ghost use Rattle.grammar.specs.Lists.{joinedOf};
+ghost use Rattle.widening.specs.SampleTable.{
+    contentIn, ruleIn, ContentMade, NodesHeld, RulePuts, labelField, RulesPut, RulesHeld,
 };
 ghost use Rattle.widening.specs.SampleNodes.{
     parentsOf, CountedTree, sameKey, KeyAt, KeysAt, Whole, aboveIn, TypedTo, LabelledTo,
@@ -266,4 +274,108 @@ fn gather(scratch: &mut [u8], parents: &[usize], types: &[usize], children: &[us
         count,
         end,
     }
+}
+
+// Makes the content of a type from the second place on: the choice of its nodes' child sequences.
+fn make_content(scratch: &mut [u8], parents: &[usize], types: &[usize], children: &[usize], nodes: usize, k: usize) -> Drafted
+    requires { ⌜ (2048 ≤ length (now scratch)) × NodesHeld (now parents) (now types) (now children) nodes ⌝ }
+    ensures { λ r. ⌜ ContentMade (now (scratch .exit)) (contentIn (now (parents .entry)) (now (types .entry)) nodes k) r ⌝ }
+{
+    match gather(scratch, parents, types, children, nodes, k) {
+        Gathering::TooLarge => Drafted::TooLarge,
+        Gathering::Upto { next, count, end } => {
+            let stop = finish(scratch, 2, count, end);
+            if 1026 < stop {
+                return Drafted::TooLarge;
+            }
+            Drafted::Length(stop)
+        }
+    }
+}
+
+// Writes the rule of a type.
+fn put_rule(
+    draft: &mut [u8],
+    at: usize,
+    scratch: &mut [u8],
+    parents: &[usize],
+    types: &[usize],
+    children: &[usize],
+    nodes: usize,
+    k: usize,
+    label: usize,
+) -> Drafted
+    requires { ⌜ (at ≤ 32768) × (32768 ≤ length (now draft)) × (2048 ≤ length (now scratch)) × (k < 256) × (label < 256)
+        × NodesHeld (now parents) (now types) (now children) nodes ⌝ }
+    ensures { λ r. ⌜ RulePuts (now (draft .entry)) at
+        (record { type = k; label = label; content = contentIn (now (parents .entry)) (now (types .entry)) nodes k }) (now (draft .exit)) r ⌝ }
+{
+    match make_content(scratch, parents, types, children, nodes, k) {
+        Drafted::TooLarge => Drafted::TooLarge,
+        Drafted::Length(stop) => {
+            scratch[0] = k as u8;
+            scratch[1] = label as u8;
+            put_field(draft, at, 0x12, &scratch[0..stop])
+        }
+    }
+}
+
+// Writes the labels: each first node's name.
+fn put_labels(draft: &mut [u8], s: &[u8], names: &[usize], sizes: &[usize], keys: &[usize], firsts: &[usize], count: usize) -> Drafted
+    requires { ⌜ (32768 ≤ length (now draft)) × (count ≤ 64) × KeysAt (now s) (now names) (now sizes) (now keys) (now firsts) count ⌝ }
+    ensures { λ r. ⌜ Puts (now (draft .entry)) 0
+        (joinedOf (labelField (now (s .entry)) (now (names .entry)) (now (sizes .entry)) (now (firsts .entry))) (numbersBelow count)) (now (draft .exit)) r ⌝ }
+{
+    let mut end: usize = 0;
+    let mut l: usize = 0;
+    while l < count {
+        let i = firsts[l];
+        let from = names[i];
+        let to = from + sizes[i];
+        match put_field(draft, end, 0x10, &s[from..to]) {
+            Drafted::TooLarge => {
+                return Drafted::TooLarge;
+            }
+            Drafted::Length(more) => {
+                end = more;
+            }
+        }
+        l += 1;
+    }
+    Drafted::Length(end)
+}
+
+// Writes the rules in the order of the types.
+fn put_rules(
+    draft: &mut [u8],
+    at: usize,
+    scratch: &mut [u8],
+    parents: &[usize],
+    types: &[usize],
+    children: &[usize],
+    nodes: usize,
+    firsts: &[usize],
+    labels: &[usize],
+    count: usize,
+) -> Drafted
+    requires { ⌜ (at ≤ 32768) × (32768 ≤ length (now draft)) × (2048 ≤ length (now scratch)) × NodesHeld (now parents) (now types) (now children) nodes
+        × RulesHeld (now types) (now firsts) (now labels) nodes count ⌝ }
+    ensures { λ r. ⌜ RulesPut (now (draft .entry)) at
+        (ruleIn (now (parents .entry)) (now (types .entry)) (now (firsts .entry)) (now (labels .entry)) nodes) count (now (draft .exit)) r ⌝ }
+{
+    let mut end = at;
+    let mut t: usize = 0;
+    while t < count {
+        let i = firsts[t];
+        match put_rule(draft, end, scratch, parents, types, children, nodes, types[i], labels[t]) {
+            Drafted::TooLarge => {
+                return Drafted::TooLarge;
+            }
+            Drafted::Length(more) => {
+                end = more;
+            }
+        }
+        t += 1;
+    }
+    Drafted::Length(end)
 }

@@ -1,0 +1,80 @@
+-- The table of a sample, by arrays: the rule of each type, and whether it is written.
+use Prim.Native.Nat.{ℕ, zero, suc, _+_, _-_, _*_, _≤_, _<_}
+use mathlib.Core.Bool.{Bool, true, false}
+use mathlib.Core.List.{List, [], _∷_, _++_, map}
+use mathlib.Core.Logic.{_⊎_}
+use mathlib.Core.Option.{some as just}
+use mathlib.Core.Path.{_≡_}
+use lib.ListN.{length, getD}
+use Rattle.grammar.specs.Lists.{joinedOf, numbersBelow}
+use Rattle.grammar.specs.Limits.{standard}
+use Rattle.grammar.specs.Content.{Content, choiceOf}
+use Rattle.grammar.specs.Table.{Rule}
+use Rattle.grammar.specs.Fields.{fieldBytes}
+use Rattle.grammar.specs.WriteTable.{ruleBytes}
+use Rattle.grammar.specs.Size.{contentTooLarge}
+use Rattle.theory.proofs.Gathering.{gathered}
+use Rattle.reader.specs.ExprAt.{_upTo_, exprAt}
+use Rattle.widening.specs.declared.writing.Drafted.{Drafted}
+use Rattle.widening.specs.declared.writing.Drafted.the-variants.{Length, TooLarge}
+use Rattle.widening.specs.Writing.{Put}
+use Rattle.widening.specs.SampleNodes.{nameIn}
+use Rattle.widening.specs.SampleContents.{Kids, sequencesAmong}
+
+-- the content of a type, and its rule
+abbrev pub contentIn : (parents types : List ℕ) → ℕ → ℕ → Content
+contentIn parents types n k = choiceOf (gathered [] (sequencesAmong parents types n k (numbersBelow n)))
+
+abbrev pub ruleIn : (parents types firsts labels : List ℕ) → ℕ → ℕ → Rule
+ruleIn parents types firsts labels n t =
+    record {
+      type = getD types (getD firsts t 0) 0;
+      label = getD labels t 0;
+      content = contentIn parents types n (getD types (getD firsts t 0) 0);
+    }
+
+-- the content stands in a draft from the second place on; or it is too large
+abbrev pub ContentMade : List ℕ → Content → Drafted → Type 0
+ContentMade draft c (Length stop) =
+    (exprAt draft 2 ≡ just (c upTo stop)) × (stop ≤ 1026) × (contentTooLarge standard c ≡ false)
+ContentMade draft c TooLarge = contentTooLarge standard c ≡ true
+
+-- what the nodes' arrays hold
+pub record NodesHeld (parents types children : List ℕ) (n : ℕ) : Type 0 where
+  pub counts-held : n ≤ length children
+  pub each : (i : ℕ) → i < n → Kids parents types n i (getD children i 0)
+
+-- a rule is written; or its content, or the whole, is too large
+abbrev pub RulePuts : List ℕ → ℕ → Rule → List ℕ → Drafted → Type 0
+RulePuts before at r after (Length n) =
+    Put before at (fieldBytes 0x12 (ruleBytes r)) after n × (n ≤ 32768) × (contentTooLarge standard (r .content) ≡ false)
+RulePuts before at r after TooLarge =
+    (contentTooLarge standard (r .content) ≡ true) ⊎ (32768 < at + length (fieldBytes 0x12 (ruleBytes r)))
+
+-- the fields of labels and of rules, by number
+abbrev pub labelField : (s names sizes firsts : List ℕ) → ℕ → List ℕ
+labelField s names sizes firsts l = fieldBytes 0x10 (nameIn s names sizes (getD firsts l 0))
+
+abbrev pub ruleField : (ℕ → Rule) → ℕ → List ℕ
+ruleField rule t = fieldBytes 0x12 (ruleBytes (rule t))
+
+-- some rules are written; or one's content, or the whole, is too large
+abbrev pub RulesPut : List ℕ → ℕ → (ℕ → Rule) → ℕ → List ℕ → Drafted → Type 0
+RulesPut before at rule count after (Length n) =
+    Put before at (joinedOf (ruleField rule) (numbersBelow count)) after n
+    × (n ≤ 32768)
+    × ((t : ℕ) → t < count → contentTooLarge standard (rule t .content) ≡ false)
+RulesPut before at rule count after TooLarge =
+    ((t : ℕ) × (t < count) × (contentTooLarge standard (rule t .content) ≡ true))
+    ⊎ (32768 < at + length (joinedOf (ruleField rule) (numbersBelow count)))
+
+-- the arrays hold the first node and the label of each type
+pub record RulesHeld (types firsts labels : List ℕ) (n count : ℕ) : Type 0 where
+  pub few : count ≤ 64
+  pub firsts-held : count ≤ length firsts
+  pub labels-held : count ≤ length labels
+  pub types-held : n ≤ length types
+  pub nodes-few : n ≤ 1024
+  pub first-nodes : (t : ℕ) → t < count → getD firsts t 0 < n
+  pub type-bytes : (t : ℕ) → t < count → getD types (getD firsts t 0) 0 < 256
+  pub label-bytes : (t : ℕ) → t < count → getD labels t 0 < 256
