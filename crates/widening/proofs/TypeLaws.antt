@@ -40,7 +40,7 @@ use Rattle.widening.proofs.NumberingLaws.{place-agree, place-front, dis
 use Rattle.widening.proofs.SampleByNodes.{below-path, same-path, type-place}
 
 -- what holds below, and here, holds up to here
-up-to : (P : ℕ → Type 0) (i : ℕ) → ((j : ℕ) → j < i → P j) → P i → (j : ℕ) → j < i + 1 → P j
+pub up-to : (P : ℕ → Type 0) (i : ℕ) → ((j : ℕ) → j < i → P j) → P i → (j : ℕ) → j < i + 1 → P j
 up-to P i h p j l = go (ltb j i) refl
   where
     go : (b : Bool) → ltb j i ≡ b → P j
