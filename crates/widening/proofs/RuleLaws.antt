@@ -27,7 +27,7 @@ use Rattle.reader.proofs.ExprLaws.{expr-forward, expr-bytes}
 use Rattle.widening.specs.declared.writing.Drafted.{Drafted}
 use Rattle.widening.specs.declared.writing.Drafted.the-variants.{Length, TooLarge}
 use Rattle.widening.specs.Writing.{Put, Puts}
-use Rattle.widening.specs.SampleTable.{ContentMade, RulePuts, ruleField, RulesPut}
+use Rattle.widening.specs.SampleTable.{ContentMade, RulePuts, ruleField, RulesPut, TablePut}
 use Rattle.widening.proofs.NumberingLaws.{numbers-end}
 use Rattle.widening.proofs.PutLaws.{put-none, put-join}
 
@@ -114,3 +114,45 @@ module _ (rule : ℕ → Rule) (t : ℕ) {before : List ℕ} {at : ℕ} {draft :
   rules-more {m} e =
       let x = subst (λ (x : Drafted). RulePuts draft end (rule t) after x) e g in
       (up-more (ruleField rule) t p (x .0), x .1, x .2)
+
+-- one part of a table after another
+module _ (before : List ℕ) (at : ℕ) (rule : ℕ → Rule) (count : ℕ) (xs ys mid after : List ℕ) (r : Drafted) where
+  pub put-over : Puts before at xs mid r → r ≡ TooLarge → TablePut before at rule count (xs ++ ys) after TooLarge
+  put-over p e =
+      let h = subst (λ (x : Drafted). Puts before at xs mid x) e p in
+      let l = length-append xs ys in
+      inr (omega arith)
+
+  pub put-length-is : Puts before at xs mid r → {n : ℕ} → r ≡ Length n → Put before at xs mid n × (n ≤ 32768)
+  put-length-is p e = subst (λ (x : Drafted). Puts before at xs mid x) e p
+
+  pub put-then : Puts before at xs mid r → {n : ℕ} → r ≡ Length n → (z : Drafted) → TablePut mid n rule count ys after z
+      → TablePut before at rule count (xs ++ ys) after z
+  put-then p {n} e (Length m) q =
+      let h = subst (λ (x : Drafted). Puts before at xs mid x) e p in
+      (put-join (h .0) (q .0), q .1, q .2)
+  put-then p {n} e TooLarge q =
+      let h = subst (λ (x : Drafted). Puts before at xs mid x) e p in
+      let a = h .0 .next-is in
+      let l = length-append xs ys in
+      ⊎-elim inl (λ o. inr (omega arith)) q
+
+  pub table-over : TablePut before at rule count xs mid r → r ≡ TooLarge → TablePut before at rule count (xs ++ ys) after TooLarge
+  table-over p e =
+      let l = length-append xs ys in
+      ⊎-elim inl (λ o. inr (omega arith)) (subst (λ (x : Drafted). TablePut before at rule count xs mid x) e p)
+
+  pub table-length-is : TablePut before at rule count xs mid r → {n : ℕ} → r ≡ Length n
+      → Put before at xs mid n × (n ≤ 32768) × ((t : ℕ) → t < count → contentTooLarge standard (rule t .content) ≡ false)
+  table-length-is p e = subst (λ (x : Drafted). TablePut before at rule count xs mid x) e p
+
+  pub table-then : TablePut before at rule count xs mid r → {n : ℕ} → r ≡ Length n → (z : Drafted) → Puts mid n ys after z
+      → TablePut before at rule count (xs ++ ys) after z
+  table-then p {n} e (Length m) q =
+      let h = subst (λ (x : Drafted). TablePut before at rule count xs mid x) e p in
+      (put-join (h .0) (q .0), q .1, h .2)
+  table-then p {n} e TooLarge q =
+      let h = subst (λ (x : Drafted). TablePut before at rule count xs mid x) e p in
+      let a = h .0 .next-is in
+      let l = length-append xs ys in
+      inr (omega arith)

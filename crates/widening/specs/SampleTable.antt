@@ -58,15 +58,25 @@ labelField s names sizes firsts l = fieldBytes 0x10 (nameIn s names sizes (getD 
 abbrev pub ruleField : (ℕ → Rule) → ℕ → List ℕ
 ruleField rule t = fieldBytes 0x12 (ruleBytes (rule t))
 
--- some rules are written; or one's content, or the whole, is too large
+-- these bytes are written, and the rules' contents are not too large; or one of them, or the whole, is
+abbrev pub TablePut : List ℕ → ℕ → (ℕ → Rule) → ℕ → List ℕ → List ℕ → Drafted → Type 0
+TablePut before at rule count bytes after (Length n) =
+    Put before at bytes after n × (n ≤ 32768) × ((t : ℕ) → t < count → contentTooLarge standard (rule t .content) ≡ false)
+TablePut before at rule count bytes after TooLarge =
+    ((t : ℕ) × (t < count) × (contentTooLarge standard (rule t .content) ≡ true)) ⊎ (32768 < at + length bytes)
+
+abbrev pub rulesBytes : (ℕ → Rule) → ℕ → List ℕ
+rulesBytes rule count = joinedOf (ruleField rule) (numbersBelow count)
+
 abbrev pub RulesPut : List ℕ → ℕ → (ℕ → Rule) → ℕ → List ℕ → Drafted → Type 0
-RulesPut before at rule count after (Length n) =
-    Put before at (joinedOf (ruleField rule) (numbersBelow count)) after n
-    × (n ≤ 32768)
-    × ((t : ℕ) → t < count → contentTooLarge standard (rule t .content) ≡ false)
-RulesPut before at rule count after TooLarge =
-    ((t : ℕ) × (t < count) × (contentTooLarge standard (rule t .content) ≡ true))
-    ⊎ (32768 < at + length (joinedOf (ruleField rule) (numbersBelow count)))
+RulesPut before at rule count after r = TablePut before at rule count (rulesBytes rule count) after r
+
+-- the rules and the end; the start, the rules and the end
+abbrev pub restBytes : (ℕ → Rule) → ℕ → List ℕ
+restBytes rule count = rulesBytes rule count ++ fieldBytes 0x1F []
+
+abbrev pub startBytes : (ℕ → Rule) → ℕ → List ℕ
+startBytes rule count = fieldBytes 0x11 (0 ∷ []) ++ restBytes rule count
 
 -- the arrays hold the first node and the label of each type
 pub record RulesHeld (types firsts labels : List ℕ) (n count : ℕ) : Type 0 where

@@ -23,7 +23,7 @@ ghost use Rattle.widening.specs.SampleContents.{
 ghost use Rattle.widening.specs.Writing.{Puts};
 ghost use Rattle.grammar.specs.Lists.{joinedOf};
 ghost use Rattle.widening.specs.SampleTable.{
-    contentIn, ruleIn, ContentMade, NodesHeld, RulePuts, labelField, RulesPut, RulesHeld,
+    contentIn, ruleIn, ContentMade, NodesHeld, RulePuts, labelField, RulesPut, RulesHeld, TablePut, restBytes, startBytes,
 };
 ghost use Rattle.widening.specs.SampleNodes.{
     parentsOf, CountedTree, sameKey, KeyAt, KeysAt, Whole, aboveIn, TypedTo, LabelledTo,
@@ -378,4 +378,53 @@ fn put_rules(
         t += 1;
     }
     Drafted::Length(end)
+}
+
+// Writes the rules and the end.
+fn put_rest(
+    draft: &mut [u8],
+    at: usize,
+    scratch: &mut [u8],
+    parents: &[usize],
+    types: &[usize],
+    children: &[usize],
+    nodes: usize,
+    firsts: &[usize],
+    labels: &[usize],
+    count: usize,
+) -> Drafted
+    requires { ⌜ (at ≤ 32768) × (32768 ≤ length (now draft)) × (2048 ≤ length (now scratch)) × NodesHeld (now parents) (now types) (now children) nodes
+        × RulesHeld (now types) (now firsts) (now labels) nodes count ⌝ }
+    ensures { λ r. ⌜ TablePut (now (draft .entry)) at (ruleIn (now (parents .entry)) (now (types .entry)) (now (firsts .entry)) (now (labels .entry)) nodes) count
+        (restBytes (ruleIn (now (parents .entry)) (now (types .entry)) (now (firsts .entry)) (now (labels .entry)) nodes) count) (now (draft .exit)) r ⌝ }
+{
+    match put_rules(draft, at, scratch, parents, types, children, nodes, firsts, labels, count) {
+        Drafted::TooLarge => Drafted::TooLarge,
+        Drafted::Length(end) => put_field(draft, end, 0x1F, &scratch[0..0]),
+    }
+}
+
+// Writes the start, the rules and the end.
+fn put_start(
+    draft: &mut [u8],
+    at: usize,
+    scratch: &mut [u8],
+    parents: &[usize],
+    types: &[usize],
+    children: &[usize],
+    nodes: usize,
+    firsts: &[usize],
+    labels: &[usize],
+    count: usize,
+) -> Drafted
+    requires { ⌜ (at ≤ 32768) × (32768 ≤ length (now draft)) × (2048 ≤ length (now scratch)) × NodesHeld (now parents) (now types) (now children) nodes
+        × RulesHeld (now types) (now firsts) (now labels) nodes count ⌝ }
+    ensures { λ r. ⌜ TablePut (now (draft .entry)) at (ruleIn (now (parents .entry)) (now (types .entry)) (now (firsts .entry)) (now (labels .entry)) nodes) count
+        (startBytes (ruleIn (now (parents .entry)) (now (types .entry)) (now (firsts .entry)) (now (labels .entry)) nodes) count) (now (draft .exit)) r ⌝ }
+{
+    let root = [0u8; 1];
+    match put_field(draft, at, 0x11, &root) {
+        Drafted::TooLarge => Drafted::TooLarge,
+        Drafted::Length(end) => put_rest(draft, end, scratch, parents, types, children, nodes, firsts, labels, count),
+    }
 }
