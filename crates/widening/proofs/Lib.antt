@@ -13,3 +13,4 @@ pub mod KidLaws
 pub mod SequenceLaws
 pub mod FlatLaws
 pub mod RuleLaws
+pub mod SampleWritten

@@ -81,7 +81,7 @@ pick-keep f g q a (suc m) = go (eqb (f a) q) refl (pick-keep f g q (suc a) m)
     go true e ih = rw (e, keep) (ap (λ (l : List _). g a ∷ l) ih)
     go false e ih = rw (e, keep) ih
 
-keep-same : {A : Type 0} (p q : A → Bool) (xs : List A) → ((x : A) → List·Memᴰ x xs → p x ≡ q x) → keep p xs ≡ keep q xs
+pub keep-same : {A : Type 0} (p q : A → Bool) (xs : List A) → ((x : A) → List·Memᴰ x xs → p x ≡ q x) → keep p xs ≡ keep q xs
 unfolding keep
 keep-same p q [] h = refl
 keep-same p q (x ∷ xs) h = go (q x) refl (keep-same p q xs (λ y m. h y (List·Memᴰ·tail m)))
@@ -90,7 +90,7 @@ keep-same p q (x ∷ xs) h = go (q x) refl (keep-same p q xs (λ y m. h y (List�
     go true e ih = rw (h x (List·Memᴰ·head refl) ∙ e, e, keep) (ap (λ (l : List _). x ∷ l) ih)
     go false e ih = rw (h x (List·Memᴰ·head refl) ∙ e, e, keep) ih
 
-map-same : {A B : Type 0} (f g : A → B) (xs : List A) → ((x : A) → List·Memᴰ x xs → f x ≡ g x) → map f xs ≡ map g xs
+pub map-same : {A B : Type 0} (f g : A → B) (xs : List A) → ((x : A) → List·Memᴰ x xs → f x ≡ g x) → map f xs ≡ map g xs
 map-same f g [] h = refl
 map-same f g (x ∷ xs) h =
     ap (λ (y : _). y ∷ map f xs) (h x (List·Memᴰ·head refl)) ∙ ap (λ (l : List _). g x ∷ l) (map-same f g xs (λ y m. h y (List·Memᴰ·tail m)))
@@ -195,7 +195,7 @@ module _ (ns : List Node) (one : treeCount ns ≡ 1) (enough : Enough ns) where
           λ k. record { name = a k; path = b k; children = c k }
 
   -- a visit's children are the names of the node's children
-  kids-names : (i : ℕ) → i < length ns → visitAt ns i .children ≡ map (nameAt ns) (kidsOf ns i)
+  pub kids-names : (i : ℕ) → i < length ns → visitAt ns i .children ≡ map (nameAt ns) (kidsOf ns i)
   kids-names i h =
       let a = parents-long in
       let b = length-map ns (λ (n : Node). n .name) in

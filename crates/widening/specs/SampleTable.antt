@@ -5,20 +5,29 @@ use mathlib.Core.List.{List, [], _∷_, _++_, map}
 use mathlib.Core.Logic.{_⊎_}
 use mathlib.Core.Option.{some as just}
 use mathlib.Core.Path.{_≡_}
-use lib.ListN.{length, getD}
+use lib.ListN.{length, getD, drop}
 use Rattle.grammar.specs.Lists.{joinedOf, numbersBelow}
 use Rattle.grammar.specs.Limits.{standard}
 use Rattle.grammar.specs.Content.{Content, choiceOf}
 use Rattle.grammar.specs.Table.{Rule}
 use Rattle.grammar.specs.Fields.{fieldBytes}
-use Rattle.grammar.specs.WriteTable.{ruleBytes}
+use Rattle.grammar.specs.WriteTable.{ruleBytes, tableBytes}
 use Rattle.grammar.specs.Size.{contentTooLarge}
+use Rattle.grammar.specs.Names.{asciiClasses}
+use Rattle.grammar.specs.Outcome.{given, refused}
+use Rattle.grammar.specs.Tree.{Tree}
+use Rattle.grammar.specs.ReadDocument.{readNodes}
+use Rattle.grammar.specs.Sample.{sample}
+use Rattle.grammar.specs.Widen.{sampleTable}
+use Rattle.grammar.specs.declared.Refusal.the-variants.{ResultTooLarge}
+use Rattle.reader.specs.declared.documents.DocumentIndex.{DocumentIndex}
+use Rattle.reader.specs.DocumentNodes.{nodesIn, Indexed}
 use Rattle.theory.proofs.Gathering.{gathered}
 use Rattle.reader.specs.ExprAt.{_upTo_, exprAt}
 use Rattle.widening.specs.declared.writing.Drafted.{Drafted}
 use Rattle.widening.specs.declared.writing.Drafted.the-variants.{Length, TooLarge}
 use Rattle.widening.specs.Writing.{Put}
-use Rattle.widening.specs.SampleNodes.{nameIn}
+use Rattle.widening.specs.SampleNodes.{nameIn, Whole, TypedTo}
 use Rattle.widening.specs.SampleContents.{Kids, sequencesAmong}
 
 -- the content of a type, and its rule
@@ -88,3 +97,24 @@ pub record RulesHeld (types firsts labels : List ℕ) (n count : ℕ) : Type 0 w
   pub first-nodes : (t : ℕ) → t < count → getD firsts t 0 < n
   pub type-bytes : (t : ℕ) → t < count → getD types (getD firsts t 0) 0 < 256
   pub label-bytes : (t : ℕ) → t < count → getD labels t 0 < 256
+
+-- the arrays hold the nodes of a tree and their types
+pub record SampleHeld (s names sizes parents types firsts : List ℕ) (n count : ℕ) : Type 0 where
+  pub whole : Whole s names sizes parents n
+  pub typed : TypedTo (whole .list) (whole .tree) types firsts count n
+  pub types-held : n ≤ length types
+  pub firsts-held : count ≤ length firsts
+
+-- The sample of a document is written from the draft's beginning, and the rest of the draft is kept; or it is too large.
+abbrev pub SampleDrafted : Tree → List ℕ → List ℕ → Drafted → Type 0
+SampleDrafted d before after (Length n) =
+    (sampleTable standard d ≡ given (sample d))
+    × (after ≡ tableBytes (sample d) ++ drop n before)
+    × (n ≡ length (tableBytes (sample d)))
+    × (n ≤ 32768)
+SampleDrafted d before after TooLarge = sampleTable standard d ≡ refused ResultTooLarge
+
+-- a document's nodes are those that an index holds
+pub record Indexes (s : List ℕ) (ix : DocumentIndex) : Type 0 where
+  pub reads : readNodes standard asciiClasses s ≡ given (nodesIn s ix)
+  pub indexed : Indexed s (ix .names) (ix .sizes) (ix .children) (ix .nodes)
