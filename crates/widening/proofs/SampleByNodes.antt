@@ -56,6 +56,7 @@ use Rattle.widening.proofs.NumberingLaws.{listed-from, place-map, disti
 use Rattle.widening.proofs.VisitedNodes.{
   visits-nodes,
   visit-names,
+  visit-counts,
   parents-many,
   path-step,
   Below,
@@ -208,6 +209,16 @@ module _ (ns : List Node) (one : treeCount ns ≡ 1) (enough : Enough ns) where
       ∙ pick-keep (parentAt ns) (nameAt ns) i (suc i) m
 
 
+
+  -- a node has as many children as it says
+  pub kids-count : (i : ℕ) → i < length ns → length (kidsOf ns i) ≡ getD (map (λ (n : Node). n .children) ns) i 0
+  kids-count i h =
+      let none-visit : Visit = record { name = []; path = []; children = [] } in
+      sym (length-map (kidsOf ns i) (nameAt ns))
+      ∙ ap length (sym (kids-names i h))
+      ∙ sym (List·getD-map length (childrenIn (found ns)) i [])
+      ∙ ap (λ (l : List ℕ). getD l i 0)
+      (map-map length (λ (v : Visit). v .children) (found ns) ∙ visit-counts ns ([] ∷ []) (omega arith) enough)
 
 module _ (ns : List Node) (one : treeCount ns ≡ 1) (enough : Enough ns) (d : Tree) (tree : treeOf ns ≡ given d) where
   pub visits-at : visits d [] ≡ map (visitAt ns) (numbersBelow (length ns))

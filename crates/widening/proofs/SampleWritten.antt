@@ -10,7 +10,7 @@ use mathlib.Core.Logic.{_⊎_, inl, inr, ⊎-elim}
 use mathlib.Core.Path.{_≡_, refl, sym, _∙_, ap, subst}
 use lib.Dec.{eqb, ltb}
 use borrow.Author.Tests.{lt-ltb, le-ltb}
-use lib.ListN.{length, length-map, getD, take, drop}
+use lib.ListN.{length, length-map, getD, take, drop, replicate}
 use lib.Seq.{length-take-le, getD-take}
 use Rattle.grammar.specs.Lists.{any, keep, distinct, place, joinedOf, numbersFrom, numbersBelow}
 use Rattle.grammar.specs.Limits.{standard}
@@ -36,6 +36,8 @@ use Rattle.widening.specs.declared.writing.Drafted.the-variants.{Length,
 use Rattle.widening.specs.SampleNodes.{
   Whole,
   TypedTo,
+  KeyAt,
+  KeysAt,
   LabelledTo,
   nameIn,
   sameNameIn,
@@ -63,10 +65,13 @@ use Rattle.widening.specs.SampleTable.{
   startBytes,
   TablePut,
   SampleHeld,
+  SampleReady,
+  NodesHeld,
+  RulesHeld,
   SampleDrafted,
 }
 use Rattle.widening.proofs.NumberingLaws.{listed-from, place-agree, numbers-within}
-use Rattle.widening.proofs.SampleByNodes.{keep-same, map-same, sample-nodes}
+use Rattle.widening.proofs.SampleByNodes.{keep-same, map-same, sample-nodes, kids-count}
 
 -- lists by places, and what agrees on their elements
 module _ {A : Type 0} where
@@ -313,3 +318,73 @@ module _ {s names sizes parents types firsts : List ℕ} {n count : ℕ} (q : Sa
         (λ x. too-large-is d (content-over d (any-of (contentOver d) (in-sample (x .0) (x .1)) (x .2))))
         (λ x. too-large-is d (bytes-over d (omega arith)))
         o
+
+-- what the writing asks of the arrays
+module _ {s names sizes children parents types firsts : List ℕ} {n count : ℕ}
+    (r : SampleReady s names sizes children parents types firsts n count) (few : count ≤ 64) where
+  pub nodes-held : NodesHeld parents types children n
+  nodes-held =
+      record {
+        counts-held = r .counts-held;
+        each =
+            λ i h.
+            let w = r .held .whole in
+            let m = w .many in
+            let f = w .few in
+            record {
+              few = r .counts-few i h;
+              many =
+                  ap length (kids-same (r .held) i)
+                  ∙ length-map (kidsOf (w .list) i) (typeAt (w .list) (w .tree))
+                  ∙ kids-count (w .list) (w .one) (w .enough) i (omega arith)
+                  ∙ sym (r .counts-are i h);
+              here = h;
+              parents-held = w .parents-held;
+              types-held = r .held .types-held;
+              fits = omega arith;
+              bytes = λ j k. let b = r .held .typed .small j k in omega arith;
+            };
+      }
+
+  keys-held : {keys : List ℕ} → 1024 ≤ length keys → (i : ℕ) → i < n → KeyAt s names sizes keys i
+  keys-held long i h =
+      let w = r .held .whole in
+      let a = w .names-held in
+      let b = w .sizes-held in
+      let c = w .few in
+      record { name-held = omega arith; size-held = omega arith; key-held = omega arith; within = w .within i h }
+
+  pub firsts-keys : {keys : List ℕ} → 1024 ≤ length keys → KeysAt s names sizes keys firsts count
+  firsts-keys long = record { few = r .held .firsts-held; each = λ t h. keys-held long (getD firsts t 0) (first-below (r .held) t h) }
+
+  module _ {labels lfirsts : List ℕ} {lcount : ℕ} (l : LabelledTo s names sizes firsts labels lfirsts lcount count) where
+    pub labels-keys : {keys : List ℕ} → 1024 ≤ length keys → lcount ≤ length lfirsts → KeysAt s names sizes keys lfirsts lcount
+    labels-keys long held =
+        record {
+          few = held;
+          each =
+              λ t h.
+              keys-held long (getD lfirsts t 0)
+              (taken-below (r .held) (getD lfirsts t 0)
+              (distinct-was (sameNameIn s names sizes) (take count firsts)
+              (subst (List·Memᴰ (getD lfirsts t 0)) (l .firsts-are) (in-taken lfirsts lcount t held h))));
+        }
+
+    pub rules-held : count ≤ length labels → RulesHeld types firsts labels n count
+    rules-held held =
+        let w = r .held .whole in
+        record {
+          few = few;
+          firsts-held = r .held .firsts-held;
+          labels-held = held;
+          types-held = r .held .types-held;
+          nodes-few = w .few;
+          first-nodes = first-below (r .held);
+          type-bytes = λ t h. let b = r .held .typed .small (getD firsts t 0) (first-below (r .held) t h) in omega arith;
+          label-bytes = λ t h. let b = l .small t h in let c = l .few in omega arith;
+        }
+
+pub zeros-at : (n i : ℕ) → _≡_ {A = ℕ} (getD (replicate n 0) i 0) 0
+zeros-at zero i = refl
+zeros-at (suc n) zero = refl
+zeros-at (suc n) (suc i) = zeros-at n i

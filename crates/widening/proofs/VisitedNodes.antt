@@ -18,7 +18,7 @@ use Rattle.grammar.specs.Tree.{Tree, node, Forest, []ᵗ, _∷ᵗ_}
 use Rattle.grammar.specs.ReadDocument.{Node, forestOf, firstTrees, otherTrees, treeOf}
 use Rattle.grammar.specs.Sample.{Visit, rootNames, visits, visitsAll}
 use Rattle.theory.proofs.OutcomeLaws.{given-eq}
-use Rattle.reader.proofs.DocumentTrees.{treeCount, Enough}
+use Rattle.reader.proofs.DocumentTrees.{trees, treeCount, Enough, forest-trees}
 use Rattle.widening.specs.SampleNodes.{parentsFrom, visitsFrom, pathsIn, childrenIn, namesIn}
 
 -- the visits of trees, each with its own path above
@@ -198,3 +198,24 @@ child-names i (p ∷ ps) (a ∷ tops) (n ∷ ns) e f h b (suc j) l =
     ∙ ap
     (λ (q : ℕ). pick q (drop (suc j) (parentsFrom (suc i) (replicate k i ++ ps) ns)) (drop (suc j) (namesIn ns)))
     z
+
+-- a visit has as many children as its node says
+first-many : (k : ℕ) (f : Forest) → k ≤ trees f → length (rootNames (firstTrees k f)) ≡ k
+unfolding rootNames firstTrees trees
+first-many zero f h = refl
+first-many (suc k) []ᵗ h = absurd (omega arith)
+first-many (suc k) (node n ts ∷ᵗ us) h = ap suc (first-many k us (omega arith))
+
+pub visit-counts : (ns : List Node) (tops : List (List Name)) → length tops ≡ treeCount ns → Enough ns
+    → map (λ (v : Visit). length (v .children)) (visitsFrom tops ns) ≡ map (λ (n : Node). n .children) ns
+unfolding visitsFrom treeCount
+visit-counts [] tops e h = refl
+visit-counts (n ∷ ns) [] e h = absurd (omega arith)
+visit-counts (n ∷ ns) (a ∷ tops) e h =
+    let t = forest-trees ns in
+    let k = h .0 in
+    ap (λ (m : ℕ). m ∷ map (λ (v : Visit). length (v .children)) (visitsFrom (replicate (n .children) (a ++ (n .name ∷ [])) ++ tops) ns))
+    (first-many (n .children) (forestOf ns) (omega arith))
+    ∙ ap (λ (l : List ℕ). n .children ∷ l)
+    (visit-counts ns (replicate (n .children) (a ++ (n .name ∷ [])) ++ tops)
+    (handed-many (n .children) (a ++ (n .name ∷ [])) tops (treeCount ns) e (h .0)) (h .1))

@@ -16,7 +16,7 @@ use Rattle.grammar.specs.Size.{contentTooLarge}
 use Rattle.grammar.specs.Names.{asciiClasses}
 use Rattle.grammar.specs.Outcome.{given, refused}
 use Rattle.grammar.specs.Tree.{Tree}
-use Rattle.grammar.specs.ReadDocument.{readNodes}
+use Rattle.grammar.specs.ReadDocument.{Node, readNodes}
 use Rattle.grammar.specs.Sample.{sample}
 use Rattle.grammar.specs.Widen.{sampleTable}
 use Rattle.grammar.specs.declared.Refusal.the-variants.{ResultTooLarge}
@@ -118,3 +118,10 @@ SampleDrafted d before after TooLarge = sampleTable standard d ≡ refused Resul
 pub record Indexes (s : List ℕ) (ix : DocumentIndex) : Type 0 where
   pub reads : readNodes standard asciiClasses s ≡ given (nodesIn s ix)
   pub indexed : Indexed s (ix .names) (ix .sizes) (ix .children) (ix .nodes)
+
+-- and the child counts
+pub record SampleReady (s names sizes children parents types firsts : List ℕ) (n count : ℕ) : Type 0 where
+  pub held : SampleHeld s names sizes parents types firsts n count
+  pub counts-held : n ≤ length children
+  pub counts-are : (i : ℕ) → i < n → getD children i 0 ≡ getD (map (λ (m : Node). m .children) (held .whole .list)) i 0
+  pub counts-few : (i : ℕ) → i < n → getD children i 0 ≤ 200

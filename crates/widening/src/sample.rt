@@ -4,6 +4,7 @@ use crate::drafts::finish;
 use crate::drafts::settle;
 use crate::writing::Drafted;
 use crate::writing::put_field;
+use reader::documents::DocumentIndex;
 use reader::names::same_name;
 ghost use Prim.Native.Nat.{ℕ, suc, _+_, _-_, _*_, _≤_, _<_};
 ghost use mathlib.Core.List.{[], _∷_, _++_};
@@ -13,7 +14,11 @@ ghost use lib.Dec.{eqb};
 ghost use lib.ListN.{length, getD, take, drop, replicate};
 ghost use Rattle.grammar.specs.Lists.{place};
 ghost use Rattle.grammar.specs.Lists.{numbersBelow};
+ghost use Rattle.grammar.specs.Outcome.{given};
+ghost use Rattle.grammar.specs.Tree.{Tree};
 ghost use Rattle.grammar.specs.ReadContent.{contentBytes};
+ghost use Rattle.grammar.specs.ReadDocument.{treeOf};
+ghost use Rattle.reader.specs.DocumentNodes.{nodesIn};
 ghost use Rattle.theory.proofs.Gathering.{gathered};
 ghost use Rattle.widening.specs.Drafts.{Kept};
 ghost use Rattle.widening.specs.Writing.{Put};
@@ -24,6 +29,7 @@ ghost use Rattle.widening.specs.Writing.{Puts};
 ghost use Rattle.grammar.specs.Lists.{joinedOf};
 ghost use Rattle.widening.specs.SampleTable.{
     contentIn, ruleIn, ContentMade, NodesHeld, RulePuts, labelField, RulesPut, RulesHeld, TablePut, restBytes, startBytes,
+    SampleHeld, SampleReady, SampleDrafted, Indexes,
 };
 ghost use Rattle.widening.specs.SampleNodes.{
     parentsOf, CountedTree, sameKey, KeyAt, KeysAt, Whole, aboveIn, TypedTo, LabelledTo,
@@ -427,4 +433,90 @@ fn put_start(
         Drafted::TooLarge => Drafted::TooLarge,
         Drafted::Length(end) => put_rest(draft, end, scratch, parents, types, children, nodes, firsts, labels, count),
     }
+}
+
+// Writes the table: labels, start, rules, end.
+fn put_table(
+    draft: &mut [u8],
+    s: &[u8],
+    names: &[usize],
+    sizes: &[usize],
+    keys: &[usize],
+    named: &[usize],
+    total: usize,
+    scratch: &mut [u8],
+    parents: &[usize],
+    types: &[usize],
+    children: &[usize],
+    nodes: usize,
+    firsts: &[usize],
+    labels: &[usize],
+    count: usize,
+) -> Drafted
+    requires { ⌜ (32768 ≤ length (now draft)) × (2048 ≤ length (now scratch)) × (total ≤ 64)
+        × KeysAt (now s) (now names) (now sizes) (now keys) (now named) total
+        × NodesHeld (now parents) (now types) (now children) nodes × RulesHeld (now types) (now firsts) (now labels) nodes count ⌝ }
+    ensures { λ r. ⌜ TablePut (now (draft .entry)) 0 (ruleIn (now (parents .entry)) (now (types .entry)) (now (firsts .entry)) (now (labels .entry)) nodes) count
+        (joinedOf (labelField (now (s .entry)) (now (names .entry)) (now (sizes .entry)) (now (named .entry))) (numbersBelow total)
+        ++ startBytes (ruleIn (now (parents .entry)) (now (types .entry)) (now (firsts .entry)) (now (labels .entry)) nodes) count) (now (draft .exit)) r ⌝ }
+{
+    match put_labels(draft, s, names, sizes, keys, named, total) {
+        Drafted::TooLarge => Drafted::TooLarge,
+        Drafted::Length(end) => put_start(
+            draft, end, scratch, parents, types, children, nodes, firsts, labels, count,
+        ),
+    }
+}
+
+// Writes the sample of nodes whose types are found, unless there are too many types.
+fn write_sample(
+    draft: &mut [u8],
+    s: &[u8],
+    names: &[usize],
+    sizes: &[usize],
+    children: &[usize],
+    parents: &[usize],
+    types: &[usize],
+    firsts: &[usize],
+    keys: &[usize],
+    scratch: &mut [u8],
+    nodes: usize,
+    count: usize,
+) -> Drafted
+    requires { ⌜ (32768 ≤ length (now draft)) × (2048 ≤ length (now scratch)) × (1024 ≤ length (now keys)) × ((i : ℕ) → getD (now keys) i 0 ≡ 0)
+        × SampleReady (now s) (now names) (now sizes) (now children) (now parents) (now types) (now firsts) nodes count ⌝ }
+    ensures { λ r. ⌜ ((q : SampleHeld (now (s .entry)) (now (names .entry)) (now (sizes .entry)) (now (parents .entry)) (now (types .entry)) (now (firsts .entry)) nodes count)
+        → SampleDrafted (q .whole .tree) (now (draft .entry)) (now (draft .exit)) r) ⌝ }
+{
+    if 64 < count {
+        return Drafted::TooLarge;
+    }
+    let found = labels_of(s, names, sizes, keys, firsts, count);
+    let labels = found.of;
+    let named = found.firsts;
+    let total = found.count;
+    put_table(
+        draft, s, names, sizes, keys, &named, total, scratch, parents, types, children, nodes, firsts, &labels, count,
+    )
+}
+
+// The sample of a document as a table, from the draft's beginning.
+pub fn sample_table(document: &[u8], index: DocumentIndex, draft: &mut [u8]) -> Drafted
+    requires { ⌜ (32768 ≤ length (now draft)) × Indexes (now document) index ⌝ }
+    ensures { λ r. ⌜ ((d : Tree) → treeOf (nodesIn (now (document .entry)) index) ≡ given d
+        → SampleDrafted d (now (draft .entry)) (now (draft .exit)) r) ⌝ }
+{
+    let names = index.names;
+    let sizes = index.sizes;
+    let children = index.children;
+    let nodes = index.nodes;
+    let parents = parents_of(&children, nodes);
+    let types = types_of(document, &names, &sizes, &parents, nodes);
+    let of = types.of;
+    let firsts = types.firsts;
+    let keys = [0usize; 1024];
+    let mut scratch = [0u8; 2048];
+    write_sample(
+        draft, document, &names, &sizes, &children, &parents, &of, &firsts, &keys, &mut scratch, nodes, types.count,
+    )
 }
