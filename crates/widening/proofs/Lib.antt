@@ -1,6 +1,12 @@
 pub mod RowLaws
 pub mod KeptLaws
 pub mod FinishLaws
+pub mod VisitedNodes
+pub mod NumberingLaws
+pub mod SampleByNodes
+pub mod FillLaws
+pub mod ParentLaws
+pub mod TypeLaws
 pub mod WideLaws
 pub mod GatherLaws
 pub mod SourceLaws
@@ -17,3 +23,9 @@ pub mod UnitedLabelsLaws
 pub mod UnionLaws
 pub mod PairLists
 pub mod ReachedLaws
+pub mod PutLaws
+pub mod KidLaws
+pub mod SequenceLaws
+pub mod FlatLaws
+pub mod RuleLaws
+pub mod SampleWritten

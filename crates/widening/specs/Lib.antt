@@ -6,3 +6,7 @@ pub mod Completing
 pub mod UnitedLabels
 pub mod View
 pub mod Rounds
+pub mod SampleNodes
+pub mod Writing
+pub mod SampleContents
+pub mod SampleTable

@@ -7,4 +7,6 @@ pub mod labels;
 pub mod limits;
 pub mod met;
 pub mod productive;
+pub mod sample;
 pub mod union;
+pub mod writing;
