@@ -1,18 +1,18 @@
 -- What an index of a document holds: the nodes of its tree, for the sample.
-use Prim.Native.Nat.{ℕ, zero, suc, _+_, _-_, _≤_, _<_}
+use Prim.Native.Nat.{ℕ, _≤_, _<_}
 use native.Mathlib.Omega.{arith}
-use mathlib.Core.List.{List, [], _∷_, map}
-use mathlib.Core.Path.{_≡_, refl, sym, _∙_, ap, subst}
-use lib.ListN.{length, length-map, List·getD-map, getD, take, drop}
+use mathlib.Core.List.{List, [], map}
+use mathlib.Core.Path.{_≡_, sym, _∙_, ap}
+use lib.ListN.{length, length-map, List·getD-map, getD, take}
 use lib.Seq.{length-take-le, getD-take, ext-getD}
 use Rattle.grammar.specs.Limits.{standard}
-use Rattle.grammar.specs.Names.{Name, asciiClasses}
+use Rattle.grammar.specs.Names.{asciiClasses}
 use Rattle.grammar.specs.Outcome.{given}
 use Rattle.grammar.specs.Tree.{Tree}
-use Rattle.grammar.specs.ReadDocument.{Node, readNodes, treeOf}
+use Rattle.grammar.specs.ReadDocument.{Node, treeOf}
 use Rattle.theory.proofs.PositionLaws.{at-else}
 use Rattle.reader.specs.declared.documents.DocumentIndex.{DocumentIndex}
-use Rattle.reader.specs.DocumentNodes.{nodeAt, nodesIn, Indexed}
+use Rattle.reader.specs.DocumentNodes.{nodeAt, nodesIn}
 use Rattle.reader.proofs.DocumentTrees.{treeCount, Enough, complete}
 use Rattle.reader.proofs.DocumentAnswers.{nodes-count, node-held, document-tree}
 use Rattle.widening.specs.SampleNodes.{CountedTree, Whole, TypedTo, nameIn, nameAt, parentsOf}

@@ -13,7 +13,6 @@ use Rattle.widening.proofs.sample.parents_of.Reads as parents-of-reads
 use Rattle.widening.proofs.sample.types_of.Reads as types-of-reads
 use Rattle.widening.proofs.sample.write_sample.Reads as write-sample-reads
 
--- src/sample.rt:513:30
 slice-aggregate-parents-of : tie.Need-slice-aggregate-parents-of
 slice-aggregate-parents-of c = search needs
 
@@ -36,7 +35,6 @@ types-long c = search needs
 firsts-long : (c : lts.After-types-of (parents-of-reads.Asked, parents-of-reads.Learnt, types-of-reads.Asked, types-of-reads.Learnt, write-sample-reads.Asked, write-sample-reads.Learnt) reads.Pre reads.Post) → length (c .types-of .result .firsts) ≡ 1024
 firsts-long c = search needs
 
--- src/sample.rt:513:19
 parents-of-requires : tie.Need-parents-of-requires
 parents-of-requires c κs =
     let a = c .before .before .before .before .before .before .args in
@@ -46,19 +44,15 @@ parents-of-requires c κs =
     let f = x .indexed .few in
     (f, omega arith, index-counted s (a .index) x (omega arith))
 
--- src/sample.rt:514:36
 slice-aggregate-types-of : tie.Need-slice-aggregate-types-of
 slice-aggregate-types-of c = search needs
 
--- src/sample.rt:514:44
 slice-aggregate-types-of-2 : tie.Need-slice-aggregate-types-of-2
 slice-aggregate-types-of-2 c = search needs
 
--- src/sample.rt:514:52
 slice-aggregate-types-of-3 : tie.Need-slice-aggregate-types-of-3
 slice-aggregate-types-of-3 c = search needs
 
--- src/sample.rt:514:9
 types-of-requires : tie.Need-types-of-requires
 types-of-requires c κs =
     let a = c .before .before .before .before .before .before .before .before .before .before .args in
@@ -72,39 +66,30 @@ types-of-requires c κs =
     let ps = c .before .before .before .parents-of .ensures (index-counted s (a .index) x (omega arith)) in
     index-whole s (a .index) x (c .before .before .before .parents-of .result) ps lp ln ls (index-tree s (a .index) x .0) (index-tree s (a .index) x .1)
 
--- src/sample.rt:520:26
 slice-aggregate-write-sample : tie.Need-slice-aggregate-write-sample
 slice-aggregate-write-sample c = search needs
 
--- src/sample.rt:520:34
 slice-aggregate-write-sample-2 : tie.Need-slice-aggregate-write-sample-2
 slice-aggregate-write-sample-2 c = search needs
 
--- src/sample.rt:520:42
 slice-aggregate-write-sample-3 : tie.Need-slice-aggregate-write-sample-3
 slice-aggregate-write-sample-3 c = search needs
 
--- src/sample.rt:520:53
 slice-aggregate-write-sample-4 : tie.Need-slice-aggregate-write-sample-4
 slice-aggregate-write-sample-4 c = search needs
 
--- src/sample.rt:520:63
 slice-aggregate-write-sample-5 : tie.Need-slice-aggregate-write-sample-5
 slice-aggregate-write-sample-5 c = search needs
 
--- src/sample.rt:520:68
 slice-aggregate-write-sample-6 : tie.Need-slice-aggregate-write-sample-6
 slice-aggregate-write-sample-6 c = search needs
 
--- src/sample.rt:520:77
 slice-aggregate-write-sample-7 : tie.Need-slice-aggregate-write-sample-7
 slice-aggregate-write-sample-7 c = search needs
 
--- src/sample.rt:520:84
 slice-aggregate-write-sample-8 : tie.Need-slice-aggregate-write-sample-8
 slice-aggregate-write-sample-8 c = search needs
 
--- src/sample.rt:519:5
 write-sample-requires : tie.Need-write-sample-requires
 write-sample-requires c κs =
     let a = c .before .before .before .before .before .before .before .before .before .before .before .before .before .before .before .before .before .before .before .before .before .before .args in
@@ -117,16 +102,18 @@ write-sample-requires c κs =
     let f = x .indexed .few in
     let ps = c .before .before .before .before .before .before .before .before .before .before .before .before .before .before .before .parents-of .ensures (index-counted s (a .index) x (omega arith)) in
     let lt = types-long (c .before .before .before .before .before .before .before .before .before .before .before) in
-    let lf = firsts-long (c .before .before .before .before .before .before .before .before .before .before .before) in
-    (c .before .before .before .before .before .before .before .before .before .before .before .before .before .before .before .before .before .before .before .before .before .before .pre .0, omega arith, omega arith, zeros-at 1024,
-     index-ready s (a .index) x (c .before .before .before .before .before .before .before .before .before .before .before .before .before .before .before .parents-of .result) ps lp ln ls (c .before .before .before .before .before .before .before .before .before .before .before .types-of .result .of) (c .before .before .before .before .before .before .before .before .before .before .before .types-of .result .firsts) (c .before .before .before .before .before .before .before .before .before .before .before .types-of .result .count) lt lf
-     (c .before .before .before .before .before .before .before .before .before .before .before .types-of .ensures) (omega arith))
+    let lf = firsts-long (c .before .before .before .before .before .before .before .before .before .before .before) in (
+      c .before .before .before .before .before .before .before .before .before .before .before .before .before .before .before .before .before .before .before .before .before .before .pre .0,
+      omega arith,
+      omega arith,
+      zeros-at 1024,
+      index-ready s (a .index) x (c .before .before .before .before .before .before .before .before .before .before .before .before .before .before .before .parents-of .result) ps lp ln ls (c .before .before .before .before .before .before .before .before .before .before .before .types-of .result .of) (c .before .before .before .before .before .before .before .before .before .before .before .types-of .result .firsts) (c .before .before .before .before .before .before .before .before .before .before .before .types-of .result .count) lt lf
+          (c .before .before .before .before .before .before .before .before .before .before .before .types-of .ensures) (omega arith),
+    )
 
--- src/sample.rt:504:1
 same-length : tie.Need-same-length
 same-length c = search needs
 
--- src/sample.rt:504:1
 returns : tie.Need-returns
 returns c =
     λ d e.
