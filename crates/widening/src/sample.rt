@@ -5,6 +5,7 @@ use crate::drafts::settle;
 use crate::writing::Drafted;
 use crate::writing::put_field;
 use reader::documents::DocumentIndex;
+use reader::limits::TYPES;
 use reader::names::same_name;
 ghost use Prim.Native.Nat.{ℕ, suc, _+_, _-_, _*_, _≤_, _<_};
 ghost use mathlib.Core.List.{[], _∷_, _++_};
@@ -12,8 +13,7 @@ ghost use mathlib.Core.Path.{_≡_};
 ghost use mathlib.Core.Logic.{_⊎_};
 ghost use lib.Dec.{eqb};
 ghost use lib.ListN.{length, getD, take, drop, replicate};
-ghost use Rattle.grammar.specs.Lists.{place};
-ghost use Rattle.grammar.specs.Lists.{numbersBelow};
+ghost use Rattle.grammar.specs.Lists.{place, joinedOf, numbersBelow};
 ghost use Rattle.grammar.specs.Outcome.{given};
 ghost use Rattle.grammar.specs.Tree.{Tree};
 ghost use Rattle.grammar.specs.ReadContent.{contentBytes};
@@ -21,9 +21,8 @@ ghost use Rattle.grammar.specs.ReadDocument.{treeOf};
 ghost use Rattle.reader.specs.DocumentNodes.{nodesIn};
 ghost use Rattle.theory.proofs.Gathering.{gathered};
 ghost use Rattle.widening.specs.Drafts.{Kept};
-ghost use Rattle.widening.specs.Writing.{Put};
+ghost use Rattle.widening.specs.Writing.{Put, Puts};
 ghost use Rattle.widening.specs.SampleContents.{
-  kidTypes,
   kidBytes,
   kidsBytes,
   Kids,
@@ -31,8 +30,6 @@ ghost use Rattle.widening.specs.SampleContents.{
   sequencesAmong,
   GathersIn,
 };
-ghost use Rattle.widening.specs.Writing.{Puts};
-ghost use Rattle.grammar.specs.Lists.{joinedOf};
 ghost use Rattle.widening.specs.SampleTable.{
   contentIn,
   ruleIn,
@@ -623,7 +620,7 @@ fn write_sample(
     ensures { λ r. ⌜ ((q : SampleHeld (now (s .entry)) (now (names .entry)) (now (sizes .entry)) (now (parents .entry)) (now (types .entry)) (now (firsts .entry)) nodes count)
         → SampleDrafted (q .whole .tree) (now (draft .entry)) (now (draft .exit)) r) ⌝ }
 {
-    if 64 < count {
+    if TYPES < count {
         return Drafted::TooLarge;
     }
     let found = labels_of(s, names, sizes, keys, firsts, count);
