@@ -1,10 +1,10 @@
 -- A part of a list filled with one number, one after the other; looking for the first that is the same.
-use Prim.Native.Nat.{ℕ, zero, suc, _+_, _-_, _≤_, _<_}
+use Prim.Native.Nat.{ℕ, suc, _+_, _-_, _≤_, _<_}
 use native.Mathlib.Omega.{arith}
 use native.Mathlib.Numerals.{add-one}
 use mathlib.Core.Bool.{Bool, true, false, _&&_}
 use mathlib.Core.List.{List, [], _∷_, _++_, append-assoc, append-nil}
-use mathlib.Core.Path.{_≡_, refl, sym, _∙_, ap}
+use mathlib.Core.Path.{_≡_, sym, _∙_, ap}
 use lib.ListN.{length, length-append, length-replicate, getD, set, take, drop, replicate, replicate-append-replicate, take-append-drop, drop-of-length-le}
 use lib.Seq.{drop-cons, set-at, length-take-le, append-snoc, getD-take}
 use lib.Dec.{eqb}

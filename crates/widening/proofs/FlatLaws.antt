@@ -1,16 +1,16 @@
 -- A choice of child sequences nests little, and is as wide as there are sequences: what makes it too large are its bytes or its operands.
-use Prim.Native.Nat.{ℕ, zero, suc, _+_, _-_, _≤_, _<_, max}
+use Prim.Native.Nat.{ℕ, _+_, _≤_, _<_}
 use native.Mathlib.Omega.{arith}
-use mathlib.Core.Bool.{Bool, true, false, _||_}
-use mathlib.Core.List.{List, [], _∷_, _++_, map, append-nil, List·Memᴰ, List·Memᴰ·head, List·Memᴰ·tail, Memᴰ·of-map}
+use mathlib.Core.Bool.{true, false, _||_}
+use mathlib.Core.List.{List, [], _∷_, map, append-nil, List·Memᴰ, List·Memᴰ·head, List·Memᴰ·tail, Memᴰ·of-map}
 use mathlib.Core.Option.{some as just}
-use mathlib.Core.Path.{_≡_, refl, sym, _∙_, ap, subst}
+use mathlib.Core.Path.{_≡_, refl, subst}
 use lib.Dec.{eqb, ltb}
 use borrow.Author.Tests.{lt-ltb, le-ltb}
 use lib.ListN.{length, getD}
-use Rattle.grammar.specs.Lists.{keep, distinct, numbersBelow}
+use Rattle.grammar.specs.Lists.{keep, numbersBelow}
 use Rattle.grammar.specs.Limits.{standard}
-use Rattle.grammar.specs.Content.{Content, type, operands, choiceOf, nesting, deepest, count}
+use Rattle.grammar.specs.Content.{Content, type, operands, choiceOf, nesting, deepest}
 use Rattle.grammar.specs.ReadContent.{contentBytes, sameContent}
 use Rattle.grammar.specs.Size.{widestChoice, widestOf, contentTooLarge}
 use Rattle.grammar.specs.Sample.{sequenceOf}

@@ -3,15 +3,14 @@
 --   sequence-none, sequence-one, sequence-more : the sequence's bytes by the number of children
 use Prim.Native.Nat.{ℕ, zero, suc, _+_, _-_, _*_, _≤_, _<_}
 use native.Mathlib.Omega.{arith}
-use native.Mathlib.Numerals.{add-one}
 use mathlib.Core.Bool.{Bool, true, false}
 use mathlib.Core.List.{List, [], _∷_, _++_, map, append-nil, map-append}
 use mathlib.Core.Path.{_≡_, refl, sym, _∙_, ap, subst}
 use lib.Dec.{eqb, ltb}
 use borrow.Author.Tests.{ltb-true, ltb-false, eq-eqb, ne-eqb}
-use lib.ListN.{length, length-append, length-map, length-set, getD, set}
+use lib.ListN.{length, length-append, length-map, getD, set}
 use Rattle.grammar.specs.Lists.{keep, joinedOf, numbersFrom}
-use Rattle.grammar.specs.Content.{Content, type, operands, count}
+use Rattle.grammar.specs.Content.{type, operands}
 use Rattle.grammar.specs.ReadContent.{contentBytes, operandBytes}
 use Rattle.grammar.specs.Sample.{sequenceOf}
 use Rattle.theory.proofs.ListLaws.{keep-yes, keep-no, joined-end}
@@ -111,19 +110,20 @@ module _ {parents types : List ℕ} {n i kids : ℕ} (k : Kids parents types n i
   pub kid-room : (end ≤ length scratch) × (getD parents j 0 ≡ i → end + 2 ≤ length scratch) × (getD types j 0 < 256)
   kid-room =
       let l = put-length p in
-      let r = p .room in
-      (omega arith,
-       λ e.
-       let g = kids-grow parents types i (j - suc i) (n - suc i) (omega arith) in
-       let a = ap length (ap (kidsBytes parents types i) next-is ∙ kids-step) in
-       let b = length-append (kidsBytes parents types i (j - suc i)) (kidBytes (eqb (getD parents j 0) i) (getD types j 0)) in
-       let c : length (kidBytes (eqb (getD parents j 0) i) (getD types j 0)) ≡ 2 =
-       ap (λ (x : Bool). length (kidBytes x (getD types j 0))) (eq-eqb (getD parents j 0) i e) in
-       let d = kids-long parents types i n in
-       let m = k .many in
-       let x = p .next-is in
-       omega arith,
-       k .bytes j h)
+      let r = p .room in (
+        omega arith,
+        λ e.
+            let g = kids-grow parents types i (j - suc i) (n - suc i) (omega arith) in
+            let a = ap length (ap (kidsBytes parents types i) next-is ∙ kids-step) in
+            let b = length-append (kidsBytes parents types i (j - suc i)) (kidBytes (eqb (getD parents j 0) i) (getD types j 0)) in
+            let c : length (kidBytes (eqb (getD parents j 0) i) (getD types j 0)) ≡ 2 =
+            ap (λ (x : Bool). length (kidBytes x (getD types j 0))) (eq-eqb (getD parents j 0) i e) in
+            let d = kids-long parents types i n in
+            let m = k .many in
+            let x = p .next-is in
+            omega arith,
+        k .bytes j h,
+      )
 
   pub kid-next : {more : List ℕ} {next : ℕ} → Put scratch end (kidBytes (eqb (getD parents j 0) i) (getD types j 0)) more next
       → Put before at (kidsBytes parents types i (j + 1 - suc i)) more next

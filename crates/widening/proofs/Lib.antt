@@ -29,3 +29,4 @@ pub mod SequenceLaws
 pub mod FlatLaws
 pub mod RuleLaws
 pub mod SampleWritten
+pub mod SampleIndexed

@@ -140,12 +140,13 @@ module _ {A : Type 0} where
     -- an element is among the distinct ones if it is among all
     among-distinct : (x : A) (xs : List A) → any (same x) (distinct same xs) ≡ any (same x) xs
     among-distinct x xs =
-        same-test (any (same x) (distinct same xs)) (any (same x) xs)
-        ((λ e. let (y, m, s) = any-found (same x) (distinct same xs) e in any-of (same x) (distinct-was same xs m) s),
-         (λ e.
-         let (y, m, s) = any-found (same x) xs e in
-         let (z, o, t) = distinct-has same same-refl same-trans m in
-         any-of (same x) o (same-trans x y z s (same-sym z y t))))
+        same-test (any (same x) (distinct same xs)) (any (same x) xs) (
+          (λ e. let (y, m, s) = any-found (same x) (distinct same xs) e in any-of (same x) (distinct-was same xs m) s),
+          (λ e.
+              let (y, m, s) = any-found (same x) xs e in
+              let (z, o, t) = distinct-has same same-refl same-trans m in
+              any-of (same x) o (same-trans x y z s (same-sym z y t))),
+        )
 
     pub number-new : (xs : List A) (y : A) → place same y (distinct same xs) ≡ length (distinct same xs)
         → distinct same (xs ++ (y ∷ [])) ≡ distinct same xs ++ (y ∷ [])
@@ -283,11 +284,12 @@ pub numbers-split : (n i : ℕ) → i < n → (later : List ℕ) × (numbersBelo
 unfolding numbersBelow
 numbers-split n i h =
     let z : n ≡ i + suc (n - suc i) = omega arith in
-    let y : zero + i ≡ i = omega arith in
-    (numbersFrom (suc i) (n - suc i),
-     ap (numbersFrom zero) z
-     ∙ numbers-parts zero i (n - suc i)
-     ∙ ap (λ (k : ℕ). numbersFrom zero i ++ (k ∷ numbersFrom (suc k) (n - suc i))) y)
+    let y : zero + i ≡ i = omega arith in (
+      numbersFrom (suc i) (n - suc i),
+      ap (numbersFrom zero) z
+          ∙ numbers-parts zero i (n - suc i)
+          ∙ ap (λ (k : ℕ). numbersFrom zero i ++ (k ∷ numbersFrom (suc k) (n - suc i))) y,
+    )
 
 -- tests that agree find the same place
 pub place-agree : {A : Type 0} (p q : A → A → Bool) (x : A) (xs : List A) → ((y : A) → List·Memᴰ y xs → p x y ≡ q x y)

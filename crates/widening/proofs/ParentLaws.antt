@@ -4,8 +4,8 @@ use Prim.Native.Nat.{ℕ, zero, suc, _+_, _-_, _≤_, _<_}
 use native.Mathlib.Omega.{arith}
 use native.Mathlib.Numerals.{add-one}
 use mathlib.Core.List.{List, [], _∷_, _++_, map, append-assoc, append-nil}
-use mathlib.Core.Path.{_≡_, refl, sym, _∙_, ap, subst}
-use lib.ListN.{length, length-drop, length-take, length-set, length-append, length-replicate, List·getD-map, getD, set, take, drop, replicate, drop-of-length-le}
+use mathlib.Core.Path.{_≡_, sym, _∙_, ap, subst}
+use lib.ListN.{length, length-drop, length-append, List·getD-map, getD, set, take, drop, replicate, drop-of-length-le}
 use lib.Seq.{drop-cons, drop-at, length-take-le, getD-take, take-suc-set, append-snoc}
 use Rattle.grammar.specs.ReadDocument.{Node}
 use Rattle.reader.proofs.DocumentTrees.{treeCount, Enough}

@@ -1,12 +1,12 @@
 -- Bytes written one after the other:
 --   put-join : after some bytes, some more ; put-none, put-sets, put-paste : nothing, single stores, a copy
 --   put-field : a field's three first bytes and its value
-use Prim.Native.Nat.{ℕ, zero, suc, _+_, _-_, _*_, _/_, _%_, _≤_, _<_}
+use Prim.Native.Nat.{ℕ, suc, _+_, _-_, _/_, _%_, _≤_}
 use native.Mathlib.Omega.{arith}
 use native.Mathlib.Numerals.{add-one, add-two}
 use mathlib.Core.List.{List, [], _∷_, _++_, append-assoc, append-nil}
 use mathlib.Core.Path.{_≡_, refl, sym, _∙_, ap, subst}
-use lib.ListN.{length, length-append, length-set, length-take, length-drop, getD, set, take, drop, take-append-drop}
+use lib.ListN.{length, length-append, length-set, length-drop, set, take, drop, take-append-drop}
 use lib.Seq.{sets, sets-eq, paste, take-length, length-take-le, take-at, drop-at, drop-drop}
 use Rattle.grammar.specs.Fields.{fieldBytes}
 use Rattle.widening.specs.Writing.{Put}

@@ -7,16 +7,15 @@ use native.Mathlib.Omega.{arith}
 use native.Mathlib.Numerals.{add-one}
 use mathlib.Core.Bool.{Bool, true, false}
 use mathlib.Core.List.{List, [], _∷_, _++_}
-use mathlib.Core.Logic.{_⊎_, inl, inr, ⊎-elim}
+use mathlib.Core.Logic.{inl, inr, ⊎-elim}
 use mathlib.Core.Option.{some as just}
 use mathlib.Core.Path.{_≡_, refl, sym, _∙_, ap, subst}
 use lib.Dec.{ltb}
 use borrow.Author.Tests.{ltb-true, ltb-false}
-use lib.ListN.{length, length-append, getD, set, take, drop}
+use lib.ListN.{length, length-append, set, take, drop}
 use Rattle.grammar.specs.Lists.{joinedOf, numbersBelow}
 use Rattle.grammar.specs.Limits.{standard}
 use Rattle.grammar.specs.Content.{Content}
-use Rattle.grammar.specs.ReadContent.{contentBytes}
 use Rattle.grammar.specs.Table.{Rule}
 use Rattle.grammar.specs.Fields.{fieldBytes}
 use Rattle.grammar.specs.WriteTable.{ruleBytes}

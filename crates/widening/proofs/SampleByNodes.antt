@@ -7,9 +7,9 @@ use native.Mathlib.Omega.{arith}
 use mathlib.Core.Bool.{Bool, true, false, _&&_, false≢true}
 use mathlib.Core.List.{List, [], _∷_, _++_, map, List·Memᴰ, List·Memᴰ·head, List·Memᴰ·tail, Memᴰ·map, map-map}
 use mathlib.Core.Logic.{_↔_}
-use mathlib.Core.Path.{_≡_, refl, sym, _∙_, ap, subst, fun-ext}
+use mathlib.Core.Path.{_≡_, refl, sym, _∙_, ap, subst}
 use lib.Dec.{eqb, ltb}
-use lib.ListN.{length, length-map, length-replicate, length-drop, length-append, List·getD-map, List·getD-eq-default, getD, drop, replicate}
+use lib.ListN.{length, length-map, length-drop, List·getD-map, List·getD-eq-default, getD, drop, replicate}
 use lib.Seq.{getD-drop}
 use borrow.Author.Tests.{eq-eqb, eqb-true, ltb-true, ltb-false}
 use Rattle.grammar.specs.Lists.{keep, distinct, place, numbersFrom, numbersBelow}
@@ -18,56 +18,17 @@ use Rattle.grammar.specs.Content.{Content, choiceOf}
 use Rattle.grammar.specs.ReadContent.{sameContent}
 use Rattle.grammar.specs.Outcome.{given}
 use Rattle.grammar.specs.Tree.{Tree}
-use Rattle.grammar.specs.Table.{Rule, Table}
 use Rattle.grammar.specs.ReadDocument.{Node, forestOf, treeOf}
 use Rattle.grammar.specs.Sample.{Visit, visits, samePath, pathsOf, namesOf, sequenceOf, childSequence, contentAt, ruleAt, sample}
-use Rattle.theory.proofs.BoolLaws.{and-left, and-right, and-intro, same-test, false-of}
+use Rattle.theory.proofs.BoolLaws.{and-left, and-right, and-intro, same-test}
 use Rattle.theory.proofs.ListLaws.{keep-map, kept, distinct-map, distinct-was, numbers-below}
 use Rattle.theory.proofs.NameLaws.{name-refl, name-sym, name-trans}
 use Rattle.theory.proofs.PathLaws.{SamePath, path-refl, path-sym, path-trans, path-parts}
-use Rattle.theory.proofs.SampleRules.{pathType, path-type, path-types}
+use Rattle.theory.proofs.SampleRules.{pathType, path-types}
 use Rattle.reader.proofs.DocumentTrees.{treeCount, Enough}
-use Rattle.widening.specs.SampleNodes.{
-  parentsFrom,
-  parentsOf,
-  visitsFrom,
-  pathsIn,
-  childrenIn,
-  namesIn,
-  found,
-  nameAt,
-  pathAt,
-  parentAt,
-  visitAt,
-  kidsOf,
-  typeAt,
-  aboveAt,
-  sameAt,
-  sameNamed,
-  firstsOf,
-  labelled,
-  sequenceAt,
-  ofType,
-  contentOf,
-  ruleOf,
-  sampleOf,
-}
+use Rattle.widening.specs.SampleNodes.{parentsFrom, parentsOf, visitsFrom, pathsIn, childrenIn, namesIn, found, nameAt, pathAt, parentAt, visitAt, kidsOf, typeAt, aboveAt, sameAt, sameNamed, firstsOf, labelled, sequenceAt, ofType, contentOf, ruleOf, sampleOf}
 use Rattle.widening.proofs.NumberingLaws.{listed-from, place-map, distinct-finer, numbers-within, numbers-split, number-stays}
-use Rattle.widening.proofs.VisitedNodes.{
-  visits-nodes,
-  visit-names,
-  visit-counts,
-  parents-many,
-  path-step,
-  Below,
-  handed-many,
-  handed-below,
-  map-handed,
-  pick,
-  pick-own,
-  pick-roots,
-  child-names,
-}
+use Rattle.widening.proofs.VisitedNodes.{visits-nodes, visit-names, visit-counts, parents-many, path-step, handed-many, handed-below, map-handed, pick, pick-own, pick-roots, child-names}
 
 -- lists by places
 pick-keep : {A : Type 0} (f : ℕ → ℕ) (g : ℕ → A) (q a m : ℕ)
@@ -208,8 +169,6 @@ module _ (ns : List Node) (one : treeCount ns ≡ 1) (enough : Enough ns) where
       (drop-listed (namesIn ns) (suc i) [] ∙ ap (λ (n : ℕ). map (nameAt ns) (numbersFrom (suc i) (n - suc i))) b)
       ∙ pick-keep (parentAt ns) (nameAt ns) i (suc i) m
 
-
-
   -- a node has as many children as it says
   pub kids-count : (i : ℕ) → i < length ns → length (kidsOf ns i) ≡ getD (map (λ (n : Node). n .children) ns) i 0
   kids-count i h =
@@ -263,13 +222,14 @@ module _ (ns : List Node) (one : treeCount ns ≡ 1) (enough : Enough ns) (d : T
       let a = pathAt ns (parentAt ns (suc i)) in
       let b = pathAt ns (parentAt ns (suc j)) in
       let m = nameAt ns (suc i) in
-      let n = nameAt ns (suc j) in
-      (λ e.
-      path-parts a b m n
-      (subst (λ (x : List Name). SamePath (a ++ (m ∷ [])) x) q (subst (λ (x : List Name). SamePath x (pathAt ns (suc j))) p e)),
-      λ e.
-      subst (λ (x : List Name). SamePath x (pathAt ns (suc j))) (sym p)
-      (subst (λ (x : List Name). SamePath (a ++ (m ∷ [])) x) (sym q) (path-join a b m n (e .0) (e .1))))
+      let n = nameAt ns (suc j) in (
+        λ e.
+            path-parts a b m n
+            (subst (λ (x : List Name). SamePath (a ++ (m ∷ [])) x) q (subst (λ (x : List Name). SamePath x (pathAt ns (suc j))) p e)),
+        λ e.
+            subst (λ (x : List Name). SamePath x (pathAt ns (suc j))) (sym p)
+            (subst (λ (x : List Name). SamePath (a ++ (m ∷ [])) x) (sym q) (path-join a b m n (e .0) (e .1))),
+      )
 
   pub same-path : (i j : ℕ) → i < length ns → j < length ns
       → sameAt ns d i j ≡ (eqb (aboveAt ns d i) (aboveAt ns d j) && sameNamed ns d i j)
@@ -278,17 +238,19 @@ module _ (ns : List Node) (one : treeCount ns ≡ 1) (enough : Enough ns) (d : T
       rw (root-path ns one) (same-test (sameName (nameAt ns zero) (nameAt ns zero) && true) (sameName (nameAt ns zero) (nameAt ns zero))
       (and-left (sameName (nameAt ns zero) (nameAt ns zero)) true, λ e. and-intro (sameName (nameAt ns zero) (nameAt ns zero)) true e refl))
   same-path zero (suc j) h k =
-      same-test (sameAt ns d zero (suc j)) (eqb zero (aboveAt ns d (suc j)) && sameNamed ns d zero (suc j))
-      ((λ e. absurd (root-apart j k (path-sym (pathAt ns zero) (pathAt ns (suc j)) e))),
-       (λ e.
-       let z = eqb-true zero (aboveAt ns d (suc j)) (and-left (eqb zero (aboveAt ns d (suc j))) (sameNamed ns d zero (suc j)) e) in
-       absurd (omega arith)))
+      same-test (sameAt ns d zero (suc j)) (eqb zero (aboveAt ns d (suc j)) && sameNamed ns d zero (suc j)) (
+        (λ e. absurd (root-apart j k (path-sym (pathAt ns zero) (pathAt ns (suc j)) e))),
+        (λ e.
+            let z = eqb-true zero (aboveAt ns d (suc j)) (and-left (eqb zero (aboveAt ns d (suc j))) (sameNamed ns d zero (suc j)) e) in
+            absurd (omega arith)),
+      )
   same-path (suc i) zero h k =
-      same-test (sameAt ns d (suc i) zero) (eqb (aboveAt ns d (suc i)) zero && sameNamed ns d (suc i) zero)
-      ((λ e. absurd (root-apart i h e)),
-       (λ e.
-       let z = eqb-true (aboveAt ns d (suc i)) zero (and-left (eqb (aboveAt ns d (suc i)) zero) (sameNamed ns d (suc i) zero) e) in
-       absurd (omega arith)))
+      same-test (sameAt ns d (suc i) zero) (eqb (aboveAt ns d (suc i)) zero && sameNamed ns d (suc i) zero) (
+        (λ e. absurd (root-apart i h e)),
+        (λ e.
+            let z = eqb-true (aboveAt ns d (suc i)) zero (and-left (eqb (aboveAt ns d (suc i)) zero) (sameNamed ns d (suc i) zero) e) in
+            absurd (omega arith)),
+      )
   same-path (suc i) (suc j) h k =
       let b = both-below i j h k in
       let p = parentAt ns (suc i) in
@@ -299,12 +261,13 @@ module _ (ns : List Node) (one : treeCount ns ≡ 1) (enough : Enough ns) (d : T
       let x = aboveAt ns d (suc i) in
       let y = aboveAt ns d (suc j) in
       let same = sameNamed ns d (suc i) (suc j) in
-      same-test (sameAt ns d (suc i) (suc j)) (eqb x y && same)
-      ((λ e. and-intro (eqb x y) same (eq-eqb x y (ap suc (t .1 (b .0 e .0)))) (b .0 e .1)),
-       (λ e.
-       let z = eqb-true x y (and-left (eqb x y) same e) in
-       let w : typeAt ns d p ≡ typeAt ns d q = omega arith in
-       b .1 (t .0 w, and-right (eqb x y) same e)))
+      same-test (sameAt ns d (suc i) (suc j)) (eqb x y && same) (
+        (λ e. and-intro (eqb x y) same (eq-eqb x y (ap suc (t .1 (b .0 e .0)))) (b .0 e .1)),
+        (λ e.
+            let z = eqb-true x y (and-left (eqb x y) same e) in
+            let w : typeAt ns d p ≡ typeAt ns d q = omega arith in
+            b .1 (t .0 w, and-right (eqb x y) same e)),
+      )
 
   -- the same path has the same name, for any numbers
   finer : (i j : ℕ) → sameAt ns d i j ≡ true → sameNamed ns d i j ≡ true

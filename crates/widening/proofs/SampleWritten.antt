@@ -6,7 +6,7 @@ use Prim.Native.Nat.{ℕ, zero, suc, _+_, _-_, _≤_, _<_}
 use native.Mathlib.Omega.{arith}
 use mathlib.Core.Bool.{Bool, true, false, not, _||_}
 use mathlib.Core.List.{List, [], _∷_, _++_, map, append-assoc, append-nil, List·Memᴰ, List·Memᴰ·head, List·Memᴰ·tail, Memᴰ·map, Memᴰ·of-map}
-use mathlib.Core.Logic.{_⊎_, inl, inr, ⊎-elim}
+use mathlib.Core.Logic.{⊎-elim}
 use mathlib.Core.Path.{_≡_, refl, sym, _∙_, ap, subst}
 use lib.Dec.{eqb, ltb}
 use borrow.Author.Tests.{lt-ltb, le-ltb}
@@ -17,7 +17,7 @@ use Rattle.grammar.specs.Limits.{standard}
 use Rattle.grammar.specs.Names.{Name, sameName}
 use Rattle.grammar.specs.Content.{Content, choiceOf}
 use Rattle.grammar.specs.ReadContent.{sameContent}
-use Rattle.grammar.specs.Outcome.{Outcome, given, refused, _>>_, turnBack}
+use Rattle.grammar.specs.Outcome.{given, refused, _>>_, turnBack}
 use Rattle.grammar.specs.Tree.{Tree}
 use Rattle.grammar.specs.Table.{Rule, Table}
 use Rattle.grammar.specs.Fields.{fieldBytes}
@@ -32,43 +32,9 @@ use Rattle.theory.proofs.ListLaws.{at-else, any-of, any-found, at-mem, mem-at, 
 use Rattle.theory.proofs.Gathering.{gathered}
 use Rattle.widening.specs.declared.writing.Drafted.{Drafted}
 use Rattle.widening.specs.declared.writing.Drafted.the-variants.{Length, TooLarge}
-use Rattle.widening.specs.SampleNodes.{
-  Whole,
-  TypedTo,
-  KeyAt,
-  KeysAt,
-  LabelledTo,
-  nameIn,
-  sameNameIn,
-  nameAt,
-  parentAt,
-  kidsOf,
-  typeAt,
-  sameAt,
-  sameNamed,
-  firstsOf,
-  labelled,
-  sequenceAt,
-  ofType,
-  contentOf,
-  ruleOf,
-  sampleOf,
-}
+use Rattle.widening.specs.SampleNodes.{KeyAt, KeysAt, LabelledTo, nameIn, sameNameIn, nameAt, parentAt, kidsOf, typeAt, sameAt, sameNamed, firstsOf, labelled, sequenceAt, ofType, contentOf, ruleOf, sampleOf}
 use Rattle.widening.specs.SampleContents.{kidTypes, sequenceIn, sequencesAmong}
-use Rattle.widening.specs.SampleTable.{
-  contentIn,
-  ruleIn,
-  labelField,
-  ruleField,
-  rulesBytes,
-  startBytes,
-  TablePut,
-  SampleHeld,
-  SampleReady,
-  NodesHeld,
-  RulesHeld,
-  SampleDrafted,
-}
+use Rattle.widening.specs.SampleTable.{contentIn, ruleIn, labelField, ruleField, rulesBytes, startBytes, TablePut, SampleHeld, SampleReady, NodesHeld, RulesHeld, SampleDrafted}
 use Rattle.widening.proofs.NumberingLaws.{listed-from, place-agree, numbers-within}
 use Rattle.widening.proofs.SampleByNodes.{keep-same, map-same, sample-nodes, kids-count}
 
@@ -306,11 +272,12 @@ module _ {s names sizes parents types firsts : List ℕ} {n count : ℕ} (q : Sa
         (λ o.
         let (x, y, w) = any-found (contentOver d) (sample d .rules) o in
         let (t, h, f) = from-sample x y in
-        not-both w (subst (λ (z : Rule). contentTooLarge standard (z .content) ≡ false) f (fits t h))) in
-        (not-too-large d (all-fit d (omega arith) none (omega arith)),
-         p .is ∙ ap (λ (x : List ℕ). x ++ drop m before) e,
-         long,
-         small)
+        not-both w (subst (λ (z : Rule). contentTooLarge standard (z .content) ≡ false) f (fits t h))) in (
+          not-too-large d (all-fit d (omega arith) none (omega arith)),
+          p .is ∙ ap (λ (x : List ℕ). x ++ drop m before) e,
+          long,
+          small,
+        )
     sample-drafted few before after TooLarge o =
         let e = ap length table-same in
         ⊎-elim

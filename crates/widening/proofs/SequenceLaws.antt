@@ -1,26 +1,25 @@
 -- The child sequences of the nodes of a type, gathered node by node.
 --   among-none, among-one, among-next : the sequences among no node, one node, one node more
 --   newest-is : a sequence written after the operands ; gathers-in, gathers-next, gathers-all : step by step
-use Prim.Native.Nat.{ℕ, zero, suc, _+_, _-_, _≤_, _<_}
+use Prim.Native.Nat.{ℕ, _+_, _≤_, _<_}
 use native.Mathlib.Omega.{arith}
-use mathlib.Core.Bool.{Bool, true, false}
-use mathlib.Core.List.{List, [], _∷_, _++_, map, append-nil, append-assoc, map-append}
+use mathlib.Core.List.{List, [], _∷_, _++_, map, append-assoc, map-append}
 use mathlib.Core.Option.{some as just}
-use mathlib.Core.Path.{_≡_, refl, sym, _∙_, ap, subst}
+use mathlib.Core.Path.{_≡_, sym, _∙_, ap, subst}
 use lib.Dec.{eqb}
 use borrow.Author.Tests.{eq-eqb, ne-eqb}
-use lib.ListN.{length, getD, take, drop}
+use lib.ListN.{length, getD, drop}
 use Rattle.grammar.specs.Lists.{keep, distinct, numbersBelow}
 use Rattle.grammar.specs.Content.{Content, operands}
 use Rattle.grammar.specs.ReadContent.{contentBytes}
 use Rattle.theory.proofs.ListLaws.{keep-yes, keep-no}
 use Rattle.theory.proofs.DistinctLaws.{keep-append}
-use Rattle.theory.proofs.Gathering.{Gathered, gathered, gathered-so, gathered-nothing, gather-nothing, gather-more}
-use Rattle.reader.specs.ExprAt.{_upTo_, exprAt, exprsAt}
+use Rattle.theory.proofs.Gathering.{gathered, gathered-so, gather-nothing, gather-more}
+use Rattle.reader.specs.ExprAt.{_upTo_}
 use Rattle.reader.proofs.ExprLaws.{expr-of, exprs-none, exprs-kept}
 use Rattle.widening.specs.declared.drafts.Gathering.{Gathering}
 use Rattle.widening.specs.declared.drafts.Gathering.the-variants.{TooLarge, Upto}
-use Rattle.widening.specs.Drafts.{Row, Kept, Newest, TooWide, Added, Gathers}
+use Rattle.widening.specs.Drafts.{Row, Kept, Newest, TooWide, Gathers}
 use Rattle.widening.specs.Writing.{Put}
 use Rattle.widening.specs.SampleContents.{sequenceIn, sequencesAmong, GathersIn}
 use Rattle.widening.proofs.WideLaws.{wide-gathered}

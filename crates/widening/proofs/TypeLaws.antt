@@ -1,13 +1,13 @@
 -- The types of nodes, found one after the other by their keys and names: what the loop of `types_of` holds, step by step.
-use Prim.Native.Nat.{ℕ, zero, suc, _+_, _-_, _≤_, _<_}
+use Prim.Native.Nat.{ℕ, zero, suc, _+_, _≤_, _<_}
 use native.Mathlib.Omega.{arith}
 use native.Mathlib.Numerals.{add-one}
 use mathlib.Core.Bool.{Bool, true, false, _&&_}
 use mathlib.Core.List.{List, [], _∷_, _++_, List·Memᴰ}
-use mathlib.Core.Logic.{_⊎_, inl, inr, ⊎-elim}
+use mathlib.Core.Logic.{_⊎_}
 use mathlib.Core.Path.{_≡_, refl, sym, _∙_, ap, subst}
 use lib.Dec.{eqb, ltb}
-use lib.ListN.{length, length-set, length-take, getD, set, take}
+use lib.ListN.{length, length-set, getD, set, take}
 use lib.Seq.{getD-take, getD-set-same, getD-set-other, length-take-le, take-suc}
 use borrow.Author.Tests.{ltb-true, ltb-false, eq-eqb}
 use Rattle.grammar.specs.Lists.{distinct, place, numbersBelow}
@@ -17,24 +17,7 @@ use Rattle.grammar.specs.ReadDocument.{Node}
 use Rattle.theory.proofs.ListLaws.{at-else, any-of, at-mem, mem-at, at-below, at-or-else, distinct-was, distinct-has, numbers-below}
 use Rattle.theory.proofs.NameLaws.{name-refl, name-sym, name-trans}
 use Rattle.theory.proofs.PathLaws.{path-refl, path-sym, path-trans}
-use Rattle.widening.specs.SampleNodes.{
-  Whole,
-  TypedTo,
-  KeyAt,
-  KeysAt,
-  aboveIn,
-  nameIn,
-  sameKey,
-  nameAt,
-  pathAt,
-  parentAt,
-  parentsOf,
-  typeAt,
-  aboveAt,
-  sameAt,
-  sameNameIn,
-  LabelledTo,
-}
+use Rattle.widening.specs.SampleNodes.{Whole, TypedTo, KeyAt, KeysAt, aboveIn, nameIn, sameKey, nameAt, pathAt, parentAt, typeAt, aboveAt, sameAt, sameNameIn, LabelledTo}
 use Rattle.widening.proofs.NumberingLaws.{place-agree, place-front, distinct-more, number-stays, one-more, numbers-end}
 use Rattle.widening.proofs.SampleByNodes.{below-path, same-path, type-place}
 
@@ -227,17 +210,18 @@ module _ {s names sizes keys nodes : List ℕ} {types : ℕ} (held : KeysAt s na
 
   pub label-room : count ≤ length firsts
       → KeyAt s names sizes keys (getD nodes t 0) × KeysAt s names sizes keys firsts count
-  label-room k =
-      (held .each t h,
-       record {
-         few = k;
-         each =
-             λ u b.
-             let w = length-take-le count firsts k in
-             let at = at-or-else (take count firsts) u 0 (omega arith) in
-             let m = subst (λ (x : ℕ). List·Memᴰ x (take count firsts)) (getD-take count firsts u 0 b) (at-mem (take count firsts) u at) in
-             in-nodes (getD firsts u 0) (distinct-was same listed (subst (List·Memᴰ (getD firsts u 0)) (l .firsts-are) m));
-       })
+  label-room k = (
+    held .each t h,
+    record {
+      few = k;
+      each =
+          λ u b.
+          let w = length-take-le count firsts k in
+          let at = at-or-else (take count firsts) u 0 (omega arith) in
+          let m = subst (λ (x : ℕ). List·Memᴰ x (take count firsts)) (getD-take count firsts u 0 b) (at-mem (take count firsts) u at) in
+          in-nodes (getD firsts u 0) (distinct-was same listed (subst (List·Memᴰ (getD firsts u 0)) (l .firsts-are) m));
+    },
+  )
 
   listed-next : take (t + 1) nodes ≡ listed ++ (getD nodes t 0 ∷ [])
   listed-next = let f = held .few in ap (λ (k : ℕ). take k nodes) (add-one t) ∙ take-suc nodes t 0 (omega arith)

@@ -1,11 +1,11 @@
 -- The contents of a sample, by arrays of parents and types.
-use Prim.Native.Nat.{ℕ, zero, suc, _+_, _-_, _*_, _≤_, _<_}
+use Prim.Native.Nat.{ℕ, zero, suc, _+_, _-_, _≤_, _<_}
 use mathlib.Core.Bool.{Bool, true, false}
 use mathlib.Core.List.{List, [], _∷_, _++_, map}
 use mathlib.Core.Path.{_≡_}
 use lib.Dec.{eqb}
 use lib.ListN.{length, getD}
-use Rattle.grammar.specs.Lists.{keep, numbersFrom, numbersBelow}
+use Rattle.grammar.specs.Lists.{keep, numbersFrom}
 use Rattle.grammar.specs.Content.{Content}
 use Rattle.grammar.specs.Sample.{sequenceOf}
 use Rattle.widening.specs.declared.drafts.Gathering.{Gathering}

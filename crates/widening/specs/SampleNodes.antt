@@ -16,7 +16,6 @@ use Rattle.grammar.specs.Table.{Rule, Table}
 use Rattle.grammar.specs.ReadDocument.{Node, forestOf, firstTrees, treeOf}
 use Rattle.grammar.specs.Sample.{Visit, rootNames, samePath, sequenceOf}
 use Rattle.theory.proofs.SampleRules.{pathType}
-use Rattle.reader.specs.DocumentNodes.{firstNodes, Indexed}
 use Rattle.reader.proofs.DocumentTrees.{treeCount, Enough}
 
 -- The parents of nodes of which the first has the number `i`, where the parents of those still to come are these.

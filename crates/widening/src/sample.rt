@@ -5,6 +5,7 @@ use crate::drafts::settle;
 use crate::writing::Drafted;
 use crate::writing::put_field;
 use reader::documents::DocumentIndex;
+use reader::limits::TYPES;
 use reader::names::same_name;
 ghost use Prim.Native.Nat.{ℕ, suc, _+_, _-_, _*_, _≤_, _<_};
 ghost use mathlib.Core.List.{[], _∷_, _++_};
@@ -12,8 +13,7 @@ ghost use mathlib.Core.Path.{_≡_};
 ghost use mathlib.Core.Logic.{_⊎_};
 ghost use lib.Dec.{eqb};
 ghost use lib.ListN.{length, getD, take, drop, replicate};
-ghost use Rattle.grammar.specs.Lists.{place};
-ghost use Rattle.grammar.specs.Lists.{numbersBelow};
+ghost use Rattle.grammar.specs.Lists.{place, joinedOf, numbersBelow};
 ghost use Rattle.grammar.specs.Outcome.{given};
 ghost use Rattle.grammar.specs.Tree.{Tree};
 ghost use Rattle.grammar.specs.ReadContent.{contentBytes};
@@ -21,18 +21,42 @@ ghost use Rattle.grammar.specs.ReadDocument.{treeOf};
 ghost use Rattle.reader.specs.DocumentNodes.{nodesIn};
 ghost use Rattle.theory.proofs.Gathering.{gathered};
 ghost use Rattle.widening.specs.Drafts.{Kept};
-ghost use Rattle.widening.specs.Writing.{Put};
+ghost use Rattle.widening.specs.Writing.{Put, Puts};
 ghost use Rattle.widening.specs.SampleContents.{
-    kidTypes, kidBytes, kidsBytes, Kids, sequenceIn, sequencesAmong, GathersIn,
+  kidBytes,
+  kidsBytes,
+  Kids,
+  sequenceIn,
+  sequencesAmong,
+  GathersIn,
 };
-ghost use Rattle.widening.specs.Writing.{Puts};
-ghost use Rattle.grammar.specs.Lists.{joinedOf};
 ghost use Rattle.widening.specs.SampleTable.{
-    contentIn, ruleIn, ContentMade, NodesHeld, RulePuts, labelField, RulesPut, RulesHeld, TablePut, restBytes, startBytes,
-    SampleHeld, SampleReady, SampleDrafted, Indexes,
+  contentIn,
+  ruleIn,
+  ContentMade,
+  NodesHeld,
+  RulePuts,
+  labelField,
+  RulesPut,
+  RulesHeld,
+  TablePut,
+  restBytes,
+  startBytes,
+  SampleHeld,
+  SampleReady,
+  SampleDrafted,
+  Indexes,
 };
 ghost use Rattle.widening.specs.SampleNodes.{
-    parentsOf, CountedTree, sameKey, KeyAt, KeysAt, Whole, aboveIn, TypedTo, LabelledTo,
+  parentsOf,
+  CountedTree,
+  sameKey,
+  KeyAt,
+  KeysAt,
+  Whole,
+  aboveIn,
+  TypedTo,
+  LabelledTo,
 };
 
 // The type of each node, and the first node of each type.
@@ -96,7 +120,15 @@ fn same_key(s: &[u8], names: &[usize], sizes: &[usize], keys: &[usize], i: usize
 }
 
 // The place of the first of the listed nodes with an equal key and name, or past them.
-fn find(s: &[u8], names: &[usize], sizes: &[usize], keys: &[usize], firsts: &[usize], count: usize, i: usize) -> usize
+fn find(
+    s: &[u8],
+    names: &[usize],
+    sizes: &[usize],
+    keys: &[usize],
+    firsts: &[usize],
+    count: usize,
+    i: usize,
+) -> usize
     requires { ⌜ KeyAt (now s) (now names) (now sizes) (now keys) i × KeysAt (now s) (now names) (now sizes) (now keys) (now firsts) count ⌝ }
     ensures { λ r. ⌜ r ≡ place (sameKey (now (s .entry)) (now (names .entry)) (now (sizes .entry)) (now (keys .entry))) i (take count (now (firsts .entry))) ⌝ }
 {
@@ -159,7 +191,14 @@ fn types_of(s: &[u8], names: &[usize], sizes: &[usize], parents: &[usize], nodes
 }
 
 // The label of each listed node by first sight. All keys are alike, so that names alone tell nodes apart.
-fn labels_of(s: &[u8], names: &[usize], sizes: &[usize], keys: &[usize], nodes: &[usize], types: usize) -> Labels
+fn labels_of(
+    s: &[u8],
+    names: &[usize],
+    sizes: &[usize],
+    keys: &[usize],
+    nodes: &[usize],
+    types: usize,
+) -> Labels
     requires { ⌜ (types ≤ 64) × KeysAt (now s) (now names) (now sizes) (now keys) (now nodes) types × ((i : ℕ) → getD (now keys) i 0 ≡ 0) ⌝ }
     ensures { λ r. ⌜ LabelledTo (now (s .entry)) (now (names .entry)) (now (sizes .entry)) (now (nodes .entry)) (r .of) (r .firsts) (r .count) types ⌝ }
 {
@@ -196,7 +235,15 @@ fn put_kid(scratch: &mut [u8], at: usize, parent: usize, i: usize, kind: usize) 
 }
 
 // Writes the types of a node's children, one after the other.
-fn put_kids(scratch: &mut [u8], at: usize, parents: &[usize], types: &[usize], nodes: usize, i: usize, kids: usize) -> usize
+fn put_kids(
+    scratch: &mut [u8],
+    at: usize,
+    parents: &[usize],
+    types: &[usize],
+    nodes: usize,
+    i: usize,
+    kids: usize,
+) -> usize
     requires { ⌜ Kids (now parents) (now types) nodes i kids × (at + 2 * kids ≤ length (now scratch)) ⌝ }
     ensures { λ r. ⌜ Put (now (scratch .entry)) at (kidsBytes (now (parents .entry)) (now (types .entry)) i (nodes - suc i)) (now (scratch .exit)) r ⌝ }
 {
@@ -210,7 +257,15 @@ fn put_kids(scratch: &mut [u8], at: usize, parents: &[usize], types: &[usize], n
 }
 
 // Writes the child sequence of a node: no child is empty, one child is the type itself.
-fn put_sequence(scratch: &mut [u8], at: usize, parents: &[usize], types: &[usize], nodes: usize, i: usize, kids: usize) -> usize
+fn put_sequence(
+    scratch: &mut [u8],
+    at: usize,
+    parents: &[usize],
+    types: &[usize],
+    nodes: usize,
+    i: usize,
+    kids: usize,
+) -> usize
     requires { ⌜ Kids (now parents) (now types) nodes i kids × (at + 2 + 2 * kids ≤ length (now scratch)) ⌝ }
     ensures { λ r. ⌜ Put (now (scratch .entry)) at (contentBytes (sequenceIn (now (parents .entry)) (now (types .entry)) nodes i)) (now (scratch .exit)) r ⌝ }
 {
@@ -254,7 +309,14 @@ fn one_more(
 }
 
 // Gathers the child sequences of the nodes of a type.
-fn gather(scratch: &mut [u8], parents: &[usize], types: &[usize], children: &[usize], nodes: usize, k: usize) -> Gathering
+fn gather(
+    scratch: &mut [u8],
+    parents: &[usize],
+    types: &[usize],
+    children: &[usize],
+    nodes: usize,
+    k: usize,
+) -> Gathering
     requires { ⌜ (2048 ≤ length (now scratch)) × (nodes ≤ length (now children))
         × ((i : ℕ) → i < nodes → Kids (now parents) (now types) nodes i (getD (now children) i 0)) ⌝ }
     ensures { λ r. ⌜ GathersIn (now (scratch .exit))
@@ -264,11 +326,25 @@ fn gather(scratch: &mut [u8], parents: &[usize], types: &[usize], children: &[us
     let mut end: usize = 4;
     let mut i: usize = 0;
     while i < nodes {
-        match one_more(scratch, parents, types, nodes, children[i], k, i, count, end) {
+        match one_more(
+            scratch,
+            parents,
+            types,
+            nodes,
+            children[i],
+            k,
+            i,
+            count,
+            end,
+        ) {
             Gathering::TooLarge => {
                 return Gathering::TooLarge;
             }
-            Gathering::Upto { next, count: more, end: fresh } => {
+            Gathering::Upto {
+                next,
+                count: more,
+                end: fresh,
+            } => {
                 count = more;
                 end = fresh;
             }
@@ -283,7 +359,14 @@ fn gather(scratch: &mut [u8], parents: &[usize], types: &[usize], children: &[us
 }
 
 // Makes the content of a type from the second place on: the choice of its nodes' child sequences.
-fn make_content(scratch: &mut [u8], parents: &[usize], types: &[usize], children: &[usize], nodes: usize, k: usize) -> Drafted
+fn make_content(
+    scratch: &mut [u8],
+    parents: &[usize],
+    types: &[usize],
+    children: &[usize],
+    nodes: usize,
+    k: usize,
+) -> Drafted
     requires { ⌜ (2048 ≤ length (now scratch)) × NodesHeld (now parents) (now types) (now children) nodes ⌝ }
     ensures { λ r. ⌜ ContentMade (now (scratch .exit)) (contentIn (now (parents .entry)) (now (types .entry)) nodes k) r ⌝ }
 {
@@ -327,7 +410,15 @@ fn put_rule(
 }
 
 // Writes the labels: each first node's name.
-fn put_labels(draft: &mut [u8], s: &[u8], names: &[usize], sizes: &[usize], keys: &[usize], firsts: &[usize], count: usize) -> Drafted
+fn put_labels(
+    draft: &mut [u8],
+    s: &[u8],
+    names: &[usize],
+    sizes: &[usize],
+    keys: &[usize],
+    firsts: &[usize],
+    count: usize,
+) -> Drafted
     requires { ⌜ (32768 ≤ length (now draft)) × (count ≤ 64) × KeysAt (now s) (now names) (now sizes) (now keys) (now firsts) count ⌝ }
     ensures { λ r. ⌜ Puts (now (draft .entry)) 0
         (joinedOf (labelField (now (s .entry)) (now (names .entry)) (now (sizes .entry)) (now (firsts .entry))) (numbersBelow count)) (now (draft .exit)) r ⌝ }
@@ -373,7 +464,17 @@ fn put_rules(
     let mut t: usize = 0;
     while t < count {
         let i = firsts[t];
-        match put_rule(draft, end, scratch, parents, types, children, nodes, types[i], labels[t]) {
+        match put_rule(
+            draft,
+            end,
+            scratch,
+            parents,
+            types,
+            children,
+            nodes,
+            types[i],
+            labels[t],
+        ) {
             Drafted::TooLarge => {
                 return Drafted::TooLarge;
             }
@@ -404,7 +505,18 @@ fn put_rest(
     ensures { λ r. ⌜ TablePut (now (draft .entry)) at (ruleIn (now (parents .entry)) (now (types .entry)) (now (firsts .entry)) (now (labels .entry)) nodes) count
         (restBytes (ruleIn (now (parents .entry)) (now (types .entry)) (now (firsts .entry)) (now (labels .entry)) nodes) count) (now (draft .exit)) r ⌝ }
 {
-    match put_rules(draft, at, scratch, parents, types, children, nodes, firsts, labels, count) {
+    match put_rules(
+        draft,
+        at,
+        scratch,
+        parents,
+        types,
+        children,
+        nodes,
+        firsts,
+        labels,
+        count,
+    ) {
         Drafted::TooLarge => Drafted::TooLarge,
         Drafted::Length(end) => put_field(draft, end, 0x1F, &scratch[0..0]),
     }
@@ -431,7 +543,18 @@ fn put_start(
     let root = [0u8; 1];
     match put_field(draft, at, 0x11, &root) {
         Drafted::TooLarge => Drafted::TooLarge,
-        Drafted::Length(end) => put_rest(draft, end, scratch, parents, types, children, nodes, firsts, labels, count),
+        Drafted::Length(end) => put_rest(
+            draft,
+            end,
+            scratch,
+            parents,
+            types,
+            children,
+            nodes,
+            firsts,
+            labels,
+            count,
+        ),
     }
 }
 
@@ -463,7 +586,16 @@ fn put_table(
     match put_labels(draft, s, names, sizes, keys, named, total) {
         Drafted::TooLarge => Drafted::TooLarge,
         Drafted::Length(end) => put_start(
-            draft, end, scratch, parents, types, children, nodes, firsts, labels, count,
+            draft,
+            end,
+            scratch,
+            parents,
+            types,
+            children,
+            nodes,
+            firsts,
+            labels,
+            count,
         ),
     }
 }
@@ -488,7 +620,7 @@ fn write_sample(
     ensures { λ r. ⌜ ((q : SampleHeld (now (s .entry)) (now (names .entry)) (now (sizes .entry)) (now (parents .entry)) (now (types .entry)) (now (firsts .entry)) nodes count)
         → SampleDrafted (q .whole .tree) (now (draft .entry)) (now (draft .exit)) r) ⌝ }
 {
-    if 64 < count {
+    if TYPES < count {
         return Drafted::TooLarge;
     }
     let found = labels_of(s, names, sizes, keys, firsts, count);
@@ -496,7 +628,21 @@ fn write_sample(
     let named = found.firsts;
     let total = found.count;
     put_table(
-        draft, s, names, sizes, keys, &named, total, scratch, parents, types, children, nodes, firsts, &labels, count,
+        draft,
+        s,
+        names,
+        sizes,
+        keys,
+        &named,
+        total,
+        scratch,
+        parents,
+        types,
+        children,
+        nodes,
+        firsts,
+        &labels,
+        count,
     )
 }
 
@@ -517,6 +663,17 @@ pub fn sample_table(document: &[u8], index: DocumentIndex, draft: &mut [u8]) -> 
     let keys = [0usize; 1024];
     let mut scratch = [0u8; 2048];
     write_sample(
-        draft, document, &names, &sizes, &children, &parents, &of, &firsts, &keys, &mut scratch, nodes, types.count,
+        draft,
+        document,
+        &names,
+        &sizes,
+        &children,
+        &parents,
+        &of,
+        &firsts,
+        &keys,
+        &mut scratch,
+        nodes,
+        types.count,
     )
 }

@@ -1,4 +1,5 @@
 // Writing fields of a table into a draft.
+use reader::limits::INPUT;
 ghost use Prim.Native.Nat.{_+_, _≤_, _<_};
 ghost use mathlib.Core.Path.{_≡_};
 ghost use lib.ListN.{length};
@@ -30,10 +31,10 @@ pub fn put_field(draft: &mut [u8], at: usize, tag: u8, value: &[u8]) -> Drafted
     ensures { λ r. ⌜ Puts (now (draft .entry)) at (fieldBytes tag (now (value .entry))) (now (draft .exit)) r ⌝ }
 {
     let size = value.len();
-    if 32768 - at < 3 {
+    if INPUT - at < 3 {
         return Drafted::TooLarge;
     }
-    if 32768 - at - 3 < size {
+    if INPUT - at - 3 < size {
         return Drafted::TooLarge;
     }
     draft[at] = tag;

@@ -1,16 +1,9 @@
 -- `above_type` meets its contract.
-use Prim.Native.Nat.{ℕ, zero, suc, _<_}
 use native.Mathlib.Omega.{arith}
-use native.Mathlib.Numerals.{add-one}
-use mathlib.Core.List.{List}
-use mathlib.Core.Path.{_≡_}
-use lib.ListN.{getD}
 use borrow.Author.Needs.{needs}
 use Rattle.widening.proofs.TypeLaws.{above-first, above-later}
 use Rattle.widening.proofs.sample.above_type.Statement.{statement}
 use Rattle.widening.proofs.sample.above_type.Tie as tie
-use Rattle.widening.proofs.sample.above_type.Reads as reads
-use Rattle.widening.proofs.sample.above_type.Lts as lts
 
 returns : tie.Need-returns
 returns c = above-first _ _ _ (c .if1 .taken)

@@ -1,17 +1,14 @@
 -- `find` meets its contract. The loop's invariant: the place is so far on, and then the place among the rest.
 use Prim.Native.Nat.{_+_, _-_, _≤_}
 use native.Mathlib.Omega.{arith}
-use mathlib.Core.Path.{_≡_, refl, sym, _∙_, ap}
-use lib.ListN.{length, take, drop}
+use mathlib.Core.Path.{_≡_, sym, _∙_}
+use lib.ListN.{take, drop}
 use borrow.Author.Needs.{needs}
 use Rattle.grammar.specs.Lists.{place}
 use Rattle.widening.specs.SampleNodes.{sameKey}
 use Rattle.widening.proofs.FillLaws.{find-here, find-next, find-end}
 use Rattle.widening.proofs.sample.find.Statement.{statement}
 use Rattle.widening.proofs.sample.find.Tie as tie
-use Rattle.widening.proofs.sample.find.Reads as reads
-use Rattle.widening.proofs.sample.find.Lts as lts
-use Rattle.widening.proofs.sample.same_key.Reads as same-key-reads
 
 abbrev Inv-loop : tie.InvT-loop
 Inv-loop s names sizes keys firsts count i t₀ t =
@@ -21,41 +18,32 @@ Inv-loop s names sizes keys firsts count i t₀ t =
 abbrev μ-loop : tie.MeasureT-loop
 μ-loop s names sizes keys firsts count i t₀ t = count - t
 
--- src/sample.rt:63:5
 loop-holds : tie.Need-loop-holds Inv-loop μ-loop
 loop-holds c = (omega arith, omega arith)
 
--- src/sample.rt:64:47
 mul-same-key : tie.Need-mul-same-key Inv-loop μ-loop
 mul-same-key c = search needs
 
--- src/sample.rt:64:47
 shared-slice-read-same-key : tie.Need-shared-slice-read-same-key Inv-loop μ-loop
 shared-slice-read-same-key c = search needs
 
--- src/sample.rt:64:12
 same-key-requires : tie.Need-same-key-requires Inv-loop μ-loop
 same-key-requires c κs = (c .before .before .before .before .before .before .before .before .pre .0, c .before .before .before .before .before .before .before .before .pre .1 .each (c .before .before .loop .t) (omega arith))
 
--- src/sample.rt:65:13
 returns : tie.Need-returns Inv-loop μ-loop
 returns c =
     find-here _ _ _ _ _ (c .before .before .before .before .before .before .before .before .before .before .pre .1 .few) (c .before .before .before .before .loop .inv .1) (omega arith) (sym (c .before .same-key .ensures) ∙ c .if1 .taken)
 
--- src/sample.rt:67:9
 add-t : tie.Need-add-t Inv-loop μ-loop
 add-t c = search needs
 
--- src/sample.rt:63:5
 loop-less : tie.Need-loop-less Inv-loop μ-loop
 loop-less c = omega arith
 
--- src/sample.rt:63:5
 loop-again : tie.Need-loop-again Inv-loop μ-loop
 loop-again c =
     (omega arith, find-next _ _ _ _ _ (c .before .before .before .before .before .before .before .before .before .before .pre .1 .few) (c .before .before .before .before .loop .inv .1) (omega arith) (sym (c .before .same-key .ensures) ∙ c .if1 .left))
 
--- src/sample.rt:58:1
 returns-2 : tie.Need-returns-2 Inv-loop μ-loop
 returns-2 c = find-end _ _ _ _ _ (c .before .before .before .before .before .before .before .pre .1 .few) (c .before .loop .inv .1) (omega arith)
 

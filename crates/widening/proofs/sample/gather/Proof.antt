@@ -2,7 +2,7 @@
 use Prim.Native.Nat.{ℕ, _-_, _≤_}
 use native.Mathlib.Omega.{arith}
 use mathlib.Core.List.{[]}
-use mathlib.Core.Path.{_≡_, refl, sym, _∙_, ap, subst}
+use mathlib.Core.Path.{_≡_, refl, subst}
 use lib.ListN.{length}
 use borrow.Author.Needs.{needs}
 use Rattle.grammar.specs.Lists.{numbersBelow}
@@ -12,9 +12,6 @@ use Rattle.widening.specs.SampleContents.{sequencesAmong}
 use Rattle.widening.proofs.SequenceLaws.{among-start, gather-stop, gather-next}
 use Rattle.widening.proofs.sample.gather.Statement.{statement}
 use Rattle.widening.proofs.sample.gather.Tie as tie
-use Rattle.widening.proofs.sample.gather.Reads as reads
-use Rattle.widening.proofs.sample.gather.Lts as lts
-use Rattle.widening.proofs.sample.one_more.Reads as one-more-reads
 
 abbrev Inv-loop : tie.InvT-loop
 Inv-loop scratch₀ parents types children nodes k count₀ end₀ i₀ scratch count end i =
@@ -26,73 +23,61 @@ Inv-loop scratch₀ parents types children nodes k count₀ end₀ i₀ scratch 
 abbrev μ-loop : tie.MeasureT-loop
 μ-loop scratch₀ parents types children nodes k count₀ end₀ i₀ scratch count end i = nodes - i
 
--- src/sample.rt:252:5
 loop-holds : tie.Need-loop-holds Inv-loop μ-loop
 loop-holds c =
     let a = c .before .before .before .before .args in
     (among-start (a .parents .now) (a .types .now) (a .nodes) (a .k) (a .scratch .now) (omega arith), omega arith, omega arith, refl)
 
--- src/sample.rt:253:56
 mul-one-more : tie.Need-mul-one-more Inv-loop μ-loop
 mul-one-more c = let h = c .before .before .before .before .before .before .before .pre .2 (c .before .before .loop .i) (c .before .loop-test .taken) .fits in omega arith
 
--- src/sample.rt:253:56
 shared-slice-read-one-more : tie.Need-shared-slice-read-one-more Inv-loop μ-loop
 shared-slice-read-one-more c = omega arith
 
--- src/sample.rt:253:15
 one-more-requires : tie.Need-one-more-requires Inv-loop μ-loop
 one-more-requires c κs =
     let l = c .before .before .before .loop .inv in
     let w = l .3 in
     (c .before .before .before .before .before .before .before .before .pre .2 (c .before .before .before .loop .i) (c .before .before .loop-test .taken), record { list = _; row = l .0 }, l .1, omega arith)
 
--- src/sample.rt:255:17
 enum-told : tie.Need-enum-told Inv-loop μ-loop
 enum-told c = search needs
 
--- src/sample.rt:255:17
 same-length : tie.Need-same-length Inv-loop μ-loop
 same-length c = search needs
 
--- src/sample.rt:255:17
 returns : tie.Need-returns Inv-loop μ-loop
 returns c =
     let a = c .before .before .before .before .before .before .before .before .before .before .before .before .before .args in
     gather-stop (a .parents .now) (a .types .now) (a .nodes) (a .k) (c .before .before .before .before .one-more .last .0) (c .before .before .before .before .before .before .before .before .loop .i) (c .before .before .before .before .one-more .result) (c .before .before .before .before .before .before .before .before .loop .inv .0) (c .before .before .before .before .one-more .ensures) (c .enum-told .given .1) (c .before .before .before .before .before .before .before .loop-test .taken)
 
--- src/sample.rt:257:31
 enum-known-next : tie.Need-enum-known-next Inv-loop μ-loop
 enum-known-next c = search needs
 
--- src/sample.rt:262:9
 add-i : tie.Need-add-i Inv-loop μ-loop
 add-i c = omega arith
 
--- src/sample.rt:252:5
 loop-less : tie.Need-loop-less Inv-loop μ-loop
 loop-less c = omega arith
 
--- src/sample.rt:252:5
 loop-again : tie.Need-loop-again Inv-loop μ-loop
 loop-again c =
     let a = c .before .before .before .before .before .before .before .before .before .before .before .before .before .before .args in
     let r = gather-next (a .parents .now) (a .types .now) (a .nodes) (a .k) (c .before .before .before .before .before .one-more .last .0) (c .before .before .before .before .before .before .before .before .before .loop .i) (c .before .before .before .before .before .one-more .result) (c .before .before .before .before .before .before .before .before .before .loop .inv .0) (c .before .before .before .before .before .one-more .ensures) (c .before .next .given .1) in
     (r .0, r .1, omega arith, search needs)
 
--- src/sample.rt:243:1
 same-length-2 : tie.Need-same-length-2 Inv-loop μ-loop
 same-length-2 c = search needs
 
--- src/sample.rt:243:1
 returns-2 : tie.Need-returns-2 Inv-loop μ-loop
 returns-2 c =
     let a = c .before .before .before .before .before .before .args in
     let l = c .before .loop in
-    let z : l .i ≡ a .nodes = omega arith in
-    (subst (λ (i : ℕ). Row (l .scratch) 4 (l .count) (gathered [] (sequencesAmong (a .parents .now) (a .types .now) (a .nodes) (a .k) (numbersBelow i))) (l .end)) z
-     (l .inv .0),
-     l .inv .1)
+    let z : l .i ≡ a .nodes = omega arith in (
+      subst (λ (i : ℕ). Row (l .scratch) 4 (l .count) (gathered [] (sequencesAmong (a .parents .now) (a .types .now) (a .nodes) (a .k) (numbersBelow i))) (l .end)) z
+          (l .inv .0),
+      l .inv .1,
+    )
 
 pub gather-spec : {M : Type 1} → statement M
 gather-spec =

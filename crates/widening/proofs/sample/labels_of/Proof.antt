@@ -1,17 +1,13 @@
 -- `labels_of` meets its contract. The loop's invariant is `LabelledTo`.
 use Prim.Native.Nat.{ℕ, _-_, _≤_}
 use native.Mathlib.Omega.{arith}
-use mathlib.Core.Path.{_≡_, refl, sym, _∙_, ap, subst}
+use mathlib.Core.Path.{_≡_, refl, _∙_, subst}
 use lib.ListN.{length, length-set}
 use borrow.Author.Needs.{needs}
 use Rattle.widening.specs.SampleNodes.{LabelledTo}
 use Rattle.widening.proofs.TypeLaws.{labelling-start, label-room, labelling-next}
 use Rattle.widening.proofs.sample.labels_of.Statement.{statement}
 use Rattle.widening.proofs.sample.labels_of.Tie as tie
-use Rattle.widening.proofs.sample.labels_of.Reads as reads
-use Rattle.widening.proofs.sample.labels_of.Lts as lts
-use Rattle.widening.proofs.sample.find.Reads as find-reads
-use Rattle.widening.proofs.sample.next_count.Reads as next-count-reads
 
 abbrev Inv-loop : tie.InvT-loop
 Inv-loop s names sizes keys nodes types of₀ firsts₀ count₀ t₀ of firsts count t =
@@ -58,12 +54,13 @@ loop-again c =
     let h = c .before .before .before .before .before .before .before .before .before .before .before .pre .0 in
     let f = l .inv .3 .few in
     let a = l .inv .0 in
-    let b = l .inv .1 in
-    (length-set (l .of) (l .t) _ ∙ l .inv .0,
-     length-set (l .firsts) (l .count) _ ∙ l .inv .1,
-     omega arith,
-     labelling-next (c .before .before .before .before .before .before .before .before .before .before .before .pre .1) (c .before .before .before .before .before .before .before .before .before .before .before .pre .2) (l .inv .3) (c .before .before .before .before .loop-test .taken) (c .before .find .result) (c .before .find .ensures) (omega arith) (omega arith)
-     (c .next-count .result) (c .next-count .ensures))
+    let b = l .inv .1 in (
+      length-set (l .of) (l .t) _ ∙ l .inv .0,
+      length-set (l .firsts) (l .count) _ ∙ l .inv .1,
+      omega arith,
+      labelling-next (c .before .before .before .before .before .before .before .before .before .before .before .pre .1) (c .before .before .before .before .before .before .before .before .before .before .before .pre .2) (l .inv .3) (c .before .before .before .before .loop-test .taken) (c .before .find .result) (c .before .find .ensures) (omega arith) (omega arith)
+          (c .next-count .result) (c .next-count .ensures),
+    )
 
 returns : tie.Need-returns Inv-loop μ-loop
 returns c =

@@ -2,14 +2,12 @@
 use Prim.Native.Nat.{ℕ, _-_, _≤_}
 use native.Mathlib.Omega.{arith}
 use mathlib.Core.List.{List}
-use mathlib.Core.Path.{_≡_, refl, sym, _∙_, ap}
+use mathlib.Core.Path.{_≡_, refl, _∙_, ap}
 use lib.ListN.{length, length-set, set}
 use borrow.Author.Needs.{needs}
 use Rattle.widening.proofs.FillLaws.{filled, fill-none, fill-next}
 use Rattle.widening.proofs.sample.leave.Statement.{statement}
 use Rattle.widening.proofs.sample.leave.Tie as tie
-use Rattle.widening.proofs.sample.leave.Reads as reads
-use Rattle.widening.proofs.sample.leave.Lts as lts
 
 abbrev Inv-loop : tie.InvT-loop
 Inv-loop pending₀ from to number i₀ pending i =

@@ -9,24 +9,16 @@ use Rattle.widening.proofs.FlatLaws.{content-length, content-over, cont
 use borrow.Author.Needs.{needs}
 use Rattle.widening.proofs.sample.make_content.Statement.{statement}
 use Rattle.widening.proofs.sample.make_content.Tie as tie
-use Rattle.widening.proofs.sample.make_content.Reads as reads
-use Rattle.widening.proofs.sample.make_content.Lts as lts
-use Rattle.widening.proofs.drafts.finish.Reads as finish-reads
-use Rattle.widening.proofs.sample.gather.Reads as gather-reads
 
--- src/sample.rt:284:11
 gather-requires : tie.Need-gather-requires
 gather-requires c κs = search needs
 
--- src/sample.rt:285:32
 enum-told : tie.Need-enum-told
 enum-told c = search needs
 
--- src/sample.rt:286:27
 enum-known-next : tie.Need-enum-known-next
 enum-known-next c = search needs
 
--- src/sample.rt:287:17
 finish-requires : tie.Need-finish-requires
 finish-requires c κs =
     let a = c .before .before .before .before .before .before .before .before .before .before .before .before .args in
@@ -34,11 +26,9 @@ finish-requires c κs =
     let row = upto-row (c .before .before .before .before .before .before .gather .last .0) ds (c .before .before .before .before .before .before .gather .result) (c .before .before .before .before .before .before .gather .ensures) (c .before .before .next .given .1) .0 in
     record { list = ds; row = row }
 
--- src/sample.rt:289:17
 same-length : tie.Need-same-length
 same-length c = search needs
 
--- src/sample.rt:289:17
 returns : tie.Need-returns
 returns c =
     let a = c .before .before .before .before .before .before .before .before .before .before .before .before .before .before .before .before .args in
@@ -48,21 +38,17 @@ returns c =
     let long = content-length (a .parents .now) (a .types .now) (a .nodes) (a .k) _ _ made in
     content-over (a .parents .now) (a .types .now) (a .nodes) (a .k) (omega arith)
 
--- src/sample.rt:280:1
 same-length-2 : tie.Need-same-length-2
 same-length-2 c = search needs
 
--- src/sample.rt:280:1
 returns-2 : tie.Need-returns-2
 returns-2 c =
     let a = c .before .before .before .before .before .before .before .before .before .before .args in
     content-wide (a .parents .now) (a .types .now) (a .nodes) (a .k) (stop-wide (c .before .before .before .before .gather .last .0) _ (c .before .before .before .before .gather .result) (c .before .before .before .before .gather .ensures) (c .enum-told .given .1))
 
--- src/sample.rt:280:1
 same-length-3 : tie.Need-same-length-3
 same-length-3 c = search needs
 
--- src/sample.rt:280:1
 returns-3 : tie.Need-returns-3
 returns-3 c =
     let a = c .before .before .before .before .before .before .before .before .before .before .before .before .before .before .before .before .args in

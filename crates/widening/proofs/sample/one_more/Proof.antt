@@ -1,44 +1,32 @@
 -- `one_more` meets its contract.
-use native.Mathlib.Omega.{arith}
 use Rattle.widening.proofs.SequenceLaws.{row-other, newest-is, row-own}
 use borrow.Author.Needs.{needs}
 use Rattle.widening.proofs.sample.one_more.Statement.{statement}
 use Rattle.widening.proofs.sample.one_more.Tie as tie
-use Rattle.widening.proofs.sample.one_more.Reads as reads
-use Rattle.widening.proofs.sample.one_more.Lts as lts
-use Rattle.widening.proofs.drafts.settle.Reads as settle-reads
-use Rattle.widening.proofs.sample.put_sequence.Reads as put-sequence-reads
 
--- src/sample.rt:231:8
 mul-if1 : tie.Need-mul-if1
 mul-if1 c = search needs
 
--- src/sample.rt:231:8
 shared-slice-read-if1 : tie.Need-shared-slice-read-if1
 shared-slice-read-if1 c = search needs
 
--- src/sample.rt:232:9
 returns : tie.Need-returns
 returns c =
     λ q.
     let a = c .before .before .before .before .before .args in
     row-other (a .parents .now) (a .types .now) (a .nodes) (a .k) _ _ _ (a .i) (c .if1 .taken) (c .before .before .before .before .before .pre .2) q
 
--- src/sample.rt:238:9
 put-sequence-requires : tie.Need-put-sequence-requires
 put-sequence-requires c κs = search needs
 
--- src/sample.rt:239:5
 settle-requires : tie.Need-settle-requires
 settle-requires c κs =
     let a = c .before .before .before .before .before .before .before .before .before .before .args in
     (newest-is (a .parents .now) (a .types .now) (a .nodes) (a .k) (a .i) (c .before .before .before .put-sequence .ensures) (c .before .before .before .before .before .before .before .before .before .before .pre .1), c .before .before .before .before .before .before .before .before .before .before .pre .2)
 
--- src/sample.rt:216:1
 same-length : tie.Need-same-length
 same-length c = search needs
 
--- src/sample.rt:216:1
 returns-2 : tie.Need-returns-2
 returns-2 c =
     λ q.

@@ -1,16 +1,13 @@
 -- `parents_of` meets its contract. The loop's invariant is `Passing`.
 use Prim.Native.Nat.{ℕ, _-_, _≤_}
 use native.Mathlib.Omega.{arith}
-use mathlib.Core.Path.{_≡_, refl, sym, _∙_, ap, subst}
+use mathlib.Core.Path.{_≡_, refl, sym, _∙_, ap}
 use lib.ListN.{length, length-set, take}
 use borrow.Author.Needs.{needs}
 use Rattle.widening.specs.SampleNodes.{CountedTree}
 use Rattle.widening.proofs.ParentLaws.{Passing, passing-start, passing-end, step-room, step-next}
 use Rattle.widening.proofs.sample.parents_of.Statement.{statement}
 use Rattle.widening.proofs.sample.parents_of.Tie as tie
-use Rattle.widening.proofs.sample.parents_of.Reads as reads
-use Rattle.widening.proofs.sample.parents_of.Lts as lts
-use Rattle.widening.proofs.sample.leave.Reads as leave-reads
 
 abbrev Inv-loop : tie.InvT-loop
 Inv-loop children nodes parents₀ pending₀ top₀ i₀ parents pending top i =
@@ -62,11 +59,12 @@ leave-requires c κs =
 loop-again : tie.Need-loop-again Inv-loop μ-loop
 loop-again c =
     let l = c .before .before .before .before .before .loop in
-    let e = c .before .leave .ensures in
-    (length-set (l .parents) (l .i) _ ∙ l .inv .0,
-     search needs,
-     omega arith,
-     λ q. step-next q (l .inv .0) (l .inv .1) (c .before .before .before .before .before .before .before .pre .0) (omega arith) (l .inv .3 q) _ e)
+    let e = c .before .leave .ensures in (
+      length-set (l .parents) (l .i) _ ∙ l .inv .0,
+      search needs,
+      omega arith,
+      λ q. step-next q (l .inv .0) (l .inv .1) (c .before .before .before .before .before .before .before .pre .0) (omega arith) (l .inv .3 q) _ e,
+    )
 
 returns : tie.Need-returns Inv-loop μ-loop
 returns c =

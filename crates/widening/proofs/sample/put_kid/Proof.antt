@@ -5,26 +5,19 @@ use Rattle.widening.proofs.KidLaws.{put-kid-none, put-kid-one}
 use borrow.Author.Needs.{needs}
 use Rattle.widening.proofs.sample.put_kid.Statement.{statement}
 use Rattle.widening.proofs.sample.put_kid.Tie as tie
-use Rattle.widening.proofs.sample.put_kid.Reads as reads
-use Rattle.widening.proofs.sample.put_kid.Lts as lts
 
--- src/sample.rt:177:9
 returns : tie.Need-returns
 returns c = put-kid-none _ _ _ _ _ (c .before .pre .0) (c .if1 .taken)
 
--- src/sample.rt:179:5
 slice-write-scratch : tie.Need-slice-write-scratch
 slice-write-scratch c = let h = c .before .pre .1 (c .if1 .left) in omega arith
 
--- src/sample.rt:180:23
 cast-scratch : tie.Need-cast-scratch
 cast-scratch c = search needs
 
--- src/sample.rt:180:13
 add-scratch : tie.Need-add-scratch
 add-scratch c = search needs
 
--- src/sample.rt:180:5
 slice-write-scratch-2 : tie.Need-slice-write-scratch-2
 slice-write-scratch-2 c =
     let h = c .before .pre .1 (c .if1 .left) in
@@ -32,15 +25,12 @@ slice-write-scratch-2 c =
     let l = length-set (a .scratch .now) (a .at) 2 in
     omega arith
 
--- src/sample.rt:181:5
 add-result : tie.Need-add-result
 add-result c = search needs
 
--- src/sample.rt:172:1
 same-length : tie.Need-same-length
 same-length c = search needs
 
--- src/sample.rt:172:1
 returns-2 : tie.Need-returns-2
 returns-2 c = put-kid-one _ _ _ _ _ (c .before .pre .1 (c .if1 .left)) (c .if1 .left)
 

@@ -8,9 +8,6 @@ use Rattle.widening.proofs.PutLaws.{put-length}
 use Rattle.widening.proofs.KidLaws.{kids-none, kid-room, kid-next}
 use Rattle.widening.proofs.sample.put_kids.Statement.{statement}
 use Rattle.widening.proofs.sample.put_kids.Tie as tie
-use Rattle.widening.proofs.sample.put_kids.Reads as reads
-use Rattle.widening.proofs.sample.put_kids.Lts as lts
-use Rattle.widening.proofs.sample.put_kid.Reads as put-kid-reads
 
 abbrev Inv-loop : tie.InvT-loop
 Inv-loop scratch₀ at parents types nodes i kids end₀ j₀ scratch end j =
@@ -19,7 +16,6 @@ Inv-loop scratch₀ at parents types nodes i kids end₀ j₀ scratch end j =
 abbrev μ-loop : tie.MeasureT-loop
 μ-loop scratch₀ at parents types nodes i kids end₀ j₀ scratch end j = nodes - j
 
--- src/sample.rt:190:17
 add-j : tie.Need-add-j Inv-loop μ-loop
 add-j c =
     let h = c .before .before .before .pre .0 .here in
@@ -28,14 +24,12 @@ add-j c =
     let b = c .before .before .before .pre .0 .types-held in
     omega arith
 
--- src/sample.rt:191:5
 loop-holds : tie.Need-loop-holds Inv-loop μ-loop
 loop-holds c =
     let h = c .before .before .before .pre .0 .here in
     let a = c .before .before .before .args in
     (omega arith, omega arith, kids-none (a .parents .now) (a .types .now) (a .scratch .now) (a .i) (a .at) (omega arith))
 
--- src/sample.rt:192:37
 mul-put-kid : tie.Need-mul-put-kid Inv-loop μ-loop
 mul-put-kid c =
     let h = c .before .before .before .before .before .before .pre .0 .here in
@@ -44,7 +38,6 @@ mul-put-kid c =
     let b = c .before .before .before .before .before .before .pre .0 .types-held in
     omega arith
 
--- src/sample.rt:192:37
 shared-slice-read-put-kid : tie.Need-shared-slice-read-put-kid Inv-loop μ-loop
 shared-slice-read-put-kid c =
     let h = c .before .before .before .before .before .before .before .pre .0 .here in
@@ -53,7 +46,6 @@ shared-slice-read-put-kid c =
     let b = c .before .before .before .before .before .before .before .pre .0 .types-held in
     omega arith
 
--- src/sample.rt:192:52
 mul-put-kid-2 : tie.Need-mul-put-kid-2 Inv-loop μ-loop
 mul-put-kid-2 c =
     let h = c .before .before .before .before .before .before .before .pre .0 .here in
@@ -62,7 +54,6 @@ mul-put-kid-2 c =
     let b = c .before .before .before .before .before .before .before .pre .0 .types-held in
     omega arith
 
--- src/sample.rt:192:52
 shared-slice-read-put-kid-2 : tie.Need-shared-slice-read-put-kid-2 Inv-loop μ-loop
 shared-slice-read-put-kid-2 c =
     let h = c .before .before .before .before .before .before .before .before .pre .0 .here in
@@ -71,13 +62,11 @@ shared-slice-read-put-kid-2 c =
     let b = c .before .before .before .before .before .before .before .before .pre .0 .types-held in
     omega arith
 
--- src/sample.rt:192:9
 put-kid-requires : tie.Need-put-kid-requires Inv-loop μ-loop
 put-kid-requires c κs =
     let l = c .before .before .before .before .loop .inv in
     kid-room (c .before .before .before .before .before .before .before .before .pre .0) (l .0) (c .before .before .before .before .before .before .before .before .pre .1) (l .2) (c .before .before .before .loop-test .taken)
 
--- src/sample.rt:193:9
 add-j-2 : tie.Need-add-j-2 Inv-loop μ-loop
 add-j-2 c =
     let h = c .before .before .before .before .before .before .before .before .before .before .before .pre .0 .here in
@@ -86,21 +75,17 @@ add-j-2 c =
     let b = c .before .before .before .before .before .before .before .before .before .before .before .pre .0 .types-held in
     omega arith
 
--- src/sample.rt:191:5
 loop-less : tie.Need-loop-less Inv-loop μ-loop
 loop-less c = omega arith
 
--- src/sample.rt:191:5
 loop-again : tie.Need-loop-again Inv-loop μ-loop
 loop-again c =
     let l = c .before .before .before .before .before .before .before .loop .inv in
     (omega arith, omega arith, kid-next (c .before .before .before .before .before .before .before .before .before .before .before .pre .0) (l .0) (c .before .before .before .before .before .before .before .before .before .before .before .pre .1) (l .2) (c .before .before .before .before .before .before .loop-test .taken) (c .before .before .put-kid .ensures))
 
--- src/sample.rt:185:1
 same-length : tie.Need-same-length Inv-loop μ-loop
 same-length c = put-length (c .before .loop .inv .2)
 
--- src/sample.rt:185:1
 returns : tie.Need-returns Inv-loop μ-loop
 returns c =
     let a = c .before .before .before .before .before .args in

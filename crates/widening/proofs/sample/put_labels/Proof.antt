@@ -1,7 +1,7 @@
 -- `put_labels` meets its contract. The loop's invariant: the labels passed are written.
 use Prim.Native.Nat.{ℕ, _-_, _≤_}
 use native.Mathlib.Omega.{arith}
-use mathlib.Core.Path.{_≡_, refl, sym, _∙_, ap, subst}
+use mathlib.Core.Path.{_≡_, refl, ap, subst}
 use lib.ListN.{length, getD}
 use borrow.Author.Needs.{needs}
 use Rattle.grammar.specs.Lists.{joinedOf, numbersBelow}
@@ -11,9 +11,6 @@ use Rattle.widening.specs.SampleTable.{labelField}
 use Rattle.widening.proofs.RuleLaws.{up-start, step-stop, step-more, part-of}
 use Rattle.widening.proofs.sample.put_labels.Statement.{statement}
 use Rattle.widening.proofs.sample.put_labels.Tie as tie
-use Rattle.widening.proofs.sample.put_labels.Reads as reads
-use Rattle.widening.proofs.sample.put_labels.Lts as lts
-use Rattle.widening.proofs.writing.put_field.Reads as put-field-reads
 
 abbrev Inv-loop : tie.InvT-loop
 Inv-loop draft₀ s names sizes keys firsts count end₀ l₀ draft end l =
@@ -25,13 +22,11 @@ Inv-loop draft₀ s names sizes keys firsts count end₀ l₀ draft end l =
 abbrev μ-loop : tie.MeasureT-loop
 μ-loop draft₀ s names sizes keys firsts count end₀ l₀ draft end l = count - l
 
--- src/sample.rt:331:5
 loop-holds : tie.Need-loop-holds Inv-loop μ-loop
 loop-holds c =
     let a = c .before .before .before .before .before .before .args in
     (omega arith, omega arith, refl, up-start (labelField (a .s .now) (a .names .now) (a .sizes .now) (a .firsts .now)) (a .draft .now) 0 (omega arith))
 
--- src/sample.rt:332:17
 mul-i : tie.Need-mul-i Inv-loop μ-loop
 mul-i c =
     let f = c .before .before .before .before .before .before .before .before .pre .2 .few in
@@ -42,7 +37,6 @@ mul-i c =
     let h = c .before .before .before .before .before .before .before .before .pre .1 in
     omega arith
 
--- src/sample.rt:332:17
 shared-slice-read-i : tie.Need-shared-slice-read-i Inv-loop μ-loop
 shared-slice-read-i c =
     let f = c .before .before .before .before .before .before .before .before .before .pre .2 .few in
@@ -53,7 +47,6 @@ shared-slice-read-i c =
     let h = c .before .before .before .before .before .before .before .before .before .pre .1 in
     omega arith
 
--- src/sample.rt:333:20
 mul-from : tie.Need-mul-from Inv-loop μ-loop
 mul-from c =
     let f = c .before .before .before .before .before .before .before .before .before .pre .2 .few in
@@ -64,7 +57,6 @@ mul-from c =
     let h = c .before .before .before .before .before .before .before .before .before .pre .1 in
     search needs
 
--- src/sample.rt:333:20
 shared-slice-read-from : tie.Need-shared-slice-read-from Inv-loop μ-loop
 shared-slice-read-from c =
     let f = c .before .before .before .before .before .before .before .before .before .before .pre .2 .few in
@@ -75,7 +67,6 @@ shared-slice-read-from c =
     let h = c .before .before .before .before .before .before .before .before .before .before .pre .1 in
     omega arith
 
--- src/sample.rt:334:25
 mul-to : tie.Need-mul-to Inv-loop μ-loop
 mul-to c =
     let f = c .before .before .before .before .before .before .before .before .before .before .pre .2 .few in
@@ -86,7 +77,6 @@ mul-to c =
     let h = c .before .before .before .before .before .before .before .before .before .before .pre .1 in
     search needs
 
--- src/sample.rt:334:25
 shared-slice-read-to : tie.Need-shared-slice-read-to Inv-loop μ-loop
 shared-slice-read-to c =
     let f = c .before .before .before .before .before .before .before .before .before .before .before .pre .2 .few in
@@ -97,7 +87,6 @@ shared-slice-read-to c =
     let h = c .before .before .before .before .before .before .before .before .before .before .before .pre .1 in
     omega arith
 
--- src/sample.rt:334:18
 add-to : tie.Need-add-to Inv-loop μ-loop
 add-to c =
     let f = c .before .before .before .before .before .before .before .before .before .before .before .pre .2 .few in
@@ -108,7 +97,6 @@ add-to c =
     let h = c .before .before .before .before .before .before .before .before .before .before .before .pre .1 in
     omega arith
 
--- src/sample.rt:335:43
 sub-put-field : tie.Need-sub-put-field Inv-loop μ-loop
 sub-put-field c =
     let f = c .before .before .before .before .before .before .before .before .before .before .before .before .pre .2 .few in
@@ -119,7 +107,6 @@ sub-put-field c =
     let h = c .before .before .before .before .before .before .before .before .before .before .before .before .pre .1 in
     omega arith
 
--- src/sample.rt:335:43
 part-put-field-start : tie.Need-part-put-field-start Inv-loop μ-loop
 part-put-field-start c =
     let f = c .before .before .before .before .before .before .before .before .before .before .before .before .pre .2 .few in
@@ -130,7 +117,6 @@ part-put-field-start c =
     let h = c .before .before .before .before .before .before .before .before .before .before .before .before .pre .1 in
     omega arith
 
--- src/sample.rt:335:43
 part-put-field-end : tie.Need-part-put-field-end Inv-loop μ-loop
 part-put-field-end c =
     let f = c .before .before .before .before .before .before .before .before .before .before .before .before .pre .2 .few in
@@ -141,19 +127,15 @@ part-put-field-end c =
     let h = c .before .before .before .before .before .before .before .before .before .before .before .before .pre .1 in
     omega arith
 
--- src/sample.rt:335:15
 put-field-requires : tie.Need-put-field-requires Inv-loop μ-loop
 put-field-requires c κs = let l = c .before .before .before .before .before .before .loop .inv .2 in (c .before .before .before .before .before .before .loop .inv .1, omega arith)
 
--- src/sample.rt:337:17
 enum-told : tie.Need-enum-told Inv-loop μ-loop
 enum-told c = search needs
 
--- src/sample.rt:337:17
 same-length : tie.Need-same-length Inv-loop μ-loop
 same-length c = search needs
 
--- src/sample.rt:337:17
 returns : tie.Need-returns Inv-loop μ-loop
 returns c =
     let a = c .before .before .before .before .before .before .before .before .before .before .before .before .before .before .before .before .before .before .args in
@@ -163,19 +145,15 @@ returns c =
     let same = ap (fieldBytes 16) (part-of (a .s .now) (getD (a .names .now) i 0) (getD (a .sizes .now) i 0)) in
     step-stop field (l .l) (l .inv .3) _ (c .before .before .before .before .put-field .last .0) (c .before .before .before .before .put-field .result) same (c .before .before .before .before .put-field .ensures) (c .enum-told .given .1) (a .count) (c .before .before .before .before .before .before .before .before .before .before .loop-test .taken)
 
--- src/sample.rt:339:29
 enum-known-more : tie.Need-enum-known-more Inv-loop μ-loop
 enum-known-more c = search needs
 
--- src/sample.rt:343:9
 add-l : tie.Need-add-l Inv-loop μ-loop
 add-l c = omega arith
 
--- src/sample.rt:331:5
 loop-less : tie.Need-loop-less Inv-loop μ-loop
 loop-less c = omega arith
 
--- src/sample.rt:331:5
 loop-again : tie.Need-loop-again Inv-loop μ-loop
 loop-again c =
     let a = c .before .before .before .before .before .before .before .before .before .before .before .before .before .before .before .before .before .before .before .args in
@@ -186,19 +164,18 @@ loop-again c =
     let r = step-more field (l .l) (l .inv .3) _ (c .before .before .before .before .before .put-field .last .0) (c .before .before .before .before .before .put-field .result) same (c .before .before .before .before .before .put-field .ensures) (c .before .more .given .1) in
     (omega arith, r .1, search needs, r .0)
 
--- src/sample.rt:324:1
 same-length-2 : tie.Need-same-length-2 Inv-loop μ-loop
 same-length-2 c = search needs
 
--- src/sample.rt:324:1
 returns-2 : tie.Need-returns-2 Inv-loop μ-loop
 returns-2 c =
     let a = c .before .before .before .before .before .before .before .before .args in
     let l = c .before .loop in
-    let z : l .l ≡ a .count = omega arith in
-    (subst (λ (n : ℕ). Put (a .draft .now) 0 (joinedOf (labelField (a .s .now) (a .names .now) (a .sizes .now) (a .firsts .now)) (numbersBelow n)) (l .draft) (l .end)) z
-     (l .inv .3),
-     l .inv .1)
+    let z : l .l ≡ a .count = omega arith in (
+      subst (λ (n : ℕ). Put (a .draft .now) 0 (joinedOf (labelField (a .s .now) (a .names .now) (a .sizes .now) (a .firsts .now)) (numbersBelow n)) (l .draft) (l .end)) z
+          (l .inv .3),
+      l .inv .1,
+    )
 
 pub put-labels-spec : {M : Type 1} → statement M
 put-labels-spec =

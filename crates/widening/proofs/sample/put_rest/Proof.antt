@@ -1,44 +1,33 @@
 -- `put_rest` meets its contract.
 use native.Mathlib.Omega.{arith}
-use mathlib.Core.List.{[], _∷_}
+use mathlib.Core.List.{[]}
 use mathlib.Core.Path.{_≡_}
 use lib.ListN.{length}
 use Rattle.grammar.specs.Fields.{fieldBytes}
-use Rattle.widening.specs.SampleTable.{ruleIn, rulesBytes, restBytes}
+use Rattle.widening.specs.SampleTable.{ruleIn, rulesBytes}
 use Rattle.widening.proofs.RuleLaws.{table-length-is, table-over, table-then}
 use borrow.Author.Needs.{needs}
 use Rattle.widening.proofs.sample.put_rest.Statement.{statement}
 use Rattle.widening.proofs.sample.put_rest.Tie as tie
-use Rattle.widening.proofs.sample.put_rest.Reads as reads
-use Rattle.widening.proofs.sample.put_rest.Lts as lts
-use Rattle.widening.proofs.sample.put_rules.Reads as put-rules-reads
-use Rattle.widening.proofs.writing.put_field.Reads as put-field-reads
 
--- src/sample.rt:401:11
 put-rules-requires : tie.Need-put-rules-requires
 put-rules-requires c κs = search needs
 
--- src/sample.rt:402:30
 enum-told : tie.Need-enum-told
 enum-told c = search needs
 
--- src/sample.rt:403:25
 enum-known-end : tie.Need-enum-known-end
 enum-known-end c = search needs
 
--- src/sample.rt:403:61
 sub-put-field : tie.Need-sub-put-field
 sub-put-field c = search needs
 
--- src/sample.rt:403:61
 part-put-field-start : tie.Need-part-put-field-start
 part-put-field-start c = search needs
 
--- src/sample.rt:403:61
 part-put-field-end : tie.Need-part-put-field-end
 part-put-field-end c = search needs
 
--- src/sample.rt:403:33
 put-field-requires : tie.Need-put-field-requires
 put-field-requires c κs =
     let a = c .before .before .before .before .before .before .before .before .before .before .before .before .before .before .before .before .before .before .before .before .args in
@@ -47,30 +36,24 @@ put-field-requires c κs =
     let w : length (c .before .before .before .before .before .before .before .before .before .before .put-rules .last .0) ≡ length (a .draft .now) = search needs in
     (h .1, omega arith)
 
--- src/sample.rt:384:1
 same-length : tie.Need-same-length
 same-length c = search needs
 
--- src/sample.rt:384:1
 same-length-2 : tie.Need-same-length-2
 same-length-2 c = search needs
 
--- src/sample.rt:384:1
 returns : tie.Need-returns
 returns c =
     let a = c .before .before .before .before .before .before .before .before .before .before .before .before .before .before .before .before .args in
     let rule = ruleIn (a .parents .now) (a .types .now) (a .firsts .now) (a .labels .now) (a .nodes) in
     table-over (a .draft .now) (a .at) rule (a .count) (rulesBytes rule (a .count)) (fieldBytes 0x1F []) (c .before .before .before .before .before .before .put-rules .last .0) (c .before .before .before .before .before .before .put-rules .last .0) (c .before .before .before .before .before .before .put-rules .result) (c .before .before .before .before .before .before .put-rules .ensures) (c .enum-told .given .1)
 
--- src/sample.rt:384:1
 same-length-3 : tie.Need-same-length-3
 same-length-3 c = search needs
 
--- src/sample.rt:384:1
 same-length-4 : tie.Need-same-length-4
 same-length-4 c = search needs
 
--- src/sample.rt:384:1
 returns-2 : tie.Need-returns-2
 returns-2 c =
     let a = c .before .before .before .before .before .before .before .before .before .before .before .before .before .before .before .before .before .before .before .before .before .before .before .args in

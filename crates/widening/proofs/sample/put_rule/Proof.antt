@@ -1,5 +1,4 @@
 -- `put_rule` meets its contract.
-use Prim.Native.Nat.{ℕ}
 use native.Mathlib.Omega.{arith}
 use mathlib.Core.Logic.{inl}
 use mathlib.Core.Path.{_≡_}
@@ -9,51 +8,37 @@ use Rattle.widening.proofs.RuleLaws.{made-stop, made-over, rule-value, 
 use borrow.Author.Needs.{needs}
 use Rattle.widening.proofs.sample.put_rule.Statement.{statement}
 use Rattle.widening.proofs.sample.put_rule.Tie as tie
-use Rattle.widening.proofs.sample.put_rule.Reads as reads
-use Rattle.widening.proofs.sample.put_rule.Lts as lts
-use Rattle.widening.proofs.sample.make_content.Reads as make-content-reads
-use Rattle.widening.proofs.writing.put_field.Reads as put-field-reads
 
--- src/sample.rt:313:11
 make-content-requires : tie.Need-make-content-requires
 make-content-requires c κs = search needs
 
--- src/sample.rt:314:30
 enum-told : tie.Need-enum-told
 enum-told c = search needs
 
--- src/sample.rt:315:25
 enum-known-stop : tie.Need-enum-known-stop
 enum-known-stop c = search needs
 
--- src/sample.rt:316:26
 cast-scratch : tie.Need-cast-scratch
 cast-scratch c = search needs
 
--- src/sample.rt:316:13
 slice-write-scratch : tie.Need-slice-write-scratch
 slice-write-scratch c = search needs
 
--- src/sample.rt:317:26
 cast-scratch-2 : tie.Need-cast-scratch-2
 cast-scratch-2 c = search needs
 
--- src/sample.rt:317:13
 slice-write-scratch-2 : tie.Need-slice-write-scratch-2
 slice-write-scratch-2 c =
     let l = length-set (c .before .before .before .before .before .make-content .last .0) 0 (c .before .before .before .before .before .before .before .before .before .before .before .before .args .k) in
     let w : length (c .before .before .before .before .before .make-content .last .0) ≡ length (c .before .before .before .before .before .before .before .before .before .before .before .before .args .scratch .now) = search needs in
     omega arith
 
--- src/sample.rt:318:40
 sub-put-field : tie.Need-sub-put-field
 sub-put-field c = search needs
 
--- src/sample.rt:318:40
 part-put-field-start : tie.Need-part-put-field-start
 part-put-field-start c = search needs
 
--- src/sample.rt:318:40
 part-put-field-end : tie.Need-part-put-field-end
 part-put-field-end c =
     let a = c .before .before .before .before .before .before .before .before .before .before .before .before .before .before .args in
@@ -65,29 +50,23 @@ part-put-field-end c =
     let m = length-set (set (c .before .before .before .before .before .before .before .make-content .last .0) 0 (a .k)) 1 (a .label) in
     omega arith
 
--- src/sample.rt:318:13
 put-field-requires : tie.Need-put-field-requires
 put-field-requires c κs = search needs
 
--- src/sample.rt:297:1
 same-length : tie.Need-same-length
 same-length c = search needs
 
--- src/sample.rt:297:1
 returns : tie.Need-returns
 returns c =
     let a = c .before .before .before .before .before .before .before .before .before .before .before .args in
     inl (made-over (c .before .before .before .before .make-content .last .0) (contentIn (a .parents .now) (a .types .now) (a .nodes) (a .k)) (c .before .before .before .before .make-content .result) (c .before .before .before .before .make-content .ensures) (c .enum-told .given .1))
 
--- src/sample.rt:297:1
 same-length-2 : tie.Need-same-length-2
 same-length-2 c = search needs
 
--- src/sample.rt:297:1
 same-length-3 : tie.Need-same-length-3
 same-length-3 c = search needs
 
--- src/sample.rt:297:1
 returns-2 : tie.Need-returns-2
 returns-2 c =
     let a = c .before .before .before .before .before .before .before .before .before .before .before .before .before .before .before .before .before .before .args in

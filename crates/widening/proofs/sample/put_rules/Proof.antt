@@ -2,7 +2,7 @@
 use Prim.Native.Nat.{ℕ, _-_, _≤_, _<_}
 use native.Mathlib.Omega.{arith}
 use mathlib.Core.Bool.{false}
-use mathlib.Core.Path.{_≡_, refl, sym, _∙_, ap, subst}
+use mathlib.Core.Path.{_≡_, refl, subst}
 use lib.ListN.{length}
 use borrow.Author.Needs.{needs}
 use Rattle.grammar.specs.Lists.{joinedOf, numbersBelow}
@@ -14,9 +14,6 @@ use Rattle.widening.proofs.TypeLaws.{up-to}
 use Rattle.widening.proofs.RuleLaws.{up-start, rules-stop, rules-more}
 use Rattle.widening.proofs.sample.put_rules.Statement.{statement}
 use Rattle.widening.proofs.sample.put_rules.Tie as tie
-use Rattle.widening.proofs.sample.put_rules.Reads as reads
-use Rattle.widening.proofs.sample.put_rules.Lts as lts
-use Rattle.widening.proofs.sample.put_rule.Reads as put-rule-reads
 
 abbrev Inv-loop : tie.InvT-loop
 Inv-loop draft₀ at scratch₀ parents types children nodes firsts labels count end₀ t₀ draft scratch end t =
@@ -30,15 +27,17 @@ Inv-loop draft₀ at scratch₀ parents types children nodes firsts labels count
 abbrev μ-loop : tie.MeasureT-loop
 μ-loop draft₀ at scratch₀ parents types children nodes firsts labels count end₀ t₀ draft scratch end t = count - t
 
--- src/sample.rt:368:5
 loop-holds : tie.Need-loop-holds Inv-loop μ-loop
 loop-holds c =
-    let a = c .before .before .before .before .before .before .before .args in
-    (omega arith, c .before .before .before .before .before .before .before .pre .0, refl, refl,
-     up-start (ruleField (ruleIn (a .parents .now) (a .types .now) (a .firsts .now) (a .labels .now) (a .nodes))) (a .draft .now) (a .at) (omega arith),
-     λ j h. absurd (omega arith))
+    let a = c .before .before .before .before .before .before .before .args in (
+      omega arith,
+      c .before .before .before .before .before .before .before .pre .0,
+      refl,
+      refl,
+      up-start (ruleField (ruleIn (a .parents .now) (a .types .now) (a .firsts .now) (a .labels .now) (a .nodes))) (a .draft .now) (a .at) (omega arith),
+      λ j h. absurd (omega arith),
+    )
 
--- src/sample.rt:369:17
 mul-i : tie.Need-mul-i Inv-loop μ-loop
 mul-i c =
     let q = c .before .before .before .before .before .before .before .before .before .pre .4 in
@@ -50,7 +49,6 @@ mul-i c =
     let v = q .first-nodes (c .before .loop .t) (c .loop-test .taken) in
     omega arith
 
--- src/sample.rt:369:17
 shared-slice-read-i : tie.Need-shared-slice-read-i Inv-loop μ-loop
 shared-slice-read-i c =
     let q = c .before .before .before .before .before .before .before .before .before .before .pre .4 in
@@ -62,7 +60,6 @@ shared-slice-read-i c =
     let v = q .first-nodes (c .before .before .loop .t) (c .before .loop-test .taken) in
     omega arith
 
--- src/sample.rt:370:78
 mul-put-rule : tie.Need-mul-put-rule Inv-loop μ-loop
 mul-put-rule c =
     let q = c .before .before .before .before .before .before .before .before .before .before .before .before .pre .4 in
@@ -74,7 +71,6 @@ mul-put-rule c =
     let v = q .first-nodes (c .before .before .before .before .loop .t) (c .before .before .before .loop-test .taken) in
     omega arith
 
--- src/sample.rt:370:78
 shared-slice-read-put-rule : tie.Need-shared-slice-read-put-rule Inv-loop μ-loop
 shared-slice-read-put-rule c =
     let q = c .before .before .before .before .before .before .before .before .before .before .before .before .before .pre .4 in
@@ -86,7 +82,6 @@ shared-slice-read-put-rule c =
     let v = q .first-nodes (c .before .before .before .before .before .loop .t) (c .before .before .before .before .loop-test .taken) in
     omega arith
 
--- src/sample.rt:370:88
 mul-put-rule-2 : tie.Need-mul-put-rule-2 Inv-loop μ-loop
 mul-put-rule-2 c =
     let q = c .before .before .before .before .before .before .before .before .before .before .before .before .before .pre .4 in
@@ -98,7 +93,6 @@ mul-put-rule-2 c =
     let v = q .first-nodes (c .before .before .before .before .before .loop .t) (c .before .before .before .before .loop-test .taken) in
     omega arith
 
--- src/sample.rt:370:88
 shared-slice-read-put-rule-2 : tie.Need-shared-slice-read-put-rule-2 Inv-loop μ-loop
 shared-slice-read-put-rule-2 c =
     let q = c .before .before .before .before .before .before .before .before .before .before .before .before .before .before .pre .4 in
@@ -110,7 +104,6 @@ shared-slice-read-put-rule-2 c =
     let v = q .first-nodes (c .before .before .before .before .before .before .loop .t) (c .before .before .before .before .before .loop-test .taken) in
     omega arith
 
--- src/sample.rt:370:15
 put-rule-requires : tie.Need-put-rule-requires Inv-loop μ-loop
 put-rule-requires c κs =
     let q = c .before .before .before .before .before .before .before .before .before .before .before .before .before .before .pre .4 in
@@ -119,19 +112,15 @@ put-rule-requires c κs =
     let v = l .3 in
     (l .1, omega arith, omega arith, q .type-bytes (c .before .before .before .before .before .before .loop .t) (c .before .before .before .before .before .loop-test .taken), q .label-bytes (c .before .before .before .before .before .before .loop .t) (c .before .before .before .before .before .loop-test .taken), c .before .before .before .before .before .before .before .before .before .before .before .before .before .before .pre .3)
 
--- src/sample.rt:372:17
 enum-told : tie.Need-enum-told Inv-loop μ-loop
 enum-told c = search needs
 
--- src/sample.rt:372:17
 same-length : tie.Need-same-length Inv-loop μ-loop
 same-length c = search needs
 
--- src/sample.rt:372:17
 same-length-2 : tie.Need-same-length-2 Inv-loop μ-loop
 same-length-2 c = search needs
 
--- src/sample.rt:372:17
 returns : tie.Need-returns Inv-loop μ-loop
 returns c =
     let a = c .before .before .before .before .before .before .before .before .before .before .before .before .before .before .before .before .before .before .before .before .before .args in
@@ -139,46 +128,45 @@ returns c =
     let rule = ruleIn (a .parents .now) (a .types .now) (a .firsts .now) (a .labels .now) (a .nodes) in
     rules-stop rule (l .t) (l .inv .4) (c .before .before .before .before .before .before .put-rule .last .0) (c .before .before .before .before .before .before .put-rule .result) (c .before .before .before .before .before .before .put-rule .ensures) (c .enum-told .given .1) (a .count) (c .before .before .before .before .before .before .before .before .before .before .before .before .loop-test .taken)
 
--- src/sample.rt:374:29
 enum-known-more : tie.Need-enum-known-more Inv-loop μ-loop
 enum-known-more c = search needs
 
--- src/sample.rt:378:9
 add-t : tie.Need-add-t Inv-loop μ-loop
 add-t c = let few = c .before .before .before .before .before .before .before .before .before .before .before .before .before .before .before .before .before .before .before .before .before .before .pre .4 .few in omega arith
 
--- src/sample.rt:368:5
 loop-less : tie.Need-loop-less Inv-loop μ-loop
 loop-less c = let few = c .before .before .before .before .before .before .before .before .before .before .before .before .before .before .before .before .before .before .before .before .before .before .pre .4 .few in omega arith
 
--- src/sample.rt:368:5
 loop-again : tie.Need-loop-again Inv-loop μ-loop
 loop-again c =
     let a = c .before .before .before .before .before .before .before .before .before .before .before .before .before .before .before .before .before .before .before .before .before .before .args in
     let l = c .before .before .before .before .before .before .before .before .before .before .before .before .before .before .loop in
     let rule = ruleIn (a .parents .now) (a .types .now) (a .firsts .now) (a .labels .now) (a .nodes) in
-    let r = rules-more rule (l .t) (l .inv .4) (c .before .before .before .before .before .before .before .put-rule .last .0) (c .before .before .before .before .before .before .before .put-rule .result) (c .before .before .before .before .before .before .before .put-rule .ensures) (c .before .more .given .1) in
-    (omega arith, r .1, search needs, search needs, r .0,
-     up-to (λ j. contentTooLarge standard (rule j .content) ≡ false) (l .t) (l .inv .5) (r .2))
+    let r = rules-more rule (l .t) (l .inv .4) (c .before .before .before .before .before .before .before .put-rule .last .0) (c .before .before .before .before .before .before .before .put-rule .result) (c .before .before .before .before .before .before .before .put-rule .ensures) (c .before .more .given .1) in (
+      omega arith,
+      r .1,
+      search needs,
+      search needs,
+      r .0,
+      up-to (λ j. contentTooLarge standard (rule j .content) ≡ false) (l .t) (l .inv .5) (r .2),
+    )
 
--- src/sample.rt:349:1
 same-length-3 : tie.Need-same-length-3 Inv-loop μ-loop
 same-length-3 c = search needs
 
--- src/sample.rt:349:1
 same-length-4 : tie.Need-same-length-4 Inv-loop μ-loop
 same-length-4 c = search needs
 
--- src/sample.rt:349:1
 returns-2 : tie.Need-returns-2 Inv-loop μ-loop
 returns-2 c =
     let a = c .before .before .before .before .before .before .before .before .before .args in
     let l = c .before .loop in
     let rule = ruleIn (a .parents .now) (a .types .now) (a .firsts .now) (a .labels .now) (a .nodes) in
-    let z : l .t ≡ a .count = omega arith in
-    (subst (λ (n : ℕ). Put (a .draft .now) (a .at) (joinedOf (ruleField rule) (numbersBelow n)) (l .draft) (l .end)) z (l .inv .4),
-     l .inv .1,
-     λ j h. l .inv .5 j (omega arith))
+    let z : l .t ≡ a .count = omega arith in (
+      subst (λ (n : ℕ). Put (a .draft .now) (a .at) (joinedOf (ruleField rule) (numbersBelow n)) (l .draft) (l .end)) z (l .inv .4),
+      l .inv .1,
+      λ j h. l .inv .5 j (omega arith),
+    )
 
 pub put-rules-spec : {M : Type 1} → statement M
 put-rules-spec =

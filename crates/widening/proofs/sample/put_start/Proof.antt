@@ -4,33 +4,24 @@ use mathlib.Core.List.{[], _∷_}
 use mathlib.Core.Path.{_≡_}
 use lib.ListN.{length}
 use Rattle.grammar.specs.Fields.{fieldBytes}
-use Rattle.widening.specs.SampleTable.{ruleIn, rulesBytes, restBytes}
+use Rattle.widening.specs.SampleTable.{ruleIn, restBytes}
 use Rattle.widening.proofs.RuleLaws.{put-length-is, put-over, put-then}
 use borrow.Author.Needs.{needs}
 use Rattle.widening.proofs.sample.put_start.Statement.{statement}
 use Rattle.widening.proofs.sample.put_start.Tie as tie
-use Rattle.widening.proofs.sample.put_start.Reads as reads
-use Rattle.widening.proofs.sample.put_start.Lts as lts
-use Rattle.widening.proofs.sample.put_rest.Reads as put-rest-reads
-use Rattle.widening.proofs.writing.put_field.Reads as put-field-reads
 
--- src/sample.rt:426:38
 slice-aggregate-put-field : tie.Need-slice-aggregate-put-field
 slice-aggregate-put-field c = search needs
 
--- src/sample.rt:426:11
 put-field-requires : tie.Need-put-field-requires
 put-field-requires c κs = search needs
 
--- src/sample.rt:427:30
 enum-told : tie.Need-enum-told
 enum-told c = search needs
 
--- src/sample.rt:428:25
 enum-known-end : tie.Need-enum-known-end
 enum-known-end c = search needs
 
--- src/sample.rt:428:33
 put-rest-requires : tie.Need-put-rest-requires
 put-rest-requires c κs =
     let a = c .before .before .before .before .before .before .before .before .before .before .before .before .before .before .before .before .before .args in
@@ -39,26 +30,21 @@ put-rest-requires c κs =
     let w : length (c .before .before .before .before .before .before .before .put-field .last .0) ≡ length (a .draft .now) = search needs in
     (h .1, omega arith, c .before .before .before .before .before .before .before .before .before .before .before .before .before .before .before .before .before .pre .2, c .before .before .before .before .before .before .before .before .before .before .before .before .before .before .before .before .before .pre .3, c .before .before .before .before .before .before .before .before .before .before .before .before .before .before .before .before .before .pre .4)
 
--- src/sample.rt:408:1
 same-length : tie.Need-same-length
 same-length c = search needs
 
--- src/sample.rt:408:1
 returns : tie.Need-returns
 returns c =
     let a = c .before .before .before .before .before .before .before .before .before .before .before .before .before .before .args in
     let rule = ruleIn (a .parents .now) (a .types .now) (a .firsts .now) (a .labels .now) (a .nodes) in
     put-over (a .draft .now) (a .at) rule (a .count) (fieldBytes 0x11 (0 ∷ [])) (restBytes rule (a .count)) (c .before .before .before .before .put-field .last .0) (c .before .before .before .before .put-field .last .0) (c .before .before .before .before .put-field .result) (c .before .before .before .before .put-field .ensures) (c .enum-told .given .1)
 
--- src/sample.rt:408:1
 same-length-2 : tie.Need-same-length-2
 same-length-2 c = search needs
 
--- src/sample.rt:408:1
 same-length-3 : tie.Need-same-length-3
 same-length-3 c = search needs
 
--- src/sample.rt:408:1
 returns-2 : tie.Need-returns-2
 returns-2 c =
     let a = c .before .before .before .before .before .before .before .before .before .before .before .before .before .before .before .before .before .before .before .before .before .before .args in

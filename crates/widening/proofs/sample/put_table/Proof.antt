@@ -1,6 +1,6 @@
 -- `put_table` meets its contract.
 use native.Mathlib.Omega.{arith}
-use mathlib.Core.List.{[], _∷_}
+use mathlib.Core.List.{[]}
 use mathlib.Core.Path.{_≡_}
 use lib.ListN.{length}
 use Rattle.grammar.specs.Lists.{joinedOf, numbersBelow}
@@ -9,24 +9,16 @@ use Rattle.widening.proofs.RuleLaws.{put-length-is, put-over, put-then}
 use borrow.Author.Needs.{needs}
 use Rattle.widening.proofs.sample.put_table.Statement.{statement}
 use Rattle.widening.proofs.sample.put_table.Tie as tie
-use Rattle.widening.proofs.sample.put_table.Reads as reads
-use Rattle.widening.proofs.sample.put_table.Lts as lts
-use Rattle.widening.proofs.sample.put_labels.Reads as put-labels-reads
-use Rattle.widening.proofs.sample.put_start.Reads as put-start-reads
 
--- src/sample.rt:457:11
 put-labels-requires : tie.Need-put-labels-requires
 put-labels-requires c κs = search needs
 
--- src/sample.rt:458:30
 enum-told : tie.Need-enum-told
 enum-told c = search needs
 
--- src/sample.rt:459:25
 enum-known-end : tie.Need-enum-known-end
 enum-known-end c = search needs
 
--- src/sample.rt:459:33
 put-start-requires : tie.Need-put-start-requires
 put-start-requires c κs =
     let a = c .before .before .before .before .before .before .before .before .before .before .before .before .before .before .before .before .before .before .before .before .before .args in
@@ -36,11 +28,9 @@ put-start-requires c κs =
     let w : length (c .before .before .before .before .before .before .before .put-labels .last .0) ≡ length (a .draft .now) = search needs in
     (h .1, omega arith, c .before .before .before .before .before .before .before .before .before .before .before .before .before .before .before .before .before .before .before .before .before .pre .1, c .before .before .before .before .before .before .before .before .before .before .before .before .before .before .before .before .before .before .before .before .before .pre .4, c .before .before .before .before .before .before .before .before .before .before .before .before .before .before .before .before .before .before .before .before .before .pre .5)
 
--- src/sample.rt:433:1
 same-length : tie.Need-same-length
 same-length c = search needs
 
--- src/sample.rt:433:1
 returns : tie.Need-returns
 returns c =
     let a = c .before .before .before .before .before .before .before .before .before .before .before .before .before .before .before .before .before .before .args in
@@ -48,15 +38,12 @@ returns c =
     let xs = joinedOf (labelField (a .s .now) (a .names .now) (a .sizes .now) (a .named .now)) (numbersBelow (a .total)) in
     put-over (a .draft .now) 0 rule (a .count) xs (startBytes rule (a .count)) (c .before .before .before .before .put-labels .last .0) (c .before .before .before .before .put-labels .last .0) (c .before .before .before .before .put-labels .result) (c .before .before .before .before .put-labels .ensures) (c .enum-told .given .1)
 
--- src/sample.rt:433:1
 same-length-2 : tie.Need-same-length-2
 same-length-2 c = search needs
 
--- src/sample.rt:433:1
 same-length-3 : tie.Need-same-length-3
 same-length-3 c = search needs
 
--- src/sample.rt:433:1
 returns-2 : tie.Need-returns-2
 returns-2 c =
     let a = c .before .before .before .before .before .before .before .before .before .before .before .before .before .before .before .before .before .before .before .before .before .before .before .before .before .before .args in

@@ -5,99 +5,73 @@ use Rattle.widening.proofs.FillLaws.{key-differs, key-agrees}
 use borrow.Author.Needs.{needs}
 use Rattle.widening.proofs.sample.same_key.Statement.{statement}
 use Rattle.widening.proofs.sample.same_key.Tie as tie
-use Rattle.widening.proofs.sample.same_key.Reads as reads
-use Rattle.widening.proofs.sample.same_key.Lts as lts
-use Rattle.reader.proofs.names.same_name.Reads as same-name-reads
 
--- src/sample.rt:47:8
 mul-if1 : tie.Need-mul-if1
 mul-if1 c = search needs
 
--- src/sample.rt:47:8
 shared-slice-read-if1 : tie.Need-shared-slice-read-if1
 shared-slice-read-if1 c = search needs
 
--- src/sample.rt:47:19
 mul-if1-2 : tie.Need-mul-if1-2
 mul-if1-2 c = search needs
 
--- src/sample.rt:47:19
 shared-slice-read-if1-2 : tie.Need-shared-slice-read-if1-2
 shared-slice-read-if1-2 c = search needs
 
--- src/sample.rt:48:9
 returns : tie.Need-returns
 returns c = key-differs _ _ _ (c .if1 .taken)
 
--- src/sample.rt:50:13
 mul-a : tie.Need-mul-a
 mul-a c = search needs
 
--- src/sample.rt:50:13
 shared-slice-read-a : tie.Need-shared-slice-read-a
 shared-slice-read-a c = search needs
 
--- src/sample.rt:51:13
 mul-b : tie.Need-mul-b
 mul-b c = search needs
 
--- src/sample.rt:51:13
 shared-slice-read-b : tie.Need-shared-slice-read-b
 shared-slice-read-b c = search needs
 
--- src/sample.rt:52:21
 mul-a-end : tie.Need-mul-a-end
 mul-a-end c = search needs
 
--- src/sample.rt:52:21
 shared-slice-read-a-end : tie.Need-shared-slice-read-a-end
 shared-slice-read-a-end c = search needs
 
--- src/sample.rt:52:17
 add-a-end : tie.Need-add-a-end
 add-a-end c = search needs
 
--- src/sample.rt:53:21
 mul-b-end : tie.Need-mul-b-end
 mul-b-end c = search needs
 
--- src/sample.rt:53:21
 shared-slice-read-b-end : tie.Need-shared-slice-read-b-end
 shared-slice-read-b-end c = search needs
 
--- src/sample.rt:53:17
 add-b-end : tie.Need-add-b-end
 add-b-end c = search needs
 
--- src/sample.rt:54:15
 sub-same-name : tie.Need-sub-same-name
 sub-same-name c = search needs
 
--- src/sample.rt:54:15
 part-same-name-start : tie.Need-part-same-name-start
 part-same-name-start c = search needs
 
--- src/sample.rt:54:15
 part-same-name-end : tie.Need-part-same-name-end
 part-same-name-end c = search needs
 
--- src/sample.rt:54:29
 sub-same-name-2 : tie.Need-sub-same-name-2
 sub-same-name-2 c = search needs
 
--- src/sample.rt:54:29
 part-same-name-start-2 : tie.Need-part-same-name-start-2
 part-same-name-start-2 c = search needs
 
--- src/sample.rt:54:29
 part-same-name-end-2 : tie.Need-part-same-name-end-2
 part-same-name-end-2 c = search needs
 
--- src/sample.rt:54:5
 same-name-requires : tie.Need-same-name-requires
 same-name-requires c κs = search needs
 
--- src/sample.rt:43:1
 returns-2 : tie.Need-returns-2
 returns-2 c =
     let a = c .before .before .before .before .before .before .before .before .before .before .before .before .before .before .args in

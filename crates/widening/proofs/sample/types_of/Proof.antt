@@ -1,18 +1,13 @@
 -- `types_of` meets its contract. The loop's invariant is `Typing`.
 use Prim.Native.Nat.{ℕ, _-_, _≤_}
 use native.Mathlib.Omega.{arith}
-use mathlib.Core.Path.{_≡_, refl, sym, _∙_, ap, subst}
+use mathlib.Core.Path.{_≡_, refl, _∙_, subst}
 use lib.ListN.{length, length-set}
 use borrow.Author.Needs.{needs}
 use Rattle.widening.specs.SampleNodes.{Whole, TypedTo}
 use Rattle.widening.proofs.TypeLaws.{Typing, typing-start, above-room, find-room, typing-next}
 use Rattle.widening.proofs.sample.types_of.Statement.{statement}
 use Rattle.widening.proofs.sample.types_of.Tie as tie
-use Rattle.widening.proofs.sample.types_of.Reads as reads
-use Rattle.widening.proofs.sample.types_of.Lts as lts
-use Rattle.widening.proofs.sample.above_type.Reads as above-type-reads
-use Rattle.widening.proofs.sample.find.Reads as find-reads
-use Rattle.widening.proofs.sample.next_count.Reads as next-count-reads
 
 abbrev Inv-loop : tie.InvT-loop
 Inv-loop s names sizes parents nodes of₀ aboves₀ firsts₀ count₀ i₀ of aboves firsts count i =
@@ -74,14 +69,15 @@ mul-firsts c =
 
 loop-again : tie.Need-loop-again Inv-loop μ-loop
 loop-again c =
-    let l = c .before .before .before .before .before .before .before .before .loop in
-    (length-set (l .of) (l .i) _ ∙ l .inv .0,
-     length-set (l .aboves) (l .i) _ ∙ l .inv .1,
-     length-set (l .firsts) (l .count) _ ∙ l .inv .2,
-     omega arith,
-     λ q.
-     typing-next q (l .inv .4 q) (c .before .before .before .before .before .before .before .loop-test .taken) (c .before .before .before .before .above-type .result) (c .before .before .before .before .above-type .ensures) (l .inv .1) (l .inv .2) (c .before .find .result)
-     (c .before .find .ensures) (l .inv .0) (c .next-count .result) (c .next-count .ensures))
+    let l = c .before .before .before .before .before .before .before .before .loop in (
+      length-set (l .of) (l .i) _ ∙ l .inv .0,
+      length-set (l .aboves) (l .i) _ ∙ l .inv .1,
+      length-set (l .firsts) (l .count) _ ∙ l .inv .2,
+      omega arith,
+      λ q.
+          typing-next q (l .inv .4 q) (c .before .before .before .before .before .before .before .loop-test .taken) (c .before .before .before .before .above-type .result) (c .before .before .before .before .above-type .ensures) (l .inv .1) (l .inv .2) (c .before .find .result)
+          (c .before .find .ensures) (l .inv .0) (c .next-count .result) (c .next-count .ensures),
+    )
 
 returns : tie.Need-returns Inv-loop μ-loop
 returns c =

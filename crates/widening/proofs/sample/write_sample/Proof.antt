@@ -1,42 +1,45 @@
+-- `write_sample` meets its contract.
+use native.Mathlib.Omega.{arith}
+use mathlib.Core.Path.{_≡_}
+use lib.ListN.{length}
+use Rattle.widening.proofs.SampleWritten.{sample-wide, sample-drafted, firsts-keys, labels-keys, nodes-held, rules-held}
 use borrow.Author.Needs.{needs}
 use Rattle.widening.proofs.sample.write_sample.Statement.{statement}
 use Rattle.widening.proofs.sample.write_sample.Tie as tie
-use Rattle.widening.proofs.sample.write_sample.Reads as reads
-use Rattle.widening.proofs.sample.write_sample.Lts as lts
-use Rattle.widening.proofs.sample.labels_of.Reads as labels-of-reads
-use Rattle.widening.proofs.sample.put_table.Reads as put-table-reads
 
--- src/sample.rt:492:9
 returns : tie.Need-returns
-returns c = ?
+returns c = λ q. sample-wide q (c .if1 .taken)
 
--- src/sample.rt:494:9
 labels-of-requires : tie.Need-labels-of-requires
-labels-of-requires c κs = ?
+labels-of-requires c κs = (omega arith, firsts-keys (c .before .before .before .before .before .before .before .before .before .before .before .pre .4) (omega arith) (c .before .before .before .before .before .before .before .before .before .before .before .pre .2), c .before .before .before .before .before .before .before .before .before .before .before .pre .3)
 
--- src/sample.rt:499:39
 slice-aggregate-put-table : tie.Need-slice-aggregate-put-table
 slice-aggregate-put-table c = search needs
 
--- src/sample.rt:499:104
 slice-aggregate-put-table-2 : tie.Need-slice-aggregate-put-table-2
 slice-aggregate-put-table-2 c = search needs
 
--- src/sample.rt:498:5
 put-table-requires : tie.Need-put-table-requires
-put-table-requires c κs = ?
+put-table-requires c κs =
+    let l = c .before .before .before .before .before .before .labels-of .ensures in
+    let few = l .few in (
+      c .before .before .before .before .before .before .before .before .before .before .before .before .before .before .before .before .before .before .pre .0,
+      c .before .before .before .before .before .before .before .before .before .before .before .before .before .before .before .before .before .before .pre .1,
+      omega arith,
+      labels-keys (c .before .before .before .before .before .before .before .before .before .before .before .before .before .before .before .before .before .before .pre .4) (omega arith) l (c .before .before .before .before .before .before .before .before .before .before .before .before .before .before .before .before .before .before .pre .2) (let w : length (c .before .before .before .before .before .before .labels-of .result .firsts) ≡ 64 = search needs in omega arith),
+      nodes-held (c .before .before .before .before .before .before .before .before .before .before .before .before .before .before .before .before .before .before .pre .4) (omega arith),
+      rules-held (c .before .before .before .before .before .before .before .before .before .before .before .before .before .before .before .before .before .before .pre .4) (omega arith) l (let w : length (c .before .before .before .before .before .before .labels-of .result .of) ≡ 64 = search needs in omega arith),
+    )
 
--- src/sample.rt:472:1
 same-length : tie.Need-same-length
 same-length c = search needs
 
--- src/sample.rt:472:1
 same-length-2 : tie.Need-same-length-2
 same-length-2 c = search needs
 
--- src/sample.rt:472:1
 returns-2 : tie.Need-returns-2
-returns-2 c = ?
+returns-2 c =
+    λ q. sample-drafted q (c .before .before .before .before .before .before .before .before .before .before .before .labels-of .ensures) (let w : length (c .before .before .before .before .before .before .before .before .before .before .before .labels-of .result .firsts) ≡ 64 = search needs in let few = c .before .before .before .before .before .before .before .before .before .before .before .labels-of .ensures .few in omega arith) (omega arith) (c .before .before .before .before .before .before .before .before .before .before .before .before .before .before .before .before .before .before .before .before .before .before .before .args .draft .now) (c .before .before .before .before .put-table .last .0) (c .before .before .before .before .put-table .result) (c .before .before .before .before .put-table .ensures)
 
 pub write-sample-spec : {M : Type 1} → statement M
 write-sample-spec =

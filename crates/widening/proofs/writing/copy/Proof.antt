@@ -1,5 +1,5 @@
 -- `copy` meets its contract. The loop's invariant: as many bytes as were passed are pasted in.
-use Prim.Native.Nat.{ℕ, suc, _+_, _-_, _≤_}
+use Prim.Native.Nat.{ℕ, _+_, _-_, _≤_}
 use native.Mathlib.Omega.{arith}
 use native.Mathlib.Numerals.{add-one}
 use mathlib.Core.List.{List}
@@ -9,8 +9,6 @@ use lib.Seq.{paste, paste-zero, paste-suc}
 use borrow.Author.Needs.{needs}
 use Rattle.widening.proofs.writing.copy.Statement.{statement}
 use Rattle.widening.proofs.writing.copy.Tie as tie
-use Rattle.widening.proofs.writing.copy.Reads as reads
-use Rattle.widening.proofs.writing.copy.Lts as lts
 
 abbrev Inv-loop : tie.InvT-loop
 Inv-loop draft₀ at value i₀ draft i =

@@ -1,64 +1,48 @@
 -- `put_field` meets its contract.
-use Prim.Native.Nat.{ℕ, _+_, _/_, _%_, _≤_}
+use Prim.Native.Nat.{_+_, _/_, _%_}
 use native.Mathlib.Omega.{arith}
-use mathlib.Core.Path.{_≡_, refl, sym, _∙_, ap}
 use lib.ListN.{length, length-set, set}
 use Rattle.widening.proofs.PutLaws.{put-field, put-length, field-length, stored-length}
 use borrow.Author.Needs.{needs}
 use Rattle.widening.proofs.writing.put_field.Statement.{statement}
 use Rattle.widening.proofs.writing.put_field.Tie as tie
-use Rattle.widening.proofs.writing.put_field.Reads as reads
-use Rattle.widening.proofs.writing.put_field.Lts as lts
-use Rattle.widening.proofs.writing.copy.Reads as copy-reads
 
--- src/writing.rt:33:8
 sub-if1 : tie.Need-sub-if1
 sub-if1 c = search needs
 
--- src/writing.rt:34:9
 returns : tie.Need-returns
 returns c = let l = field-length (c .before .before .before .args .tag) (c .before .before .before .args .value .now) in omega arith
 
--- src/writing.rt:36:8
 sub-if2 : tie.Need-sub-if2
 sub-if2 c = search needs
 
--- src/writing.rt:36:8
 sub-if2-2 : tie.Need-sub-if2-2
 sub-if2-2 c = search needs
 
--- src/writing.rt:37:9
 returns-2 : tie.Need-returns-2
 returns-2 c = let l = field-length (c .before .before .before .before .args .tag) (c .before .before .before .before .args .value .now) in omega arith
 
--- src/writing.rt:39:5
 slice-write-draft : tie.Need-slice-write-draft
 slice-write-draft c = search needs
 
--- src/writing.rt:40:21
 cast-draft : tie.Need-cast-draft
 cast-draft c = search needs
 
--- src/writing.rt:40:11
 add-draft : tie.Need-add-draft
 add-draft c = search needs
 
--- src/writing.rt:40:5
 slice-write-draft-2 : tie.Need-slice-write-draft-2
 slice-write-draft-2 c =
     let a = c .before .before .before .before .args in
     let l = length-set (a .draft .now) (a .at) (a .tag) in
     omega arith
 
--- src/writing.rt:41:21
 cast-draft-2 : tie.Need-cast-draft-2
 cast-draft-2 c = search needs
 
--- src/writing.rt:41:11
 add-draft-2 : tie.Need-add-draft-2
 add-draft-2 c = search needs
 
--- src/writing.rt:41:5
 slice-write-draft-3 : tie.Need-slice-write-draft-3
 slice-write-draft-3 c =
     let a = c .before .before .before .before .args in
@@ -66,32 +50,26 @@ slice-write-draft-3 c =
     let m = length-set (set (a .draft .now) (a .at) (a .tag)) (a .at + 1) (length (a .value .now) / 256) in
     omega arith
 
--- src/writing.rt:42:17
 add-copy : tie.Need-add-copy
 add-copy c = search needs
 
--- src/writing.rt:42:5
 copy-requires : tie.Need-copy-requires
 copy-requires c κs =
     let a = c .before .before .before .before .before .args in
     let l = stored-length (a .draft .now) (a .at) (a .tag) (a .at + 1) (length (a .value .now) / 256) (a .at + 2) (length (a .value .now) % 256) in
     omega arith
 
--- src/writing.rt:43:21
 add-t8 : tie.Need-add-t8
 add-t8 c = search needs
 
--- src/writing.rt:43:21
 add-t6 : tie.Need-add-t6
 add-t6 c = search needs
 
--- src/writing.rt:28:1
 same-length : tie.Need-same-length
 same-length c =
     let a = c .before .before .before .before .before .before .before .before .args in
     put-length (put-field (a .draft .now) (a .at) (a .tag) (a .value .now) _ (omega arith) (c .before .before .copy .ensures))
 
--- src/writing.rt:28:1
 returns-3 : tie.Need-returns-3
 returns-3 c =
     let a = c .before .before .before .before .before .before .before .before .args in
