@@ -5,9 +5,9 @@ Prints, for each input, the time of one call less that of a call on the smallest
 for each case), the product of children and content bytes that bounds the work, and the time for each unit of it, side by side
 in one run: growth is linear where the last column does not rise. Not part of the gate; a test never looks at time.
 
-    python3 tests/benchmark.py [--repeats N]
+    python3 tests/benchmark.py [--seconds S | --instructions]
 """
-import argparse, pathlib, resource, subprocess, sys, tempfile
+import argparse, pathlib, re, resource, subprocess, sys, tempfile
 
 ROOT = pathlib.Path(__file__).resolve().parent.parent
 PROGRAM = ROOT / "target/bin/vectors"
@@ -73,18 +73,42 @@ def seconds(one, repeats):
         before = resource.getrusage(resource.RUSAGE_CHILDREN).ru_utime
         run = subprocess.run([PROGRAM], stdin=cases, capture_output=True, check=True)
         spent = resource.getrusage(resource.RUSAGE_CHILDREN).ru_utime - before
-    answers = {line.split()[1:3][0] + " " + line.split()[2] for line in run.stdout.decode().split("\n") if line}
+    answers = {" ".join(line.split()[1:3]) for line in run.stdout.decode().split("\n") if line}
     return spent / repeats, answers
+
+
+def measured(one, least_seconds):
+    """Seconds a call, over as many calls as take at least so long, so that the clock's tick does not tell."""
+    repeats = 20
+    while True:
+        spent, answers = seconds(one, repeats)
+        if spent * repeats >= least_seconds:
+            return spent, answers
+        repeats = max(2 * repeats, int(1.2 * least_seconds / max(spent, 1e-5)))
+
+
+def instructions(one):
+    """Instructions of one call, by valgrind: the same in every run, whatever else the machine does."""
+    with tempfile.TemporaryFile() as cases:
+        cases.write(one + bytes([0]))
+        cases.seek(0)
+        tool = ["valgrind", "--tool=callgrind", "--callgrind-out-file=/dev/null", PROGRAM]
+        run = subprocess.run(tool, stdin=cases, capture_output=True, text=True, check=True)
+    answers = {" ".join(line.split()[1:3]) for line in run.stdout.split("\n") if line}
+    return int(re.search(r"Collected : (\d+)", run.stderr).group(1)), answers
 
 
 def main():
     parser = argparse.ArgumentParser(description=__doc__.split("\n")[0])
-    parser.add_argument("--repeats", type=int, default=200)
-    repeats = parser.parse_args().repeats
+    parser.add_argument("--seconds", type=float, default=2.0, help="least time spent on each input")
+    parser.add_argument("--instructions", action="store_true", help="count instructions (valgrind) in place of time")
+    args = parser.parse_args()
+    measure = instructions if args.instructions else lambda one: measured(one, args.seconds)
     if not PROGRAM.exists():
         sys.exit("build it first: rt check vectors")
-    least, _ = seconds(case(*flat(0)[:2]), repeats)
-    print(f"{'input':34} {'answer':>8} {'ms a call':>10} {'children x bytes':>17} {'ns a unit':>10}")
+    least, _ = measure(case(*flat(0)[:2]))
+    scale, call, unit = (1, "a call", "a unit") if args.instructions else (1e3, "ms a call", "ns a unit")
+    print(f"{'input':36} {'answer':>8} {call:>13} {'children x bytes':>17} {unit:>10}")
     for name, make, sizes in [
         ("flat list, cards:", flat, (50, 100, 200)),
         ("64 levels, chains:", lambda n: deep(n, 64), (4, 8, 16)),
@@ -93,9 +117,10 @@ def main():
     ]:
         for size in sizes:
             first, second, units = make(size)
-            spent, answers = seconds(case(first, second), repeats)
+            spent, answers = measure(case(first, second))
             spent = max(spent - least, 0)
-            print(f"{name + ' ' + str(size):34} {'/'.join(sorted(answers)):>8} {spent * 1e3:10.3f} {units:17} {spent * 1e9 / units:10.1f}")
+            each = spent * (1 if args.instructions else 1e9) / units
+            print(f"{name + ' ' + str(size):36} {'/'.join(sorted(answers)):>8} {spent * scale:13.3f} {units:17} {each:10.1f}")
 
 
 main()

@@ -1,7 +1,7 @@
 #!/usr/bin/env python3
-"""The written meaning against the second validator: cases of every call and refusal, computed by the checker itself.
+"""The written meaning against the second validator: cases of every call, computed by the checker itself.
 
-Takes cases with small inputs from the second validator's generator, writes each as an equation between grammar's definition of the
+Takes cases with small inputs and enough working words (so not refusals 1 and 2) from the second validator's generator, writes each as an equation between grammar's definition of the
 call and the second validator's answer, and has the checker compute them, in a copy of crates/grammar. Not part of the gate.
 
     python3 tests/definitions_agree.py [--seed N] [--most BYTES] [--each N]
