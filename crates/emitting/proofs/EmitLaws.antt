@@ -1,0 +1,710 @@
+-- The emitter's steps, as its code meets them:
+--   no-sources, first-source, other-sources, row-wide, row-then   a row gathered: none; the first; the others after it
+--   no-operands, first-operand, .. , row-on                       a row written: none; the first, finished; the others after it
+--   sequence-..., around-...                                      a sequence, and an operator of one operand, around a row written
+use Prim.Native.Nat.{ℕ, zero, suc, _+_, _-_, _*_, _≤_, _<_}
+use native.Mathlib.Omega.{arith}
+use mathlib.Core.Bool.{true, false}
+use mathlib.Core.List.{List, [], _∷_, map}
+use mathlib.Core.Option.{some as just}
+use mathlib.Core.Path.{_≡_, refl, sym, _∙_, ap, ap₂, subst}
+use lib.ListN.{length, getD, getElem?, take, set, length-set}
+use lib.Seq.{take-set-le, getD-set-same, getD-take}
+use Rattle.grammar.specs.Lists.{joinedOf}
+use Rattle.grammar.specs.Limits.{standard}
+use Rattle.grammar.specs.Content.{
+  Content,
+  none,
+  empty,
+  type,
+  sequence,
+  choice,
+  anyNumber,
+  oneOrMore,
+  optional,
+  Contents,
+  []ᶜ,
+  _∷ᶜ_,
+  nesting,
+  deepest,
+  operands,
+  choiceOf,
+}
+use Rattle.grammar.specs.ReadContent.{operators}
+use Rattle.theory.proofs.Alternatives.{alts, altsOfEach, written, hasAlts, allHaveAlts, someLeft, sequence-has, sequence-has-not}
+use Rattle.theory.proofs.Gathering.{gathered, gathered-nothing, written-gathered}
+use Rattle.reader.specs.ExprAt.{_upTo_, placed, exprAt, exprsAt}
+use Rattle.reader.proofs.ExprLaws.{expr-kept, expr-forward, expr-written, exprs-none, exprs-more, alone-was, numbered-more, numbered-was, operator-none, operator-empty, operator-type, operator-sequence}
+use Rattle.emitting.specs.declared.drafts.Gathering.{Gathering}
+use Rattle.emitting.specs.declared.drafts.Gathering.the-variants as gathering
+use Rattle.emitting.specs.declared.emitter.Emitted.{Emitted}
+use Rattle.emitting.specs.declared.emitter.Emitted.the-variants as emitted
+use Rattle.emitting.specs.Drafts.{Row, Kept, Newest, Unfit, TooWide, Added, Gathers, Finished}
+use Rattle.pairs.specs.Walks.{listOf}
+use Rattle.emitting.specs.Emitting.{Room, Source, Sources, Operands, Laid, Emits}
+use Rattle.emitting.proofs.RowLaws.{exprs-uncons, exprs-none-left}
+use Rattle.emitting.proofs.FinishLaws.{
+  single-stands,
+  counted-stands,
+  headed-first,
+  headed-second,
+  headed-length,
+  headed-before,
+}
+use Rattle.emitting.proofs.WideLaws.{
+  one-long,
+  wide-choice,
+  unfit-first,
+  unfit-others,
+  unfit-less,
+  wide-sequence,
+  wide-single,
+}
+use Rattle.emitting.proofs.GatherLaws.{newest-of, keeps-before, gathers-from, gathers-as, nothing-added, typesFrom, first-wide, then-others, told-large, told-upto, large-told}
+use Rattle.emitting.proofs.SourceLaws.{
+  FirstThere,
+  first-of,
+  others-from,
+  none-there,
+  first-deep,
+  each-first,
+  each-none,
+  eachWritten,
+  written-first,
+  written-none,
+  CountedThere,
+  SingleThere,
+  one-there,
+}
+
+-- A row gathered.
+module _ {s : List ℕ} {at n : ℕ} {types from results d : List ℕ} {base count end limit : ℕ}
+    (q : Sources s at n types from results d base count end limit) (res : ℕ → List ℕ) where
+  abbrev rowGives : List Content
+  rowGives = joinedOf (λ xs. xs) (altsOfEach res (q .there .contents))
+
+  pub no-sources : n ≡ 0 → Gathers d d base end limit (q .there .next) (gathered (q .kept .list) rowGives) (gathering.Upto at count end)
+  no-sources z =
+      let e = none-there standard s at n (q .there) z in
+      nothing-added d base count end limit at (q .there .next) (q .kept) rowGives (e .1) (q .fits)
+      (each-none res (q .there .contents) (e .0))
+
+  module _ (some : n ≡ 0 → ⊥) where
+    abbrev first : FirstThere standard s at n (q .there)
+    first = first-of standard s at n (q .there) some
+
+    pub first-room : limit + 1026 * nesting (first .first .content) ≤ length d
+    first-room =
+        let f = first-deep (q .there .contents) (first .first .content) (first .others .contents) (first .both) in
+        let r = q .room in
+        omega arith
+
+    abbrev pub first-source : Source s at types from results d base count end limit
+    first-source =
+        record { there = first .first; maps = q .maps; kept = q .kept; fits = q .fits; small = q .small; room = first-room }
+
+    abbrev firstGives : List Content
+    firstGives = alts res (first .first .content)
+
+    module _ (d' : List ℕ) (r : Gathering)
+        (g : Gathers d d' base end limit (first .first .next) (gathered (q .kept .list) firstGives) r) where
+      pub row-wide : r ≡ gathering.TooLarge
+          → Gathers d d' base end limit (q .there .next) (gathered (q .kept .list) rowGives) gathering.TooLarge
+      row-wide e =
+          large-told d d' base end limit (q .there .next) (gathered (q .kept .list) rowGives)
+          (first-wide (limit - base) (q .kept .list) firstGives (joinedOf (λ xs. xs) (altsOfEach res (first .others .contents))) rowGives
+          (each-first res (q .there .contents) (first .first .content) (first .others .contents) (first .both))
+          (told-large d d' base end limit (first .first .next) (gathered (q .kept .list) firstGives) r e g))
+
+      module _ {next more last : ℕ} (e : r ≡ gathering.Upto next more last) (l : length d' ≡ length d) where
+        pub told : (next ≡ first .first .next) × Added d d' base end (gathered (q .kept .list) firstGives) limit more last
+        told = told-upto d d' base end limit (first .first .next) (gathered (q .kept .list) firstGives) r next more last e g
+
+        pub others-room : limit + 1026 * deepest (first .others .contents) ≤ length d'
+        others-room =
+            let f = first-deep (q .there .contents) (first .first .content) (first .others .contents) (first .both) in
+            let r = q .room in
+            omega arith
+
+        abbrev pub other-sources : Sources s next (n - 1) types from results d' base more last limit
+        other-sources =
+            record {
+              there = others-from standard s at n (q .there) first next (told .0);
+              maps = q .maps;
+              kept = record { list = gathered (q .kept .list) firstGives; row = told .1 .row };
+              fits = told .1 .fits;
+              small = q .small;
+              room = others-room;
+            }
+
+        pub goes-on : at < next
+        goes-on = subst (λ (k : ℕ). at < k) (sym (told .0)) (first .forward)
+
+        pub row-then : (d'' : List ℕ) (o : Gathering)
+            → Gathers d' d'' base last limit (first .others .next)
+            (gathered (gathered (q .kept .list) firstGives) (joinedOf (λ xs. xs) (altsOfEach res (first .others .contents)))) o
+            → Gathers d d'' base end limit (q .there .next) (gathered (q .kept .list) rowGives) o
+        row-then d'' o f =
+            subst (λ (k : ℕ). Gathers d d'' base end limit k (gathered (q .kept .list) rowGives) o) (first .ends)
+            (then-others d d' d'' base end last limit (first .others .next) (q .kept .list) firstGives
+            (joinedOf (λ xs. xs) (altsOfEach res (first .others .contents)))
+            rowGives
+            o
+            (each-first res (q .there .contents) (first .first .content) (first .others .contents) (first .both))
+            (told .1 .grows)
+            (told .1 .keeps)
+            f)
+
+-- what an answer says, once it is known which it is
+pub emits-large : (d d' : List ℕ) (start place n next : ℕ) (cs : Contents) (r : Emitted) → r ≡ emitted.TooLarge
+    → Emits d d' start place n next cs r → Unfit (start + 1024 - place) cs
+unfolding Emits
+emits-large d d' start place n next cs r e g = subst (λ (x : Emitted). Emits d d' start place n next cs x) e g
+
+pub emits-upto : (d d' : List ℕ) (start place n next : ℕ) (cs : Contents) (r : Emitted) (m end : ℕ) → r ≡ emitted.Upto m end
+    → Emits d d' start place n next cs r → (m ≡ next) × Laid d d' start place n cs end
+unfolding Emits
+emits-upto d d' start place n next cs r m end e g = subst (λ (x : Emitted). Emits d d' start place n next cs x) e g
+
+large-emits : (d d' : List ℕ) (start place n next : ℕ) (cs : Contents) → Unfit (start + 1024 - place) cs
+    → Emits d d' start place n next cs emitted.TooLarge
+unfolding Emits
+large-emits d d' start place n next cs h = h
+
+-- no operands kept yet
+pub fresh-row : (d : List ℕ) (base : ℕ) → base ≤ length d → Row d base 0 [] base
+unfolding operands
+fresh-row d base h =
+    record {
+      stand = exprs-none d base;
+      apart = gathered-nothing;
+      forward = omega arith;
+      inside = h;
+      few = omega arith;
+    }
+
+-- one more operand written, and the others after it
+others-laid : (d d' : List ℕ) (start place last n next next' : ℕ) (c : Content) (cs : Contents) (r : Emitted) → (n ≡ 0 → ⊥)
+    → exprAt d place ≡ just (c upTo last) → last ≤ start + 1024 → place ≤ last → next ≡ next'
+    → Emits d d' start last (n - 1) next cs r → Emits d d' start place n next' (c ∷ᶜ cs) r
+unfolding Emits
+others-laid d d' start place last n next next' c cs emitted.TooLarge some s l p e g =
+    let w = expr-written d place c last s in
+    unfit-others (start + 1024 - place) (start + 1024 - last) c cs (omega arith) g
+others-laid d d' start place last n next next' c cs (emitted.Upto m end) some s l p e g =
+    let k = expr-kept d d' place c last (sym (g .1 .keeps)) s in
+    let f = g .1 .forward in
+    let z : n ≡ suc (n - 1) = omega arith in (
+      g .0 ∙ e,
+      record {
+        stand =
+            ap (exprsAt d' place) z ∙ exprs-more d' place (n - 1) c last k ∙ ap (placed (λ ds. c ∷ᶜ ds)) (g .1 .stand);
+        forward = omega arith;
+        fits = g .1 .fits;
+        keeps = keeps-before d d' place last p (g .1 .keeps);
+      },
+    )
+
+emits-from : (d d' d'' : List ℕ) (start place n next : ℕ) (cs : Contents) (r : Emitted) → take place d' ≡ take place d
+    → Emits d' d'' start place n next cs r → Emits d d'' start place n next cs r
+unfolding Emits
+emits-from d d' d'' start place n next cs emitted.TooLarge e g = g
+emits-from d d' d'' start place n next cs (emitted.Upto m end) e g = (
+  g .0,
+  record { stand = g .1 .stand; forward = g .1 .forward; fits = g .1 .fits; keeps = g .1 .keeps ∙ e },
+)
+
+-- A row written.
+module _ {s : List ℕ} {at n : ℕ} {types from results d : List ℕ} {start place : ℕ}
+    (q : Operands s at n types from results d start place) (res : ℕ → List ℕ) where
+  abbrev rowWritten : Contents
+  rowWritten = eachWritten res (q .there .contents)
+
+  pub no-operands : n ≡ 0 → Emits d d start place n (q .there .next) rowWritten (emitted.Upto at place)
+  unfolding Emits
+  no-operands z =
+      let e = none-there standard s at n (q .there) z in (
+        e .1,
+        record {
+          stand =
+              ap (exprsAt d place) z
+              ∙ exprs-none d place
+              ∙ ap (λ (cs : Contents). just (cs upTo place)) (sym (written-none res (q .there .contents) (e .0)));
+          forward = omega arith;
+          fits = q .fits;
+          keeps = refl;
+        },
+      )
+
+  module _ (some : n ≡ 0 → ⊥) where
+    abbrev first' : FirstThere standard s at n (q .there)
+    first' = first-of standard s at n (q .there) some
+
+    deep' : (nesting (first' .first .content) ≤ deepest (q .there .contents))
+        × (deepest (first' .others .contents) ≤ deepest (q .there .contents))
+    deep' = first-deep (q .there .contents) (first' .first .content) (first' .others .contents) (first' .both)
+
+    pub inside' : place + 2 ≤ length d
+    inside' =
+        let r = q .room in
+        let f = q .fits in
+        omega arith
+
+    pub room' : start + 1026 + 1026 * nesting (first' .first .content) ≤ length d
+    room' =
+        let f = deep' in
+        let r = q .room in
+        omega arith
+
+    pub fits' : place + 2 ≤ start + 1026
+    fits' = let f = q .fits in omega arith
+
+    pub small' : start + 1026 ≤ place + 2 + 1024
+    small' = let f = q .forward in omega arith
+
+    abbrev pub first-operand : Source s at types from results d (place + 2) 0 (place + 2) (start + 1026)
+    first-operand =
+        record {
+          there = first' .first;
+          maps = q .maps;
+          kept = record { list = []; row = fresh-row d (place + 2) inside' };
+          fits = fits';
+          small = small';
+          room = room';
+        }
+
+    abbrev firstAlts : List Content
+    firstAlts = alts res (first' .first .content)
+
+    both-written : rowWritten ≡ written firstAlts ∷ᶜ eachWritten res (first' .others .contents)
+    both-written = written-first res (q .there .contents) (first' .first .content) (first' .others .contents) (first' .both)
+
+    -- the first does not fit, so the row does not
+    first-unfit : Unfit (start + 1024 - place) (written firstAlts ∷ᶜ []ᶜ) → (d' : List ℕ)
+        → Emits d d' start place n (q .there .next) rowWritten emitted.TooLarge
+    first-unfit h d' =
+        large-emits d d' start place n (q .there .next) rowWritten
+        (subst (λ (cs : Contents). Unfit (start + 1024 - place) cs) (sym both-written)
+        (unfit-first (start + 1024 - place) (written firstAlts) (eachWritten res (first' .others .contents)) h))
+
+    module _ (d' : List ℕ) (r : Gathering)
+        (g : Gathers d d' (place + 2) (place + 2) (start + 1026) (first' .first .next) (gathered [] firstAlts) r) where
+      pub operand-wide : r ≡ gathering.TooLarge → Emits d d' start place n (q .there .next) rowWritten emitted.TooLarge
+      operand-wide e =
+          let w = told-large d d' (place + 2) (place + 2) (start + 1026) (first' .first .next) (gathered [] firstAlts) r e g in
+          let z : start + 1024 - place ≤ start + 1026 - (place + 2) = omega arith in
+          first-unfit
+          (unfit-less (start + 1026 - (place + 2)) (start + 1024 - place) (written firstAlts ∷ᶜ []ᶜ) z
+          (subst (λ (c : Content). Unfit (start + 1026 - (place + 2)) (c ∷ᶜ []ᶜ)) (sym (written-gathered firstAlts))
+          (wide-choice (start + 1026 - (place + 2)) (gathered [] firstAlts) w)))
+          d'
+
+      module _ {next more last : ℕ} (e : r ≡ gathering.Upto next more last) (l : length d' ≡ length d) where
+        pub told' : (next ≡ first' .first .next) × Added d d' (place + 2) (place + 2) (gathered [] firstAlts) (start + 1026) more last
+        told' =
+            told-upto d d' (place + 2) (place + 2) (start + 1026) (first' .first .next) (gathered [] firstAlts) r next more last e g
+
+        abbrev pub operand-kept : Kept d' (place + 2) more last
+        operand-kept = record { list = gathered [] firstAlts; row = told' .1 .row }
+
+        pub goes-on' : at < next
+        goes-on' = subst (λ (k : ℕ). at < k) (sym (told' .0)) (first' .forward)
+
+        module _ {d'' : List ℕ} {close : ℕ} (f : Finished d' d'' place (choiceOf (gathered [] firstAlts)) close)
+            (l' : length d'' ≡ length d') where
+          operand-stands : exprAt d'' place ≡ just (written firstAlts upTo close)
+          operand-stands = f .stands ∙ ap (λ (c : Content). just (c upTo close)) (sym (written-gathered firstAlts))
+
+          pub operand-long : start + 1024 < close → Emits d d'' start place n (q .there .next) rowWritten emitted.TooLarge
+          operand-long h =
+              let w = expr-written d'' place (written firstAlts) close operand-stands in
+              first-unfit (one-long (start + 1024 - place) (written firstAlts) (omega arith)) d''
+
+          forward'' : place < close
+          forward'' = expr-forward d'' place (written firstAlts) close operand-stands .0
+
+          pub start'' : start < close
+          start'' =
+              let p = forward'' in
+              let f = q .forward in
+              omega arith
+
+          pub room'' : start + 1026 + 1026 * deepest (first' .others .contents) ≤ length d''
+          room'' =
+              let f = deep' in
+              let r = q .room in
+              omega arith
+
+          module _ (fits : close ≤ start + 1024) where
+            abbrev pub other-operands : Operands s next (n - 1) types from results d'' start close
+            other-operands =
+                record {
+                  there = others-from standard s at n (q .there) first' next (told' .0);
+                  maps = q .maps;
+                  forward = start'';
+                  fits = fits;
+                  room = room'';
+                }
+
+            pub row-on : (d''' : List ℕ) (o : Emitted)
+                → Emits d'' d''' start close (n - 1) (first' .others .next) (eachWritten res (first' .others .contents)) o
+                → Emits d d''' start place n (q .there .next) rowWritten o
+            row-on d''' o g' =
+                let k : place ≤ place + 2 = omega arith in
+                let p = forward'' in
+                emits-from d d'' d''' start place n (q .there .next) rowWritten o
+                (f .keeps ∙ keeps-before d d' place (place + 2) k (told' .1 .keeps))
+                (subst (λ (cs : Contents). Emits d'' d''' start place n (q .there .next) cs o) (sym both-written)
+                (others-laid d'' d''' start place close n (first' .others .next) (q .there .next) (written firstAlts)
+                (eachWritten res (first' .others .contents))
+                o
+                some
+                operand-stands
+                fits
+                (omega arith)
+                (first' .ends)
+                g'))
+
+-- a row of one
+one-stands : (s : List ℕ) (at : ℕ) (c : Content) (next : ℕ) → exprsAt s at 1 ≡ just ((c ∷ᶜ []ᶜ) upTo next)
+    → exprAt s at ≡ just (c upTo next)
+unfolding operands
+one-stands s at c next e =
+    let u = exprs-uncons s at zero (c ∷ []) next e in
+    let o = exprs-none-left s (u .middle) (u .others) next (u .others-at) in
+    let f : u .first ≡ c = cc (u .both) in
+    u .first-at
+    ∙ ap₂ (λ (x : Content) (m : ℕ). just (x upTo m)) f (sym (o .1))
+
+-- a byte before a place up to which bytes are kept
+byte-kept : (d d' : List ℕ) (i n : ℕ) → i < n → take n d' ≡ take n d → getD d' i 0 ≡ getD d i 0
+byte-kept d d' i n h e = sym (getD-take n d' i 0 h) ∙ ap (λ (l : List ℕ). getD l i 0) e ∙ getD-take n d i 0 h
+
+-- A sequence, its bytes written before a row.
+module _ {s : List ℕ} {at n : ℕ} {types from results d : List ℕ} {base count end limit : ℕ}
+    (q : Source s at types from results d base count end limit) (res : ℕ → List ℕ)
+    (cs : CountedThere standard s at n (q .there) sequence) (counts : n ≡ getD s (at + 1) 0) where
+  abbrev row : Contents
+  row = cs .operands .contents
+
+  sequence-deep : nesting (q .there .content) ≡ suc (deepest row)
+  unfolding nesting
+  sequence-deep = ap nesting (sym (cs .is))
+
+  pub sequence-inside : end + 1 < length d
+  sequence-inside =
+      let m = sequence-deep in
+      let r = q .room in
+      let f = q .fits in
+      omega arith
+
+  pub sequence-blank : (next : ℕ) → next ≡ cs .operands .next → allHaveAlts (someLeft res) row ≡ false
+      → Gathers d d base end limit (q .there .next) (gathered (q .kept .list) (alts res (q .there .content))) (gathering.Upto next count end)
+  sequence-blank next e h =
+      nothing-added d base count end limit next (q .there .next) (q .kept) (alts res (q .there .content)) (e ∙ cs .ends) (q .fits)
+      (ap (alts res) (sym (cs .is)) ∙ sequence-has-not res row h)
+
+  -- the two bytes before the operands
+  abbrev d₁ : List ℕ
+  d₁ = set (set d end 3) (end + 1) (getD s (at + 1) 0)
+
+  pub sequence-length : length d₁ ≡ length d
+  sequence-length = headed-length d end 3 (getD s (at + 1) 0) sequence-inside
+
+  pub sequence-room : end + 1026 + 1026 * deepest row ≤ length d₁
+  sequence-room =
+      let m = sequence-deep in
+      let l = sequence-length in
+      let r = q .room in
+      let f = q .fits in
+      omega arith
+
+  abbrev pub sequence-operands : Operands s (at + 2) n types from results d₁ end (end + 2)
+  sequence-operands =
+      record { there = cs .operands; maps = q .maps; forward = omega arith; fits = omega arith; room = sequence-room }
+
+  abbrev whole : Content
+  whole = sequence (eachWritten res row)
+
+  module _ (has : allHaveAlts (someLeft res) row ≡ true) where
+    gives : whole ∷ [] ≡ alts res (q .there .content)
+    gives = sym (sequence-has res row has) ∙ ap (alts res) (cs .is)
+
+    module _ (d₂ : List ℕ) (r : Emitted) (g : Emits d₁ d₂ end (end + 2) n (cs .operands .next) (eachWritten res row) r) where
+      pub sequence-wide : r ≡ emitted.TooLarge
+          → Gathers d d₂ base end limit (q .there .next) (gathered (q .kept .list) (alts res (q .there .content))) gathering.TooLarge
+      sequence-wide e =
+          let h = emits-large d₁ d₂ end (end + 2) n (cs .operands .next) (eachWritten res row) r e g in
+          let z = q .small in
+          large-told d d₂ base end limit (q .there .next) (gathered (q .kept .list) (alts res (q .there .content)))
+          (subst (λ (l : List Content). TooWide (limit - base) (gathered (q .kept .list) l)) gives
+          (wide-sequence (limit - base) (end + 1024 - (end + 2)) (q .kept .list) (eachWritten res row) (omega arith) h))
+
+      module _ {next fresh : ℕ} (e : r ≡ emitted.Upto next fresh) (l : length d₂ ≡ length d₁) where
+        laid : (next ≡ cs .operands .next) × Laid d₁ d₂ end (end + 2) n (eachWritten res row) fresh
+        laid = emits-upto d₁ d₂ end (end + 2) n (cs .operands .next) (eachWritten res row) r next fresh e g
+
+        pub sequence-keeps : take end d₂ ≡ take end d
+        sequence-keeps =
+            keeps-before d₁ d₂ end (end + 2) (omega arith) (laid .1 .keeps)
+            ∙ headed-before d end 3 (getD s (at + 1) 0) sequence-inside
+
+        sequence-bytes : (getD d₂ end 0 ≡ 3) × (getD d₂ (end + 1) 0 ≡ n)
+        sequence-bytes = (
+          byte-kept d₁ d₂ end (end + 2) (omega arith) (laid .1 .keeps)
+              ∙ headed-first d end 3 (getD s (at + 1) 0) sequence-inside,
+          byte-kept d₁ d₂ (end + 1) (end + 2) (omega arith) (laid .1 .keeps)
+              ∙ headed-second d end 3 (getD s (at + 1) 0) sequence-inside
+              ∙ sym counts,
+        )
+
+        pub sequence-long : length d₂ ≡ length d
+        sequence-long = l ∙ sequence-length
+
+        pub sequence-stands : exprAt d₂ end ≡ just (whole upTo fresh)
+        sequence-stands =
+            let i = sequence-inside in
+            let k = sequence-long in
+            counted-stands d₂ end 3 n sequence (eachWritten res row) fresh (omega arith) (sequence-bytes .0) operator-sequence
+            (sequence-bytes .1)
+            (laid .1 .stand)
+
+        abbrev pub sequence-newest : Newest d₂ base count end fresh
+        sequence-newest =
+            newest-of d d₂ base count end fresh whole sequence-keeps sequence-long (q .kept) sequence-stands
+
+        pub sequence-settled : (o : Gathering) → Gathers d₂ d₂ base end limit next (gathered (q .kept .list) (whole ∷ [])) o
+            → Gathers d d₂ base end limit (q .there .next) (gathered (q .kept .list) (alts res (q .there .content))) o
+        sequence-settled o f =
+            gathers-as d d₂ base end limit next (q .there .next) (q .kept .list) (whole ∷ []) (alts res (q .there .content)) o
+            (laid .0 ∙ cs .ends)
+            gives
+            (gathers-from d d₂ d₂ base end limit next (gathered (q .kept .list) (whole ∷ [])) o sequence-keeps f)
+
+-- An operator of one operand, its byte written before the operand.
+module _ {s : List ℕ} {at : ℕ} {types from results d : List ℕ} {base count end limit : ℕ}
+    (q : Source s at types from results d base count end limit) (res : ℕ → List ℕ)
+    (one : SingleThere standard s at (q .there) res) where
+  abbrev inner : Content
+  inner = one .operand .content
+
+  around-deep : nesting (q .there .content) ≡ suc (nesting inner)
+  around-deep = ap nesting (sym (one .is)) ∙ one .deep inner
+
+  pub around-inside : end < length d
+  around-inside =
+      let m = around-deep in
+      let r = q .room in
+      let f = q .fits in
+      omega arith
+
+  pub around-room : limit + 1026 ≤ length d
+  around-room =
+      let m = around-deep in
+      let r = q .room in
+      omega arith
+
+  abbrev pub around-spare : Room d base count end limit
+  around-spare = record { kept = q .kept; fits = q .fits; room = around-room }
+
+  pub around-blank : (next : ℕ) → next ≡ one .operand .next → getD s at 0 ≡ 6 → hasAlts (someLeft res) inner ≡ false
+      → Gathers d d base end limit (q .there .next) (gathered (q .kept .list) (alts res (q .there .content))) (gathering.Upto next count end)
+  around-blank next e six h =
+      nothing-added d base count end limit next (q .there .next) (q .kept) (alts res (q .there .content)) (e ∙ one .ends) (q .fits)
+      (ap (alts res) (sym (one .is)) ∙ one .blank inner six h)
+
+  pub around-empty : (next : ℕ) (d' : List ℕ) (o : Gathering) → next ≡ one .operand .next → (getD s at 0 ≡ 6 → ⊥)
+      → hasAlts (someLeft res) inner ≡ false
+      → Gathers d d' base end limit next (gathered (q .kept .list) (empty ∷ [])) o
+      → Gathers d d' base end limit (q .there .next) (gathered (q .kept .list) (alts res (q .there .content))) o
+  around-empty next d' o e six h g =
+      gathers-as d d' base end limit next (q .there .next) (q .kept .list) (empty ∷ []) (alts res (q .there .content)) o (e ∙ one .ends)
+      (sym (one .spare inner six h) ∙ ap (alts res) (one .is))
+      g
+
+  -- the byte before the operand
+  abbrev e₁ : List ℕ
+  e₁ = set d end (getD s at 0)
+
+  pub around-length : length e₁ ≡ length d
+  around-length = length-set d end (getD s at 0)
+
+  pub around-operand-room : end + 1026 + 1026 * deepest (inner ∷ᶜ []ᶜ) ≤ length e₁
+  unfolding deepest
+  around-operand-room =
+      let m = around-deep in
+      let l = around-length in
+      let r = q .room in
+      let f = q .fits in
+      omega arith
+
+  abbrev pub around-operands : Operands s (at + 1) 1 types from results e₁ end (end + 1)
+  around-operands =
+      record {
+        there = one-there standard s (at + 1) (one .operand);
+        maps = q .maps;
+        forward = omega arith;
+        fits = omega arith;
+        room = around-operand-room;
+      }
+
+  abbrev wrapped : Content
+  wrapped = one .operator (written (alts res inner))
+
+  inner-written : eachWritten res (inner ∷ᶜ []ᶜ) ≡ written (alts res inner) ∷ᶜ []ᶜ
+  unfolding alts operands
+  inner-written = refl
+
+  module _ (has : hasAlts (someLeft res) inner ≡ true) where
+    gives' : wrapped ∷ [] ≡ alts res (q .there .content)
+    gives' = sym (one .some inner has) ∙ ap (alts res) (one .is)
+
+    module _ (e₂ : List ℕ) (r : Emitted) (g : Emits e₁ e₂ end (end + 1) 1 (one .operand .next) (eachWritten res (inner ∷ᶜ []ᶜ)) r) where
+      pub around-wide : r ≡ emitted.TooLarge
+          → Gathers d e₂ base end limit (q .there .next) (gathered (q .kept .list) (alts res (q .there .content))) gathering.TooLarge
+      around-wide e =
+          let h = emits-large e₁ e₂ end (end + 1) 1 (one .operand .next) (eachWritten res (inner ∷ᶜ []ᶜ)) r e g in
+          let z = q .small in
+          large-told d e₂ base end limit (q .there .next) (gathered (q .kept .list) (alts res (q .there .content)))
+          (subst (λ (l : List Content). TooWide (limit - base) (gathered (q .kept .list) l)) gives'
+          (wide-single (limit - base) (end + 1024 - (end + 1)) (q .kept .list) (one .operator) (written (alts res inner))
+          (one .around)
+          (omega arith)
+          (subst (λ (cs : Contents). Unfit (end + 1024 - (end + 1)) cs) inner-written h)))
+
+      module _ {next fresh : ℕ} (e : r ≡ emitted.Upto next fresh) (l : length e₂ ≡ length e₁) where
+        laid' : (next ≡ one .operand .next) × Laid e₁ e₂ end (end + 1) 1 (eachWritten res (inner ∷ᶜ []ᶜ)) fresh
+        laid' = emits-upto e₁ e₂ end (end + 1) 1 (one .operand .next) (eachWritten res (inner ∷ᶜ []ᶜ)) r next fresh e g
+
+        pub around-keeps : take end e₂ ≡ take end d
+        around-keeps =
+            keeps-before e₁ e₂ end (end + 1) (omega arith) (laid' .1 .keeps)
+            ∙ take-set-le end d end (getD s at 0) (omega arith)
+
+        around-byte : getD e₂ end 0 ≡ getD s at 0
+        around-byte =
+            byte-kept e₁ e₂ end (end + 1) (omega arith) (laid' .1 .keeps) ∙ getD-set-same d end (getD s at 0) 0 around-inside
+
+        pub around-long : length e₂ ≡ length d
+        around-long = l ∙ around-length
+
+        inner-stands : exprAt e₂ (end + 1) ≡ just (written (alts res inner) upTo fresh)
+        unfolding operands
+        inner-stands = one-stands e₂ (end + 1) (written (alts res inner)) fresh
+            (laid' .1 .stand ∙ ap (λ (cs : Contents). just (cs upTo fresh)) inner-written)
+
+        pub around-stands : exprAt e₂ end ≡ just (wrapped upTo fresh)
+        around-stands =
+            let i = around-inside in
+            let k = around-long in
+            single-stands e₂ end (getD s at 0) (one .operator) (written (alts res inner)) fresh (omega arith) around-byte (one .byte)
+            inner-stands
+
+        abbrev pub around-newest : Newest e₂ base count end fresh
+        around-newest = newest-of d e₂ base count end fresh wrapped around-keeps around-long (q .kept) around-stands
+
+        pub around-settled : (o : Gathering) → Gathers e₂ e₂ base end limit next (gathered (q .kept .list) (wrapped ∷ [])) o
+            → Gathers d e₂ base end limit (q .there .next) (gathered (q .kept .list) (alts res (q .there .content))) o
+        around-settled o f =
+            gathers-as d e₂ base end limit next (q .there .next) (q .kept .list) (wrapped ∷ []) (alts res (q .there .content)) o
+            (laid' .0 ∙ one .ends)
+            gives'
+            (gathers-from d e₂ e₂ base end limit next (gathered (q .kept .list) (wrapped ∷ [])) o around-keeps f)
+
+-- The other operators.
+nests : (c : Content) → 1 ≤ nesting c
+unfolding nesting
+nests none = omega arith
+nests empty = omega arith
+nests (type k) = omega arith
+nests (sequence cs) = omega arith
+nests (choice cs) = omega arith
+nests (anyNumber c) = omega arith
+nests (oneOrMore c) = omega arith
+nests (optional c) = omega arith
+
+module _ {s : List ℕ} {at : ℕ} {types from results d : List ℕ} {base count end limit : ℕ}
+    (q : Source s at types from results d base count end limit) where
+  pub source-spare : limit + 1026 ≤ length d
+  source-spare =
+      let n = nests (q .there .content) in
+      let r = q .room in
+      omega arith
+
+  abbrev pub source-room : Room d base count end limit
+  source-room = record { kept = q .kept; fits = q .fits; room = source-spare }
+
+  pub type-inside : getD s at 0 ≡ 2 → at + 1 < length s
+  type-inside e =
+      numbered-more s at (q .there .content) (q .there .next) (q .there .stands) type (ap (getElem? operators) e ∙ operator-type)
+
+  module _ (res : ℕ → List ℕ) where
+    abbrev sourceGives : List Content
+    sourceGives = alts res (q .there .content)
+
+    pub none-gives : getD s at 0 ≡ 0
+        → Gathers d d base end limit (q .there .next) (gathered (q .kept .list) sourceGives) (gathering.Upto (at + 1) count end)
+    unfolding alts
+    none-gives e =
+        let w = alone-was s at (q .there .content) (q .there .next) (q .there .stands) none (ap (getElem? operators) e ∙ operator-none) in
+        nothing-added d base count end limit (at + 1) (q .there .next) (q .kept) sourceGives (w .1) (q .fits)
+        (ap (alts res) (sym (w .0)))
+
+    pub empty-gives : getD s at 0 ≡ 1 → (d' : List ℕ) (o : Gathering)
+        → Gathers d d' base end limit (at + 1) (gathered (q .kept .list) (empty ∷ [])) o
+        → Gathers d d' base end limit (q .there .next) (gathered (q .kept .list) sourceGives) o
+    unfolding alts
+    empty-gives e d' o g =
+        let w = alone-was s at (q .there .content) (q .there .next) (q .there .stands) empty (ap (getElem? operators) e ∙ operator-empty) in
+        gathers-as d d' base end limit (at + 1) (q .there .next) (q .kept .list) (empty ∷ []) sourceGives o (w .1)
+        (ap (alts res) (w .0))
+        g
+
+    module _ {n : ℕ} (cs : CountedThere standard s at n (q .there) choice) where
+      pub choice-room : limit + 1026 * deepest (cs .operands .contents) ≤ length d
+      unfolding nesting
+      choice-room =
+          let m : suc (deepest (cs .operands .contents)) ≡ nesting (q .there .content) = ap nesting (cs .is) in
+          let r = q .room in
+          omega arith
+
+      abbrev pub choice-sources : Sources s (at + 2) n types from results d base count end limit
+      choice-sources =
+          record {
+            there = cs .operands;
+            maps = q .maps;
+            kept = q .kept;
+            fits = q .fits;
+            small = q .small;
+            room = choice-room;
+          }
+
+      pub choice-gives : (d' : List ℕ) (o : Gathering)
+          → Gathers d d' base end limit (cs .operands .next)
+          (gathered (q .kept .list) (joinedOf (λ xs. xs) (altsOfEach res (cs .operands .contents)))) o
+          → Gathers d d' base end limit (q .there .next) (gathered (q .kept .list) sourceGives) o
+      unfolding alts
+      choice-gives d' o g =
+          gathers-as d d' base end limit (cs .operands .next) (q .there .next) (q .kept .list)
+          (joinedOf (λ xs. xs) (altsOfEach res (cs .operands .contents)))
+          sourceGives
+          o
+          (cs .ends)
+          (ap (alts res) (cs .is))
+          g
+
+  pub type-gives : getD s at 0 ≡ 2 → (k i stop : ℕ) → k ≡ getD s (at + 1) 0 → i ≡ getD from k 0 → stop ≡ getD from (k + 1) 0
+      → (d' : List ℕ) (o : Gathering)
+      → Gathers d d' base end limit (at + 2) (gathered (q .kept .list) (typesFrom results i stop)) o
+      → Gathers d d' base end limit (q .there .next) (gathered (q .kept .list) (alts (listOf from results) (q .there .content))) o
+  unfolding alts listOf
+  type-gives e k i stop a b c d' o g =
+      let w = numbered-was s at (q .there .content) (q .there .next) (q .there .stands) type (ap (getElem? operators) e ∙ operator-type) in
+      gathers-as d d' base end limit (at + 2) (q .there .next) (q .kept .list) (typesFrom results i stop)
+      (alts (listOf from results) (q .there .content))
+      o
+      (w .1)
+      (ap₂ (typesFrom results) b c
+      ∙ ap (λ (j : ℕ). map type (listOf from results j)) a
+      ∙ ap (alts (listOf from results)) (w .0))
+      g

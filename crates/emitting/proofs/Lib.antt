@@ -1,0 +1,9 @@
+pub mod RowLaws
+pub mod KeptLaws
+pub mod FinishLaws
+pub mod WideLaws
+pub mod GatherLaws
+pub mod SourceLaws
+pub mod EmitLaws
+pub mod CompleteLaws
+pub mod PutLaws

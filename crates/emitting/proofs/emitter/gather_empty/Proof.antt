@@ -1,0 +1,56 @@
+-- `gather_empty` meets its contract: the byte after the operands is the empty content.
+use Prim.Native.Nat.{ℕ, _+_, _<_}
+use native.Mathlib.Omega.{arith}
+use mathlib.Core.List.{List}
+use mathlib.Core.Option.{some as just}
+use mathlib.Core.Path.{_≡_}
+use lib.ListN.{length, take, set, length-set}
+use lib.Seq.{take-set-le, getD-set-same}
+use borrow.Author.Needs.{needs}
+use Rattle.grammar.specs.Content.{empty}
+use Rattle.reader.specs.ExprAt.{_upTo_, exprAt}
+use Rattle.reader.proofs.ExprLaws.{operator-empty}
+use Rattle.emitting.specs.Drafts.{Kept, Newest}
+use Rattle.emitting.proofs.FinishLaws.{alone-stands}
+use Rattle.emitting.proofs.GatherLaws.{newest-of, gathers-from}
+use Rattle.emitting.proofs.emitter.gather_empty.Statement.{statement}
+use Rattle.emitting.proofs.emitter.gather_empty.Tie as tie
+
+slice-write-draft : tie.Need-slice-write-draft
+slice-write-draft c = search needs
+
+add-settle : tie.Need-add-settle
+add-settle c = search needs
+
+module _ (d : List ℕ) (base count end : ℕ) (h : end < length d) where
+  same-before : take end (set d end 1) ≡ take end d
+  same-before = take-set-le end d end 1 (omega arith)
+
+  empty-stands : exprAt (set d end 1) end ≡ just (empty upTo (end + 1))
+  empty-stands =
+      let l = length-set d end 1 in
+      alone-stands (set d end 1) end 1 empty (omega arith) (getD-set-same d end 1 0 h) operator-empty
+
+  abbrev newest : Kept d base count end → Newest (set d end 1) base count end (end + 1)
+  newest k = newest-of d (set d end 1) base count end (end + 1) empty same-before (length-set d end 1) k empty-stands
+
+settle-requires : tie.Need-settle-requires
+settle-requires c κs =
+    let q = c .before .before .pre in
+    (newest _ _ _ _ (omega arith) (q .kept), q .fits)
+
+same-length : tie.Need-same-length
+same-length c = search needs
+
+returns : tie.Need-returns
+returns c =
+    let a = c .before .before .before .args in
+    let p = c .before .before .before .pre in
+    λ q.
+    let h : a .end < length (a .draft .now) = omega arith in
+    gathers-from _ _ _ _ _ _ _ _ _ (same-before (a .draft .now) (a .base) (a .count) (a .end) h)
+    (c .settle .ensures (newest (a .draft .now) (a .base) (a .count) (a .end) h (q .kept)))
+
+pub gather-empty-spec : {M : Type 1} → statement M
+gather-empty-spec =
+    tie.close (tie.spec slice-write-draft add-settle settle-requires same-length returns)

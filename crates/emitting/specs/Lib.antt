@@ -1,0 +1,4 @@
+pub mod Drafts
+pub mod Emitting
+pub mod Completing
+pub mod Writing

@@ -1,0 +1,396 @@
+// From a source content to the tidied content of the result. The alternatives that the source content gives are gathered in the
+// draft, each once; their choice is the content. `types` is the set of the source types that have result types, and `from` and
+// `results` give the result types of each.
+use crate::drafts::Gathering;
+use crate::drafts::finish;
+use crate::drafts::settle;
+use crate::limits::HEADED;
+use pairs::productive::content_has;
+use pairs::productive::row_has;
+use reader::limits::CONTENT;
+use reader::numbers::wide;
+ghost use Prim.Native.Nat.{_+_, _-_, _≤_};
+ghost use mathlib.Core.List.{List, [], _∷_, map};
+ghost use mathlib.Core.Path.{_≡_};
+ghost use lib.ListN.{length, take, drop, getD};
+ghost use Rattle.grammar.specs.Lists.{joinedOf};
+ghost use Rattle.grammar.specs.Content.{Content, empty, type, operands};
+ghost use Rattle.theory.proofs.Alternatives.{alts, altsOfEach, written};
+ghost use Rattle.theory.proofs.Gathering.{gathered};
+ghost use Rattle.emitting.specs.Drafts.{Gathers};
+ghost use Rattle.pairs.specs.Walks.{listOf};
+ghost use Rattle.emitting.specs.Emitting.{Room, Source, Sources, Operands, Emits};
+
+// Where the operands of an expression end in the draft, and where the source goes on; or they do not fit.
+pub enum Emitted {
+    TooLarge,
+    Upto { next: usize, end: usize },
+}
+
+// The byte at a place; 0 past the end.
+fn byte_or_zero(bytes: &[u8], i: usize) -> usize
+    ensures { λ r. ⌜ r ≡ getD (now (bytes .entry)) i 0 ⌝ }
+{
+    if i < bytes.len() {
+        return wide(bytes[i]);
+    }
+    0
+}
+
+// The empty content as an alternative.
+fn gather_empty(
+    draft: &mut [u8],
+    base: usize,
+    count: usize,
+    end: usize,
+    limit: usize,
+    next: usize,
+) -> Gathering
+    requires { ⌜ Room (now draft) base count end limit ⌝ }
+    ensures { λ r. ⌜ ((q : Room (now (draft .entry)) base count end limit)
+        → Gathers (now (draft .entry)) (now (draft .exit)) base end limit next (gathered (q .kept .list) (empty ∷ [])) r) ⌝ }
+{
+    draft[end] = 1;
+    settle(draft, base, count, end, end + 1, limit, next)
+}
+
+// The result types from `i` up to `stop` as alternatives.
+fn gather_types(
+    results: &[u8],
+    i: usize,
+    stop: usize,
+    draft: &mut [u8],
+    base: usize,
+    count: usize,
+    end: usize,
+    limit: usize,
+    next: usize,
+) -> Gathering
+    requires { ⌜ Room (now draft) base count end limit ⌝ }
+    ensures { λ r. ⌜ ((q : Room (now (draft .entry)) base count end limit)
+        → Gathers (now (draft .entry)) (now (draft .exit)) base end limit next
+        (gathered (q .kept .list) (map type (take (stop - i) (drop i (now (results .entry)))))) r) ⌝ }
+{
+    if stop <= i {
+        return Gathering::Upto { next, count, end };
+    }
+    if results.len() <= i {
+        return Gathering::Upto { next, count, end };
+    }
+    draft[end] = 2;
+    draft[end + 1] = results[i];
+    match settle(draft, base, count, end, end + 2, limit, next) {
+        Gathering::TooLarge => Gathering::TooLarge,
+        Gathering::Upto {
+            next: _,
+            count: more,
+            end: last,
+        } => gather_types(results, i + 1, stop, draft, base, more, last, limit, next),
+    }
+}
+
+// The alternatives that a sequence gives: one, or none if an operand has none.
+fn gather_sequence(
+    content: &[u8],
+    at: usize,
+    types: &[u32],
+    from: &[u8],
+    results: &[u8],
+    draft: &mut [u8],
+    base: usize,
+    count: usize,
+    end: usize,
+    limit: usize,
+) -> Gathering
+    requires { ⌜ (getD (now content) at 0 ≡ 3)
+        × Source (now content) at (now types) (now from) (now results) (now draft) base count end limit ⌝ }
+    ensures { λ r. ⌜ ((q : Source (now (content .entry)) at (now (types .entry)) (now (from .entry)) (now (results .entry))
+        (now (draft .entry)) base count end limit)
+        → Gathers (now (draft .entry)) (now (draft .exit)) base end limit (q .there .next)
+        (gathered (q .kept .list) (alts (listOf (now (from .entry)) (now (results .entry))) (q .there .content))) r) ⌝ }
+{
+    let n = wide(content[at + 1]);
+    let asked = row_has(content, at + 2, n, types, 0);
+    if asked.all {
+        draft[end] = 3;
+        draft[end + 1] = content[at + 1];
+        return match emit_row(
+            content,
+            at + 2,
+            n,
+            types,
+            from,
+            results,
+            draft,
+            end,
+            end + 2,
+        ) {
+            Emitted::TooLarge => Gathering::TooLarge,
+            Emitted::Upto { next, end: fresh } => settle(
+                draft,
+                base,
+                count,
+                end,
+                fresh,
+                limit,
+                next,
+            ),
+        };
+    }
+    Gathering::Upto {
+        next: asked.next,
+        count,
+        end,
+    }
+}
+
+// The alternatives that an operator of one operand gives.
+fn gather_around(
+    content: &[u8],
+    at: usize,
+    types: &[u32],
+    from: &[u8],
+    results: &[u8],
+    draft: &mut [u8],
+    base: usize,
+    count: usize,
+    end: usize,
+    limit: usize,
+) -> Gathering
+    requires { ⌜ (5 ≤ getD (now content) at 0)
+        × Source (now content) at (now types) (now from) (now results) (now draft) base count end limit ⌝ }
+    ensures { λ r. ⌜ ((q : Source (now (content .entry)) at (now (types .entry)) (now (from .entry)) (now (results .entry))
+        (now (draft .entry)) base count end limit)
+        → Gathers (now (draft .entry)) (now (draft .exit)) base end limit (q .there .next)
+        (gathered (q .kept .list) (alts (listOf (now (from .entry)) (now (results .entry))) (q .there .content))) r) ⌝ }
+{
+    let operator = content[at];
+    let asked = content_has(content, at + 1, types, 0);
+    if asked.has {
+        draft[end] = operator;
+        return match emit_row(
+            content,
+            at + 1,
+            1,
+            types,
+            from,
+            results,
+            draft,
+            end,
+            end + 1,
+        ) {
+            Emitted::TooLarge => Gathering::TooLarge,
+            Emitted::Upto { next, end: fresh } => settle(
+                draft,
+                base,
+                count,
+                end,
+                fresh,
+                limit,
+                next,
+            ),
+        };
+    }
+    if operator == 6 {
+        return Gathering::Upto {
+            next: asked.next,
+            count,
+            end,
+        };
+    }
+    gather_empty(draft, base, count, end, limit, asked.next)
+}
+
+// Adds to the operands in the draft the alternatives that the source content at a place gives.
+pub fn gather(
+    content: &[u8],
+    at: usize,
+    types: &[u32],
+    from: &[u8],
+    results: &[u8],
+    draft: &mut [u8],
+    base: usize,
+    count: usize,
+    end: usize,
+    limit: usize,
+) -> Gathering
+    requires { ⌜ Source (now content) at (now types) (now from) (now results) (now draft) base count end limit ⌝ }
+    ensures { λ r. ⌜ ((q : Source (now (content .entry)) at (now (types .entry)) (now (from .entry)) (now (results .entry))
+        (now (draft .entry)) base count end limit)
+        → Gathers (now (draft .entry)) (now (draft .exit)) base end limit (q .there .next)
+        (gathered (q .kept .list) (alts (listOf (now (from .entry)) (now (results .entry))) (q .there .content))) r) ⌝ }
+{
+    let operator = wide(content[at]);
+    match operator {
+        0 => Gathering::Upto {
+            next: at + 1,
+            count,
+            end,
+        },
+        1 => gather_empty(draft, base, count, end, limit, at + 1),
+        2 => {
+            let k = wide(content[at + 1]);
+            let i = byte_or_zero(from, k);
+            let stop = byte_or_zero(from, k + 1);
+            gather_types(results, i, stop, draft, base, count, end, limit, at + 2)
+        }
+        3 => gather_sequence(
+            content,
+            at,
+            types,
+            from,
+            results,
+            draft,
+            base,
+            count,
+            end,
+            limit,
+        ),
+        4 => {
+            let n = wide(content[at + 1]);
+            gather_row(
+                content,
+                at + 2,
+                n,
+                types,
+                from,
+                results,
+                draft,
+                base,
+                count,
+                end,
+                limit,
+            )
+        }
+        _ => gather_around(
+            content,
+            at,
+            types,
+            from,
+            results,
+            draft,
+            base,
+            count,
+            end,
+            limit,
+        ),
+    }
+}
+
+// The same for so many source contents, one after the other.
+pub fn gather_row(
+    content: &[u8],
+    at: usize,
+    n: usize,
+    types: &[u32],
+    from: &[u8],
+    results: &[u8],
+    draft: &mut [u8],
+    base: usize,
+    count: usize,
+    end: usize,
+    limit: usize,
+) -> Gathering
+    requires { ⌜ Sources (now content) at n (now types) (now from) (now results) (now draft) base count end limit ⌝ }
+    ensures { λ r. ⌜ ((q : Sources (now (content .entry)) at n (now (types .entry)) (now (from .entry)) (now (results .entry))
+        (now (draft .entry)) base count end limit)
+        → Gathers (now (draft .entry)) (now (draft .exit)) base end limit (q .there .next)
+        (gathered (q .kept .list)
+        (joinedOf (λ xs. xs) (altsOfEach (listOf (now (from .entry)) (now (results .entry))) (q .there .contents)))) r) ⌝ }
+{
+    if n == 0 {
+        return Gathering::Upto {
+            next: at,
+            count,
+            end,
+        };
+    }
+    match gather(
+        content,
+        at,
+        types,
+        from,
+        results,
+        draft,
+        base,
+        count,
+        end,
+        limit,
+    ) {
+        Gathering::TooLarge => Gathering::TooLarge,
+        Gathering::Upto {
+            next,
+            count: more,
+            end: last,
+        } => gather_row(
+            content,
+            next,
+            n - 1,
+            types,
+            from,
+            results,
+            draft,
+            base,
+            more,
+            last,
+            limit,
+        ),
+    }
+}
+
+// Writes the contents that so many source contents give, one after the other, as operands of an expression that begins at `start`.
+fn emit_row(
+    content: &[u8],
+    at: usize,
+    n: usize,
+    types: &[u32],
+    from: &[u8],
+    results: &[u8],
+    draft: &mut [u8],
+    start: usize,
+    place: usize,
+) -> Emitted
+    requires { ⌜ Operands (now content) at n (now types) (now from) (now results) (now draft) start place ⌝ }
+    ensures { λ r. ⌜ ((q : Operands (now (content .entry)) at n (now (types .entry)) (now (from .entry)) (now (results .entry))
+        (now (draft .entry)) start place)
+        → Emits (now (draft .entry)) (now (draft .exit)) start place n (q .there .next)
+        (operands (map written (altsOfEach (listOf (now (from .entry)) (now (results .entry))) (q .there .contents)))) r) ⌝ }
+{
+    if n == 0 {
+        return Emitted::Upto {
+            next: at,
+            end: place,
+        };
+    }
+    match gather(
+        content,
+        at,
+        types,
+        from,
+        results,
+        draft,
+        place + 2,
+        0,
+        place + 2,
+        start + HEADED,
+    ) {
+        Gathering::TooLarge => Emitted::TooLarge,
+        Gathering::Upto { next, count, end } => {
+            let last = finish(draft, place, count, end);
+            if start + CONTENT < last {
+                return Emitted::TooLarge;
+            }
+            emit_row(
+                content,
+                next,
+                n - 1,
+                types,
+                from,
+                results,
+                draft,
+                start,
+                last,
+            )
+        }
+    }
+}

@@ -1,0 +1,11 @@
+pub mod ContentAtLaws
+pub mod ProductiveLaws
+pub mod OnceLaws
+pub mod MetLaws
+pub mod PutsLaws
+pub mod ViewLaws
+pub mod FruitfulLaws
+pub mod UnitedLabelsLaws
+pub mod UnionLaws
+pub mod PairLists
+pub mod ReachedLaws

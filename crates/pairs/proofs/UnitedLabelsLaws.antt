@@ -1,0 +1,279 @@
+-- Finding names by where they stand (`place-here`, `place-nowhere`), adding one (`names-more`), and the place of a name among the
+-- names of the union (`place-old`, `place-new`).
+use Prim.Native.Nat.{ℕ, zero, suc, _+_, _-_, _≤_, _<_}
+use native.Mathlib.Omega.{arith}
+use native.Mathlib.Numerals.{add-one}
+use mathlib.Core.Bool.{Bool, true, false, not, false≢true, true≢false}
+use mathlib.Core.List.{List, [], _∷_, _++_, append-nil}
+use mathlib.Core.Logic.{_⊎_, inl, inr, ⊎-elim}
+use mathlib.Core.Option.{some as just}
+use mathlib.Core.Path.{_≡_, refl, sym, _∙_, ap, subst}
+use lib.ListN.{length, getD, getElem?, set, take, drop, length-append, length-set}
+use lib.Seq.{take-suc, take-all, getD-set-same, getD-set-other}
+use lib.Dec.{leb}
+use borrow.Author.Tests.{leb-true, leb-false, le-leb, lt-leb}
+use Rattle.grammar.specs.Lists.{any, keep, place}
+use Rattle.grammar.specs.Names.{Name, sameName}
+use Rattle.theory.proofs.BoolLaws.{passes-or-fails, not-both}
+use Rattle.theory.proofs.ListLaws.{at-else, at-below, below-at, just-eq, keep-yes, keep-no}
+use Rattle.theory.proofs.DistinctLaws.{keep-append}
+use Rattle.reader.specs.TableIndex.{part, Stands}
+use Rattle.reader.proofs.TableIndexLaws.{at-end}
+use Rattle.pairs.specs.declared.labels.Names.{Names}
+use Rattle.pairs.specs.UnitedLabels.{NamesAt, namesIf, newNames, unitedNames}
+
+-- places
+module _ {A : Type 0} (same : A → A → Bool) (x : A) where
+  pub place-at-most : (xs : List A) → place same x xs ≤ length xs
+  unfolding place
+  place-at-most [] = omega arith
+  place-at-most (y ∷ ys) = go (same x y) refl (place-at-most ys)
+    where
+      go : (b : Bool) → same x y ≡ b → place same x ys ≤ length ys → place same x (y ∷ ys) ≤ length (y ∷ ys)
+      go true e h = rw (e, place) (omega arith)
+      go false e h = rw (e, place) (omega arith)
+
+  pub place-first : (xs : List A) (i : ℕ) {y : A} → getElem? xs i ≡ just y → same x y ≡ true
+      → ((j : ℕ) (z : A) → j < i → getElem? xs j ≡ just z → same x z ≡ false)
+      → place same x xs ≡ i
+  unfolding place
+  place-first [] i e t h = let z : _≡_ {A = ℕ} 0 1 = cc in absurd (omega arith)
+  place-first (y ∷ ys) zero e t h = rw (ap (same x) (sym (just-eq e)) ∙ t, place)
+  place-first (y ∷ ys) (suc i) e t h =
+      let f = h zero y (omega arith) refl in
+      rw (f, place) (ap suc (place-first ys i e t (λ j z k p. h (suc j) z (omega arith) p)))
+
+  pub place-nowhere : (xs : List A) → ((j : ℕ) (z : A) → getElem? xs j ≡ just z → same x z ≡ false) → place same x xs ≡ length xs
+  unfolding place
+  place-nowhere [] h = refl
+  place-nowhere (y ∷ ys) h =
+      let f = h zero y refl in
+      rw (f, place) (ap suc (place-nowhere ys (λ j z p. h (suc j) z p)))
+
+  pub place-some : (xs : List A) → place same x xs < length xs → any (same x) xs ≡ true
+  unfolding place any
+  place-some [] h = absurd (omega arith)
+  place-some (y ∷ ys) h = go (same x y) refl (place-some ys)
+    where
+      go : (b : Bool) → same x y ≡ b → (place same x ys < length ys → any (same x) ys ≡ true) → any (same x) (y ∷ ys) ≡ true
+      go true e ih = rw (e, any)
+      go false e ih =
+          let p : place same x (y ∷ ys) ≡ suc (place same x ys) = rw (e, place) in
+          rw (e, any) (ih (omega arith))
+
+  pub place-none : (xs : List A) → length xs ≤ place same x xs → any (same x) xs ≡ false
+  unfolding place any
+  place-none [] h = refl
+  place-none (y ∷ ys) h = go (same x y) refl (place-none ys)
+    where
+      go : (b : Bool) → same x y ≡ b → (length ys ≤ place same x ys → any (same x) ys ≡ false) → any (same x) (y ∷ ys) ≡ false
+      go true e ih = let p : place same x (y ∷ ys) ≡ 0 = rw (e, place) in absurd (omega arith)
+      go false e ih =
+          let p : place same x (y ∷ ys) ≡ suc (place same x ys) = rw (e, place) in
+          rw (e, any) (ih (omega arith))
+
+  pub place-front : (xs ys : List A) → place same x xs < length xs → place same x (xs ++ ys) ≡ place same x xs
+  unfolding place
+  place-front [] ys h = absurd (omega arith)
+  place-front (z ∷ zs) ys h = go (same x z) refl (place-front zs ys)
+    where
+      go : (b : Bool) → same x z ≡ b → (place same x zs < length zs → place same x (zs ++ ys) ≡ place same x zs)
+          → place same x (z ∷ zs ++ ys) ≡ place same x (z ∷ zs)
+      go true e ih = rw (e, place)
+      go false e ih =
+          let p : place same x (z ∷ zs) ≡ suc (place same x zs) = rw (e, place) in
+          let q : place same x (z ∷ zs ++ ys) ≡ suc (place same x (zs ++ ys)) = rw (e, place) in
+          q ∙ ap suc (ih (omega arith)) ∙ sym p
+
+  pub place-back : (xs ys : List A) → length xs ≤ place same x xs → place same x (xs ++ ys) ≡ length xs + place same x ys
+  unfolding place
+  place-back [] ys h = omega arith
+  place-back (z ∷ zs) ys h = go (same x z) refl (place-back zs ys)
+    where
+      go : (b : Bool) → same x z ≡ b → (length zs ≤ place same x zs → place same x (zs ++ ys) ≡ length zs + place same x ys)
+          → place same x (z ∷ zs ++ ys) ≡ length (z ∷ zs) + place same x ys
+      go true e ih = let p : place same x (z ∷ zs) ≡ 0 = rw (e, place) in absurd (omega arith)
+      go false e ih =
+          let p : place same x (z ∷ zs) ≡ suc (place same x zs) = rw (e, place) in
+          let q : place same x (z ∷ zs ++ ys) ≡ suc (place same x (zs ++ ys)) = rw (e, place) in
+          let r = ih (omega arith) in
+          omega arith
+
+-- names by where they stand
+module _ {s : List ℕ} {names : Names} {list : List Name} (x : NamesAt s names list) where
+  pub name-at : (i : ℕ) → i < names .count
+      → (n : Name) × (getElem? list i ≡ just n) × Stands s (getD (names .from) i 0) (getD (names .to) i 0) n
+  name-at i h =
+      let p = below-at list i (omega (arith, x .count)) in
+      (p .0, p .1, x .name i (p .0) (p .1))
+
+  pub found-here : (name : Name) (i : ℕ) → i < names .count
+      → ((j : ℕ) → j < i → sameName name (part s (getD (names .from) j 0) (getD (names .to) j 0)) ≡ false)
+      → sameName name (part s (getD (names .from) i 0) (getD (names .to) i 0)) ≡ true
+      → i ≡ place sameName name list
+  found-here name i h before e =
+      let p = name-at i h in
+      sym
+      (place-first sameName name list i (p .1) (ap (sameName name) (sym (p .2 .bytes-are)) ∙ e)
+      (λ j z k q. ap (sameName name) (sym (x .name j z q .bytes-are)) ∙ before j k))
+
+  pub found-nowhere : (name : Name)
+      → ((j : ℕ) → j < names .count → sameName name (part s (getD (names .from) j 0) (getD (names .to) j 0)) ≡ false)
+      → names .count ≡ place sameName name list
+  found-nowhere name before =
+      x .count
+      ∙ sym
+      (place-nowhere sameName name list
+      (λ j z q.
+      let b = at-below list j q in
+      ap (sameName name) (sym (x .name j z q .bytes-are)) ∙ before j (omega (arith, x .count))))
+
+  -- one name more
+  pub names-more : (from to : ℕ) (n : Name) → names .count < 64 → Stands s from to n → (new : Bool) (more : List Name)
+      → (new ≡ true → more ≡ list ++ (n ∷ []))
+      → (new ≡ false → more ≡ list)
+      → NamesAt s (namesIf new names from to) more
+  unfolding namesIf
+  names-more from to n room st true more p q =
+      let l = length-append list (n ∷ []) in
+      let c = x .count in
+      let fr = x .from-room in
+      let tr = x .to-room in
+      subst (λ (ms : List Name). NamesAt s (namesIf true names from to) ms) (sym (p refl))
+      (record {
+        count = omega arith;
+        few = omega arith;
+        name =
+            λ i m e.
+            ⊎-elim
+            (λ h.
+            let b = at-below list i h in
+            let d : i ≡ names .count → ⊥ = λ k. omega arith in
+            let w = x .name i m h in
+            subst (λ (a : ℕ). Stands s a (getD (set (names .to) (names .count) to) i 0) m) (sym (getD-set-other (names .from) (names .count) i from 0 d))
+            (subst (λ (a : ℕ). Stands s (getD (names .from) i 0) a m) (sym (getD-set-other (names .to) (names .count) i to 0 d)) w))
+            (λ h.
+            let e₁ : i ≡ names .count = h .0 ∙ sym c in
+            let f : getD (set (names .from) (names .count) from) i 0 ≡ from =
+            ap (λ (k : ℕ). getD (set (names .from) (names .count) from) k 0) e₁ ∙ getD-set-same (names .from) (names .count) from 0 (omega arith) in
+            let g : getD (set (names .to) (names .count) to) i 0 ≡ to =
+            ap (λ (k : ℕ). getD (set (names .to) (names .count) to) k 0) e₁ ∙ getD-set-same (names .to) (names .count) to 0 (omega arith) in
+            subst (λ (a : ℕ). Stands s a (getD (set (names .to) (names .count) to) i 0) m) (sym f)
+            (subst (λ (a : ℕ). Stands s from a m) (sym g) (subst (λ (k : Name). Stands s from to k) (h .1) st)))
+            (at-end list n i m e);
+        from-room = length-set (names .from) (names .count) from ∙ fr;
+        to-room = length-set (names .to) (names .count) to ∙ tr;
+      })
+  names-more from to n room st false more p q = subst (λ (ms : List Name). NamesAt s names ms) (sym (q refl)) x
+
+-- the addition's names one by one
+module _ (old added : List Name) where
+  new-step : (i : ℕ) {n : Name} → getElem? added i ≡ just n
+      → newNames old (take (i + 1) added) ≡ newNames old (take i added) ++ newNames old (n ∷ [])
+  unfolding newNames
+  new-step i {n} e =
+      let h = at-below added i e in
+      ap (λ (k : ℕ). keep (λ m. not (any (sameName m) old)) (take k added)) (add-one i)
+      ∙ ap (keep (λ m. not (any (sameName m) old))) (take-suc added i [] h ∙ ap (λ (m : Name). take i added ++ (m ∷ [])) (at-else added i [] e))
+      ∙ keep-append (λ m. not (any (sameName m) old)) (take i added) (n ∷ [])
+
+  pub new-more : (i : ℕ) {n : Name} → getElem? added i ≡ just n → length old ≤ place sameName n old
+      → newNames old (take (i + 1) added) ≡ newNames old (take i added) ++ (n ∷ [])
+  unfolding newNames
+  new-more i {n} e h =
+      new-step i e
+      ∙ ap (λ (l : List Name). newNames old (take i added) ++ l)
+      (keep-yes (λ m. not (any (sameName m) old)) n [] (ap not (place-none sameName n old h)))
+
+  pub new-same : (i : ℕ) {n : Name} → getElem? added i ≡ just n → place sameName n old < length old
+      → newNames old (take (i + 1) added) ≡ newNames old (take i added)
+  unfolding newNames
+  new-same i {n} e h =
+      new-step i e
+      ∙ ap (λ (l : List Name). newNames old (take i added) ++ l)
+      (keep-no (λ m. not (any (sameName m) old)) n [] (ap not (place-some sameName n old h)))
+      ∙ append-nil (newNames old (take i added))
+
+  pub new-none : newNames old (take 0 added) ≡ []
+  unfolding newNames keep
+  new-none = refl
+
+  pub new-all : (i : ℕ) → length added ≤ i → newNames old (take i added) ≡ newNames old added
+  new-all i h = ap (newNames old) (take-all i added h)
+
+pub no-names : (s : List ℕ) (names : Names) → names .count ≡ 0 → length (names .from) ≡ 64 → length (names .to) ≡ 64 → NamesAt s names []
+no-names s names e f t =
+    record {
+      count = e;
+      few = omega arith;
+      name = λ i n q. let z : _≡_ {A = ℕ} 0 1 = cc in absurd (omega arith);
+      from-room = f;
+      to-room = t;
+    }
+
+pub names-count : (b : Bool) (names : Names) (from to : ℕ) → namesIf b names from to .count ≤ names .count + 1
+unfolding namesIf
+names-count true names from to = omega arith
+names-count false names from to = omega arith
+
+module _ {old add : List ℕ} {olds adds : Names} {ns ms : List Name} (x : NamesAt old olds ns) (y : NamesAt add adds ms) where
+  abbrev nameOf : ℕ → Name
+  nameOf i = part add (getD (adds .from) i 0) (getD (adds .to) i 0)
+
+  -- one name of the addition
+  pub new-names-step : (fresh r : Names) (i p : ℕ) → i < adds .count → p ≡ place sameName (nameOf i) ns
+      → NamesAt add fresh (newNames ns (take i ms))
+      → fresh .count < 64
+      → r ≡ namesIf (leb (olds .count) p) fresh (getD (adds .from) i 0) (getD (adds .to) i 0)
+      → NamesAt add r (newNames ns (take (i + 1) ms))
+  new-names-step fresh r i p h e f room q =
+      let a = name-at y i h in
+      let n = a .0 in
+      let at : p ≡ place sameName n ns = e ∙ ap (λ (m : Name). place sameName m ns) (a .2 .bytes-are) in
+      let c = x .count in
+      subst (λ (names : Names). NamesAt add names (newNames ns (take (i + 1) ms))) (sym q)
+      (names-more f (getD (adds .from) i 0) (getD (adds .to) i 0) n room (a .2) (leb (olds .count) p) (newNames ns (take (i + 1) ms))
+      (λ t. let l = leb-true (olds .count) p t in new-more ns ms i (a .1) (omega arith))
+      (λ t. let l = leb-false (olds .count) p t in new-same ns ms i (a .1) (omega arith)))
+
+  -- the number of a label of the addition
+  module _ (label : ℕ) (h : label < adds .count) where
+    name-is : nameOf label ≡ getD ms label []
+    name-is =
+        let a = name-at y label h in
+        a .2 .bytes-are ∙ sym (at-else ms label [] (a .1))
+
+    pub label-old : (p : ℕ) → p ≡ place sameName (nameOf label) ns → p < olds .count
+        → p ≡ place sameName (getD ms label []) (unitedNames ns ms)
+    label-old p e l =
+        let q = e ∙ ap (λ (m : Name). place sameName m ns) name-is in
+        let c = x .count in
+        q ∙ sym (place-front sameName (getD ms label []) ns (newNames ns ms) (omega arith))
+
+    pub label-new : (p q : ℕ) → p ≡ place sameName (nameOf label) ns → olds .count ≤ p
+        → q ≡ place sameName (nameOf label) (newNames ns ms)
+        → olds .count + q ≡ place sameName (getD ms label []) (unitedNames ns ms)
+    label-new p q e l f =
+        let a = e ∙ ap (λ (m : Name). place sameName m ns) name-is in
+        let b = f ∙ ap (λ (m : Name). place sameName m (newNames ns ms)) name-is in
+        let c = x .count in
+        let d = place-back sameName (getD ms label []) ns (newNames ns ms) (omega arith) in
+        omega arith
+
+pub place-few : {s : List ℕ} {names : Names} {list : List Name} (x : NamesAt s names list) (name : Name) (p : ℕ)
+    → p ≡ place sameName name list
+    → p ≤ 64
+place-few {s} {names} {list} x name p e =
+    let a = place-at-most sameName name list in
+    let c = x .count in
+    let f = x .few in
+    omega arith
+
+pub names-same : {s : List ℕ} {names : Names} {xs ys : List Name} → xs ≡ ys → NamesAt s names xs → NamesAt s names ys
+names-same {s} {names} e x = subst (λ (l : List Name). NamesAt s names l) e x
+
+pub names-grow : (b : Bool) (names r : Names) (from to : ℕ) → r ≡ namesIf b names from to → r .count ≤ names .count + 1
+names-grow b names r from to e =
+    let c = names-count b names from to in
+    let d = ap (λ (n : Names). n .count) e in
+    omega arith

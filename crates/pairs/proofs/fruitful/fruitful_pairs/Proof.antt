@@ -1,0 +1,68 @@
+-- `fruitful_pairs` meets its contract. The loop's invariant: the known pairs are fruitful. The measure is the pairs still outside.
+use Prim.Native.Nat.{ℕ, _-_}
+use mathlib.Core.Bool.{true, false≢true}
+use mathlib.Core.List.{List}
+use mathlib.Core.Path.{_≡_, sym, _∙_, ap}
+use lib.ListN.{length, length-replicate}
+use borrow.Author.Needs.{needs}
+use Rattle.grammar.specs.Lists.{isIn}
+use Rattle.grammar.specs.Table.{Table}
+use Rattle.grammar.specs.Normalise.{normalise}
+use Rattle.grammar.specs.Reduce.{fruitful}
+use Rattle.sets.specs.Sets.{member, size}
+use Rattle.sets.proofs.SetLaws.{member-zeros}
+use Rattle.pairs.specs.View.{Views}
+use Rattle.pairs.proofs.PutsLaws.{fewer-outside}
+use Rattle.pairs.proofs.FruitfulLaws.{round-keeps, round-sound, rounds-fruitful}
+use Rattle.pairs.proofs.fruitful.fruitful_pairs.Statement.{statement}
+use Rattle.pairs.proofs.fruitful.fruitful_pairs.Tie as tie
+
+abbrev Inv-loop : tie.InvT-loop
+Inv-loop old add v known₀ known =
+    ((u : Table) → Views old add v u → (p : ℕ) → member (known .words) 0 p ≡ true → isIn p (fruitful (normalise u)) ≡ true)
+    × (length (known .words) ≡ 4)
+
+abbrev μ-loop : tie.MeasureT-loop
+μ-loop old add v known₀ known = 128 - size (member (known .words) 0) 128
+
+loop-holds : tie.Need-loop-holds Inv-loop μ-loop
+loop-holds c =
+    let zeros = c .empty .ensures in
+    let nothing = ap (λ (w : List ℕ). member w 0) zeros ∙ member-zeros 4 0 in
+    (λ u x p e. absurd (false≢true (sym (ap (λ set. set p) nothing) ∙ e)), ap length zeros ∙ length-replicate {A = ℕ} 4 0)
+
+loop-less : tie.Need-loop-less Inv-loop μ-loop
+loop-less c =
+    let some = c .before .before .before .before .before .before .before .pre in
+    fewer-outside _ _ _ (c .before .equal .ensures)
+    (λ p e. ap (λ set. set p) (c .before .before .round .ensures .0 (some .table) (some .views)) ∙ round-keeps (some .views) _ p e)
+    (c .if1 .left)
+    (c .before .before .before .loop .inv .1)
+
+loop-again : tie.Need-loop-again Inv-loop μ-loop
+loop-again c = (
+  λ u x p e. round-sound x _ (c .before .before .before .loop .inv .0 u x) p (sym (ap (λ set. set p) (c .before .before .round .ensures .0 u x)) ∙ e),
+  c .before .before .round .ensures .1,
+)
+
+returns : tie.Need-returns Inv-loop μ-loop
+returns c = (
+  λ u x.
+      rounds-fruitful x _ (c .before .before .before .loop .inv .0 u x)
+      (sym (c .before .before .round .ensures .0 u x) ∙ ap (λ (w : List ℕ). member w 0) (sym (c .before .equal .ensures .same (c .if1 .taken)))),
+  c .before .before .before .loop .inv .1,
+)
+
+pub fruitful-pairs-spec : {M : Type 1} → statement M
+fruitful-pairs-spec =
+    tie.close
+    (tie.spec
+    Inv-loop
+    μ-loop
+    (λ c κs. search needs)
+    loop-holds
+    (λ c κs. (c .before .before .before .before .pre, c .loop .inv .1))
+    (λ c κs. search needs)
+    loop-less
+    loop-again
+    returns)

@@ -1,0 +1,5 @@
+pub mod ContentAt
+pub mod Walks
+pub mod UnitedLabels
+pub mod View
+pub mod Rounds

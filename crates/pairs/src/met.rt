@@ -1,0 +1,171 @@
+// The pairs that stand in a content once it is in normal form and reduced, left to right, each once. Read off the content of the
+// table itself: a sequence with an operand that has no alternatives has none.
+use crate::productive::both;
+use crate::productive::either;
+use reader::numbers::wide;
+ghost use mathlib.Core.Path.{_≡_};
+ghost use mathlib.Core.List.{List, [], _∷_};
+ghost use Prim.Native.Nat.{_-_, _≤_, _<_};
+ghost use lib.ListN.{length, take, drop};
+ghost use Rattle.grammar.specs.Lists.{isIn};
+ghost use Rattle.pairs.specs.Walks.{listOf, Once, Adds, Parts, MetAsks, MetFinds, MetRowAsks, MetRowFinds};
+
+// Whether a content has alternatives, how many numbers stand in the list after it, and the place after it.
+pub struct MetOne {
+    pub has: bool,
+    pub count: usize,
+    pub next: usize,
+}
+
+// The same for contents one after the other: whether all have alternatives, and whether one has.
+pub struct MetRow {
+    pub all: bool,
+    pub one: bool,
+    pub count: usize,
+    pub next: usize,
+}
+
+// The number is among the first of the list.
+pub fn among(list: &[u8], count: usize, number: u8) -> bool
+    requires { ⌜ count ≤ length (now list) ⌝ }
+    ensures { λ r. ⌜ r ≡ isIn number (take count (now (list .entry))) ⌝ }
+{
+    let mut i: usize = 0;
+    while i < count {
+        if list[i] == number {
+            return true;
+        }
+        i += 1;
+    }
+    false
+}
+
+// Adds a number after the others, unless it is among them.
+pub fn append(list: &mut [u8], count: usize, number: u8) -> usize
+    requires { ⌜ (Once 128 (now list) count) × (number < 128) ⌝ }
+    ensures { λ r. ⌜ Adds (take count (now (list .entry))) (number ∷ []) (now (list .exit)) r ⌝ }
+{
+    if among(list, count, number) {
+        return count;
+    }
+    list[count] = number;
+    count + 1
+}
+
+// Adds the numbers of a part.
+pub fn append_part(list: &mut [u8], count: usize, numbers: &[u8], first: usize, end: usize) -> usize
+    requires { ⌜ (Once 128 (now list) count) × (Parts 128 (now numbers) first end) ⌝ }
+    ensures { λ r. ⌜ Adds (take count (now (list .entry))) (take (end - first) (drop first (now (numbers .entry)))) (now (list .exit)) r ⌝ }
+{
+    let mut more = count;
+    let mut i = first;
+    while i < end {
+        let longer = append(list, more, numbers[i]);
+        more = longer;
+        i += 1;
+    }
+    more
+}
+
+// The pairs met in the content at a place, added to the list. `from` and `pairs` give the pairs of each type.
+pub fn met(
+    content: &[u8],
+    at: usize,
+    from: &[u8],
+    pairs: &[u8],
+    list: &mut [u8],
+    count: usize,
+) -> MetOne
+    requires { ⌜ MetAsks (now content) at (now from) (now pairs) (now list) count ⌝ }
+    ensures { λ r. ⌜ MetFinds (listOf (now (from .entry)) (now (pairs .entry))) (take count (now (list .entry))) (now (content .entry)) at (now (list .exit)) r ⌝ }
+{
+    let operator = wide(content[at]);
+    match operator {
+        0 => MetOne {
+            has: false,
+            count,
+            next: at + 1,
+        },
+        1 => MetOne {
+            has: true,
+            count,
+            next: at + 1,
+        },
+        2 => {
+            let k = wide(content[at + 1]);
+            let first = wide(from[k]);
+            let end = wide(from[k + 1]);
+            let more = append_part(list, count, pairs, first, end);
+            MetOne {
+                has: first < end,
+                count: more,
+                next: at + 2,
+            }
+        }
+        3 => {
+            let n = wide(content[at + 1]);
+            let row = met_row(content, at + 2, n, from, pairs, list, count);
+            if row.all {
+                return MetOne {
+                    has: true,
+                    count: row.count,
+                    next: row.next,
+                };
+            }
+            MetOne {
+                has: false,
+                count,
+                next: row.next,
+            }
+        }
+        4 => {
+            let n = wide(content[at + 1]);
+            let row = met_row(content, at + 2, n, from, pairs, list, count);
+            MetOne {
+                has: row.one,
+                count: row.count,
+                next: row.next,
+            }
+        }
+        6 => met(content, at + 1, from, pairs, list, count),
+        _ => {
+            let operand = met(content, at + 1, from, pairs, list, count);
+            MetOne {
+                has: true,
+                count: operand.count,
+                next: operand.next,
+            }
+        }
+    }
+}
+
+// The same for so many contents, one after the other.
+pub fn met_row(
+    content: &[u8],
+    at: usize,
+    n: usize,
+    from: &[u8],
+    pairs: &[u8],
+    list: &mut [u8],
+    count: usize,
+) -> MetRow
+    requires { ⌜ MetRowAsks (now content) at n (now from) (now pairs) (now list) count ⌝ }
+    ensures { λ r. ⌜ MetRowFinds (listOf (now (from .entry)) (now (pairs .entry))) (take count (now (list .entry))) (now (content .entry)) at n (now (list .exit)) r ⌝ }
+{
+    if n == 0 {
+        return MetRow {
+            all: true,
+            one: false,
+            count,
+            next: at,
+        };
+    }
+    let first = met(content, at, from, pairs, list, count);
+    let others = met_row(content, first.next, n - 1, from, pairs, list, first.count);
+    MetRow {
+        all: both(first.has, others.all),
+        one: either(first.has, others.one),
+        count: others.count,
+        next: others.next,
+    }
+}

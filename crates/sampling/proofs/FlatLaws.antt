@@ -1,0 +1,105 @@
+-- A choice of child sequences nests little, and is as wide as there are sequences: what makes it too large are its bytes or its operands.
+use Prim.Native.Nat.{ℕ, _+_, _≤_, _<_}
+use native.Mathlib.Omega.{arith}
+use mathlib.Core.Bool.{true, false, _||_}
+use mathlib.Core.List.{List, [], _∷_, map, append-nil, List·Memᴰ, List·Memᴰ·head, List·Memᴰ·tail, Memᴰ·of-map}
+use mathlib.Core.Option.{some as just}
+use mathlib.Core.Path.{_≡_, refl, subst}
+use lib.Dec.{eqb, ltb}
+use borrow.Author.Tests.{lt-ltb, le-ltb}
+use lib.ListN.{length, getD}
+use Rattle.grammar.specs.Lists.{keep, numbersBelow}
+use Rattle.grammar.specs.Limits.{standard}
+use Rattle.grammar.specs.Content.{Content, type, operands, choiceOf, nesting, deepest}
+use Rattle.grammar.specs.ReadContent.{contentBytes, sameContent}
+use Rattle.grammar.specs.Size.{widestChoice, widestOf, contentTooLarge}
+use Rattle.grammar.specs.Sample.{sequenceOf}
+use Rattle.theory.proofs.BoolLaws.{or-left, or-none}
+use Rattle.theory.proofs.ListLaws.{distinct-was}
+use Rattle.theory.proofs.Gathering.{gathered, written-gathered}
+use Rattle.theory.proofs.Alternatives.{written}
+use Rattle.reader.specs.ExprAt.{_upTo_, exprAt}
+use Rattle.reader.proofs.ExprLaws.{expr-written}
+use Rattle.emitting.specs.Drafts.{Row, TooWide}
+use Rattle.sampling.specs.SampleContents.{sequenceIn, sequencesAmong}
+use Rattle.sampling.specs.SampleTable.{contentIn}
+use Rattle.emitting.proofs.RowLaws.{count-list}
+use Rattle.emitting.proofs.KeptLaws.{row-count}
+use Rattle.emitting.proofs.WideLaws.{too-large}
+
+record Flat (c : Content) : Type 0 where
+  shallow : nesting c ≤ 2
+  narrow : widestChoice c ≡ 0
+
+types-flat : (ks : List ℕ) → (deepest (operands (map type ks)) ≤ 1) × (widestOf (operands (map type ks)) ≡ 0)
+unfolding nesting deepest widestChoice widestOf operands
+types-flat [] = (omega arith, refl)
+types-flat (k ∷ ks) = let h = types-flat ks in (omega arith, omega arith)
+
+sequence-flat : (ks : List ℕ) → Flat (sequenceOf ks)
+unfolding sequenceOf nesting widestChoice
+sequence-flat [] = record { shallow = omega arith; narrow = refl }
+sequence-flat (k ∷ []) = record { shallow = omega arith; narrow = refl }
+sequence-flat (k ∷ l ∷ ks) = let h = types-flat (k ∷ l ∷ ks) in record { shallow = omega arith; narrow = h .1 }
+
+all-flat : (ds : List Content) → ((c : Content) → List·Memᴰ c ds → Flat c) → (deepest (operands ds) ≤ 2) × (widestOf (operands ds) ≡ 0)
+unfolding deepest widestOf operands
+all-flat [] h = (omega arith, refl)
+all-flat (d ∷ ds) h =
+    let f = h d (List·Memᴰ·head refl) in
+    let a = f .shallow in
+    let b = f .narrow in
+    let r = all-flat ds (λ c m. h c (List·Memᴰ·tail m)) in
+    (omega arith, omega arith)
+
+choice-flat : (ds : List Content) → ((c : Content) → List·Memᴰ c ds → Flat c) → (nesting (choiceOf ds) ≤ 3) × (widestChoice (choiceOf ds) ≤ length ds)
+unfolding choiceOf nesting widestChoice operands
+choice-flat [] h = (omega arith, omega arith)
+choice-flat (c ∷ []) h =
+    let f = h c (List·Memᴰ·head refl) in
+    let a = f .shallow in
+    let b = f .narrow in
+    (omega arith, omega arith)
+choice-flat (c ∷ d ∷ ds) h =
+    let r = all-flat (c ∷ d ∷ ds) h in
+    let n = count-list (c ∷ d ∷ ds) in
+    (omega arith, omega arith)
+
+module _ (parents types : List ℕ) (n k : ℕ) where
+  abbrev among : List Content
+  among = sequencesAmong parents types n k (numbersBelow n)
+
+  gathered-flat : (c : Content) → List·Memᴰ c (gathered [] among) → Flat c
+  unfolding gathered
+  gathered-flat c m =
+      let (i, o, e) = Memᴰ·of-map (sequenceIn parents types n) (keep (λ (j : ℕ). eqb (getD types j 0) k) (numbersBelow n)) (distinct-was sameContent among m) in
+      subst Flat e (sequence-flat _)
+
+  -- few enough bytes, and few enough operands
+  pub content-fits : {d : List ℕ} {c end : ℕ} → Row d 4 c (gathered [] among) end → length (contentBytes (contentIn parents types n k)) ≤ 1024
+      → contentTooLarge standard (contentIn parents types n k) ≡ false
+  unfolding contentTooLarge standard
+  content-fits {d} {c} {end} r h =
+      let f = choice-flat (gathered [] among) gathered-flat in
+      let m = row-count d 4 c end (gathered [] among) r .0 in
+      let few = r .few in
+      let x = contentIn parents types n k in
+      or-none (ltb 1024 (length (contentBytes x)) || ltb 32 (nesting x)) (ltb 255 (widestChoice x))
+      (or-none (ltb 1024 (length (contentBytes x))) (ltb 32 (nesting x)) (le-ltb 1024 (length (contentBytes x)) h) (le-ltb 32 (nesting x) (omega arith)))
+      (le-ltb 255 (widestChoice x) (omega arith))
+
+  pub content-over : 1024 < length (contentBytes (contentIn parents types n k)) → contentTooLarge standard (contentIn parents types n k) ≡ true
+  unfolding contentTooLarge standard
+  content-over h =
+      let x = contentIn parents types n k in
+      or-left (ltb 1024 (length (contentBytes x)) || ltb 32 (nesting x)) (ltb 255 (widestChoice x))
+      (or-left (ltb 1024 (length (contentBytes x))) (ltb 32 (nesting x)) (lt-ltb 1024 (length (contentBytes x)) h))
+
+  pub content-wide : TooWide 1024 (gathered [] among) → contentTooLarge standard (contentIn parents types n k) ≡ true
+  content-wide w =
+      subst (λ (x : Content). contentTooLarge standard x ≡ true) (written-gathered among)
+      (subst (λ (xs : List Content). contentTooLarge standard (written xs) ≡ true) (append-nil among) (too-large among [] w))
+
+  pub content-length : (d : List ℕ) (stop : ℕ) → exprAt d 2 ≡ just (contentIn parents types n k upTo stop)
+      → stop ≡ 2 + length (contentBytes (contentIn parents types n k))
+  content-length d stop e = expr-written d 2 (contentIn parents types n k) stop e .next-is

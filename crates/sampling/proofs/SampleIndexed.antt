@@ -1,0 +1,97 @@
+-- What an index of a document holds: the nodes of its tree, for the sample.
+use Prim.Native.Nat.{ℕ, _≤_, _<_}
+use native.Mathlib.Omega.{arith}
+use mathlib.Core.List.{List, [], map}
+use mathlib.Core.Path.{_≡_, sym, _∙_, ap}
+use lib.ListN.{length, length-map, List·getD-map, getD, take}
+use lib.Seq.{length-take-le, getD-take, ext-getD}
+use Rattle.grammar.specs.Limits.{standard}
+use Rattle.grammar.specs.Names.{asciiClasses}
+use Rattle.grammar.specs.Outcome.{given}
+use Rattle.grammar.specs.Tree.{Tree}
+use Rattle.grammar.specs.ReadDocument.{Node, treeOf}
+use Rattle.theory.proofs.ListLaws.{at-else}
+use Rattle.reader.specs.declared.documents.DocumentIndex.{DocumentIndex}
+use Rattle.reader.specs.DocumentNodes.{nodeAt, nodesIn}
+use Rattle.reader.proofs.DocumentTrees.{treeCount, Enough, complete}
+use Rattle.reader.proofs.DocumentAnswers.{nodes-count, node-held, document-tree}
+use Rattle.sampling.specs.SampleNodes.{CountedTree, Whole, TypedTo, nameIn, nameAt, parentsOf}
+use Rattle.sampling.specs.SampleTable.{Indexes, SampleHeld, SampleReady}
+
+module _ (s : List ℕ) (ix : DocumentIndex) (x : Indexes s ix) where
+  abbrev ns : List Node
+  ns = nodesIn s ix
+
+  pub one-tree : (treeCount ns ≡ 1) × Enough ns
+  one-tree = complete standard asciiClasses s ns (x .reads)
+
+  abbrev none : Node
+  none = record { name = []; children = 0 }
+
+  node-is : (i : ℕ) → i < ix .nodes → getD ns i none ≡ nodeAt s (ix .names) (ix .sizes) (ix .children) i
+  node-is i h = at-else ns i none (node-held s ix i h)
+
+  pub count-is : (i : ℕ) → i < ix .nodes → getD (ix .children) i 0 ≡ getD (map (λ (m : Node). m .children) ns) i 0
+  count-is i h =
+      sym (List·getD-map (λ (m : Node). m .children) ns i none ∙ ap (λ (m : Node). m .children) (node-is i h))
+
+  pub name-is : (i : ℕ) → i < ix .nodes → nameIn s (ix .names) (ix .sizes) i ≡ nameAt ns i
+  name-is i h = sym (List·getD-map (λ (m : Node). m .name) ns i none ∙ ap (λ (m : Node). m .name) (node-is i h))
+
+  abbrev pub index-counted : ix .nodes ≤ length (ix .children) → CountedTree (ix .children) (ix .nodes)
+  index-counted h =
+      let l = nodes-count s ix in
+      let m = length-map ns (λ (m : Node). m .children) in
+      let k = length-take-le (ix .nodes) (ix .children) h in
+      record {
+        list = ns;
+        counts =
+            ext-getD 0 (map (λ (m : Node). m .children) ns) (take (ix .nodes) (ix .children)) (omega arith)
+            (λ i b. sym (count-is i (omega arith)) ∙ sym (getD-take (ix .nodes) (ix .children) i 0 (omega arith)));
+        many = l;
+        one = one-tree .0;
+        enough = one-tree .1;
+      }
+
+  pub index-tree : (t : Tree) × (treeOf ns ≡ given t)
+  index-tree = let r = document-tree standard asciiClasses s ns (x .reads) in (r .0, r .1)
+
+  module _ (parents : List ℕ) (ps : take (ix .nodes) parents ≡ parentsOf ns) (long : length parents ≡ 1024) (ln : length (ix .names) ≡ 1024)
+      (ls : length (ix .sizes) ≡ 1024) where
+    abbrev pub index-whole : (d : Tree) → treeOf ns ≡ given d → Whole s (ix .names) (ix .sizes) parents (ix .nodes)
+    index-whole d e =
+        record {
+          list = ns;
+          tree = d;
+          is-tree = e;
+          one = one-tree .0;
+          enough = one-tree .1;
+          many = nodes-count s ix;
+          names-are = name-is;
+          parents-are = ps;
+          within = x .indexed .within;
+          few = x .indexed .few;
+          names-held = let f = x .indexed .few in omega arith;
+          sizes-held = let f = x .indexed .few in omega arith;
+          parents-held = let f = x .indexed .few in omega arith;
+        }
+
+    module _ (types firsts : List ℕ) (count : ℕ) (lt : length types ≡ 1024) (lf : length firsts ≡ 1024)
+        (t : (q : Whole s (ix .names) (ix .sizes) parents (ix .nodes)) → TypedTo (q .list) (q .tree) types firsts count (ix .nodes)) where
+      abbrev pub index-held : (d : Tree) → treeOf ns ≡ given d → SampleHeld s (ix .names) (ix .sizes) parents types firsts (ix .nodes) count
+      index-held d e =
+          record {
+            whole = index-whole d e;
+            typed = t (index-whole d e);
+            types-held = let f = x .indexed .few in omega arith;
+            firsts-held = let f = x .indexed .few in let g = t (index-whole d e) .few in omega arith;
+          }
+
+      pub index-ready : ix .nodes ≤ length (ix .children) → SampleReady s (ix .names) (ix .sizes) (ix .children) parents types firsts (ix .nodes) count
+      index-ready h =
+          record {
+            held = index-held (index-tree .0) (index-tree .1);
+            counts-held = h;
+            counts-are = count-is;
+            counts-few = x .indexed .counts;
+          }

@@ -1,0 +1,356 @@
+-- What the arrays hold is the sample:
+--   content-same, rule-same : the content and the rule of a type
+--   table-same : the bytes written are the sample's
+--   sample-drafted : so the sample is written, or is too large ; sample-wide : too many types
+use Prim.Native.Nat.{ℕ, zero, suc, _+_, _-_, _≤_, _<_}
+use native.Mathlib.Omega.{arith}
+use mathlib.Core.Bool.{Bool, true, false, not, _||_}
+use mathlib.Core.List.{List, [], _∷_, _++_, map, append-assoc, append-nil, List·Memᴰ, List·Memᴰ·head, List·Memᴰ·tail, Memᴰ·map, Memᴰ·of-map}
+use mathlib.Core.Logic.{⊎-elim}
+use mathlib.Core.Path.{_≡_, refl, sym, _∙_, ap, subst}
+use lib.Dec.{eqb, ltb}
+use borrow.Author.Tests.{lt-ltb, le-ltb}
+use lib.ListN.{length, length-map, getD, take, drop, replicate}
+use lib.Seq.{length-take-le, getD-take}
+use Rattle.grammar.specs.Lists.{any, keep, distinct, place, joinedOf, numbersFrom, numbersBelow}
+use Rattle.grammar.specs.Limits.{standard}
+use Rattle.grammar.specs.Names.{Name, sameName}
+use Rattle.grammar.specs.Content.{Content, choiceOf}
+use Rattle.grammar.specs.ReadContent.{sameContent}
+use Rattle.grammar.specs.Outcome.{given, refused, _>>_, turnBack}
+use Rattle.grammar.specs.Tree.{Tree}
+use Rattle.grammar.specs.Table.{Rule, Table}
+use Rattle.grammar.specs.Fields.{fieldBytes}
+use Rattle.grammar.specs.ReadDocument.{Node}
+use Rattle.grammar.specs.WriteTable.{ruleBytes, tableBytes}
+use Rattle.grammar.specs.Size.{contentTooLarge, tooLarge}
+use Rattle.grammar.specs.Sample.{sample, sequenceOf}
+use Rattle.grammar.specs.Widen.{ofSize, sampleTable}
+use Rattle.grammar.specs.declared.Refusal.the-variants.{ResultTooLarge}
+use Rattle.theory.proofs.BoolLaws.{or-left, or-right, or-none, false-of, not-both}
+use Rattle.theory.proofs.ListLaws.{at-else, any-of, any-found, at-mem, mem-at, at-below, at-or-else, distinct-was, kept, numbers-below}
+use Rattle.theory.proofs.Gathering.{gathered}
+use Rattle.emitting.specs.declared.writing.Drafted.{Drafted}
+use Rattle.emitting.specs.declared.writing.Drafted.the-variants.{Length, TooLarge}
+use Rattle.sampling.specs.SampleNodes.{KeyAt, KeysAt, LabelledTo, nameIn, sameNameIn, nameAt, parentAt, kidsOf, typeAt, sameAt, sameNamed, firstsOf, labelled, sequenceAt, ofType, contentOf, ruleOf, sampleOf}
+use Rattle.sampling.specs.SampleContents.{kidTypes, sequenceIn, sequencesAmong}
+use Rattle.sampling.specs.SampleTable.{contentIn, ruleIn, labelField, ruleField, rulesBytes, startBytes, TablePut, SampleHeld, SampleReady, NodesHeld, RulesHeld, SampleDrafted}
+use Rattle.sampling.proofs.NumberingLaws.{listed-from, place-agree, numbers-within}
+use Rattle.sampling.proofs.SampleByNodes.{keep-same, map-same, sample-nodes, kids-count}
+
+-- lists by places, and what agrees on their elements
+module _ {A : Type 0} where
+  joined-map : (f : A → List ℕ) (h : ℕ → A) (xs : List ℕ) → joinedOf f (map h xs) ≡ joinedOf (λ x. f (h x)) xs
+  unfolding joinedOf
+  joined-map f h [] = refl
+  joined-map f h (x ∷ xs) = ap (λ (l : List ℕ). f (h x) ++ l) (joined-map f h xs)
+
+  joined-same : (f g : A → List ℕ) (xs : List A) → ((x : A) → List·Memᴰ x xs → f x ≡ g x) → joinedOf f xs ≡ joinedOf g xs
+  unfolding joinedOf
+  joined-same f g [] h = refl
+  joined-same f g (x ∷ xs) h =
+      ap (λ (l : List ℕ). l ++ joinedOf f xs) (h x (List·Memᴰ·head refl))
+      ∙ ap (λ (l : List ℕ). g x ++ l) (joined-same f g xs (λ y m. h y (List·Memᴰ·tail m)))
+
+  distinct-agree : (p q : A → A → Bool) (xs : List A) → ((x y : A) → List·Memᴰ x xs → List·Memᴰ y xs → p x y ≡ q x y)
+      → distinct p xs ≡ distinct q xs
+  unfolding distinct
+  distinct-agree p q [] h = refl
+  distinct-agree p q (x ∷ xs) h =
+      ap (λ (l : List A). x ∷ l)
+      (keep-same (λ y. not (p x y)) (λ y. not (q x y)) (distinct p xs)
+      (λ y m. ap not (h x y (List·Memᴰ·head refl) (List·Memᴰ·tail (distinct-was p xs m))))
+      ∙ ap (keep (λ y. not (q x y))) (distinct-agree p q xs (λ y z m o. h y z (List·Memᴰ·tail m) (List·Memᴰ·tail o))))
+
+taken-at : (l : List ℕ) (c : ℕ) → c ≤ length l → take c l ≡ map (λ (t : ℕ). getD l t 0) (numbersBelow c)
+unfolding numbersBelow
+taken-at l c h =
+    let k = length-take-le c l h in
+    listed-from (λ (t : ℕ). getD l t 0) 0 (take c l) 0
+    (λ j b. let z : 0 + j ≡ j = omega arith in ap (λ (t : ℕ). getD l t 0) z ∙ sym (getD-take c l j 0 (omega arith)))
+    ∙ ap (λ (m : ℕ). map (λ (t : ℕ). getD l t 0) (numbersFrom 0 m)) k
+
+joined-at : (f : ℕ → List ℕ) (l : List ℕ) (c : ℕ) → c ≤ length l → joinedOf (λ t. f (getD l t 0)) (numbersBelow c) ≡ joinedOf f (take c l)
+joined-at f l c h = sym (ap (joinedOf f) (taken-at l c h) ∙ joined-map f (λ (t : ℕ). getD l t 0) (numbersBelow c))
+
+in-taken : (l : List ℕ) (c t : ℕ) → c ≤ length l → t < c → List·Memᴰ (getD l t 0) (take c l)
+in-taken l c t h b =
+    let k = length-take-le c l h in
+    subst (λ (x : ℕ). List·Memᴰ x (take c l)) (getD-take c l t 0 b) (at-mem (take c l) t (at-or-else (take c l) t 0 (omega arith)))
+
+taken-place : (l : List ℕ) (c : ℕ) {x : ℕ} → c ≤ length l → List·Memᴰ x (take c l) → (t : ℕ) × (t < c) × (getD l t 0 ≡ x)
+taken-place l c h m =
+    let (t, at) = mem-at m in
+    let b = at-below (take c l) t at in
+    let k = length-take-le c l h in
+    let d : t < c = omega arith in
+    (t, d, sym (getD-take c l t 0 d) ∙ at-else (take c l) t 0 at)
+
+-- the size of a sample
+module _ (d : Tree) where
+  too-large-is : tooLarge standard (sample d) ≡ true → sampleTable standard d ≡ refused ResultTooLarge
+  unfolding sampleTable ofSize
+  too-large-is e = ap (λ (b : Bool). turnBack b ResultTooLarge >> given (sample d)) e
+
+  not-too-large : tooLarge standard (sample d) ≡ false → sampleTable standard d ≡ given (sample d)
+  unfolding sampleTable ofSize
+  not-too-large e = ap (λ (b : Bool). turnBack b ResultTooLarge >> given (sample d)) e
+
+  abbrev contentOver : Rule → Bool
+  contentOver r = contentTooLarge standard (r .content)
+
+  types-over : 64 < length (sample d .rules) → tooLarge standard (sample d) ≡ true
+  unfolding tooLarge standard
+  types-over h =
+      or-left (ltb 64 (length (sample d .rules)) || any contentOver (sample d .rules)) (ltb 32768 (length (tableBytes (sample d))))
+      (or-left (ltb 64 (length (sample d .rules))) (any contentOver (sample d .rules)) (lt-ltb 64 (length (sample d .rules)) h))
+
+  content-over : any contentOver (sample d .rules) ≡ true → tooLarge standard (sample d) ≡ true
+  unfolding tooLarge standard
+  content-over h =
+      or-left (ltb 64 (length (sample d .rules)) || any contentOver (sample d .rules)) (ltb 32768 (length (tableBytes (sample d))))
+      (or-right (ltb 64 (length (sample d .rules))) (any contentOver (sample d .rules)) h)
+
+  bytes-over : 32768 < length (tableBytes (sample d)) → tooLarge standard (sample d) ≡ true
+  unfolding tooLarge standard
+  bytes-over h =
+      or-right (ltb 64 (length (sample d .rules)) || any contentOver (sample d .rules)) (ltb 32768 (length (tableBytes (sample d))))
+      (lt-ltb 32768 (length (tableBytes (sample d))) h)
+
+  all-fit : length (sample d .rules) ≤ 64 → any contentOver (sample d .rules) ≡ false → length (tableBytes (sample d)) ≤ 32768
+      → tooLarge standard (sample d) ≡ false
+  unfolding tooLarge standard
+  all-fit a b c =
+      or-none (ltb 64 (length (sample d .rules)) || any contentOver (sample d .rules)) (ltb 32768 (length (tableBytes (sample d))))
+      (or-none (ltb 64 (length (sample d .rules))) (any contentOver (sample d .rules)) (le-ltb 64 (length (sample d .rules)) a) b)
+      (le-ltb 32768 (length (tableBytes (sample d))) c)
+
+module _ {s names sizes parents types firsts : List ℕ} {n count : ℕ} (q : SampleHeld s names sizes parents types firsts n count) where
+  abbrev ns : List Node
+  ns = q .whole .list
+
+  abbrev d : Tree
+  d = q .whole .tree
+
+  firsts-same : take count firsts ≡ firstsOf ns d
+  firsts-same = q .typed .firsts-are ∙ ap (λ (m : ℕ). distinct (sameAt ns d) (numbersBelow m)) (sym (q .whole .many))
+
+  pub first-below : (t : ℕ) → t < count → getD firsts t 0 < n
+  first-below t h =
+      numbers-below n (getD firsts t 0) .0
+      (distinct-was (sameAt ns d) (numbersBelow n)
+      (subst (List·Memᴰ (getD firsts t 0)) (q .typed .firsts-are) (in-taken firsts count t (q .firsts-held) h)))
+
+  parent-same : (j : ℕ) → j < n → getD parents j 0 ≡ parentAt ns j
+  parent-same j h = sym (getD-take n parents j 0 h) ∙ ap (λ (l : List ℕ). getD l j 0) (q .whole .parents-are)
+
+  pub kids-same : (i : ℕ) → kidTypes parents types n i ≡ map (typeAt ns d) (kidsOf ns i)
+  kids-same i =
+      let later = numbersFrom (suc i) (n - suc i) in
+      let below : (j : ℕ) → List·Memᴰ j later → j < n = λ j m. let w = numbers-within (suc i) (n - suc i) m in omega arith in
+      map-same (λ (j : ℕ). getD types j 0) (typeAt ns d) (keep (λ (j : ℕ). eqb (getD parents j 0) i) later)
+      (λ j m. q .typed .types-are j (below j (kept (λ (j : ℕ). eqb (getD parents j 0) i) later m .0)))
+      ∙ ap (map (typeAt ns d))
+      (keep-same (λ (j : ℕ). eqb (getD parents j 0) i) (λ j. eqb (parentAt ns j) i) later (λ j m. ap (λ (x : ℕ). eqb x i) (parent-same j (below j m)))
+      ∙ ap (λ (m : ℕ). keep (λ j. eqb (parentAt ns j) i) (numbersFrom (suc i) (m - suc i))) (sym (q .whole .many)))
+
+  among-same : (k : ℕ) → sequencesAmong parents types n k (numbersBelow n) ≡ map (sequenceAt ns d) (ofType ns d k)
+  among-same k =
+      map-same (sequenceIn parents types n) (sequenceAt ns d) (keep (λ (j : ℕ). eqb (getD types j 0) k) (numbersBelow n))
+      (λ i m. ap sequenceOf (kids-same i))
+      ∙ ap (map (sequenceAt ns d))
+      (keep-same (λ (j : ℕ). eqb (getD types j 0) k) (λ j. eqb (typeAt ns d j) k) (numbersBelow n)
+      (λ j m. ap (λ (x : ℕ). eqb x k) (q .typed .types-are j (numbers-below n j .0 m)))
+      ∙ ap (λ (m : ℕ). keep (λ j. eqb (typeAt ns d j) k) (numbersBelow m)) (sym (q .whole .many)))
+
+  content-same : (k : ℕ) → contentIn parents types n k ≡ contentOf ns d k
+  unfolding gathered
+  content-same k = ap (λ (l : List Content). choiceOf (distinct sameContent l)) (among-same k)
+
+  names-same : (i j : ℕ) → i < n → j < n → sameNameIn s names sizes i j ≡ sameNamed ns d i j
+  names-same i j h k =
+      ap (λ (x : Name). sameName x (nameIn s names sizes j)) (q .whole .names-are i h)
+      ∙ ap (sameName (nameAt ns i)) (q .whole .names-are j k)
+
+  taken-below : (x : ℕ) → List·Memᴰ x (take count firsts) → x < n
+  taken-below x m = let (t, h, e) = taken-place firsts count (q .firsts-held) m in subst (λ (y : ℕ). y < n) e (first-below t h)
+
+  rules-many : length (sample d .rules) ≡ count
+  rules-many =
+      ap (λ (g : Table). length (g .rules)) (sample-nodes ns (q .whole .one) (q .whole .enough) d (q .whole .is-tree))
+      ∙ length-map (firstsOf ns d) (ruleOf ns d)
+      ∙ ap length (sym firsts-same)
+      ∙ length-take-le count firsts (q .firsts-held)
+
+  sample-is : sample d ≡ sampleOf ns d
+  sample-is = sample-nodes ns (q .whole .one) (q .whole .enough) d (q .whole .is-tree)
+
+  -- too many types
+  pub sample-wide : 64 < count → sampleTable standard d ≡ refused ResultTooLarge
+  sample-wide h = let m = rules-many in too-large-is d (types-over d (omega arith))
+
+  module _ {labels lfirsts : List ℕ} {lcount : ℕ} (l : LabelledTo s names sizes firsts labels lfirsts lcount count) (held : lcount ≤ length lfirsts) where
+    labels-distinct : distinct (sameNameIn s names sizes) (take count firsts) ≡ labelled ns d
+    labels-distinct =
+        distinct-agree (sameNameIn s names sizes) (sameNamed ns d) (take count firsts)
+        (λ x y m o. names-same x y (taken-below x m) (taken-below y o))
+        ∙ ap (distinct (sameNamed ns d)) firsts-same
+
+    labelled-below : (x : ℕ) → List·Memᴰ x (labelled ns d) → x < n
+    labelled-below x m =
+        taken-below x (subst (List·Memᴰ x) (sym firsts-same) (distinct-was (sameNamed ns d) (firstsOf ns d) m))
+
+    abbrev rule : ℕ → Rule
+    rule = ruleIn parents types firsts labels n
+
+    rule-same : (t : ℕ) → t < count → rule t ≡ ruleOf ns d (getD firsts t 0)
+    rule-same t h =
+        let i = getD firsts t 0 in
+        let b = first-below t h in
+        let a : getD types i 0 ≡ typeAt ns d i = q .typed .types-are i b in
+        let e : getD labels t 0 ≡ place (sameNamed ns d) i (labelled ns d) =
+        l .labels-are t h
+        ∙ ap (place (sameNameIn s names sizes) i) labels-distinct
+        ∙ place-agree (sameNameIn s names sizes) (sameNamed ns d) i (labelled ns d) (λ y m. names-same i y b (labelled-below y m)) in
+        let c : contentIn parents types n (getD types i 0) ≡ contentOf ns d (typeAt ns d i) = content-same (getD types i 0) ∙ ap (contentOf ns d) a in
+        λ k. record { type = a k; label = e k; content = c k }
+
+    labels-same : joinedOf (labelField s names sizes lfirsts) (numbersBelow lcount) ≡ joinedOf (fieldBytes 0x10) (map (nameAt ns) (labelled ns d))
+    labels-same =
+        joined-at (λ i. fieldBytes 0x10 (nameIn s names sizes i)) lfirsts lcount held
+        ∙ ap (joinedOf (λ i. fieldBytes 0x10 (nameIn s names sizes i))) (l .firsts-are ∙ labels-distinct)
+        ∙ joined-same (λ i. fieldBytes 0x10 (nameIn s names sizes i)) (λ i. fieldBytes 0x10 (nameAt ns i)) (labelled ns d)
+        (λ i m. ap (fieldBytes 0x10) (q .whole .names-are i (labelled-below i m)))
+        ∙ sym (joined-map (fieldBytes 0x10) (nameAt ns) (labelled ns d))
+
+    rules-same : rulesBytes rule count ≡ joinedOf (λ r. fieldBytes 0x12 (ruleBytes r)) (map (ruleOf ns d) (firstsOf ns d))
+    rules-same =
+        joined-same (ruleField rule) (λ t. fieldBytes 0x12 (ruleBytes (ruleOf ns d (getD firsts t 0)))) (numbersBelow count)
+        (λ t m. ap (λ (r : Rule). fieldBytes 0x12 (ruleBytes r)) (rule-same t (numbers-below count t .0 m)))
+        ∙ joined-at (λ i. fieldBytes 0x12 (ruleBytes (ruleOf ns d i))) firsts count (q .firsts-held)
+        ∙ ap (joinedOf (λ i. fieldBytes 0x12 (ruleBytes (ruleOf ns d i)))) firsts-same
+        ∙ sym (joined-map (λ r. fieldBytes 0x12 (ruleBytes r)) (ruleOf ns d) (firstsOf ns d))
+
+    abbrev bytes : List ℕ
+    bytes = joinedOf (labelField s names sizes lfirsts) (numbersBelow lcount) ++ startBytes rule count
+
+    -- the bytes written are the sample's
+    table-same : bytes ≡ tableBytes (sample d)
+    unfolding tableBytes joinedOf
+    table-same =
+        let a = joinedOf (fieldBytes 0x10) (map (nameAt ns) (labelled ns d)) in
+        let b = fieldBytes 0x11 (0 ∷ []) in
+        let r = joinedOf (λ r. fieldBytes 0x12 (ruleBytes r)) (map (ruleOf ns d) (firstsOf ns d)) in
+        let z = fieldBytes 0x1F [] in
+        ap (λ (x : List ℕ). x ++ startBytes rule count) labels-same
+        ∙ ap (λ (x : List ℕ). a ++ (b ++ (x ++ z))) rules-same
+        ∙ sym (append-assoc a b (r ++ z))
+        ∙ sym (append-assoc (a ++ b) r z)
+        ∙ ap (λ (x : List ℕ). (a ++ x) ++ r ++ z) (sym (append-nil b))
+        ∙ ap tableBytes (sym sample-is)
+
+    -- a rule of the sample is one of these
+    in-sample : (t : ℕ) → t < count → List·Memᴰ (rule t) (sample d .rules)
+    in-sample t h =
+        subst (λ (g : Table). List·Memᴰ (rule t) (g .rules)) (sym sample-is)
+        (subst (λ (r : Rule). List·Memᴰ r (map (ruleOf ns d) (firstsOf ns d))) (sym (rule-same t h))
+        (Memᴰ·map (ruleOf ns d) (subst (List·Memᴰ (getD firsts t 0)) firsts-same (in-taken firsts count t (q .firsts-held) h))))
+
+    from-sample : (r : Rule) → List·Memᴰ r (sample d .rules) → (t : ℕ) × (t < count) × (rule t ≡ r)
+    from-sample r m =
+        let (i, o, e) = Memᴰ·of-map (ruleOf ns d) (firstsOf ns d) (subst (λ (g : Table). List·Memᴰ r (g .rules)) sample-is m) in
+        let (t, h, f) = taken-place firsts count (q .firsts-held) (subst (List·Memᴰ i) (sym firsts-same) o) in
+        (t, h, rule-same t h ∙ ap (ruleOf ns d) f ∙ e)
+
+    pub sample-drafted : count ≤ 64 → (before after : List ℕ) (r : Drafted) → TablePut before 0 rule count bytes after r → SampleDrafted d before after r
+    sample-drafted few before after (Length m) (p, small, fits) =
+        let e = table-same in
+        let long : m ≡ length (tableBytes (sample d)) = p .next-is ∙ (let z : 0 + length bytes ≡ length bytes = omega arith in z) ∙ ap length e in
+        let k = rules-many in
+        let none : any (contentOver d) (sample d .rules) ≡ false =
+        false-of (any (contentOver d) (sample d .rules))
+        (λ o.
+        let (x, y, w) = any-found (contentOver d) (sample d .rules) o in
+        let (t, h, f) = from-sample x y in
+        not-both w (subst (λ (z : Rule). contentTooLarge standard (z .content) ≡ false) f (fits t h))) in (
+          not-too-large d (all-fit d (omega arith) none (omega arith)),
+          p .is ∙ ap (λ (x : List ℕ). x ++ drop m before) e,
+          long,
+          small,
+        )
+    sample-drafted few before after TooLarge o =
+        let e = ap length table-same in
+        ⊎-elim
+        (λ x. too-large-is d (content-over d (any-of (contentOver d) (in-sample (x .0) (x .1)) (x .2))))
+        (λ x. too-large-is d (bytes-over d (omega arith)))
+        o
+
+-- what the writing asks of the arrays
+module _ {s names sizes children parents types firsts : List ℕ} {n count : ℕ}
+    (r : SampleReady s names sizes children parents types firsts n count) (few : count ≤ 64) where
+  pub nodes-held : NodesHeld parents types children n
+  nodes-held =
+      record {
+        counts-held = r .counts-held;
+        each =
+            λ i h.
+            let w = r .held .whole in
+            let m = w .many in
+            let f = w .few in
+            record {
+              few = r .counts-few i h;
+              many =
+                  ap length (kids-same (r .held) i)
+                  ∙ length-map (kidsOf (w .list) i) (typeAt (w .list) (w .tree))
+                  ∙ kids-count (w .list) (w .one) (w .enough) i (omega arith)
+                  ∙ sym (r .counts-are i h);
+              here = h;
+              parents-held = w .parents-held;
+              types-held = r .held .types-held;
+              fits = omega arith;
+              bytes = λ j k. let b = r .held .typed .small j k in omega arith;
+            };
+      }
+
+  keys-held : {keys : List ℕ} → 1024 ≤ length keys → (i : ℕ) → i < n → KeyAt s names sizes keys i
+  keys-held long i h =
+      let w = r .held .whole in
+      let a = w .names-held in
+      let b = w .sizes-held in
+      let c = w .few in
+      record { name-held = omega arith; size-held = omega arith; key-held = omega arith; within = w .within i h }
+
+  pub firsts-keys : {keys : List ℕ} → 1024 ≤ length keys → KeysAt s names sizes keys firsts count
+  firsts-keys long = record { few = r .held .firsts-held; each = λ t h. keys-held long (getD firsts t 0) (first-below (r .held) t h) }
+
+  module _ {labels lfirsts : List ℕ} {lcount : ℕ} (l : LabelledTo s names sizes firsts labels lfirsts lcount count) where
+    pub labels-keys : {keys : List ℕ} → 1024 ≤ length keys → lcount ≤ length lfirsts → KeysAt s names sizes keys lfirsts lcount
+    labels-keys long held =
+        record {
+          few = held;
+          each =
+              λ t h.
+              keys-held long (getD lfirsts t 0)
+              (taken-below (r .held) (getD lfirsts t 0)
+              (distinct-was (sameNameIn s names sizes) (take count firsts)
+              (subst (List·Memᴰ (getD lfirsts t 0)) (l .firsts-are) (in-taken lfirsts lcount t held h))));
+        }
+
+    pub rules-held : count ≤ length labels → RulesHeld types firsts labels n count
+    rules-held held =
+        let w = r .held .whole in
+        record {
+          few = few;
+          firsts-held = r .held .firsts-held;
+          labels-held = held;
+          types-held = r .held .types-held;
+          nodes-few = w .few;
+          first-nodes = first-below (r .held);
+          type-bytes = λ t h. let b = r .held .typed .small (getD firsts t 0) (first-below (r .held) t h) in omega arith;
+          label-bytes = λ t h. let b = l .small t h in let c = l .few in omega arith;
+        }
+
+pub zeros-at : (n i : ℕ) → _≡_ {A = ℕ} (getD (replicate n 0) i 0) 0
+zeros-at zero i = refl
+zeros-at (suc n) zero = refl
+zeros-at (suc n) (suc i) = zeros-at n i

@@ -1,0 +1,3 @@
+pub mod SampleNodes
+pub mod SampleContents
+pub mod SampleTable

@@ -1,0 +1,49 @@
+-- The contents of a sample, by arrays of parents and types.
+use Prim.Native.Nat.{ℕ, zero, suc, _+_, _-_, _≤_, _<_}
+use mathlib.Core.Bool.{Bool, true, false}
+use mathlib.Core.List.{List, [], _∷_, _++_, map}
+use mathlib.Core.Path.{_≡_}
+use lib.Dec.{eqb}
+use lib.ListN.{length, getD}
+use Rattle.grammar.specs.Lists.{keep, numbersFrom}
+use Rattle.grammar.specs.Content.{Content}
+use Rattle.grammar.specs.Sample.{sequenceOf}
+use Rattle.emitting.specs.declared.drafts.Gathering.{Gathering}
+use Rattle.emitting.specs.declared.drafts.Gathering.the-variants.{TooLarge, Upto}
+use Rattle.emitting.specs.Drafts.{Row, TooWide}
+
+-- the types of a node's children: the later nodes of which it is the parent
+abbrev pub kidTypes : (parents types : List ℕ) → ℕ → ℕ → List ℕ
+kidTypes parents types n i = map (λ (j : ℕ). getD types j 0) (keep (λ (j : ℕ). eqb (getD parents j 0) i) (numbersFrom (suc i) (n - suc i)))
+
+-- the bytes of such a type, if it is one; and of those among the next `m` nodes
+abbrev pub kidBytes : Bool → ℕ → List ℕ
+kidBytes true k = 2 ∷ k ∷ []
+kidBytes false k = []
+
+unfoldable pub kidsBytes : (parents types : List ℕ) → ℕ → ℕ → List ℕ
+kidsBytes parents types i zero = []
+kidsBytes parents types i (suc m) =
+    kidsBytes parents types i m ++ kidBytes (eqb (getD parents (suc i + m) 0) i) (getD types (suc i + m) 0)
+
+-- the arrays hold the children of a node: so many, with types that are bytes
+pub record Kids (parents types : List ℕ) (n i kids : ℕ) : Type 0 where
+  pub few : kids ≤ 200
+  pub many : length (kidTypes parents types n i) ≡ kids
+  pub here : i < n
+  pub parents-held : n ≤ length parents
+  pub types-held : n ≤ length types
+  pub fits : n < 65536
+  pub bytes : (j : ℕ) → j < n → getD types j 0 < 256
+
+-- the child sequence of a node, and those of the nodes of a type, up to a node
+abbrev pub sequenceIn : (parents types : List ℕ) → ℕ → ℕ → Content
+sequenceIn parents types n i = sequenceOf (kidTypes parents types n i)
+
+abbrev pub sequencesAmong : (parents types : List ℕ) → ℕ → ℕ → List ℕ → List Content
+sequencesAmong parents types n k nodes = map (sequenceIn parents types n) (keep (λ (j : ℕ). eqb (getD types j 0) k) nodes)
+
+-- these operands stand in a draft from the fourth place on; or they are too large for a content
+abbrev pub GathersIn : List ℕ → List Content → Gathering → Type 0
+GathersIn draft ds TooLarge = TooWide 1024 ds
+GathersIn draft ds (Upto next count end) = Row draft 4 count ds end × (end ≤ 1028)

@@ -1,0 +1,127 @@
+-- The table of a sample, by arrays: the rule of each type, and whether it is written.
+use Prim.Native.Nat.{ℕ, _+_, _≤_, _<_}
+use mathlib.Core.Bool.{true, false}
+use mathlib.Core.List.{List, [], _∷_, _++_, map}
+use mathlib.Core.Logic.{_⊎_}
+use mathlib.Core.Option.{some as just}
+use mathlib.Core.Path.{_≡_}
+use lib.ListN.{length, getD, drop}
+use Rattle.grammar.specs.Lists.{joinedOf, numbersBelow}
+use Rattle.grammar.specs.Limits.{standard}
+use Rattle.grammar.specs.Content.{Content, choiceOf}
+use Rattle.grammar.specs.Table.{Rule}
+use Rattle.grammar.specs.Fields.{fieldBytes}
+use Rattle.grammar.specs.WriteTable.{ruleBytes, tableBytes}
+use Rattle.grammar.specs.Size.{contentTooLarge}
+use Rattle.grammar.specs.Names.{asciiClasses}
+use Rattle.grammar.specs.Outcome.{given, refused}
+use Rattle.grammar.specs.Tree.{Tree}
+use Rattle.grammar.specs.ReadDocument.{Node, readNodes}
+use Rattle.grammar.specs.Sample.{sample}
+use Rattle.grammar.specs.Widen.{sampleTable}
+use Rattle.grammar.specs.declared.Refusal.the-variants.{ResultTooLarge}
+use Rattle.reader.specs.declared.documents.DocumentIndex.{DocumentIndex}
+use Rattle.reader.specs.DocumentNodes.{nodesIn, Indexed}
+use Rattle.theory.proofs.Gathering.{gathered}
+use Rattle.reader.specs.ExprAt.{_upTo_, exprAt}
+use Rattle.emitting.specs.declared.writing.Drafted.{Drafted}
+use Rattle.emitting.specs.declared.writing.Drafted.the-variants.{Length, TooLarge}
+use Rattle.emitting.specs.Writing.{Put}
+use Rattle.sampling.specs.SampleNodes.{nameIn, Whole, TypedTo}
+use Rattle.sampling.specs.SampleContents.{Kids, sequencesAmong}
+
+-- the content of a type, and its rule
+abbrev pub contentIn : (parents types : List ℕ) → ℕ → ℕ → Content
+contentIn parents types n k = choiceOf (gathered [] (sequencesAmong parents types n k (numbersBelow n)))
+
+abbrev pub ruleIn : (parents types firsts labels : List ℕ) → ℕ → ℕ → Rule
+ruleIn parents types firsts labels n t =
+    record {
+      type = getD types (getD firsts t 0) 0;
+      label = getD labels t 0;
+      content = contentIn parents types n (getD types (getD firsts t 0) 0);
+    }
+
+-- the content stands in a draft from the second place on; or it is too large
+abbrev pub ContentMade : List ℕ → Content → Drafted → Type 0
+ContentMade draft c (Length stop) =
+    (exprAt draft 2 ≡ just (c upTo stop)) × (stop ≤ 1026) × (contentTooLarge standard c ≡ false)
+ContentMade draft c TooLarge = contentTooLarge standard c ≡ true
+
+-- what the nodes' arrays hold
+pub record NodesHeld (parents types children : List ℕ) (n : ℕ) : Type 0 where
+  pub counts-held : n ≤ length children
+  pub each : (i : ℕ) → i < n → Kids parents types n i (getD children i 0)
+
+-- a rule is written; or its content, or the whole, is too large
+abbrev pub RulePuts : List ℕ → ℕ → Rule → List ℕ → Drafted → Type 0
+RulePuts before at r after (Length n) =
+    Put before at (fieldBytes 0x12 (ruleBytes r)) after n × (n ≤ 32768) × (contentTooLarge standard (r .content) ≡ false)
+RulePuts before at r after TooLarge =
+    (contentTooLarge standard (r .content) ≡ true) ⊎ (32768 < at + length (fieldBytes 0x12 (ruleBytes r)))
+
+-- the fields of labels and of rules, by number
+abbrev pub labelField : (s names sizes firsts : List ℕ) → ℕ → List ℕ
+labelField s names sizes firsts l = fieldBytes 0x10 (nameIn s names sizes (getD firsts l 0))
+
+abbrev pub ruleField : (ℕ → Rule) → ℕ → List ℕ
+ruleField rule t = fieldBytes 0x12 (ruleBytes (rule t))
+
+-- these bytes are written, and the rules' contents are not too large; or one of them, or the whole, is
+abbrev pub TablePut : List ℕ → ℕ → (ℕ → Rule) → ℕ → List ℕ → List ℕ → Drafted → Type 0
+TablePut before at rule count bytes after (Length n) =
+    Put before at bytes after n × (n ≤ 32768) × ((t : ℕ) → t < count → contentTooLarge standard (rule t .content) ≡ false)
+TablePut before at rule count bytes after TooLarge =
+    ((t : ℕ) × (t < count) × (contentTooLarge standard (rule t .content) ≡ true)) ⊎ (32768 < at + length bytes)
+
+abbrev pub rulesBytes : (ℕ → Rule) → ℕ → List ℕ
+rulesBytes rule count = joinedOf (ruleField rule) (numbersBelow count)
+
+abbrev pub RulesPut : List ℕ → ℕ → (ℕ → Rule) → ℕ → List ℕ → Drafted → Type 0
+RulesPut before at rule count after r = TablePut before at rule count (rulesBytes rule count) after r
+
+-- the rules and the end; the start, the rules and the end
+abbrev pub restBytes : (ℕ → Rule) → ℕ → List ℕ
+restBytes rule count = rulesBytes rule count ++ fieldBytes 0x1F []
+
+abbrev pub startBytes : (ℕ → Rule) → ℕ → List ℕ
+startBytes rule count = fieldBytes 0x11 (0 ∷ []) ++ restBytes rule count
+
+-- the arrays hold the first node and the label of each type
+pub record RulesHeld (types firsts labels : List ℕ) (n count : ℕ) : Type 0 where
+  pub few : count ≤ 64
+  pub firsts-held : count ≤ length firsts
+  pub labels-held : count ≤ length labels
+  pub types-held : n ≤ length types
+  pub nodes-few : n ≤ 1024
+  pub first-nodes : (t : ℕ) → t < count → getD firsts t 0 < n
+  pub type-bytes : (t : ℕ) → t < count → getD types (getD firsts t 0) 0 < 256
+  pub label-bytes : (t : ℕ) → t < count → getD labels t 0 < 256
+
+-- the arrays hold the nodes of a tree and their types
+pub record SampleHeld (s names sizes parents types firsts : List ℕ) (n count : ℕ) : Type 0 where
+  pub whole : Whole s names sizes parents n
+  pub typed : TypedTo (whole .list) (whole .tree) types firsts count n
+  pub types-held : n ≤ length types
+  pub firsts-held : count ≤ length firsts
+
+-- The sample of a document is written from the draft's beginning, and the rest of the draft is kept; or it is too large.
+abbrev pub SampleDrafted : Tree → List ℕ → List ℕ → Drafted → Type 0
+SampleDrafted d before after (Length n) =
+    (sampleTable standard d ≡ given (sample d))
+    × (after ≡ tableBytes (sample d) ++ drop n before)
+    × (n ≡ length (tableBytes (sample d)))
+    × (n ≤ 32768)
+SampleDrafted d before after TooLarge = sampleTable standard d ≡ refused ResultTooLarge
+
+-- a document's nodes are those that an index holds
+pub record Indexes (s : List ℕ) (ix : DocumentIndex) : Type 0 where
+  pub reads : readNodes standard asciiClasses s ≡ given (nodesIn s ix)
+  pub indexed : Indexed s (ix .names) (ix .sizes) (ix .children) (ix .nodes)
+
+-- and the child counts
+pub record SampleReady (s names sizes children parents types firsts : List ℕ) (n count : ℕ) : Type 0 where
+  pub held : SampleHeld s names sizes parents types firsts n count
+  pub counts-held : n ≤ length children
+  pub counts-are : (i : ℕ) → i < n → getD children i 0 ≡ getD (map (λ (m : Node). m .children) (held .whole .list)) i 0
+  pub counts-few : (i : ℕ) → i < n → getD children i 0 ≤ 200

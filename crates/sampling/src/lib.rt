@@ -1,0 +1,2 @@
+// The sample of a document as a table.
+pub mod sample;
