@@ -1,51 +1,41 @@
+-- `draft_by_document` meets its contract: the refusal of the old table, else what widening by the sample made.
+use Rattle.reader.proofs.TableFound.{table-found}
+use Rattle.widening.specs.Widened.{kindOf}
+use Rattle.widening.specs.WideningCalls.{sampledTo}
 use borrow.Author.Needs.{needs}
+use Rattle.widening.proofs.CallLaws as laws
 use Rattle.widening.proofs.calls.draft_by_document.Statement.{statement}
 use Rattle.widening.proofs.calls.draft_by_document.Tie as tie
-use Rattle.widening.proofs.calls.draft_by_document.Reads as reads
-use Rattle.widening.proofs.calls.draft_by_document.Lts as lts
-use Rattle.reader.proofs.tables.read_table.Reads as read-table-reads
-use Rattle.widening.proofs.calls.widen_by_sample.Reads as widen-by-sample-reads
 
--- src/calls.rt:147:9
-read-table-requires : tie.Need-read-table-requires
-read-table-requires c κs = search needs
-
--- src/calls.rt:149:29
-enum-known-readable : tie.Need-enum-known-readable
-enum-known-readable c = search needs
-
--- src/calls.rt:150:9
 returns : tie.Need-returns
-returns c = ?
+returns c =
+    let a = c .before .before .before .before .before .before .before .before .args in
+    let t = c .before .before .before .read-table in
+    laws.old-refuses (a .old .now) (t .result) (t .ensures) (λ g. sampledTo (kindOf (a .kind)) g (a .document .now)) _
+    (laws.by-document-reads (kindOf (a .kind)) (a .old .now) (a .document .now)) _ _ (c .before .readable .given .1)
 
-enum-told : tie.Need-enum-told
-enum-told c = search needs
-
--- src/calls.rt:152:5
 widen-by-sample-requires : tie.Need-widen-by-sample-requires
-widen-by-sample-requires c κs = ?
+widen-by-sample-requires c κs =
+    let a = c .before .before .before .before .before .before .before .before .before .args in
+    let t = c .before .before .before .before .read-table in
+    (laws.found-held (table-found (a .old .now) (t .result) (t .ensures) (c .before .before .enum-told .given .1)), c .before .before .before .before .before .before .before .before .before .pre .0, c .before .before .before .before .before .before .before .before .before .pre .1)
 
--- src/calls.rt:137:1
-same-length : tie.Need-same-length
-same-length c = search needs
-
--- src/calls.rt:137:1
-same-length-2 : tie.Need-same-length-2
-same-length-2 c = search needs
-
--- src/calls.rt:137:1
 returns-2 : tie.Need-returns-2
-returns-2 c = ?
+returns-2 c =
+    let a = c .before .before .before .before .before .before .before .before .before .before .before .before .before .before .args in
+    let t = c .before .before .before .before .before .before .before .before .before .read-table in
+    laws.old-goes-on (a .old .now) (t .result) (t .ensures) (λ g. sampledTo (kindOf (a .kind)) g (a .document .now)) _
+    (laws.by-document-reads (kindOf (a .kind)) (a .old .now) (a .document .now)) _ (c .before .before .before .before .before .before .before .enum-told .given .1) (c .before .before .before .before .widen-by-sample .result) (c .before .before .before .before .widen-by-sample .ensures)
 
 pub draft-by-document-spec : {M : Type 1} → statement M
 draft-by-document-spec =
     tie.close
     (tie.spec
-    read-table-requires
-    enum-known-readable
+    (λ c κs. search needs)
+    (λ c. search needs)
     returns
-    enum-told
+    (λ c. search needs)
     widen-by-sample-requires
-    same-length
-    same-length-2
+    (λ c. search needs)
+    (λ c. search needs)
     returns-2)

@@ -1,51 +1,41 @@
+-- `draft_by_table` meets its contract: the refusal of the old table, else what reading the addition and widening by it made.
+use Rattle.reader.proofs.TableFound.{table-found}
+use Rattle.widening.specs.Widened.{kindOf}
+use Rattle.widening.specs.WideningCalls.{addedTo}
 use borrow.Author.Needs.{needs}
+use Rattle.widening.proofs.CallLaws as laws
 use Rattle.widening.proofs.calls.draft_by_table.Statement.{statement}
 use Rattle.widening.proofs.calls.draft_by_table.Tie as tie
-use Rattle.widening.proofs.calls.draft_by_table.Reads as reads
-use Rattle.widening.proofs.calls.draft_by_table.Lts as lts
-use Rattle.reader.proofs.tables.read_table.Reads as read-table-reads
-use Rattle.widening.proofs.calls.read_and_widen.Reads as read-and-widen-reads
 
--- src/calls.rt:92:9
-read-table-requires : tie.Need-read-table-requires
-read-table-requires c κs = search needs
-
--- src/calls.rt:94:29
-enum-known-readable : tie.Need-enum-known-readable
-enum-known-readable c = search needs
-
--- src/calls.rt:95:9
 returns : tie.Need-returns
-returns c = ?
+returns c =
+    let a = c .before .before .before .before .before .before .before .before .args in
+    let t = c .before .before .before .read-table in
+    laws.old-refuses (a .old .now) (t .result) (t .ensures) (λ g. addedTo (kindOf (a .kind)) g (a .addition .now)) _
+    (laws.by-table-reads (kindOf (a .kind)) (a .old .now) (a .addition .now)) _ _ (c .before .readable .given .1)
 
-enum-told : tie.Need-enum-told
-enum-told c = search needs
-
--- src/calls.rt:97:5
 read-and-widen-requires : tie.Need-read-and-widen-requires
-read-and-widen-requires c κs = ?
+read-and-widen-requires c κs =
+    let a = c .before .before .before .before .before .before .before .before .before .args in
+    let t = c .before .before .before .before .read-table in
+    (laws.found-held (table-found (a .old .now) (t .result) (t .ensures) (c .before .before .enum-told .given .1)), c .before .before .before .before .before .before .before .before .before .pre .0, c .before .before .before .before .before .before .before .before .before .pre .1)
 
--- src/calls.rt:82:1
-same-length : tie.Need-same-length
-same-length c = search needs
-
--- src/calls.rt:82:1
-same-length-2 : tie.Need-same-length-2
-same-length-2 c = search needs
-
--- src/calls.rt:82:1
 returns-2 : tie.Need-returns-2
-returns-2 c = ?
+returns-2 c =
+    let a = c .before .before .before .before .before .before .before .before .before .before .before .before .before .before .args in
+    let t = c .before .before .before .before .before .before .before .before .before .read-table in
+    laws.old-goes-on (a .old .now) (t .result) (t .ensures) (λ g. addedTo (kindOf (a .kind)) g (a .addition .now)) _
+    (laws.by-table-reads (kindOf (a .kind)) (a .old .now) (a .addition .now)) _ (c .before .before .before .before .before .before .before .enum-told .given .1) (c .before .before .before .before .read-and-widen .result) (c .before .before .before .before .read-and-widen .ensures)
 
 pub draft-by-table-spec : {M : Type 1} → statement M
 draft-by-table-spec =
     tie.close
     (tie.spec
-    read-table-requires
-    enum-known-readable
+    (λ c κs. search needs)
+    (λ c. search needs)
     returns
-    enum-told
+    (λ c. search needs)
     read-and-widen-requires
-    same-length
-    same-length-2
+    (λ c. search needs)
+    (λ c. search needs)
     returns-2)
