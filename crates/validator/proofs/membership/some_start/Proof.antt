@@ -1,7 +1,7 @@
 -- `some_start` meets its contract: no start before `start` is in the set.
 use Prim.Native.Nat.{ℕ, _-_, _<_}
 use native.Mathlib.Omega.{arith}
-use mathlib.Core.Bool.{Bool, false}
+use mathlib.Core.Bool.{false}
 use mathlib.Core.Path.{_≡_, sym, _∙_, ap}
 use borrow.Author.Count.{below-more}
 use borrow.Author.Needs.{needs}
