@@ -1,11 +1,12 @@
 // The answers of the calls, as numbers.
 ghost use mathlib.Core.Path.{_≡_};
-ghost use Rattle.grammar.specs.Answers.{readingNumbers, verdictNumbers};
+ghost use Rattle.grammar.specs.Answers.{readingNumbers, verdictNumbers, writtenNumbers};
 ghost use Rattle.vectors.specs.Checksum.{checksum};
 use crate::places::place_of;
 use crate::sums::byte_sum;
 use grammar::Reading;
 use grammar::Verdict;
+use grammar::Written;
 use reader::calls::document_reads;
 use reader::calls::label_name;
 use reader::calls::number_of;
@@ -13,6 +14,11 @@ use reader::calls::table_reads;
 use validator::calls::is_local;
 use validator::calls::is_single_type;
 use validator::calls::lets_in;
+use widening::calls::sample;
+use widening::calls::widen_local_by_document;
+use widening::calls::widen_local_by_table;
+use widening::calls::widen_single_type_by_document;
+use widening::calls::widen_single_type_by_table;
 
 // A refusal's number or 0, the value, and the checksum of what was written or, for a name, of the part that came back.
 pub struct Told {
@@ -66,6 +72,26 @@ fn of_verdict(answer: Verdict, outsum: u32) -> Told
     }
 }
 
+// The numbers of a call that writes.
+fn of_written(answer: Written, outsum: u32) -> Told
+    ensures refusal { λ r. ⌜ r .refusal ≡ writtenNumbers answer .refusal ⌝ }
+    ensures value { λ r. ⌜ r .value ≡ writtenNumbers answer .value ⌝ }
+    ensures outsum { λ r. ⌜ r .outsum ≡ outsum ⌝ }
+{
+    match answer {
+        Written::Length(n) => Told {
+            refusal: 0,
+            value: n as u64,
+            outsum: outsum,
+        },
+        Written::Refused(r) => Told {
+            refusal: number_of(r),
+            value: 0,
+            outsum: outsum,
+        },
+    }
+}
+
 // The numbers of a name: where it stands, times 65,536, and its length.
 fn of_name(refusal: u32, table: &[u8], name: &[u8]) -> Told
     ensures refusal { λ r. ⌜ r .refusal ≡ refusal ⌝ }
@@ -94,6 +120,16 @@ fn label_told(table: &[u8], label: usize, work: &mut [u32]) -> Told {
     of_name(refusal, table, name)
 }
 
+// The widening of this number, of the first input by the second.
+fn widened(call: u8, first: &[u8], second: &[u8], out: &mut [u8], work: &mut [u32]) -> Written {
+    match call {
+        8 => widen_local_by_table(first, second, out, work),
+        9 => widen_local_by_document(first, second, out, work),
+        10 => widen_single_type_by_table(first, second, out, work),
+        _ => widen_single_type_by_document(first, second, out, work),
+    }
+}
+
 // Runs the call of this number on its inputs and lent slices.
 pub fn answer(
     call: u8,
@@ -110,7 +146,8 @@ pub fn answer(
         4 => of_verdict(lets_in(first, second, work), byte_sum(out)),
         5 => of_verdict(is_local(first, work), byte_sum(out)),
         6 => of_verdict(is_single_type(first, work), byte_sum(out)),
-        // 7 sample(first, out, work), 8 to 11 the widenings of first by second: with crate widening
+        7 => of_written(sample(first, out, work), byte_sum(out)),
+        8..=11 => of_written(widened(call, first, second, out, work), byte_sum(out)),
         _ => Told {
             refusal: 99,
             value: 0,
