@@ -979,6 +979,104 @@ def meaning_cases(cases):
         cases.add(LETS_IN, ref.sample(document(a_tree), 33000, 16384).written, document(a_tree))
 
 
+# ---------------------------------------------------------------- wide tables
+
+def chained(count, name='a'):
+    """`count` types of one label, each with the next below it."""
+    return table([0], [(i, name, optional(t(i + 1)) if i + 1 < count else EMPTY) for i in range(count)])
+
+
+def many_labels(type_, count):
+    """One type with `count` labels, all of them leaves."""
+    return [(type_, 'm%02d' % i, EMPTY) for i in range(count)]
+
+
+def crossed(modulus, step):
+    """64 rules over `modulus` labels; each content leads to a later type and back to an earlier one."""
+    return table([0, 1], [(i, 'x%02d' % (i % modulus), choice(seq(t((i + step) % 64), optional(t((i + 2) % 64))),
+                                                              any_of(t(i // 2)), EMPTY)) for i in range(64)])
+
+
+def gone_cases(cases):
+    """Contents over a limit that reducing takes away, so that nothing is over it in the result."""
+    made = operands(256)
+    wide = any_of(choice(choice(*made[:100]), choice(*made[100:])))
+    heavy = seq(*[t(1)] * 250)                        # 26 labels: 13,502 bytes in the result
+    steep = deep(29, t(1))                            # two labels: one deeper in the result
+    for body, leaf in ((wide, leaves(63)), (heavy, many_labels(1, 26)), (steep, many_labels(1, 2))):
+        for gone in (seq(body, NONE), some_of(NONE), seq(some_of(NONE), body), optional(seq(body, NONE)),
+                     any_of(seq(NONE, body)), seq(body, t(0))):
+            cases.widen(table([0], [(0, 'r', choice(gone, any_of(EMPTY)))] + leaf), E)
+        cases.widen(table([0], [(0, 'r', EMPTY), (0, 's', seq(body, NONE))] + leaf[:62]), E)
+        body = any_of(body, 3)
+        unreached = table([0], [(0, 'r', t(1)), (63, 'r', body)] + leaf[:62])
+        cases.widen(unreached, E)
+        cases.widen_doc(unreached, doc('r'))
+        cases.widen(E, table([0], [(0, 'r', body)] + leaf))
+    # The same operand many times, or the same content twice, is kept once.
+    for count in (2, 30, 62):
+        leaf = many_labels(1, count)
+        for content in (choice(*[t(1)] * 255), choice(*[any_of(t(1))] * 255), choice(*[any_of(t(1)), t(1)] * 127),
+                        any_of(choice(t(1), choice(t(1), optional(EMPTY), t(1)), optional(EMPTY))),
+                        some_of(choice(*[seq(t(1), EMPTY)] * 100)), seq(any_of(t(1)), t(1), optional(t(1)))):
+            cases.widen(table([0], [(0, 'r', content)] + leaf), E)
+    for length in (1022, 1023, 1024):
+        content = seq(*[any_of(t(1), 2)] * 254 + [any_of(t(1), length - 1020)])
+        old = table([0], [(0, 'r', content), (1, 'c', EMPTY)])
+        other = table([7], [(7, 'r', content.replace(t(1), t(9))), (9, 'c', EMPTY)])
+        cases.widen(old, old)
+        cases.widen(old, other)
+        cases.widen_doc(old, doc('r', tree('c')))
+
+
+def wide_cases(cases):
+    gone_cases(cases)
+    # 1,024 and 1,025 bytes by the labels of a type.
+    for count in (3, 5, 9, 31, 60):
+        each = 2 + 2 * count
+        for length in (1024, 1025):
+            spare = (length - 2) % each
+            body = [t(1)] * ((length - 2) // each - (0 if spare > 1 else 1))
+            spare = length - 2 - each * len(body)
+            body += [seq(*[EMPTY] * (spare - 2))] if 3 < spare else [any_of(EMPTY, spare - 1)]
+            cases.widen(table([0], [(0, 'r', seq(*body))] + many_labels(1, count)), E, out='exact')
+    # 64 and 65 sets; to local there are two types.
+    for count in (62, 63, 64):
+        cases.widen(chained(count), table([0], [(0, 'b', EMPTY)]), out='exact')
+        cases.widen(table([0], [(0, 'b', EMPTY)]), chained(count))
+        cases.widen(chained(count), chained(65 - count))
+        cases.widen(chained(count), chained(count))
+        cases.widen_doc(chained(count), document(chain(count)))
+        cases.widen_doc(chained(count), document(tree('b', chain(5))))
+    # 128 labels, of which few are used; the same names in another order.
+    few = [(0, 'n63', any_of(t(1))), (1, 'n00', EMPTY), (1, 'n31', optional(t(0)))]
+    cases.widen(table([0], few, names_of(64, 3)), table([0], [(0, 'k63', t(1)), (1, 'k00', EMPTY)],
+                                                         ['k%02d' % i for i in range(64)]))
+    cases.widen(table([0], few, names_of(64, 3)), table([0], few, names_of(64, 3)[::-1]))
+    cases.widen(table([0], few, names_of(64, 3)), table([0], few, ['a' * 63] + names_of(62, 3)[::-1] + ['n63']))
+    cases.widen(table([0], [(0, 'n' * 63, t(1)), (1, 'n' * 62, EMPTY)]), table([0], [(0, 'n' * 62 + 'm', EMPTY)]))
+    # 128 rules.
+    for modulus in (1, 2, 3, 5, 8, 16, 32, 64):
+        cases.widen(crossed(modulus, 1), crossed(modulus, 7))
+        cases.widen(crossed(modulus, 3), crossed(max(1, modulus // 2), 5))
+        cases.widen(crossed(modulus, 1), E)
+    # An input that is too long, in each place.
+    over = padded_table(32769)
+    for call in BY_TABLE:
+        cases.add(call, over, E)
+        cases.add(call, E, over)
+        cases.add(call, E + b'\x00', over)
+    for call in BY_DOCUMENT:
+        cases.add(call, over, GOOD_DOC)
+        cases.add(call, GOOD_TABLE, padded_document(32769))
+    for number in range(120):
+        numbers = Numbers(510000 + number)
+        first, second = wide_table(numbers), wide_table(numbers)
+        cases.add(BY_TABLE[number % 2], first, second)
+        cases.add(BY_TABLE[(number + 1) % 2], second, E)
+        cases.add(BY_DOCUMENT[number % 2], first, random_document(numbers, first, WIDE_POOL))
+
+
 # ---------------------------------------------------------------- random cases
 
 POOL = ['a', 'b', 'c', 'd', 'list', 'card', 'x-1', 'A']
@@ -1038,6 +1136,18 @@ def rich_table(numbers, pool=POOL, largest=9):
     if numbers.chance(30):      # rules in another order
         for _ in range(len(rules)):
             rules.append(rules.pop(numbers.below(len(rules))))
+    return table([0] if numbers.chance(70) else [1, 0], rules[:64], names)
+
+
+WIDE_POOL = ['w%d' % i for i in range(12)]
+
+
+def wide_table(numbers):
+    """Types with many labels each and contents that repeat them, so that results come near the limits."""
+    types = list(range(numbers.between(2, 6)))
+    names = WIDE_POOL[:numbers.between(2, 12)]
+    rules = [(type_, name, EMPTY if numbers.chance(40) else random_content(numbers, types, numbers.between(1, 5)))
+             for type_ in types for name in names if numbers.chance(70)]
     return table([0] if numbers.chance(70) else [1, 0], rules[:64], names)
 
 
@@ -1256,6 +1366,7 @@ def made_cases(cases):
     edge_cases(cases)
     limit_cases(cases)
     meaning_cases(cases)
+    wide_cases(cases)
 
 
 def all_cases(seed, count):
