@@ -1,0 +1,2 @@
+pub mod UnionFit
+pub mod SetsFound
