@@ -1,2 +1,4 @@
+pub mod KeptLists
 pub mod UnionFit
+pub mod StandingPairs
 pub mod SetsFound

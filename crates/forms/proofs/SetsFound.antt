@@ -22,10 +22,7 @@ use Rattle.grammar.specs.SingleTypeForm.{TypeSet, startSets, setsMet, moreSets}
 use Rattle.pairs.specs.PairNumbers.{ruleAt, isLeft, isStart, metIn}
 use Rattle.forms.specs.SetForms.{labelled, labelSets, singleTypeSets, metWithin}
 use Rattle.forms.specs.SetWords.{Ascending}
-
--- all of a set are left
-abbrev pub AllLeft : Table → TypeSet → Type 0
-AllLeft u s = (p : ℕ) → List·Memᴰ p s → isLeft u p ≡ true
+use Rattle.forms.proofs.StandingPairs.{AllLeft}
 
 -- the sets that the pairs met in a set give, in meeting order, one for each pair
 abbrev pub setsOfMet : Table → TypeSet → List TypeSet
