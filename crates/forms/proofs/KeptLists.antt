@@ -1,13 +1,14 @@
 -- Laws of lists for the forms by sets. Of what is kept, and of images:
---   keep-on, joined-on, map-itself    tests and functions that agree on the elements of a list
+--   keep-on, map-on, map-itself, joined-on    tests and functions that agree on the elements of a list
+--   keep-nothing                      nothing is kept where nothing passes the test
 --   any-map, place-image              some image passes a test; the place of an image
 --   some-mem, mem-some                a list that is not empty has an element
 --   in-kept                           a number is kept of a list that has it just where it passes the test
--- Of lists by places: same-at, numbered. Of distinct elements:
+-- Of lists by places: same-at, numbered, past-nothing; kept-below. Of distinct elements:
 --   first-itself     an element of the distinct ones stands at its own place
 --   distinct-append  of two lists joined: of the second those that are not in the first
---   distinct-on, distinct-image, distinct-longer
-use Prim.Native.Nat.{ℕ, zero, suc, _≤_}
+--   distinct-all, distinct-on, distinct-image, distinct-longer
+use Prim.Native.Nat.{ℕ, zero, suc, _+_, _-_, _≤_}
 use native.Mathlib.Omega.{arith}
 use mathlib.Core.Bool.{Bool, true, false, not, _||_, false≢true}
 use mathlib.Core.List.{
@@ -16,21 +17,23 @@ use mathlib.Core.List.{
   _∷_,
   _++_,
   append-assoc,
+  append-nil,
   map,
+  map-id,
   List·Memᴰ,
   List·Memᴰ·head,
   List·Memᴰ·tail,
   List·Memᴰ·cases-cons,
 }
 use mathlib.Core.Logic.{_↔_, ⊎-elim}
-use mathlib.Core.Option.{some as just}
+use mathlib.Core.Option.{none as nothing, some as just}
 use mathlib.Core.Path.{_≡_, refl, sym, _∙_, ap, ap₂, subst}
 use lib.ListN.{length, length-append, length-map, getElem?, getD}
 use lib.Dec.{eqb}
 use borrow.Author.Tests.{not-true}
-use Rattle.grammar.specs.Lists.{any, keep, distinct, place, joinedOf, isIn, numbersFrom, numbersBelow}
+use Rattle.grammar.specs.Lists.{any, keep, distinct, allDistinct, place, joinedOf, isIn, numbersFrom, numbersBelow}
 use Rattle.grammar.specs.ReadTable.{isEmpty}
-use Rattle.theory.proofs.BoolLaws.{same-test, false-of, not-both, or-false}
+use Rattle.theory.proofs.BoolLaws.{and-left, and-right, same-test, false-of, not-both, or-false}
 use Rattle.theory.proofs.ListLaws.{
   any-of,
   keep-yes,
@@ -41,6 +44,8 @@ use Rattle.theory.proofs.ListLaws.{
   kept,
   distinct-was,
   at-map,
+  mem-at,
+  numbers-below,
   at-else,
   numbers-at,
   numbers-length,
@@ -60,9 +65,11 @@ module _ {A : Type 0} where
           keep-yes p x xs (h x (List·Memᴰ·head refl) ∙ e) ∙ ap (λ (l : List A). x ∷ l) ih ∙ sym (keep-yes q x xs e)
       go false e ih = keep-no p x xs (h x (List·Memᴰ·head refl) ∙ e) ∙ ih ∙ sym (keep-no q x xs e)
 
-  pub map-itself : (f : A → A) (xs : List A) → ((x : A) → List·Memᴰ x xs → f x ≡ x) → map f xs ≡ xs
-  map-itself f [] h = refl
-  map-itself f (x ∷ xs) h = ap₂ _∷_ (h x (List·Memᴰ·head refl)) (map-itself f xs (λ y m. h y (List·Memᴰ·tail m)))
+  pub keep-nothing : (test : A → Bool) (xs : List A) → ((x : A) → List·Memᴰ x xs → test x ≡ false) → keep test xs ≡ []
+  unfolding keep
+  keep-nothing test [] h = refl
+  keep-nothing test (x ∷ xs) h =
+      keep-no test x xs (h x (List·Memᴰ·head refl)) ∙ keep-nothing test xs (λ y m. h y (List·Memᴰ·tail m))
 
   pub some-mem : (xs : List A) → not (isEmpty xs) ≡ true → (x : A) × List·Memᴰ x xs
   some-mem [] e = absurd (false≢true e)
@@ -71,6 +78,12 @@ module _ {A : Type 0} where
   pub mem-some : {x : A} {xs : List A} → List·Memᴰ x xs → not (isEmpty xs) ≡ true
   mem-some (List·Memᴰ·head e) = refl
   mem-some (List·Memᴰ·tail m) = refl
+
+  -- past the end nothing stands
+  pub past-nothing : (xs : List A) (i : ℕ) → length xs ≤ i → getElem? xs i ≡ nothing
+  past-nothing [] i h = refl
+  past-nothing (x ∷ xs) zero h = absurd (omega arith)
+  past-nothing (x ∷ xs) (suc i) h = past-nothing xs i (omega arith)
 
   -- lists that have the same at each place are equal
   pub same-at : (xs ys : List A) → length xs ≡ length ys
@@ -165,6 +178,20 @@ module _ {A : Type 0} where
         in
         omega arith
 
+  -- elements that all differ are the distinct ones
+  pub distinct-all : (same : A → A → Bool) (xs : List A) → allDistinct same xs ≡ true → distinct same xs ≡ xs
+  unfolding distinct allDistinct
+  distinct-all same [] d = refl
+  distinct-all same (x ∷ xs) d =
+      let new = not (any (same x) xs) in
+      ap (λ (l : List A). x ∷ l)
+      (ap (keep (λ y. not (same x y))) (distinct-all same xs (and-right new (allDistinct same xs) d))
+      ∙ keep-all (λ y. not (same x y)) xs
+      (λ y m.
+      ap not
+      (false-of (same x y)
+      (λ e. not-both (any-of (same x) m e) (not-true (any (same x) xs) (and-left new (allDistinct same xs) d))))))
+
   pub distinct-on : (p q : A → A → Bool) (xs : List A)
       → ((x y : A) → List·Memᴰ x xs → List·Memᴰ y xs → p x y ≡ q x y)
       → distinct p xs ≡ distinct q xs
@@ -177,6 +204,10 @@ module _ {A : Type 0} where
       (λ y m. ap not (h x y (List·Memᴰ·head refl) (List·Memᴰ·tail (distinct-was q xs m)))))
 
 module _ {A B : Type 0} where
+  pub map-on : (f g : A → B) (xs : List A) → ((x : A) → List·Memᴰ x xs → f x ≡ g x) → map f xs ≡ map g xs
+  map-on f g [] h = refl
+  map-on f g (x ∷ xs) h = ap₂ _∷_ (h x (List·Memᴰ·head refl)) (map-on f g xs (λ y m. h y (List·Memᴰ·tail m)))
+
   pub joined-on : (f g : A → List B) (xs : List A) → ((x : A) → List·Memᴰ x xs → f x ≡ g x) → joinedOf f xs ≡ joinedOf g xs
   unfolding joinedOf
   joined-on f g [] h = refl
@@ -226,7 +257,45 @@ module _ {A B : Type 0} where
             (false-of (p x y)
             (λ s. not-both (q-decides (f x) (f y) .1 (ap f (p-decides x y .0 s))) (not-true (q (f x) (f y)) e)))
 
+pub map-itself : {A : Type 0} (f : A → A) (xs : List A) → ((x : A) → List·Memᴰ x xs → f x ≡ x) → map f xs ≡ xs
+map-itself f xs h = map-on f (λ x. x) xs h ∙ map-id xs
+
 pub in-kept : (test : ℕ → Bool) (n : ℕ) (ns : List ℕ) → List·Memᴰ n ns → isIn n (keep test ns) ≡ test n
 in-kept test n ns m =
     same-test (isIn n (keep test ns)) (test n)
     (λ e. kept test ns (in-mem n (keep test ns) e) .1, λ e. mem-in (keep-mem test m e))
+
+-- the numbers below a bound, and those that follow
+numbers-joined : (a m k : ℕ) → numbersFrom a (m + k) ≡ numbersFrom a m ++ numbersFrom (a + m) k
+unfolding numbersFrom
+numbers-joined a zero k =
+    let z : zero + k ≡ k = omega arith in
+    let y : a ≡ a + zero = omega arith in
+    ap₂ numbersFrom y z
+numbers-joined a (suc m) k =
+    let z : suc m + k ≡ suc (m + k) = omega arith in
+    let y : suc a + m ≡ a + suc m = omega arith in
+    ap (numbersFrom a) z
+    ∙ ap (λ (l : List ℕ). a ∷ l)
+    (numbers-joined (suc a) m k ∙ ap (λ (b : ℕ). numbersFrom (suc a) m ++ numbersFrom b k) y)
+
+-- what is kept of the numbers below a bound, told by a larger bound
+pub kept-below : (test : ℕ → Bool) (n m : ℕ) → n ≤ m
+    → keep (λ p. isIn p (keep test (numbersBelow n))) (numbersBelow m) ≡ keep test (numbersBelow n)
+unfolding numbersBelow
+kept-below test n m h =
+    let few : List ℕ = keep test (numbersBelow n) in
+    let z : m ≡ n + (m - n) = omega arith in
+    ap (λ (k : ℕ). keep (λ p. isIn p few) (numbersBelow k)) z
+    ∙ ap (keep (λ p. isIn p few)) (numbers-joined zero n (m - n))
+    ∙ keep-append (λ p. isIn p few) (numbersBelow n) (numbersFrom (zero + n) (m - n))
+    ∙ ap₂ _++_ (keep-on (λ p. isIn p few) test (numbersBelow n) (λ p o. in-kept test p (numbersBelow n) o))
+    (keep-nothing (λ p. isIn p few) (numbersFrom (zero + n) (m - n))
+    (λ p o.
+    false-of (isIn p few)
+    (λ e.
+    let low = numbers-below n p .0 (kept test (numbersBelow n) (in-mem p few e) .0) in
+    let (i, at) = mem-at o in
+    let high = numbers-at (zero + n) (m - n) i at in
+    omega arith)))
+    ∙ append-nil few
