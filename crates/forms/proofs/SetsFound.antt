@@ -12,19 +12,21 @@ use mathlib.Core.Bool.{Bool, true, not, _&&_}
 use mathlib.Core.List.{
   List,
   [],
+  _∷_,
   _++_,
   append-assoc,
   append-nil,
   map,
   map-map,
   List·Memᴰ,
+  List·Memᴰ·head,
   List·Memᴰ·append-cases,
   Memᴰ·of-map,
 }
 use mathlib.Core.Logic.{_↔_, ⊎-elim}
 use mathlib.Core.Option.{Option, none as nothing, some as just}
 use mathlib.Core.Path.{_≡_, refl, sym, _∙_, ap, ap₂, subst, fun-ext}
-use lib.ListN.{length, length-append, getElem?}
+use lib.ListN.{length, length-append, getElem?, getD}
 use lib.Dec.{eqb}
 use borrow.Author.Tests.{eqb-true, eq-eqb}
 use Rattle.grammar.specs.Lists.{any, keep, distinct, isIn, sameNumbers, numbersBelow}
@@ -53,7 +55,7 @@ use Rattle.theory.proofs.ListLaws.{
 use Rattle.theory.proofs.DistinctLaws.{keep-distinct, distinct-again}
 use Rattle.pairs.specs.PairNumbers.{ruleAt, isLeft, isStart, metIn}
 use Rattle.pairs.proofs.ReachedLaws.{start-reached}
-use Rattle.forms.specs.SetForms.{labelled, labelSets, labelLeft, singleTypeSets, metWithin}
+use Rattle.forms.specs.SetForms.{labelled, labelSets, labelLeft, setLabel, singleTypeSets, metWithin}
 use Rattle.forms.specs.SetWords.{Ascending}
 use Rattle.forms.proofs.KeptLists.{
   map-on,
@@ -66,6 +68,7 @@ use Rattle.forms.proofs.KeptLists.{
   distinct-longer,
   kept-below,
 }
+use Rattle.forms.proofs.UnionFit.{UnionFit}
 use Rattle.forms.proofs.StandingPairs.{AllLeft, left-pair, left-label, label-set, types-met, met-left}
 
 -- the sets that the pairs met in a set give, in meeting order, one for each pair
@@ -107,12 +110,12 @@ module _ (u : Table) (pairs : ℕ → Bool) where
   label-told x y p m e =
       sym (labelled-pair x p .0 m .label) ∙ labelled-pair y p .0 (subst (λ (s : TypeSet). List·Memᴰ p s) e m) .label
 
-  -- so sets that have members are equal just where their labels are
-  pub same-label : (x y p : ℕ) → List·Memᴰ p (labelled u pairs x)
+  -- so of sets of which one has a member, the labels are equal just where the sets are
+  pub same-label : (x y p : ℕ) → List·Memᴰ p (labelled u pairs y)
       → sameNumbers (labelled u pairs x) (labelled u pairs y) ≡ eqb x y
   same-label x y p m =
       same-test (sameNumbers (labelled u pairs x) (labelled u pairs y)) (eqb x y) (
-        λ e. eq-eqb x y (label-told x y p m (numbers-decide (labelled u pairs x) (labelled u pairs y) .0 e)),
+        λ e. eq-eqb x y (sym (label-told y x p m (sym (numbers-decide (labelled u pairs x) (labelled u pairs y) .0 e)))),
         λ e. numbers-decide (labelled u pairs x) (labelled u pairs y) .1 (ap (labelled u pairs) (eqb-true x y e)),
       )
 
@@ -134,11 +137,45 @@ module _ (u : Table) (pairs : ℕ → Bool) where
       ∙ ap (map (labelled u pairs))
       (distinct-on (λ x y. sameNumbers (labelled u pairs x) (labelled u pairs y)) eqb labelsWithSet
       (λ x y m n.
-      let (p, o) = some-mem (labelled u pairs x) (kept hasSet (numbersBelow (length (u .labels))) m .1) in
+      let (p, o) = some-mem (labelled u pairs y) (kept hasSet (numbersBelow (length (u .labels))) n .1) in
       same-label x y p o)
       ∙ sym (keep-distinct eqb eqb-decides hasSet (numbersBelow (length (u .labels))))
       ∙ ap (keep hasSet) (distinct-all eqb (numbersBelow (length (u .labels))) (numbers-differ (length (u .labels)))))
       ∙ sym label-sets-are
+
+-- some left pairs of one label
+pub record SetOfLabel (u : Table) (s : TypeSet) : Type 0 where
+  pub first : List·Memᴰ (getD s 0 0) s
+  pub left : AllLeft u s
+  pub alike : (p : ℕ) → List·Memᴰ p s → ruleAt u p .label ≡ setLabel u s
+  pub among : setLabel u s < length (u .labels)
+  pub ascending : Ascending s
+
+first-of : (s : TypeSet) {p : ℕ} → List·Memᴰ p s → List·Memᴰ (getD s 0 0) s
+first-of [] m = elim m [ ]
+first-of (q ∷ s) m = List·Memᴰ·head refl
+
+pub label-of-set : (u : Table) (pairs : ℕ → Bool) (l : ℕ) {p : ℕ} → List·Memᴰ p (labelled u pairs l)
+    → setLabel u (labelled u pairs l) ≡ l
+unfolding setLabel
+label-of-set u pairs l m =
+    let s = labelled u pairs l in
+    labelled-pair u pairs l (getD s 0 0) .0 (first-of s m) .label
+
+pub set-of-label : (u : Table) → UnionFit u → (pairs : ℕ → Bool) → ((p : ℕ) → pairs p ≡ true → isLeft u p ≡ true) → (l : ℕ)
+    → {p : ℕ} → List·Memᴰ p (labelled u pairs l) → SetOfLabel u (labelled u pairs l)
+unfolding setLabel
+set-of-label u fit pairs left l m =
+    let s = labelled u pairs l in
+    let first = first-of s m in
+    let among = left (getD s 0 0) (labelled-pair u pairs l (getD s 0 0) .0 first .listed) in
+    record {
+      first = first;
+      left = λ p n. left p (labelled-pair u pairs l p .0 n .listed);
+      alike = λ p n. labelled-pair u pairs l p .0 n .label ∙ sym (label-of-set u pairs l m);
+      among = fit .labelled (ruleAt u (getD s 0 0)) (left-pair u (getD s 0 0) among .there);
+      ascending = labelled-ascending u pairs (fit .few) l;
+    }
 
 -- the worklist, one step
 module _ (g : Table) where
@@ -220,9 +257,9 @@ module _ (u : Table) where
         ∙ ap (map set)
         (distinct-on (λ x y. sameNumbers (set x) (set y)) eqb labels
         (λ x y m n.
-        let (p, o, e) = Memᴰ·of-map (λ p. ruleAt u p .label) met m in
+        let (p, o, e) = Memᴰ·of-map (λ p. ruleAt u p .label) met n in
         same-label u (metWithin u s) x y p
-        (labelled-pair u (metWithin u s) x p .1
+        (labelled-pair u (metWithin u s) y p .1
         (record { below = left-pair u p (met-left u s left p o) .below; listed = mem-in o; label = e }))))
         ∙ sym (sets-met s left)
 

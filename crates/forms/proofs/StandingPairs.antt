@@ -171,12 +171,12 @@ module _ (u : Table) where
   pub left-rules-are : reduce (normalise u) .rules ≡ map (λ q. ruleLeft u (ruleAt u q)) (keep (isLeft u) (numbersBelow (length (u .rules))))
   left-rules-are = left-rules u ∙ ap (map (ruleLeft u)) standing ∙ map-map (ruleLeft u) (ruleAt u) leftNumbers
 
-  rule-left : (r : Rule) → List·Memᴰ r (reduce (normalise u) .rules) → (q : ℕ) × (isLeft u q ≡ true) × (ruleOf q ≡ r)
+  pub rule-left : (r : Rule) → List·Memᴰ r (reduce (normalise u) .rules) → (q : ℕ) × (isLeft u q ≡ true) × (ruleLeft u (ruleAt u q) ≡ r)
   rule-left r m =
       let (q, n, e) = Memᴰ·of-map ruleOf leftNumbers (subst (λ (l : List Rule). List·Memᴰ r l) left-rules-are m) in
       (q, left-number n, e)
 
-  left-rule : (q : ℕ) → isLeft u q ≡ true → List·Memᴰ (ruleOf q) (reduce (normalise u) .rules)
+  pub left-rule : (q : ℕ) → isLeft u q ≡ true → List·Memᴰ (ruleLeft u (ruleAt u q)) (reduce (normalise u) .rules)
   left-rule q e = subst (λ (l : List Rule). List·Memᴰ (ruleOf q) l) (sym left-rules-are) (Memᴰ·map ruleOf (number-left q e))
 
   -- a type of a rule that is left
