@@ -5,3 +5,4 @@ pub mod SetsFound
 pub mod TablesBySets
 pub mod SingleTypeBySets
 pub mod LocalBySets
+pub mod WidenedBySets

@@ -116,7 +116,7 @@ module _ (u : Table) where
         set-number
         (label-contents l)
 
-    local-form : FormOfSets u (labelSets u (isLeft u)) (λ s. isLeft u) (localForm (reduce (normalise u)))
+    pub local-form : FormOfSets u (labelSets u (isLeft u)) (λ s. isLeft u) (localForm (reduce (normalise u)))
     unfolding localForm ruleOfLabel typeOfLabel reduce withoutUnreached withoutUnfruitful normalise
     local-form =
         record {

@@ -77,7 +77,7 @@ module _ (u : Table) (fit : UnionFit u) where
       (ap₂ (ofLabel reduced) (types-met u s left) (left-label u p) ∙ label-set u (metIn u (λ q. isIn q s)) (met-left u s left) (labelLeft u p))))
       (contents-of-set u s left)
 
-  single-form : FormOfSets u (singleTypeSets u) (metWithin u) (singleTypeForm standard (reduce (normalise u)))
+  pub single-form : FormOfSets u (singleTypeSets u) (metWithin u) (singleTypeForm standard (reduce (normalise u)))
   unfolding singleTypeForm ruleOfSet setLabel reduce withoutUnreached withoutUnfruitful normalise
   single-form =
       record {
