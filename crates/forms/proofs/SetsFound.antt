@@ -31,12 +31,12 @@ use lib.Dec.{eqb}
 use borrow.Author.Tests.{eqb-true, eq-eqb}
 use Rattle.grammar.specs.Lists.{any, keep, distinct, isIn, sameNumbers, numbersBelow}
 use Rattle.grammar.specs.Limits.{standard}
-use Rattle.grammar.specs.Table.{Rule, Table}
+use Rattle.grammar.specs.Table.{Table}
 use Rattle.grammar.specs.ReadTable.{isEmpty}
 use Rattle.grammar.specs.Normalise.{normalise}
 use Rattle.grammar.specs.Reduce.{withoutUnfruitful, withoutUnreached, reduce}
 use Rattle.grammar.specs.LocalForm.{labelOf}
-use Rattle.grammar.specs.SingleTypeForm.{TypeSet, ofLabel, startSets, typesMet, setsMet, moreSets, allSets}
+use Rattle.grammar.specs.SingleTypeForm.{TypeSet, ofLabel, startSets, setsMet, moreSets, allSets}
 use Rattle.theory.proofs.BoolLaws.{and-left, and-right, and-intro, same-test}
 use Rattle.theory.proofs.ListLaws.{
   kept,
@@ -75,7 +75,9 @@ use Rattle.forms.proofs.StandingPairs.{AllLeft, left-pair, left-label, 
 abbrev pub setsOfMet : Table → TypeSet → List TypeSet
 setsOfMet u s = map (λ p. labelled u (metWithin u s) (ruleAt u p .label)) (distinct eqb (metIn u (λ q. isIn q s)))
 
-pub part-many : (xs ys zs : List TypeSet) → length (distinct sameNumbers (xs ++ ys)) ≤ length (distinct sameNumbers (xs ++ (ys ++ zs)))
+-- what is added later takes nothing away
+pub part-many : (xs ys zs : List TypeSet)
+    → length (distinct sameNumbers (xs ++ ys)) ≤ length (distinct sameNumbers (xs ++ (ys ++ zs)))
 part-many = distinct-longer sameNumbers numbers-decide
 
 -- a pair of a label among some
