@@ -1,0 +1,2 @@
+pub mod WidenLaws
+pub mod StartTypes

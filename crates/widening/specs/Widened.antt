@@ -14,6 +14,8 @@ use Rattle.widening.specs.declared.widen.Kind.{Kind}
 use Rattle.widening.specs.declared.widen.Kind.the-variants.{Local, SingleType}
 use Rattle.widening.specs.declared.widen.Made.{Made}
 use Rattle.widening.specs.declared.widen.Made.the-variants.{Length, NoDocument, TooLarge}
+use Rattle.emitting.specs.declared.writing.Drafted.{Drafted}
+use Rattle.emitting.specs.declared.writing.Drafted.the-variants.{Length as Upto, TooLarge as Over}
 
 -- the kind that is meant
 unfoldable pub kindOf : Kind → kinds.Kind
@@ -32,3 +34,8 @@ unfoldable pub Widens : kinds.Kind → (g h : Table) → (before after : List �
 Widens kind g h before after (Length n) = ResultDrafted kind g h before after n
 Widens kind g h before after NoDocument = widenByTable standard kind g h ≡ refused Nothing
 Widens kind g h before after TooLarge = widenByTable standard kind g h ≡ refused ResultTooLarge
+
+-- what was drafted of a result
+unfoldable pub madeOf : Drafted → Made
+madeOf (Upto n) = Length n
+madeOf Over = TooLarge
