@@ -1,0 +1,4 @@
+pub mod LabelLaws
+pub mod NumberLists
+pub mod ResultLaws
+pub mod SetWordLaws
