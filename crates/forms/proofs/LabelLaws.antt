@@ -1,6 +1,6 @@
 -- The pairs of a label by the view of a union:
 --   label-at, labelled-is     the label of a pair; those of some pairs that have a label
---   labelled-ascends          they ascend
+--   few-rules                 the rules are few
 --   label-first, label-none   the label of a set is that of its first pair
 --   up-none, up-more, up-many, up-whole   the sets of the labels up to one
 use Prim.Native.Nat.{ℕ, zero, suc, _+_, _-_, _≤_, _<_}
@@ -28,7 +28,7 @@ use Rattle.forms.specs.SetForms.{labelled, labelSets, setLabel}
 use Rattle.forms.specs.declared.set_words.Counted.{Counted}
 use Rattle.forms.specs.declared.set_words.Counted.the-variants.{TooMany, Count}
 use Rattle.forms.specs.SetWords.{Ascending, SetsCounted}
-use Rattle.forms.proofs.NumberLists.{numbers-end, keep-below, kept-within, kept-ascends, first-kept}
+use Rattle.forms.proofs.NumberLists.{numbers-end, keep-below, first-kept}
 
 module _ {old add : List ℕ} {v : United} {u : Table} (x : Views old add v u) where
   pub label-at : (i : ℕ) → i < v .rules → labelIn v i ≡ ruleAt u i .label
@@ -43,10 +43,8 @@ module _ {old add : List ℕ} {v : United} {u : Table} (x : Views old add v u) w
       (λ p h. ap (λ (k : ℕ). pairs p && eqb k l) (label-at p h))
       ∙ ap (λ (n : ℕ). keep (λ p. pairs p && eqb (ruleAt u p .label) l) (numbersBelow n)) (x .rules)
 
-  pub labelled-ascends : (pairs : ℕ → Bool) (l : ℕ) → Ascending (labelled u pairs l)
-  unfolding labelled
-  labelled-ascends pairs l =
-      kept-ascends (λ p. pairs p && eqb (ruleAt u p .label) l) (length (u .rules)) 128 (omega (arith, x .rules, x .few))
+  pub few-rules : length (u .rules) ≤ 128
+  few-rules = omega (arith, x .rules, x .few)
 
   -- the label of a set
   module _ {s : TypeSet} (a : Ascending s) where

@@ -1,28 +1,27 @@
 -- Ascending lists of numbers as sets:
 --   numbers-end     the numbers below n + 1 are those below n, and n
---   keep-agree      tests that agree on the elements keep the same
---   kept-below      what is kept of the numbers below n is in the list where it passes the test
---   kept-ascends    what is kept of the numbers below n is kept again of more numbers by being in the list
+--   keep-below      tests that agree below n keep the same of the numbers below n
+--   kept-within     what is kept of the numbers below n is below n and passes the test
 --   same-ascending  ascending lists with the same members are the same
 --   first-kept      the first that is kept is the least that passes the test
 --   puts-kept       a loop that puts each number that is on gives the set of those kept
-use Prim.Native.Nat.{ℕ, zero, suc, _+_, _-_, _≤_, _<_}
+use Prim.Native.Nat.{ℕ, zero, suc, _+_, _≤_, _<_}
 use native.Mathlib.Omega.{arith}
 use native.Mathlib.Numerals.{add-one}
 use mathlib.Core.Bool.{Bool, true, false, false≢true}
-use mathlib.Core.List.{List, [], _∷_, _++_, append-nil, List·Memᴰ, List·Memᴰ·head, List·Memᴰ·tail}
-use mathlib.Core.Logic.{_⊎_, inl, inr, ⊎-elim}
-use mathlib.Core.Path.{_≡_, refl, sym, _∙_, ap, ap₂, subst, fun-ext}
+use mathlib.Core.List.{List, [], _∷_, _++_}
+use mathlib.Core.Logic.{⊎-elim}
+use mathlib.Core.Path.{_≡_, refl, sym, _∙_, ap, subst, fun-ext}
 use lib.ListN.{length, getD}
 use lib.Dec.{eqb}
 use borrow.Author.Tests.{eqb-true, eqb-false}
 use Rattle.grammar.specs.Lists.{keep, isIn, numbersFrom, numbersBelow}
-use Rattle.theory.proofs.BoolLaws.{same-test, false-of, not-both, passes-or-fails}
+use Rattle.theory.proofs.BoolLaws.{same-test}
 use Rattle.theory.proofs.ListLaws.{keep-yes, keep-no, kept, keep-mem, in-mem, mem-in, numbers-below}
-use Rattle.theory.proofs.DistinctLaws.{keep-append}
 use Rattle.sets.specs.Sets.{nothing}
 use Rattle.pairs.specs.Rounds.{puts}
 use Rattle.pairs.proofs.PutsLaws.{puts-was, puts-has}
+use Rattle.forms.proofs.KeptLists.{keep-on}
 
 numbers-next : (from n : ℕ) → numbersFrom from (suc n) ≡ numbersFrom from n ++ ((from + n) ∷ [])
 unfolding numbersFrom
@@ -37,58 +36,13 @@ numbers-end n =
     let z : zero + n ≡ n = omega arith in
     ap (numbersFrom zero) (add-one n) ∙ numbers-next zero n ∙ ap (λ (k : ℕ). numbersFrom zero n ++ (k ∷ [])) z
 
-pub keep-agree : {A : Type 0} (p q : A → Bool) (xs : List A) → ((x : A) → List·Memᴰ x xs → p x ≡ q x) → keep p xs ≡ keep q xs
-unfolding keep
-keep-agree p q [] h = refl
-keep-agree {A} p q (x ∷ xs) h = go (q x) refl (keep-agree p q xs (λ y m. h y (List·Memᴰ·tail m)))
-  where
-    go : (b : Bool) → q x ≡ b → keep p xs ≡ keep q xs → keep p (x ∷ xs) ≡ keep q (x ∷ xs)
-    go true e ih =
-        keep-yes p x xs (h x (List·Memᴰ·head refl) ∙ e) ∙ ap (λ (l : List A). x ∷ l) ih ∙ sym (keep-yes q x xs e)
-    go false e ih = keep-no p x xs (h x (List·Memᴰ·head refl) ∙ e) ∙ ih ∙ sym (keep-no q x xs e)
-
 pub keep-below : (p q : ℕ → Bool) (n : ℕ) → ((i : ℕ) → i < n → p i ≡ q i) → keep p (numbersBelow n) ≡ keep q (numbersBelow n)
-keep-below p q n h = keep-agree p q (numbersBelow n) (λ i m. h i (numbers-below n i .0 m))
+keep-below p q n h = keep-on p q (numbersBelow n) (λ i m. h i (numbers-below n i .0 m))
 
-pub keep-nothing : {A : Type 0} (p : A → Bool) (xs : List A) → ((x : A) → List·Memᴰ x xs → p x ≡ false) → keep p xs ≡ []
-unfolding keep
-keep-nothing p [] h = refl
-keep-nothing p (x ∷ xs) h = keep-no p x xs (h x (List·Memᴰ·head refl)) ∙ keep-nothing p xs (λ y m. h y (List·Memᴰ·tail m))
-
-module _ (test : ℕ → Bool) (n : ℕ) where
-  pub kept-below : (p : ℕ) → p < n → isIn p (keep test (numbersBelow n)) ≡ test p
-  kept-below p h =
-      same-test (isIn p (keep test (numbersBelow n))) (test p)
-      (λ e. kept test (numbersBelow n) (in-mem p (keep test (numbersBelow n)) e) .1, λ e. mem-in (keep-mem test (numbers-below n p .1 h) e))
-
-  pub kept-within : (p : ℕ) → isIn p (keep test (numbersBelow n)) ≡ true → (p < n) × (test p ≡ true)
-  kept-within p e =
-      let k = kept test (numbersBelow n) (in-mem p (keep test (numbersBelow n)) e) in
-      (numbers-below n p .0 (k .0), k .1)
-
-  kept-past : (p : ℕ) → n ≤ p → isIn p (keep test (numbersBelow n)) ≡ false
-  kept-past p h =
-      false-of (isIn p (keep test (numbersBelow n))) (λ e. let k = kept-within p e .0 in omega arith)
-
-  further : (d : ℕ) → keep (λ p. isIn p (keep test (numbersBelow n))) (numbersBelow (n + d)) ≡ keep test (numbersBelow n)
-  unfolding keep
-  further zero =
-      let z : n + 0 ≡ n = omega arith in
-      ap (λ (m : ℕ). keep (λ p. isIn p (keep test (numbersBelow n))) (numbersBelow m)) z
-      ∙ keep-below (λ p. isIn p (keep test (numbersBelow n))) test n kept-below
-  further (suc d) =
-      let z : n + suc d ≡ n + d + 1 = omega arith in
-      let member : ℕ → Bool = λ p. isIn p (keep test (numbersBelow n)) in
-      ap (λ (m : ℕ). keep member (numbersBelow m)) z
-      ∙ ap (keep member) (numbers-end (n + d))
-      ∙ keep-append member (numbersBelow (n + d)) ((n + d) ∷ [])
-      ∙ ap₂ _++_ (further d) (keep-no member (n + d) [] (kept-past (n + d) (omega arith)))
-      ∙ append-nil (keep test (numbersBelow n))
-
-  pub kept-ascends : (m : ℕ) → n ≤ m → keep (λ p. isIn p (keep test (numbersBelow n))) (numbersBelow m) ≡ keep test (numbersBelow n)
-  kept-ascends m h =
-      let z : m ≡ n + (m - n) = omega arith in
-      ap (λ (k : ℕ). keep (λ p. isIn p (keep test (numbersBelow n))) (numbersBelow k)) z ∙ further (m - n)
+pub kept-within : (test : ℕ → Bool) (n p : ℕ) → isIn p (keep test (numbersBelow n)) ≡ true → (p < n) × (test p ≡ true)
+kept-within test n p e =
+    let k = kept test (numbersBelow n) (in-mem p (keep test (numbersBelow n)) e) in
+    (numbers-below n p .0 (k .0), k .1)
 
 pub same-ascending : (s t : List ℕ) (n : ℕ) → keep (λ p. isIn p s) (numbersBelow n) ≡ s → keep (λ p. isIn p t) (numbersBelow n) ≡ t
     → _≡_ {A = ℕ → Bool} (λ p. isIn p s) (λ p. isIn p t)

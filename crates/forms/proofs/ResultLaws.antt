@@ -1,13 +1,13 @@
 -- Numbers in place of pairs:
 --   numbers-more, small-more    one number more
 --   all-numbers                 numbers for all places are the images
---   left-label                  the label of a pair that is left
+--   label-if-left, label-if-gone   the label of a pair, where it is left
 --   numbers-left                the numbers of the sets by pair, from those by label
 --   result-lists                the lists by type with these numbers
 use Prim.Native.Nat.{ℕ, zero, suc, _+_, _-_, _≤_, _<_}
 use native.Mathlib.Omega.{arith}
 use mathlib.Core.Bool.{Bool, true, false}
-use mathlib.Core.List.{List, [], _∷_, map, List·Memᴰ, List·Memᴰ·head, List·Memᴰ·tail}
+use mathlib.Core.List.{List, [], _∷_, map, List·Memᴰ}
 use mathlib.Core.Path.{_≡_, refl, sym, _∙_, ap, ap₂, subst}
 use lib.ListN.{length, getD, set, take, drop, replicate, length-map, List·getD-eq-default}
 use lib.Seq.{getD-set-same, getD-set-other, ext-getD}
@@ -33,7 +33,7 @@ use Rattle.pairs.specs.TypeLists.{ListsOf}
 use Rattle.pairs.proofs.PairLists.{pairs-are}
 use Rattle.forms.specs.SetForms.{labelled, labelLeft, setNumber}
 use Rattle.forms.specs.Worklist.{NumbersOf}
-use Rattle.forms.proofs.LabelLaws.{label-at}
+use Rattle.forms.proofs.KeptLists.{map-on}
 
 -- one number more
 module _ (n : ℕ) (list : List ℕ) (x : ℕ) (h : n < length list) where
@@ -79,23 +79,19 @@ map-drop f zero l = refl
 map-drop f (suc n) [] = refl
 map-drop f (suc n) (x ∷ l) = map-drop f n l
 
-map-agree : (f g : ℕ → ℕ) (xs : List ℕ) → ((x : ℕ) → List·Memᴰ x xs → f x ≡ g x) → map f xs ≡ map g xs
-map-agree f g [] h = refl
-map-agree f g (x ∷ xs) h = ap₂ _∷_ (h x (List·Memᴰ·head refl)) (map-agree f g xs (λ y m. h y (List·Memᴰ·tail m)))
-
 pub all-numbers : (f : ℕ → ℕ) (before after : List ℕ) (n : ℕ) → length before ≡ n → length after ≡ n → NumbersOf (λ i. f (getD before i 0)) n after
     → after ≡ map f before
 all-numbers f before after n p q h =
     ext-getD 0 after (map f before) (q ∙ sym (length-map before f ∙ p)) (λ i l. h i (omega arith) ∙ sym (map-at f before i (omega arith)))
 
 -- the label of a pair
-pub left-label : (u : Table) (p : ℕ) (b : Bool) (l : ℕ) → b ≡ true → b ≡ isLeft u p → l ≡ ruleAt u p .label → l ≡ labelLeft u p
+pub label-if-left : (u : Table) (p : ℕ) (b : Bool) (l : ℕ) → b ≡ true → b ≡ isLeft u p → l ≡ ruleAt u p .label → l ≡ labelLeft u p
 unfolding labelLeft
-left-label u p b l e f g = g ∙ rw (sym f ∙ e, labelLeft)
+label-if-left u p b l e f g = g ∙ rw (sym f ∙ e, labelLeft)
 
-pub gone-label : (u : Table) (p : ℕ) (b : Bool) → b ≡ false → b ≡ isLeft u p → 0 ≡ labelLeft u p
+pub label-if-gone : (u : Table) (p : ℕ) (b : Bool) → b ≡ false → b ≡ isLeft u p → 0 ≡ labelLeft u p
 unfolding labelLeft
-gone-label u p b e f = rw (sym f ∙ e, labelLeft)
+label-if-gone u p b e f = rw (sym f ∙ e, labelLeft)
 
 label-below : (u : Table) → Labelled u → (p : ℕ) → p < length (u .rules) → labelLeft u p < length (u .labels)
 unfolding labelLeft
@@ -120,7 +116,7 @@ unfolding setNumber
 numbers-left u sets pairs by of n labels e h k p l = k p (omega arith) ∙ h (labelLeft u p) (label-below u labels p l)
 
 -- the lists
-fruitful-below : (u : Table) (k p : ℕ) → List·Memᴰ p (fruitfulOf u k) → p < length (u .rules)
+pub fruitful-below : (u : Table) (k p : ℕ) → List·Memᴰ p (fruitfulOf u k) → p < length (u .rules)
 fruitful-below u k p m =
     let a = kept (λ q. isIn q (fruitful (normalise u))) (pairsOf u k) m .0 in
     let b = subst (λ (l : List ℕ). List·Memᴰ p l) (pairs-are u k) a in
@@ -181,4 +177,4 @@ module _ (of : List ℕ) (small : (p : ℕ) → getD of p 0 ≤ 64) where
       }
     where
       same : (k : ℕ) → map numberOf (fruitfulOf u k) ≡ map target (fruitfulOf u k)
-      same k = map-agree numberOf target (fruitfulOf u k) (λ p q. h p (fruitful-below u k p q))
+      same k = map-on numberOf target (fruitfulOf u k) (λ p q. h p (fruitful-below u k p q))

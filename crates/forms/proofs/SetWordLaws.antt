@@ -28,7 +28,8 @@ use Rattle.forms.specs.declared.set_words.Counted.{Counted}
 use Rattle.forms.specs.declared.set_words.Counted.the-variants.{TooMany, Count}
 use Rattle.forms.specs.SetWords.{setIn, Ascending, SetsHeld, SetsCounted}
 use Rattle.forms.specs.Worklist.{Few}
-use Rattle.forms.proofs.NumberLists.{same-ascending, keep-nothing}
+use Rattle.forms.proofs.KeptLists.{keep-nothing}
+use Rattle.forms.proofs.NumberLists.{same-ascending}
 
 -- a set of words that is this ascending list
 pub record SetOf (words : List ℕ) (s : TypeSet) : Type 0 where

@@ -12,7 +12,8 @@ use Rattle.pairs.specs.View.{Views}
 use Rattle.forms.specs.declared.set_words.Counted.the-variants.{Count}
 use Rattle.forms.specs.SetWords.{SetsCounted}
 use Rattle.forms.proofs.SetWordLaws.{no-sets}
-use Rattle.forms.proofs.LabelLaws.{labelled-ascends, setsUp, up-none, up-more, up-many, up-whole}
+use Rattle.forms.proofs.SetsFound.{labelled-ascending}
+use Rattle.forms.proofs.LabelLaws.{few-rules, setsUp, up-none, up-more, up-many, up-whole}
 use Rattle.forms.proofs.label_sets.label_sets.Statement.{statement}
 use Rattle.forms.proofs.label_sets.label_sets.Tie as tie
 
@@ -54,7 +55,7 @@ returns c =
     let s = l .inv .3 old add u x in
     let pairs = member (c .before .before .before .before .before .before .before .before .before .before .args .pairs .words) 0 in
     up-many u pairs (l .l) _ _
-    (c .before .before .before .before .put-some .ensures .0 _ _ (s .1) (s .0) (c .before .before .before .before .before .before .labelled-pairs .ensures .0 old add u x) (labelled-ascends x pairs (l .l)))
+    (c .before .before .before .before .put-some .ensures .0 _ _ (s .1) (s .0) (c .before .before .before .before .before .before .labelled-pairs .ensures .0 old add u x) (labelled-ascending u pairs (few-rules x) (l .l)))
     (c .enum-told .given .1)
     (c .before .before .before .before .before .before .before .before .before .before .args .labels)
     (c .before .before .before .before .before .before .before .loop-test .taken)
@@ -70,7 +71,7 @@ loop-again c =
       λ old add u x.
           let s = l .inv .3 old add u x in
           up-more u pairs (l .l) _ _
-          (c .before .before .before .before .before .put-some .ensures .0 _ _ (s .1) (s .0) (c .before .before .before .before .before .before .before .labelled-pairs .ensures .0 old add u x) (labelled-ascends x pairs (l .l)))
+          (c .before .before .before .before .before .put-some .ensures .0 _ _ (s .1) (s .0) (c .before .before .before .before .before .before .before .labelled-pairs .ensures .0 old add u x) (labelled-ascending u pairs (few-rules x) (l .l)))
           _
           (c .before .more .given .1),
     )
