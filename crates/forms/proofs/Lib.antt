@@ -1,8 +1,12 @@
 pub mod KeptLists
-pub mod UnionFit
-pub mod StandingPairs
-pub mod SetsFound
-pub mod TablesBySets
-pub mod SingleTypeBySets
+pub mod LabelLaws
 pub mod LocalBySets
+pub mod NumberLists
+pub mod ResultLaws
+pub mod SetWordLaws
+pub mod SetsFound
+pub mod SingleTypeBySets
+pub mod StandingPairs
+pub mod TablesBySets
+pub mod UnionFit
 pub mod WidenedBySets
