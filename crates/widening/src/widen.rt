@@ -1,12 +1,36 @@
-// Widening a table that was read by another, to either kind.
+// Widening a table that was read by another, to either kind: the union, its fruitful pairs, those that are left, the sets that are the
+// types of the result, and the result in a draft.
+use crate::start_types::first_numbers;
+use crate::start_types::start_numbers;
+use crate::stubs::fruitful_lists;
+use crate::stubs::more_sets;
+use crate::stubs::pairs_left;
+use crate::stubs::put_result;
+use crate::stubs::start_pairs;
+use emitting::writing::Drafted;
+use forms::label_sets::label_numbers;
+use forms::label_sets::label_sets;
+use forms::set_words::Counted;
+use pairs::fruitful::fruitful_pairs;
+use pairs::lists::TypeLists;
+use pairs::union::Union;
 use pairs::union::unite_tables;
 use reader::tables::TableIndex;
+use sets::four::Set4;
+ghost use mathlib.Core.Bool.{false, true};
+ghost use mathlib.Core.List.{List};
 ghost use mathlib.Core.Path.{_≡_};
-ghost use Prim.Native.Nat.{_≤_};
+ghost use Prim.Native.Nat.{ℕ, _+_, _≤_};
 ghost use lib.ListN.{length};
+ghost use Rattle.grammar.specs.Limits.{standard};
 ghost use Rattle.grammar.specs.Table.{Table};
+ghost use Rattle.grammar.specs.Unite.{unite};
+ghost use Rattle.grammar.specs.Kinds.{local, singleType};
 ghost use Rattle.pairs.specs.View.{TableHeld, Held};
-ghost use Rattle.widening.specs.Widened.{kindOf, Widens};
+ghost use Rattle.pairs.specs.PairNumbers.{isStart};
+ghost use Rattle.forms.specs.SetForms.{labelSets};
+ghost use Rattle.forms.specs.SetWords.{SetsHeld};
+ghost use Rattle.widening.specs.Widened.{kindOf, madeOf, Widens, UnionReduced, SomeReduced};
 
 pub enum Kind {
     Local,
@@ -18,6 +42,140 @@ pub enum Made {
     Length(usize),
     NoDocument,
     TooLarge,
+}
+
+// What was drafted of a result.
+fn made(drafted: Drafted) -> Made
+    ensures { λ r. ⌜ r ≡ madeOf drafted ⌝ }
+{
+    match drafted {
+        Drafted::Length(n) => Made::Length(n),
+        Drafted::TooLarge => Made::TooLarge,
+    }
+}
+
+// How many labels a union has.
+fn label_count(union: Union) -> usize
+    requires { ⌜ (union .«old_names» .count ≤ 64) × (union .«new_names» .count ≤ 64) ⌝ }
+    ensures { λ r. ⌜ r ≡ union .«old_names» .count + union .«new_names» .count ⌝ }
+{
+    let olds = union.old_names;
+    let news = union.new_names;
+    olds.count + news.count
+}
+
+// To local: one set a label, of the pairs left.
+fn widen_local(
+    old: &[u8],
+    add: &[u8],
+    union: Union,
+    lists: TypeLists,
+    starts: Set4,
+    left: Set4,
+    words: &mut [u32],
+    draft: &mut [u8],
+) -> Made
+    requires { ⌜ (SomeReduced (now old) (now add) union lists starts left) × (16384 ≤ length (now words)) × (32768 ≤ length (now draft)) ⌝ }
+    ensures { λ r. ⌜ ((g h : Table) → UnionReduced (now (old .entry)) (now (add .entry)) union lists starts left g h
+        → Widens local g h (now (draft .entry)) (now (draft .exit)) r) ⌝ }
+{
+    let v = union.rules;
+    let labels = label_count(union);
+    match label_sets(v, labels, left, words) {
+        Counted::TooMany => Made::TooLarge,
+        Counted::Count(count) => {
+            let numbers = label_numbers(v, labels, left, words, count);
+            let types = start_numbers(v, starts, numbers);
+            let mut scratch = [0u8; 33860];
+            made(put_result(
+                draft,
+                &mut scratch,
+                old,
+                add,
+                union,
+                lists,
+                left,
+                words,
+                count,
+                types,
+                false,
+            ))
+        }
+    }
+}
+
+// To single-type, once the start sets stand in the words: those met in them, and so on.
+fn widen_from_starts(
+    old: &[u8],
+    add: &[u8],
+    union: Union,
+    lists: TypeLists,
+    starts: Set4,
+    left: Set4,
+    words: &mut [u32],
+    first: usize,
+    draft: &mut [u8],
+) -> Made
+    requires { ⌜ (SomeReduced (now old) (now add) union lists starts left) × (first ≤ 64) × (16384 ≤ length (now words)) × (32768 ≤ length (now draft)) ⌝ }
+    ensures { λ r. ⌜ ((g h : Table) → UnionReduced (now (old .entry)) (now (add .entry)) union lists starts left g h
+        → SetsHeld (now (words .entry)) (labelSets (unite standard g h) (isStart (unite standard g h)))
+        → first ≡ length (labelSets (unite standard g h) (isStart (unite standard g h)))
+        → Widens singleType g h (now (draft .entry)) (now (draft .exit)) r) ⌝ }
+{
+    let v = union.rules;
+    match more_sets(old, add, v, lists, words, first) {
+        Counted::TooMany => Made::TooLarge,
+        Counted::Count(count) => {
+            let types = first_numbers(first);
+            let mut scratch = [0u8; 33860];
+            made(put_result(
+                draft,
+                &mut scratch,
+                old,
+                add,
+                union,
+                lists,
+                left,
+                words,
+                count,
+                types,
+                true,
+            ))
+        }
+    }
+}
+
+// To single-type: the start sets, one a label, and the sets met.
+fn widen_single_type(
+    old: &[u8],
+    add: &[u8],
+    union: Union,
+    lists: TypeLists,
+    starts: Set4,
+    left: Set4,
+    words: &mut [u32],
+    draft: &mut [u8],
+) -> Made
+    requires { ⌜ (SomeReduced (now old) (now add) union lists starts left) × (16384 ≤ length (now words)) × (32768 ≤ length (now draft)) ⌝ }
+    ensures { λ r. ⌜ ((g h : Table) → UnionReduced (now (old .entry)) (now (add .entry)) union lists starts left g h
+        → Widens singleType g h (now (draft .entry)) (now (draft .exit)) r) ⌝ }
+{
+    let v = union.rules;
+    let labels = label_count(union);
+    match label_sets(v, labels, starts, words) {
+        Counted::TooMany => Made::TooLarge,
+        Counted::Count(first) => widen_from_starts(
+            old,
+            add,
+            union,
+            lists,
+            starts,
+            left,
+            words,
+            first,
+            draft,
+        ),
+    }
 }
 
 // The widening of one table by another, from the draft's beginning.
@@ -35,5 +193,16 @@ pub fn widen_tables(
         → Widens (kindOf kind) g h (now (draft .entry)) (now (draft .exit)) r) ⌝ }
 {
     let union = unite_tables(old, index, add, addition);
-    Made::TooLarge
+    let v = union.rules;
+    let known = fruitful_pairs(old, add, v);
+    let lists = fruitful_lists(v, known);
+    let starts = start_pairs(lists, index, addition);
+    if starts.is_empty() {
+        return Made::NoDocument;
+    }
+    let left = pairs_left(old, add, v, lists, starts);
+    match kind {
+        Kind::Local => widen_local(old, add, union, lists, starts, left, words, draft),
+        Kind::SingleType => widen_single_type(old, add, union, lists, starts, left, words, draft),
+    }
 }
