@@ -131,8 +131,9 @@ fn gather_pair(
     let mut last = end;
     let mut i: usize = 0;
     while i < rules {
+        let first = firsts[i];
         match gather_rule_if(
-            firsts[i] == p,
+            first == p,
             old,
             add,
             v,
