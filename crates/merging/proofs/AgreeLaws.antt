@@ -2,11 +2,10 @@
 --   alts-agree       lists that agree on the types in range give the same alternatives
 --   nesting-renamed  other types do not change the nesting; union-shallow : the union of two tables that were read nests no deeper
 use Prim.Native.Nat.{ℕ, suc, max, _≤_, _<_}
-use native.Mathlib.Omega.{arith}
 use mathlib.Core.Bool.{true, _&&_}
-use mathlib.Core.List.{List, [], _∷_, _++_, map, List·Memᴰ, List·Memᴰ·append-cases, Memᴰ·of-map}
+use mathlib.Core.List.{List, [], _∷_, map, List·Memᴰ·append-cases, Memᴰ·of-map}
 use mathlib.Core.Logic.{⊎-elim}
-use mathlib.Core.Path.{_≡_, refl, sym, _∙_, ap, ap₂, subst}
+use mathlib.Core.Path.{_≡_, refl, sym, ap, ap₂, subst}
 use lib.Dec.{leb}
 use borrow.Author.Tests.{ltb-true}
 use Rattle.grammar.specs.Lists.{joinedOf}

@@ -1,14 +1,14 @@
 -- Alternatives gathered number by number, for what the numbers below n give.
---   given-on, given-off, given-as   what is given if it is asked for
---   so-far-none, so-far-next   no number yet; one number more, with the operands ready for the next
---   so-far-wide, so-far-all    what one number gives does not fit, so all do not; all numbers
---   pair-gives, set-gives      the contents of a pair by its rules; of a set by its pairs
---   made-wide, made-kept       the content of all: too large, or made of the operands
-use Prim.Native.Nat.{ℕ, zero, suc, _+_, _-_, _≤_, _<_}
+--   given-on, given-off, given-as   what a number gives only if it is asked for
+--   so-far-none, so-far-next        no number yet; one number more; ready-for : and the draft is ready for the next
+--   so-far-wide, so-far-all         what one number gives does not fit, so all do not; all numbers
+--   pair-gives, set-gives           what the contents of a pair give, by its rules; of a set, by its pairs
+--   made-wide, made-kept, made-so   the content of all: too large, or made of the operands that stand in the draft
+use Prim.Native.Nat.{ℕ, suc, _+_, _-_, _≤_, _<_}
 use native.Mathlib.Omega.{arith}
 use mathlib.Core.Bool.{Bool, true, false}
 use mathlib.Core.List.{List, [], _∷_, _++_, map, append-assoc, append-nil}
-use mathlib.Core.Path.{_≡_, refl, sym, _∙_, ap, ap₂, subst}
+use mathlib.Core.Path.{_≡_, refl, sym, _∙_, ap, subst}
 use lib.ListN.{length}
 use lib.Dec.{eqb}
 use Rattle.grammar.specs.Lists.{keep, joinedOf, numbersFrom, numbersBelow}

@@ -3,11 +3,10 @@
 --   old-source, added-source  the emitter is given that content, with its table's lists and types
 --   old-gives, added-gives    what the emitter answers is what the content of the rule gives
 --   first-is                  the first rule of a rule's pair
-use Prim.Native.Nat.{ℕ, _+_, _-_, _*_, _/_, _%_, _≤_, _<_}
+use Prim.Native.Nat.{ℕ, _+_, _-_, _/_, _%_, _≤_, _<_}
 use native.Mathlib.Omega.{arith}
-use mathlib.Core.Bool.{Bool}
 use mathlib.Core.List.{List}
-use mathlib.Core.Path.{_≡_, refl, sym, _∙_, ap, ap₂, subst}
+use mathlib.Core.Path.{_≡_, sym, _∙_, ap, ap₂, subst}
 use lib.ListN.{length, getD, take, drop, length-take, length-drop}
 use lib.Seq.{getD-take, getD-drop}
 use Rattle.grammar.specs.Limits.{standard}
@@ -23,7 +22,7 @@ use Rattle.sets.specs.declared.four.Set4.{Set4}
 use Rattle.pairs.specs.declared.lists.TypeLists.{TypeLists}
 use Rattle.pairs.specs.declared.union.United.{United}
 use Rattle.pairs.specs.Walks.{listOf}
-use Rattle.pairs.specs.View.{SourceContent, FromAddition, RuleSeen, Views, fromIn, toIn, firstIn}
+use Rattle.pairs.specs.View.{SourceContent, FromAddition, Views, fromIn, toIn, firstIn}
 use Rattle.pairs.specs.Rounds.{contentOf}
 use Rattle.pairs.specs.PairNumbers.{ruleAt}
 use Rattle.pairs.proofs.ViewLaws.{content-is, seen}

@@ -11,7 +11,6 @@ use pairs::union::United;
 use sets::four::Set4;
 ghost use Prim.Native.Nat.{_≤_, _<_};
 ghost use mathlib.Core.List.{[]};
-ghost use mathlib.Core.Path.{_≡_};
 ghost use lib.ListN.{length};
 ghost use Rattle.grammar.specs.Lists.{joinedOf};
 ghost use Rattle.theory.proofs.Alternatives.{alts, written, onlyIf};
@@ -131,8 +130,9 @@ fn gather_pair(
     let mut last = end;
     let mut i: usize = 0;
     while i < rules {
+        let first = firsts[i];
         match gather_rule_if(
-            firsts[i] == p,
+            first == p,
             old,
             add,
             v,

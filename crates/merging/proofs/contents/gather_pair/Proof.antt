@@ -24,11 +24,11 @@ abbrev μ-loop : tie.MeasureT-loop
 loop-holds : tie.Need-loop-holds Inv-loop μ-loop
 loop-holds c = (omega arith, refl, λ q k. so-far-none _ _ k)
 
-mul-gather-rule-if : tie.Need-mul-gather-rule-if Inv-loop μ-loop
-mul-gather-rule-if c = let h = c .before .before .before .before .before .before .pre .0 .views .few in omega arith
+mul-first : tie.Need-mul-first Inv-loop μ-loop
+mul-first c = let h = c .before .before .before .before .before .before .pre .0 .views .few in omega arith
 
-array-read-gather-rule-if : tie.Need-array-read-gather-rule-if Inv-loop μ-loop
-array-read-gather-rule-if c = let h = c .before .before .before .before .before .before .pre .0 .views .few in omega arith
+array-read-first : tie.Need-array-read-first Inv-loop μ-loop
+array-read-first c = let h = c .before .before .before .before .before .before .pre .0 .views .few in omega arith
 
 gather-rule-if-requires : tie.Need-gather-rule-if-requires Inv-loop μ-loop
 gather-rule-if-requires c κs =
@@ -88,8 +88,8 @@ gather-pair-spec =
     Inv-loop
     μ-loop
     loop-holds
-    mul-gather-rule-if
-    array-read-gather-rule-if
+    mul-first
+    array-read-first
     gather-rule-if-requires
     (λ c. search needs)
     (λ c. search needs)

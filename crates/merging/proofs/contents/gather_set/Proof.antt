@@ -1,5 +1,5 @@
 -- `gather_set` meets its contract. The loop's invariant: what the set's pairs before `p` give stands in the draft.
-use Prim.Native.Nat.{ℕ, _-_, _≤_}
+use Prim.Native.Nat.{_-_, _≤_}
 use native.Mathlib.Omega.{arith}
 use mathlib.Core.List.{[]}
 use mathlib.Core.Path.{_≡_, refl}
