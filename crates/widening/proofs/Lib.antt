@@ -1,2 +1,5 @@
 pub mod WidenLaws
 pub mod StartTypes
+pub mod UnionNamesTmp
+pub mod ReducedLaws
+pub mod UnionLaws

@@ -19,6 +19,8 @@ use Rattle.pairs.specs.declared.union.Union.{Union}
 use Rattle.pairs.specs.View.{UnionSeen}
 use Rattle.pairs.specs.PairNumbers.{fruitfulOf, isStart, isLeft}
 use Rattle.pairs.specs.TypeLists.{ListsOf}
+use Rattle.forms.specs.SetForms.{labelSets}
+use Rattle.forms.specs.SetWords.{SetsHeld}
 use Rattle.grammar.specs.Widen.{widenByTable}
 use Rattle.grammar.specs.declared.Refusal.the-variants.{ResultTooLarge, NoDocument as Nothing}
 use Rattle.widening.specs.declared.widen.Kind.{Kind}
@@ -69,3 +71,11 @@ pub record SomeReduced (old add : List ℕ) (union : Union) (lists : TypeLists) 
   pub first : Table
   pub second : Table
   pub reduced : UnionReduced old add union lists starts left first second
+
+-- and the start sets stand in the words
+pub record SomeStarts (old add : List ℕ) (union : Union) (lists : TypeLists) (starts left : Set4) (words : List ℕ) (count : ℕ) : Type 0 where
+  pub first : Table
+  pub second : Table
+  pub reduced : UnionReduced old add union lists starts left first second
+  pub held : SetsHeld words (labelSets (unite standard first second) (isStart (unite standard first second)))
+  pub many : count ≡ length (labelSets (unite standard first second) (isStart (unite standard first second)))

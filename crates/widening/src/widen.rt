@@ -30,7 +30,7 @@ ghost use Rattle.pairs.specs.View.{TableHeld, Held};
 ghost use Rattle.pairs.specs.PairNumbers.{isStart};
 ghost use Rattle.forms.specs.SetForms.{labelSets};
 ghost use Rattle.forms.specs.SetWords.{SetsHeld};
-ghost use Rattle.widening.specs.Widened.{kindOf, madeOf, Widens, UnionReduced, SomeReduced};
+ghost use Rattle.widening.specs.Widened.{kindOf, madeOf, Widens, UnionReduced, SomeReduced, SomeStarts};
 
 pub enum Kind {
     Local,
@@ -45,7 +45,7 @@ pub enum Made {
 }
 
 // What was drafted of a result.
-fn made(drafted: Drafted) -> Made
+fn told(drafted: Drafted) -> Made
     ensures { λ r. ⌜ r ≡ madeOf drafted ⌝ }
 {
     match drafted {
@@ -87,7 +87,7 @@ fn widen_local(
             let numbers = label_numbers(v, labels, left, words, count);
             let types = start_numbers(v, starts, numbers);
             let mut scratch = [0u8; 33860];
-            made(put_result(
+            told(put_result(
                 draft,
                 &mut scratch,
                 old,
@@ -116,7 +116,7 @@ fn widen_from_starts(
     first: usize,
     draft: &mut [u8],
 ) -> Made
-    requires { ⌜ (SomeReduced (now old) (now add) union lists starts left) × (first ≤ 64) × (16384 ≤ length (now words)) × (32768 ≤ length (now draft)) ⌝ }
+    requires { ⌜ (SomeStarts (now old) (now add) union lists starts left (now words) first) × (16384 ≤ length (now words)) × (32768 ≤ length (now draft)) ⌝ }
     ensures { λ r. ⌜ ((g h : Table) → UnionReduced (now (old .entry)) (now (add .entry)) union lists starts left g h
         → SetsHeld (now (words .entry)) (labelSets (unite standard g h) (isStart (unite standard g h)))
         → first ≡ length (labelSets (unite standard g h) (isStart (unite standard g h)))
@@ -128,7 +128,7 @@ fn widen_from_starts(
         Counted::Count(count) => {
             let types = first_numbers(first);
             let mut scratch = [0u8; 33860];
-            made(put_result(
+            told(put_result(
                 draft,
                 &mut scratch,
                 old,
