@@ -2,17 +2,17 @@
 --   met-small, set-given        a pair met, and the set that it gives
 --   up-none, up-more, up-many, up-all   the sets of the pairs met up to one are added
 --   look-more, look-many, look-all      one set more is looked into
-use Prim.Native.Nat.{ℕ, suc, _+_, _-_, _≤_, _<_}
+use Prim.Native.Nat.{ℕ, _+_, _-_, _≤_, _<_}
 use native.Mathlib.Omega.{arith}
 use native.Mathlib.Numerals.{add-one}
-use mathlib.Core.Bool.{Bool, true}
+use mathlib.Core.Bool.{Bool}
 use mathlib.Core.List.{List, [], _∷_, _++_, append-nil, append-assoc, List·Memᴰ}
 use mathlib.Core.Option.{some as just}
-use mathlib.Core.Path.{_≡_, refl, sym, _∙_, ap, ap₂, subst, fun-ext}
+use mathlib.Core.Path.{_≡_, sym, _∙_, ap, ap₂, subst, fun-ext}
 use lib.ListN.{length, getD, getElem?, take, drop, take-append-drop, length-map, List·getD-map}
 use lib.Seq.{take-suc, take-all, getD-take, length-take-le}
 use lib.Dec.{eqb}
-use Rattle.grammar.specs.Lists.{distinct, joinedOf, isIn, sameNumbers}
+use Rattle.grammar.specs.Lists.{distinct, isIn, sameNumbers}
 use Rattle.grammar.specs.SingleTypeForm.{TypeSet}
 use Rattle.grammar.specs.Table.{Table}
 use Rattle.theory.proofs.Alternatives.{pairsMet}
