@@ -27,9 +27,8 @@ use mathlib.Core.List.{
 }
 use mathlib.Core.Logic.{_↔_, ⊎-elim}
 use mathlib.Core.Option.{none as nothing, some as just}
-use mathlib.Core.Path.{_≡_, refl, sym, _∙_, ap, ap₂, subst}
+use mathlib.Core.Path.{_≡_, refl, sym, _∙_, ap, ap₂}
 use lib.ListN.{length, length-append, length-map, getElem?, getD}
-use lib.Dec.{eqb}
 use borrow.Author.Tests.{not-true}
 use Rattle.grammar.specs.Lists.{any, keep, distinct, allDistinct, place, joinedOf, isIn, numbersFrom, numbersBelow}
 use Rattle.grammar.specs.ReadTable.{isEmpty}

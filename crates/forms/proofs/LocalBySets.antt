@@ -6,7 +6,7 @@ use mathlib.Core.Bool.{Bool, true, not, _&&_}
 use mathlib.Core.List.{List, map, List·Memᴰ, Memᴰ·of-map}
 use mathlib.Core.Option.{some as just}
 use mathlib.Core.Path.{_≡_, refl, sym, _∙_, ap, ap₂, subst, fun-ext}
-use lib.ListN.{length, length-map, getElem?, getD}
+use lib.ListN.{length, length-map, getElem?}
 use lib.Dec.{eqb}
 use borrow.Author.Tests.{eqb-true, eq-eqb}
 use Rattle.grammar.specs.Lists.{any, keep, joinedOf, place, isIn, sameNumbers, numbersBelow}
@@ -19,18 +19,49 @@ use Rattle.grammar.specs.Reduce.{fruitful, withoutUnfruitful, withoutUnreached,
 use Rattle.grammar.specs.LocalForm.{labelOf, typeOfLabel, ruleOfLabel, localForm}
 use Rattle.grammar.specs.SingleTypeForm.{TypeSet}
 use Rattle.grammar.specs.Tidy.{tidy, tidyTable}
-use Rattle.theory.proofs.BoolLaws.{same-test, and-left, and-right, and-intro}
-use Rattle.theory.proofs.ListLaws.{any-found, any-of, kept, at-mem, at-map, just-eq, one-place, place-of, eqb-decides, in-mem, numbers-below}
+use Rattle.theory.proofs.BoolLaws.{same-test}
+use Rattle.theory.proofs.ListLaws.{
+  any-found,
+  any-of,
+  kept,
+  at-mem,
+  at-map,
+  just-eq,
+  one-place,
+  place-of,
+  eqb-decides,
+  in-mem,
+  numbers-below,
+}
 use Rattle.theory.proofs.Alternatives.{alts, written, resultsOf}
 use Rattle.theory.proofs.EmittedRule.{pairContents, pairsStanding, local-content}
 use Rattle.theory.proofs.UsedLabelsDocuments.{used-differ}
 use Rattle.pairs.specs.PairNumbers.{ruleAt, isLeft, contentsIn}
-use Rattle.forms.specs.SetForms.{labelled, labelSets, labelLeft, setNumber, setLabel, contentBySet, localSets, localStarts, localTable, tableBySets}
-use Rattle.forms.proofs.KeptLists.{any-map, some-mem, mem-some, place-image, in-kept}
+use Rattle.forms.specs.SetForms.{
+  labelled,
+  labelSets,
+  labelLeft,
+  setNumber,
+  setLabel,
+  contentBySet,
+  localSets,
+  localStarts,
+  localTable,
+  tableBySets,
+}
+use Rattle.forms.proofs.KeptLists.{some-mem, mem-some, place-image, in-kept}
 use Rattle.forms.proofs.UnionFit.{UnionFit}
-use Rattle.forms.proofs.StandingPairs.{AllLeft, left-pair, left-label, left-rules-are, rule-left, left-rule, set-contents}
-use Rattle.forms.proofs.SetsFound.{SetOfLabel, set-of-label, label-of-set, labelled-pair, labelsWithSet, label-sets-are, same-label}
-use Rattle.forms.proofs.TablesBySets.{RuleOfSet, FormOfSets, table-by-sets}
+use Rattle.forms.proofs.StandingPairs.{left-pair, left-label, rule-left, left-rule, set-contents}
+use Rattle.forms.proofs.SetsFound.{
+  SetOfLabel,
+  set-of-label,
+  label-of-set,
+  labelled-pair,
+  labelsWithSet,
+  label-sets-are,
+  same-label,
+}
+use Rattle.forms.proofs.TablesBySets.{FormOfSets, table-by-sets}
 
 module _ (u : Table) where
   abbrev reduced : Table
@@ -44,7 +75,8 @@ module _ (u : Table) where
   unfolding usedLabels reduce withoutUnreached withoutUnfruitful normalise
   labels-used =
       ap (λ test. keep test (numbersBelow (length (u .labels))))
-      (fun-ext (λ l. same-test (any (λ (r : Rule). eqb (r .label) l) (reduced .rules)) (not (isEmpty (setOf l))) (there l, back l)))
+      (fun-ext (λ l.
+      same-test (any (λ (r : Rule). eqb (r .label) l) (reduced .rules)) (not (isEmpty (setOf l))) (there l, back l)))
     where
       there : (l : ℕ) → any (λ (r : Rule). eqb (r .label) l) (reduced .rules) ≡ true → not (isEmpty (setOf l)) ≡ true
       there l e =
@@ -75,13 +107,16 @@ module _ (u : Table) where
       (subst (λ (ls : List ℕ). List·Memᴰ l ls) labels-used m) .1)
 
   -- the number of a label's set is that of the label among the used ones
-  set-place : (l : ℕ) → typeOfLabel (reduce (normalise u)) l ≡ place sameNumbers (labelled u (isLeft u) l) (labelSets u (isLeft u))
+  set-place : (l : ℕ) → typeOfLabel (reduce (normalise u)) l
+      ≡ place sameNumbers (labelled u (isLeft u) l) (labelSets u (isLeft u))
   unfolding typeOfLabel
   set-place l =
-      place-image setOf eqb sameNumbers l (usedLabels reduced) (λ y m. let (p, n) = used-member m in same-label u (isLeft u) l y p n)
+      place-image setOf eqb sameNumbers l (usedLabels reduced)
+      (λ y m. let (p, n) = used-member m in same-label u (isLeft u) l y p n)
       ∙ ap (place sameNumbers (setOf l)) (sym local-sets)
 
-  set-number : (λ p. typeOfLabel (reduce (normalise u)) (labelOf (reduce (normalise u)) p)) ≡ setNumber u (labelSets u (isLeft u)) (isLeft u)
+  set-number : (λ p. typeOfLabel (reduce (normalise u)) (labelOf (reduce (normalise u)) p))
+      ≡ setNumber u (labelSets u (isLeft u)) (isLeft u)
   unfolding setNumber
   set-number = fun-ext (λ p. ap (typeOfLabel reduced) (left-label u p) ∙ set-place (labelLeft u p))
 
@@ -135,8 +170,12 @@ module _ (u : Table) where
               record {
                 type =
                     ap (λ (x : Rule). x .type) (sym e)
-                    ∙ one-place (usedLabels reduced) (typeOfLabel reduced l) i (used-differ reduced) (place-of eqb eqb-decides used) at refl;
-                label = ap (λ (x : Rule). x .label) (sym e) ∙ sym (label-of-set u (isLeft u) l (used-member used .1)) ∙ ap (setLabel u) set;
+                    ∙ one-place (usedLabels reduced) (typeOfLabel reduced l) i (used-differ reduced)
+                    (place-of eqb eqb-decides used) at refl;
+                label =
+                    ap (λ (x : Rule). x .label) (sym e)
+                    ∙ sym (label-of-set u (isLeft u) l (used-member used .1))
+                    ∙ ap (setLabel u) set;
                 content =
                     ap (λ (x : Rule). tidy (x .content)) (sym e)
                     ∙ content-of-label l

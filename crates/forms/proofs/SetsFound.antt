@@ -1,5 +1,5 @@
 -- The sets of the single-type form as a program finds them, by pairs' numbers:
---   start-sets     the start sets are those of the start pairs, one a label
+--   start-sets     the start sets are those of the start pairs, one a label; of all sets they come first, start-sets-first
 --   sets-met       the sets met in a set of left pairs
 --   Found          the sets found when those below a number have been looked into
 --   found-start    to begin with, the start sets
@@ -31,12 +31,12 @@ use lib.Dec.{eqb}
 use borrow.Author.Tests.{eqb-true, eq-eqb}
 use Rattle.grammar.specs.Lists.{any, keep, distinct, isIn, sameNumbers, numbersBelow}
 use Rattle.grammar.specs.Limits.{standard}
-use Rattle.grammar.specs.Table.{Rule, Table}
+use Rattle.grammar.specs.Table.{Table}
 use Rattle.grammar.specs.ReadTable.{isEmpty}
 use Rattle.grammar.specs.Normalise.{normalise}
 use Rattle.grammar.specs.Reduce.{withoutUnfruitful, withoutUnreached, reduce}
 use Rattle.grammar.specs.LocalForm.{labelOf}
-use Rattle.grammar.specs.SingleTypeForm.{TypeSet, ofLabel, startSets, typesMet, setsMet, moreSets, allSets}
+use Rattle.grammar.specs.SingleTypeForm.{TypeSet, ofLabel, startSets, setsMet, moreSets, allSets}
 use Rattle.theory.proofs.BoolLaws.{and-left, and-right, and-intro, same-test}
 use Rattle.theory.proofs.ListLaws.{
   kept,
@@ -52,6 +52,7 @@ use Rattle.theory.proofs.ListLaws.{
   numbers-decide,
   eqb-decides,
 }
+use Rattle.theory.proofs.SetsClosed.{starts-first}
 use Rattle.theory.proofs.DistinctLaws.{keep-distinct, distinct-again}
 use Rattle.pairs.specs.PairNumbers.{ruleAt, isLeft, isStart, metIn}
 use Rattle.pairs.proofs.ReachedLaws.{start-reached}
@@ -75,7 +76,9 @@ use Rattle.forms.proofs.StandingPairs.{AllLeft, left-pair, left-label, 
 abbrev pub setsOfMet : Table → TypeSet → List TypeSet
 setsOfMet u s = map (λ p. labelled u (metWithin u s) (ruleAt u p .label)) (distinct eqb (metIn u (λ q. isIn q s)))
 
-pub part-many : (xs ys zs : List TypeSet) → length (distinct sameNumbers (xs ++ ys)) ≤ length (distinct sameNumbers (xs ++ (ys ++ zs)))
+-- what is added later takes nothing away
+pub part-many : (xs ys zs : List TypeSet)
+    → length (distinct sameNumbers (xs ++ ys)) ≤ length (distinct sameNumbers (xs ++ (ys ++ zs)))
 part-many = distinct-longer sameNumbers numbers-decide
 
 -- a pair of a label among some
@@ -223,6 +226,11 @@ module _ (u : Table) where
   start-sets =
       ap (λ (f : ℕ → TypeSet). keep (λ s. not (isEmpty s)) (map f (numbersBelow (length (u .labels)))))
       (fun-ext (label-set u (withoutUnfruitful (normalise u) .starts) start-left))
+
+  pub start-sets-first : (rest : List TypeSet) × (singleTypeSets u ≡ labelSets u (isStart u) ++ rest)
+  start-sets-first =
+      let (rest, e) = starts-first standard (reduce (normalise u)) in
+      (rest, e ∙ ap (λ (sets : List TypeSet). sets ++ rest) start-sets)
 
   -- the label of a left pair
   pub label-of-left : (p : ℕ) → isLeft u p ≡ true → labelOf (reduce (normalise u)) p ≡ ruleAt u p .label

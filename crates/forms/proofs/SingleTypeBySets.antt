@@ -1,13 +1,11 @@
 -- The single-type form of a union's reduced normal form, by sets of pairs:
 --   single-by-sets : tidyTable (withUsedLabels (singleTypeForm standard (reduce (normalise u)))) ≡ singleTypeTable u
 -- and its sets are of one label each, single-type-set.
-use Prim.Native.Nat.{ℕ, _<_}
-use mathlib.Core.List.{List, [], _∷_, map, List·Memᴰ, List·Memᴰ·head, Memᴰ·of-map}
-use mathlib.Core.Option.{some as just}
+use Prim.Native.Nat.{ℕ}
+use mathlib.Core.List.{List, List·Memᴰ}
 use mathlib.Core.Path.{_≡_, refl, sym, _∙_, ap, ap₂, subst, fun-ext}
-use lib.ListN.{length, length-map, getElem?, getD}
-use lib.Dec.{eqb}
-use Rattle.grammar.specs.Lists.{distinct, joinedOf, place, isIn, sameNumbers, numbersBelow}
+use lib.ListN.{length, getD}
+use Rattle.grammar.specs.Lists.{joinedOf, place, isIn, sameNumbers, numbersBelow}
 use Rattle.grammar.specs.Limits.{standard}
 use Rattle.grammar.specs.Content.{Content}
 use Rattle.grammar.specs.Table.{Rule, Table}
@@ -15,41 +13,48 @@ use Rattle.grammar.specs.UsedLabels.{withUsedLabels}
 use Rattle.grammar.specs.Normalise.{pairsOf, normalise}
 use Rattle.grammar.specs.Reduce.{fruitful, withoutUnfruitful, withoutUnreached, reduce}
 use Rattle.grammar.specs.LocalForm.{labelOf}
-use Rattle.grammar.specs.SingleTypeForm.{TypeSet, ofLabel, startSets, typesMet, setsMet, allSets, contentOfSet, ruleOfSet, singleTypeForm}
+use Rattle.grammar.specs.SingleTypeForm.{TypeSet, ofLabel, typesMet, contentOfSet, ruleOfSet, singleTypeForm}
 use Rattle.grammar.specs.Tidy.{tidy, tidyTable}
 use Rattle.theory.proofs.ListLaws.{at-mem, at-map, just-eq, in-mem, mem-in}
 use Rattle.theory.proofs.Alternatives.{alts, written, resultsOf}
 use Rattle.theory.proofs.EmittedRule.{set-content}
-use Rattle.theory.proofs.SetsClosed.{OneLabelSet, sets-induct, set-met, start-set, each-set, founded-member}
-use Rattle.theory.proofs.SingleTypeMerge.{single-type-form-labels, single-type-form-length, single-type-form-place}
-use Rattle.pairs.specs.PairNumbers.{ruleAt, isLeft, isStart, contentsIn, metIn}
-use Rattle.forms.specs.SetForms.{labelled, labelSets, labelLeft, setNumber, setLabel, contentBySet, metWithin, singleTypeSets, singleTypeTable, tableBySets}
-use Rattle.forms.specs.SetWords.{Ascending}
+use Rattle.theory.proofs.SetsClosed.{OneLabelSet, sets-induct, set-met, start-set}
+use Rattle.theory.proofs.SingleTypeMerge.{single-type-form-length, single-type-form-place}
+use Rattle.pairs.specs.PairNumbers.{metIn}
+use Rattle.forms.specs.SetForms.{
+  labelled,
+  labelLeft,
+  setNumber,
+  setLabel,
+  contentBySet,
+  metWithin,
+  singleTypeSets,
+  singleTypeTable,
+  tableBySets,
+}
 use Rattle.forms.proofs.UnionFit.{UnionFit}
 use Rattle.forms.proofs.StandingPairs.{AllLeft, left-pair, left-label, label-set, contents-of-set, types-met, met-left}
-use Rattle.forms.proofs.SetsFound.{
-  SetOfLabel,
-  set-of-label,
-  labelled-pair,
-  start-sets,
-  start-left,
-  label-of-left,
-}
-use Rattle.forms.proofs.TablesBySets.{RuleOfSet, FormOfSets, table-by-sets}
+use Rattle.forms.proofs.SetsFound.{SetOfLabel, set-of-label, labelled-pair, start-sets, start-left, label-of-left}
+use Rattle.forms.proofs.TablesBySets.{FormOfSets, table-by-sets}
 
 module _ (u : Table) (fit : UnionFit u) where
   abbrev reduced : Table
   reduced = reduce (normalise u)
 
   -- the set of the label of a left type
-  one-label-set : (types : List ℕ) → AllLeft u types → {s : TypeSet} → OneLabelSet (reduce (normalise u)) types s → SetOfLabel u s
+  one-label-set : (types : List ℕ) → AllLeft u types → {s : TypeSet}
+      → OneLabelSet (reduce (normalise u)) types s → SetOfLabel u s
   one-label-set types left {s} o =
       let l = labelOf reduced (o .type) in
       let h = left (o .type) (o .listed) in
       subst (SetOfLabel u) (sym (o .alike ∙ label-set u types left l))
       (set-of-label u fit (λ p. isIn p types) (λ p e. left p (in-mem p types e)) l
       (labelled-pair u (λ p. isIn p types) l (o .type) .1
-      (record { below = left-pair u (o .type) h .below; listed = mem-in (o .listed); label = sym (label-of-left u (o .type) h) })))
+      (record {
+        below = left-pair u (o .type) h .below;
+        listed = mem-in (o .listed);
+        label = sym (label-of-left u (o .type) h);
+      })))
 
   starts-left : AllLeft u (reduce (normalise u) .starts)
   unfolding reduce withoutUnreached
@@ -74,7 +79,8 @@ module _ (u : Table) (fit : UnionFit u) where
       written (joinedOf (alts (resultsOf (pairsOf u) (fruitful (normalise u)) target)) cs))
       (fun-ext (λ p.
       ap (λ (t : TypeSet). place sameNumbers t sets)
-      (ap₂ (ofLabel reduced) (types-met u s left) (left-label u p) ∙ label-set u (metIn u (λ q. isIn q s)) (met-left u s left) (labelLeft u p))))
+      (ap₂ (ofLabel reduced) (types-met u s left) (left-label u p)
+      ∙ label-set u (metIn u (λ q. isIn q s)) (met-left u s left) (labelLeft u p))))
       (contents-of-set u s left)
 
   pub single-form : FormOfSets u (singleTypeSets u) (metWithin u) (singleTypeForm standard (reduce (normalise u)))

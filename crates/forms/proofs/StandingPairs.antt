@@ -1,35 +1,24 @@
--- What reducing the normal form of a union leaves, by pairs' numbers. The left pairs are numbers of rules, each that of its first:
+-- What reducing the normal form of a union leaves, by pairs' numbers:
 --   left-pair     a left pair is fruitful, and the number of its first rule
 --   standing      the pairs that stand are the left numbers, ascending
 --   left-label    the label of a type that is left; of another it is 0
 --   label-set     the types of a label among left pairs
 --   set-contents  the contents of standing pairs that pass a test
 --   types-met     the pairs met in a set of left pairs, and met-left: they are left
-use Prim.Native.Nat.{ℕ, zero, _<_}
-use mathlib.Core.Bool.{Bool, true, false, _&&_, false≢true}
-use mathlib.Core.List.{
-  List,
-  [],
-  _∷_,
-  map,
-  map-map,
-  List·Memᴰ,
-  List·Memᴰ·head,
-  List·Memᴰ·not-nil,
-  Memᴰ·map,
-  Memᴰ·of-map,
-}
+use Prim.Native.Nat.{ℕ, _<_}
+use mathlib.Core.Bool.{Bool, true, false, _&&_}
+use mathlib.Core.List.{List, [], _∷_, map, map-map, List·Memᴰ, List·Memᴰ·head, List·Memᴰ·not-nil, Memᴰ·map, Memᴰ·of-map}
 use mathlib.Core.Option.{none as nowhere, some as just, Option}
 use mathlib.Core.Path.{_≡_, refl, sym, _∙_, ap, ap₂, subst, fun-ext}
-use lib.ListN.{length, getElem?, getD, List·getD-eq-default}
+use lib.ListN.{length, getElem?, List·getD-eq-default}
 use lib.Dec.{eqb}
 use borrow.Author.Tests.{eqb-true, eq-eqb}
-use Rattle.grammar.specs.Lists.{any, keep, distinct, joinedOf, isIn, numbersBelow}
+use Rattle.grammar.specs.Lists.{any, keep, joinedOf, isIn, numbersBelow}
 use Rattle.grammar.specs.Content.{Content, none}
 use Rattle.grammar.specs.Table.{Rule, Table}
 use Rattle.grammar.specs.KindTests.{samePair}
 use Rattle.grammar.specs.Normalise.{pairOf, pairsOf, normalise}
-use Rattle.grammar.specs.Reduce.{fruitful, withoutUnfruitful, reached, reduce}
+use Rattle.grammar.specs.Reduce.{fruitful, reduce}
 use Rattle.grammar.specs.LocalForm.{labelOf}
 use Rattle.grammar.specs.SingleTypeForm.{TypeSet, ofLabel, typesMet}
 use Rattle.theory.proofs.BoolLaws.{and-left, and-right, and-intro, same-test, not-both}
@@ -52,10 +41,10 @@ use Rattle.theory.proofs.ListLaws.{
 }
 use Rattle.theory.proofs.DistinctLaws.{keep-within}
 use Rattle.theory.proofs.KindTests.{same-pair-sym}
-use Rattle.theory.proofs.NormaliseDocuments.{OfPair, pair-refl, pair-same, same-pair, pairs-of}
-use Rattle.theory.proofs.Alternatives.{pairsMet, pairsLeft}
+use Rattle.theory.proofs.NormaliseDocuments.{pair-refl, pair-same, same-pair, pairs-of}
+use Rattle.theory.proofs.Alternatives.{pairsMet}
 use Rattle.theory.proofs.EmittedContent.{joined-map}
-use Rattle.theory.proofs.EmittedRule.{firstRules, fruitfulPairs, pairsStanding, pairContents, ruleLeft, left-rules, set-met}
+use Rattle.theory.proofs.EmittedRule.{firstRules, pairsStanding, pairContents, ruleLeft, left-rules, set-met}
 use Rattle.pairs.specs.Rounds.{contentOf}
 use Rattle.pairs.specs.PairNumbers.{ruleAt, fruitfulOf, isLeft, contentsOfPair, contentsIn, metIn}
 use Rattle.pairs.proofs.PairLists.{firsts-are}
@@ -63,6 +52,10 @@ use Rattle.pairs.proofs.MetLaws.{met-hold}
 use Rattle.pairs.proofs.ReachedLaws.{start-pairs, start-reached, met-reached, reached-set}
 use Rattle.forms.specs.SetForms.{labelled, labelLeft}
 use Rattle.forms.proofs.KeptLists.{keep-on, joined-on, map-itself, numbered, first-itself}
+
+-- what stands where there is no rule
+abbrev noRule : Rule
+noRule = record { type = 0; label = 0; content = none }
 
 -- all of a set are left
 abbrev pub AllLeft : Table → TypeSet → Type 0
@@ -83,14 +76,15 @@ module _ (u : Table) where
   leftNumbers = keep (isLeft u) numbers
 
   pub rule-there : (i : ℕ) → i < length (u .rules) → List·Memᴰ (ruleAt u i) (u .rules)
-  rule-there i h = at-mem (u .rules) i (at-or-else (u .rules) i (record { type = 0; label = 0; content = none }) h)
+  rule-there i h = at-mem (u .rules) i (at-or-else (u .rules) i noRule h)
 
   -- the number of a rule's pair
-  pair-at : (r : Rule) → List·Memᴰ r (u .rules) → (pairOf u r < length (u .rules)) × (pairOf u (ruleAt u (pairOf u r)) ≡ pairOf u r)
+  pair-at : (r : Rule) → List·Memᴰ r (u .rules)
+      → (pairOf u r < length (u .rules)) × (pairOf u (ruleAt u (pairOf u r)) ≡ pairOf u r)
   unfolding pairOf
   pair-at r m =
       let (s, at, e) = place-found samePair r (u .rules) (any-of (samePair r) m (pair-refl r)) in
-      let same = at-else (u .rules) (pairOf u r) (record { type = 0; label = 0; content = none }) at in
+      let same = at-else (u .rules) (pairOf u r) noRule at in
       (at-below (u .rules) (pairOf u r) at, ap (pairOf u) same ∙ sym (pair-same u r s e))
 
   -- some rule has this pair, and it is fruitful
@@ -154,24 +148,27 @@ module _ (u : Table) where
   unfolding pairOf
   standing =
       let stands : (Rule → Bool) = λ r. isLeft u (pairOf u r) in
-      keep-within stands (λ r. isIn (pairOf u r) (fruitful (normalise u))) (firstRules u) (λ r e. left-pair (pairOf u r) e .is-fruitful)
+      keep-within stands (λ r. isIn (pairOf u r) (fruitful (normalise u))) (firstRules u)
+      (λ r e. left-pair (pairOf u r) e .is-fruitful)
       ∙ sym
       (map-map (ruleAt u) (pairOf u) (keep stands (firstRules u))
       ∙ map-itself (λ r. ruleAt u (pairOf u r)) (keep stands (firstRules u))
       (λ r m.
-      first-itself samePair pair-refl same-pair-sym (record { type = 0; label = 0; content = none }) (u .rules)
+      first-itself samePair pair-refl same-pair-sym noRule (u .rules)
       (kept stands (firstRules u) m .0)))
       ∙ ap (map (ruleAt u))
-      (firsts-are samePair pair-refl same-pair-sym (record { type = 0; label = 0; content = none }) stands (u .rules)
+      (firsts-are samePair pair-refl same-pair-sym noRule stands (u .rules)
       ∙ ap (λ test. keep test numbers) (fun-ext left-first))
 
   abbrev ruleOf : ℕ → Rule
   ruleOf q = ruleLeft u (ruleAt u q)
 
-  pub left-rules-are : reduce (normalise u) .rules ≡ map (λ q. ruleLeft u (ruleAt u q)) (keep (isLeft u) (numbersBelow (length (u .rules))))
+  pub left-rules-are : reduce (normalise u) .rules
+      ≡ map (λ q. ruleLeft u (ruleAt u q)) (keep (isLeft u) (numbersBelow (length (u .rules))))
   left-rules-are = left-rules u ∙ ap (map (ruleLeft u)) standing ∙ map-map (ruleLeft u) (ruleAt u) leftNumbers
 
-  pub rule-left : (r : Rule) → List·Memᴰ r (reduce (normalise u) .rules) → (q : ℕ) × (isLeft u q ≡ true) × (ruleLeft u (ruleAt u q) ≡ r)
+  pub rule-left : (r : Rule) → List·Memᴰ r (reduce (normalise u) .rules)
+      → (q : ℕ) × (isLeft u q ≡ true) × (ruleLeft u (ruleAt u q) ≡ r)
   rule-left r m =
       let (q, n, e) = Memᴰ·of-map ruleOf leftNumbers (subst (λ (l : List Rule). List·Memᴰ r l) left-rules-are m) in
       (q, left-number n, e)
@@ -217,7 +214,8 @@ module _ (u : Table) where
       go false e (r ∷ rs) f = absurd (not-both (is-of (first f) .0) e)
 
   -- the types of a label among some
-  pub label-set : (types : List ℕ) → AllLeft u types → (l : ℕ) → ofLabel (reduce (normalise u)) types l ≡ labelled u (λ p. isIn p types) l
+  pub label-set : (types : List ℕ) → AllLeft u types → (l : ℕ)
+      → ofLabel (reduce (normalise u)) types l ≡ labelled u (λ p. isIn p types) l
   unfolding ofLabel labelled
   label-set types left l =
       ap (λ (rs : List Rule). map (λ (r : Rule). r .type) (keep test rs)) left-rules-are
@@ -252,15 +250,15 @@ module _ (u : Table) where
       go : (o : Option Rule) → getElem? (u .rules) i ≡ o → ruleAt u i .content ≡ contentOf u i
       go nowhere e =
           rw (e, contentOf)
-          (ap (λ (s : Rule). s .content) (List·getD-eq-default (u .rules) (record { type = 0; label = 0; content = none }) (past-end (u .rules) i e)))
-      go (just r) e = rw (e, contentOf) (ap (λ (s : Rule). s .content) (at-else (u .rules) i (record { type = 0; label = 0; content = none }) e))
+          (ap (λ (s : Rule). s .content) (List·getD-eq-default (u .rules) noRule (past-end (u .rules) i e)))
+      go (just r) e = rw (e, contentOf) (ap (λ (s : Rule). s .content) (at-else (u .rules) i noRule e))
 
   pair-contents : (q : ℕ) → isLeft u q ≡ true → pairContents u (ruleAt u q) ≡ contentsOfPair u q
   unfolding contentsOfPair
   pair-contents q e =
       let l = left-pair q e in
       let like : (Rule → Bool) = samePair (ruleAt u q) in
-      ap (λ (rs : List Rule). map (λ (r : Rule). r .content) (keep like rs)) (numbered (record { type = 0; label = 0; content = none }) (u .rules))
+      ap (λ (rs : List Rule). map (λ (r : Rule). r .content) (keep like rs)) (numbered noRule (u .rules))
       ∙ ap (map (λ (r : Rule). r .content)) (keep-map (ruleAt u) like numbers)
       ∙ map-map (λ (r : Rule). r .content) (ruleAt u) (keep (λ i. like (ruleAt u i)) numbers)
       ∙ ap₂ (λ (f : ℕ → Content) (is : List ℕ). map f is) (fun-ext content-at)
@@ -284,7 +282,8 @@ module _ (u : Table) where
       ∙ ap (joinedOf (pairContents u)) (keep-map (ruleAt u) ofRule leftNumbers)
       ∙ joined-map (pairContents u) (ruleAt u) (keep (λ q. ofRule (ruleAt u q)) leftNumbers)
       ∙ ap (joinedOf (λ q. pairContents u (ruleAt u q)))
-      (keep-on (λ q. ofRule (ruleAt u q)) test leftNumbers (λ q m. same q (left-number m)) ∙ keep-within test (isLeft u) numbers left)
+      (keep-on (λ q. ofRule (ruleAt u q)) test leftNumbers (λ q m. same q (left-number m))
+      ∙ keep-within test (isLeft u) numbers left)
       ∙ joined-on (λ q. pairContents u (ruleAt u q)) (contentsOfPair u) (keep test numbers)
       (λ q m. pair-contents q (left q (kept test numbers m .1)))
 
@@ -292,9 +291,11 @@ module _ (u : Table) where
     set-left : (p : ℕ) → isIn p s ≡ true → isLeft u p ≡ true
     set-left p e = left p (in-mem p s e)
 
-    pub contents-of-set : joinedOf (pairContents u) (keep (λ r. isIn (pairOf u r) s) (pairsStanding u)) ≡ contentsIn u (λ p. isIn p s)
+    pub contents-of-set : joinedOf (pairContents u) (keep (λ r. isIn (pairOf u r) s) (pairsStanding u))
+        ≡ contentsIn u (λ p. isIn p s)
     contents-of-set =
-        set-contents (λ p. isIn p s) set-left (λ r. isIn (pairOf u r) s) (λ p e. ap (λ (q : ℕ). isIn q s) (left-pair p e .first))
+        set-contents (λ p. isIn p s) set-left (λ r. isIn (pairOf u r) s)
+        (λ p e. ap (λ (q : ℕ). isIn q s) (left-pair p e .first))
 
     pub types-met : typesMet (reduce (normalise u)) s ≡ metIn u (λ p. isIn p s)
     unfolding metIn

@@ -1,11 +1,11 @@
--- A form by sets: `table-by-sets`: a form whose i-th rule has type i, the label of the i-th set, and a content that tidied is that by
--- the set, is after its last two steps the table by sets.
+-- A form by sets: `table-by-sets`: a form whose i-th rule has type i, the label of the i-th set, and a content that tidied is that
+-- by the set, is after the last two steps, used labels and tidying, the table by sets.
 use Prim.Native.Nat.{ℕ, zero}
 use native.Mathlib.Omega.{arith}
 use mathlib.Core.Bool.{Bool}
 use mathlib.Core.List.{List, [], map, map-map}
 use mathlib.Core.Option.{some as just}
-use mathlib.Core.Path.{_≡_, refl, sym, _∙_, ap, ap₂, fun-ext}
+use mathlib.Core.Path.{_≡_, sym, _∙_, ap, ap₂, fun-ext}
 use lib.ListN.{length, length-map, getElem?, getD}
 use lib.Dec.{eqb}
 use Rattle.grammar.specs.Lists.{any, keep, place, numbersBelow}
@@ -15,12 +15,13 @@ use Rattle.grammar.specs.Table.{Rule, Table}
 use Rattle.grammar.specs.UsedLabels.{usedLabels, withUsedLabels}
 use Rattle.grammar.specs.SingleTypeForm.{TypeSet}
 use Rattle.grammar.specs.Tidy.{tidy, tidyTable}
-use Rattle.theory.proofs.ListLaws.{at-map, map-at, at-else, at-below, below-at, just-eq, numbers-at, numbers-length}
+use Rattle.theory.proofs.ListLaws.{at-map, at-else, at-below, below-at, numbers-at, numbers-length}
 use Rattle.forms.specs.SetForms.{setLabel, labelsOf, contentBySet, ruleBySet, tableBySets}
 use Rattle.forms.proofs.KeptLists.{same-at, any-map}
 
 -- the rule of a set, before the labels are numbered anew and its content is tidied
-pub record RuleOfSet (u : Table) (sets : List TypeSet) (pairs : TypeSet → ℕ → Bool) (i : ℕ) (s : TypeSet) (r : Rule) : Type 0 where
+pub record RuleOfSet (u : Table) (sets : List TypeSet) (pairs : TypeSet → ℕ → Bool) (i : ℕ) (s : TypeSet) (r : Rule)
+    : Type 0 where
   pub type : r .type ≡ i
   pub label : r .label ≡ setLabel u s
   pub content : tidy (r .content) ≡ contentBySet u sets (pairs s) s

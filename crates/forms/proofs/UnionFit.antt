@@ -1,10 +1,9 @@
 -- What the laws of the forms by sets ask of a union, and that the union of two tables that a file can hold meets it:
 --   union-fit : TableWithin g → TableWithin h → UnionFit (unite standard g h)
-use Prim.Native.Nat.{ℕ, _≤_}
+use Prim.Native.Nat.{_≤_}
 use native.Mathlib.Omega.{arith}
 use mathlib.Core.List.{map, List·Memᴰ}
 use mathlib.Core.Logic.{⊎-elim}
-use mathlib.Core.Path.{_≡_}
 use lib.ListN.{length, length-append, length-map}
 use Rattle.grammar.specs.Limits.{standard}
 use Rattle.grammar.specs.Names.{Name, asciiClasses}
@@ -33,7 +32,9 @@ module _ (g h : Table) (old : TableWithin standard asciiClasses g) (addition : T
   few-rules =
       let a = old .rules in
       let b = addition .rules in
-      rw (length-append (g .rules) (map (added standard g h) (h .rules)), length-map (h .rules) (added standard g h)) (omega arith)
+      let n = length-append (g .rules) (map (added standard g h) (h .rules)) in
+      let m = length-map (h .rules) (added standard g h) in
+      omega arith
 
   pub union-fit : UnionFit (unite standard g h)
   unfolding reducedUnion

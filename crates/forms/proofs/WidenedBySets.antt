@@ -1,5 +1,7 @@
 -- Widening by sets of pairs, of either kind:
 --   table-of-kind     the table that widening gives, unless it is too large
+--   set-of-kind       its sets are of left pairs of one label each
+--   rules-of-kind     its rules are those of its sets, rule-count as many as there are sets
 --   regular-by-set    where there are at most 64 sets, the contents of its rules are counted and have types below 64
 --   too-many-sets     where there are more, it is too large
 use Prim.Native.Nat.{ℕ, zero, _≤_, _<_}
@@ -30,11 +32,20 @@ use Rattle.theory.proofs.Counted.{Counted}
 use Rattle.theory.proofs.NumberedTable.{Numbered, finished-numbered}
 use Rattle.theory.proofs.FormsNumbered.{form-numbered}
 use Rattle.pairs.specs.PairNumbers.{isLeft}
-use Rattle.forms.specs.SetForms.{ruleBySet, tableBySets, metWithin, localSets, localTable, singleTypeSets, singleTypeTable}
+use Rattle.forms.specs.SetForms.{
+  ruleBySet,
+  tableBySets,
+  metWithin,
+  localSets,
+  localTable,
+  singleTypeSets,
+  singleTypeTable,
+}
 use Rattle.forms.proofs.UnionFit.{UnionFit}
+use Rattle.forms.proofs.SetsFound.{SetOfLabel}
 use Rattle.forms.proofs.TablesBySets.{FormOfSets}
-use Rattle.forms.proofs.SingleTypeBySets.{single-form, single-by-sets}
-use Rattle.forms.proofs.LocalBySets.{local-form, local-by-sets}
+use Rattle.forms.proofs.SingleTypeBySets.{single-type-set, single-form, single-by-sets}
+use Rattle.forms.proofs.LocalBySets.{local-set, local-form, local-by-sets}
 
 -- the sets of a kind, and within which pairs those of one label are put together
 unfoldable pub setsOf : Kind → Table → List TypeSet
@@ -65,6 +76,12 @@ module _ (u : Table) (fit : UnionFit u) where
   form-of-kind local = local-form u fit
   form-of-kind singleType = single-form u fit
 
+  -- its sets are of one label each
+  pub set-of-kind : (kind : Kind) (s : TypeSet) → List·Memᴰ s (setsOf kind u) → SetOfLabel u s
+  unfolding setsOf
+  set-of-kind local = local-set u fit
+  set-of-kind singleType = single-type-set u fit
+
   -- its rules are those of its sets
   pub rules-of-kind : (kind : Kind)
       → tableOf kind u .rules ≡ map (ruleBySet u (setsOf kind u) (pairsWithin kind u)) (numbersBelow (length (setsOf kind u)))
@@ -78,9 +95,11 @@ module _ (u : Table) (fit : UnionFit u) where
       let n = form-of-kind kind .count in
       subst (Numbered standard asciiClasses) (table-of-kind kind)
       (finished-numbered standard asciiClasses (form standard kind (reduce (normalise u)))
-      (form-numbered (reduce (normalise u)) (fit .reduced) standard asciiClasses (fit .named) (fit .counted) kind (omega arith)))
+      (form-numbered (reduce (normalise u)) (fit .reduced) standard asciiClasses (fit .named) (fit .counted) kind
+      (omega arith)))
 
-  rule-count : (kind : Kind) → length (tableOf kind u .rules) ≡ length (setsOf kind u)
+  -- as many as there are sets
+  pub rule-count : (kind : Kind) → length (tableOf kind u .rules) ≡ length (setsOf kind u)
   unfolding numbersBelow
   rule-count kind =
       ap length (rules-of-kind kind)
