@@ -79,7 +79,7 @@ module _ {old add : List ℕ} {v : United} {u : Table} (x : Views old add v u) (
   part-next i h =
       let xs = distinct eqb (metIn u (λ q. isIn q s)) in
       let at : getD (setsWithin u s) i (given 0) ≡ given (getD numbers i 0) =
-          List·getD-map given xs i 0 ∙ ap (λ (l : List ℕ). given (getD l i 0)) (sym met) ∙ ap given (getD-take count numbers i 0 h) in
+      List·getD-map given xs i 0 ∙ ap (λ (l : List ℕ). given (getD l i 0)) (sym met) ∙ ap given (getD-take count numbers i 0 h) in
       ap (λ (n : ℕ). take n (setsWithin u s)) (add-one i)
       ∙ take-suc (setsWithin u s) i (given 0) (omega (arith, many))
       ∙ ap (λ (t : TypeSet). take i (setsWithin u s) ++ (t ∷ [])) at
