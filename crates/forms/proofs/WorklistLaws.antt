@@ -1,5 +1,5 @@
 -- The worklist as the program goes through it:
---   met-small, set-given        a pair met, and the set that it gives
+--   set-given                           the set that a pair met gives
 --   up-none, up-more, up-many, up-all   the sets of the pairs met up to one are added
 --   look-more, look-many, look-all      one set more is looked into
 use Prim.Native.Nat.{ℕ, _+_, _-_, _≤_, _<_}
@@ -8,7 +8,7 @@ use native.Mathlib.Numerals.{add-one}
 use mathlib.Core.Bool.{Bool}
 use mathlib.Core.List.{List, [], _∷_, _++_, append-nil, append-assoc, List·Memᴰ}
 use mathlib.Core.Option.{some as just}
-use mathlib.Core.Path.{_≡_, sym, _∙_, ap, ap₂, subst, fun-ext}
+use mathlib.Core.Path.{_≡_, sym, _∙_, ap, ap₂, subst}
 use lib.ListN.{length, getD, getElem?, take, drop, take-append-drop, length-map, List·getD-map}
 use lib.Seq.{take-suc, take-all, getD-take, length-take-le}
 use lib.Dec.{eqb}
@@ -16,16 +16,15 @@ use Rattle.grammar.specs.Lists.{distinct, isIn, sameNumbers}
 use Rattle.grammar.specs.SingleTypeForm.{TypeSet}
 use Rattle.grammar.specs.Table.{Table}
 use Rattle.theory.proofs.Alternatives.{pairsMet}
-use Rattle.theory.proofs.BoolLaws.{same-test}
-use Rattle.theory.proofs.ListLaws.{distinct-was, distinct-mem, in-mem, mem-in, joined-from, below-at, eqb-decides, numbers-decide}
+use Rattle.theory.proofs.ListLaws.{distinct-was, joined-from, below-at, numbers-decide}
 use Rattle.theory.proofs.DistinctLaws.{distinct-left, distinct-again}
 use Rattle.sets.specs.Sets.{member}
 use Rattle.pairs.specs.declared.union.United.{United}
 use Rattle.pairs.specs.View.{Views, labelIn}
 use Rattle.pairs.specs.PairNumbers.{ruleAt, fruitfulOf, contentsIn, metIn}
-use Rattle.pairs.specs.Walks.{Once}
 use Rattle.pairs.proofs.MetLaws.{met-hold}
 use Rattle.pairs.proofs.OnceLaws.{taken-mem}
+use Rattle.reducing.proofs.MeetingLaws.{distinct-in}
 use Rattle.forms.specs.declared.set_words.Counted.{Counted}
 use Rattle.forms.specs.declared.set_words.Counted.the-variants.{TooMany, Count}
 use Rattle.forms.specs.SetForms.{labelled, metWithin, singleTypeSets}
@@ -40,14 +39,6 @@ unfolding metIn
 met-below u set p m =
     let c = joined-from (pairsMet (fruitfulOf u)) (contentsIn u set) m in
     met-hold (fruitfulOf u) (λ q. q < length (u .rules)) (fruitful-below u) (c .0) p (c .2)
-
-in-distinct : (p : ℕ) (xs : List ℕ) → isIn p (distinct eqb xs) ≡ isIn p xs
-in-distinct p xs =
-    same-test (isIn p (distinct eqb xs)) (isIn p xs)
-    (λ e. mem-in (distinct-was eqb xs (in-mem p (distinct eqb xs) e)), λ e. mem-in (distinct-mem eqb eqb-decides (in-mem p xs e)))
-
-pub met-small : {numbers : List ℕ} {count : ℕ} → Once 128 numbers count → (i : ℕ) → i < count → getD numbers i 0 < 128
-met-small {numbers} {count} once i h = once .below (getD numbers i 0) (taken-mem numbers i count h (omega (arith, once .held)))
 
 -- some of the sets that are to be added
 pub up-none : (sets more : List TypeSet) → distinct sameNumbers sets ≡ sets → distinct sameNumbers (sets ++ take 0 more) ≡ sets
@@ -72,7 +63,7 @@ module _ {old add : List ℕ} {v : United} {u : Table} (x : Views old add v u) (
       let here = subst (λ (l : List ℕ). List·Memᴰ (getD numbers i 0) l) met (taken-mem numbers i count h (omega arith)) in
       let below = met-below u (λ q. isIn q s) (getD numbers i 0) (distinct-was eqb (metIn u (λ q. isIn q s)) here) in
       ap₂ (labelled u)
-      (e ∙ fun-ext (λ p. ap (isIn p) met ∙ in-distinct p (metIn u (λ q. isIn q s))))
+      (e ∙ ap (λ (l : List ℕ). λ (p : ℕ). isIn p l) met ∙ distinct-in (metIn u (λ q. isIn q s)))
       (label-at x (getD numbers i 0) (omega (arith, x .rules)))
 
   part-next : (i : ℕ) → i < count → take (i + 1) (setsWithin u s) ≡ take i (setsWithin u s) ++ (given (getD numbers i 0) ∷ [])
