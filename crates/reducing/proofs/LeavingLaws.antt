@@ -8,19 +8,18 @@ use native.Mathlib.Omega.{arith}
 use mathlib.Core.Bool.{Bool, true, false, _||_, false≢true}
 use mathlib.Core.List.{List, [], _∷_, _++_, map, List·Memᴰ, List·Memᴰ·append-cases, Memᴰ·append-left, Memᴰ·append-right, Memᴰ·map, Memᴰ·of-map}
 use mathlib.Core.Logic.{_⊎_, ⊎-elim}
-use mathlib.Core.Path.{_≡_, refl, sym, _∙_, ap, subst, fun-ext}
+use mathlib.Core.Path.{_≡_, sym, _∙_, ap, subst, fun-ext}
 use lib.ListN.{length, getD, take, drop}
 use Rattle.grammar.specs.Lists.{isIn, joinedOf, numbersBelow}
 use Rattle.grammar.specs.Limits.{standard}
-use Rattle.grammar.specs.Table.{Rule, Table}
+use Rattle.grammar.specs.Table.{Table}
 use Rattle.grammar.specs.Unite.{shifted, unite}
 use Rattle.grammar.specs.Normalise.{pairsOf, normalise}
-use Rattle.grammar.specs.Reduce.{fruitful, withoutUnfruitful, reached}
+use Rattle.grammar.specs.Reduce.{fruitful, withoutUnfruitful}
 use Rattle.reader.specs.declared.tables.TableIndex.{TableIndex}
 use Rattle.reader.specs.TableIndex.{startType}
 use Rattle.theory.proofs.BoolLaws.{same-test, or-cases, or-left, or-right}
 use Rattle.theory.proofs.ListLaws.{kept, joined-from, joined-mem, numbers-below, at-mem, mem-at, at-below, below-at, in-mem, mem-in}
-use Rattle.theory.proofs.Alternatives.{pairsMet}
 use Rattle.sets.specs.Sets.{member, putAt, nothing, both}
 use Rattle.pairs.specs.declared.lists.TypeLists.{TypeLists}
 use Rattle.pairs.specs.View.{TableHeld}
@@ -148,9 +147,7 @@ module _ {old add : List ℕ} {index addition : TableIndex} {g h : Table} (x : T
       or-left (isIn p addedPairs) (isIn p oldPairs || false) (mem-in q))
       (List·Memᴰ·append-cases (g .starts) (s .1))
 
-  pub start-set : (set first : ℕ → Bool)
-      → set ≡ both (λ p. isIn p (joinedOf (λ i. listOf (lists .addition .from) (lists .addition .numbers) (startType addition i)) (numbersBelow (addition .starts)))) first
-      → first ≡ both (λ p. isIn p (joinedOf (λ i. listOf (lists .old .from) (lists .old .numbers) (startType index i)) (numbersBelow (index .starts)))) nothing
+  pub start-set : (set first : ℕ → Bool) → set ≡ both (λ p. isIn p addedPairs) first → first ≡ both (λ p. isIn p oldPairs) nothing
       → set ≡ isStart (unite standard g h)
   start-set set first a b =
       a

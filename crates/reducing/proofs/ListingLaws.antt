@@ -15,13 +15,13 @@ use lib.ListN.{length, getD, set, take, drop, replicate, length-set, length-appe
 use lib.Seq.{take-suc-set, take-at, drop-at, length-take-le, getD-set-same, getD-set-other}
 use lib.Dec.{eqb, ltb}
 use borrow.Author.Tests.{eqb-true, eqb-false, eq-eqb, ne-eqb, ltb-true, ltb-false}
-use Rattle.grammar.specs.Lists.{keep, distinct, joinedOf, isIn, numbersBelow}
+use Rattle.grammar.specs.Lists.{keep, distinct, isIn, numbersBelow}
 use Rattle.grammar.specs.Limits.{standard}
 use Rattle.grammar.specs.Content.{none}
 use Rattle.grammar.specs.Table.{Rule, Table}
 use Rattle.grammar.specs.ReadTable.{isEmpty}
 use Rattle.grammar.specs.Unite.{shifted}
-use Rattle.grammar.specs.Normalise.{pairOf, pairsOf, normalise}
+use Rattle.grammar.specs.Normalise.{pairOf, normalise}
 use Rattle.grammar.specs.Reduce.{fruitful}
 use Rattle.theory.proofs.BoolLaws.{and-left, false-of, same-test}
 use Rattle.theory.proofs.ListLaws.{kept, joined-from, in-mem, numbers-below, at-else}
@@ -31,7 +31,7 @@ use Rattle.pairs.specs.declared.union.United.{United}
 use Rattle.pairs.specs.declared.lists.Lists.{Lists}
 use Rattle.pairs.specs.declared.lists.TypeLists.{TypeLists}
 use Rattle.pairs.specs.View.{Views, typeIn, firstIn}
-use Rattle.pairs.specs.Walks.{listOf, Listed, Once}
+use Rattle.pairs.specs.Walks.{listOf, Once}
 use Rattle.pairs.specs.Rounds.{puts}
 use Rattle.pairs.specs.PairNumbers.{ruleAt, fruitfulOf}
 use Rattle.pairs.specs.TypeLists.{ListsOf}

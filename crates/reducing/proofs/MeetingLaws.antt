@@ -8,17 +8,15 @@ use Prim.Native.Nat.{ℕ, _+_, _-_, _≤_, _<_}
 use native.Mathlib.Omega.{arith}
 use native.Mathlib.Numerals.{add-one}
 use mathlib.Core.Bool.{Bool, true, false, _&&_, _||_}
-use mathlib.Core.List.{List, [], _∷_, _++_, map, List·Memᴰ, Memᴰ·cast, Memᴰ·map, Memᴰ·of-map}
-use mathlib.Core.Option.{some as just}
+use mathlib.Core.List.{List, [], _∷_, _++_, List·Memᴰ, Memᴰ·map, Memᴰ·of-map}
 use mathlib.Core.Path.{_≡_, refl, sym, _∙_, ap, ap₂, subst, fun-ext}
-use lib.ListN.{length, getD, getElem?, take, drop}
+use lib.ListN.{length, getD, take, drop}
 use lib.Seq.{take-suc}
 use lib.Dec.{eqb, leb}
 use borrow.Author.Tests.{eqb-true, eq-eqb, ltb-true}
-use Rattle.grammar.specs.Lists.{any, place, keep, distinct, joinedOf, isIn, numbersBelow}
+use Rattle.grammar.specs.Lists.{keep, distinct, joinedOf, isIn, numbersBelow}
 use Rattle.grammar.specs.Limits.{Limits, standard}
 use Rattle.grammar.specs.ReadContent.{isProper, areProper}
-use Rattle.grammar.specs.ReadTable.{isEmpty}
 use Rattle.grammar.specs.Content.{Content, none, empty, type, sequence, choice, anyNumber, oneOrMore, optional, Contents, []ᶜ, _∷ᶜ_, count}
 use Rattle.grammar.specs.Table.{Rule, Table}
 use Rattle.grammar.specs.KindTests.{samePair}
@@ -34,11 +32,10 @@ use Rattle.pairs.specs.declared.union.United.{United}
 use Rattle.pairs.specs.declared.lists.TypeLists.{TypeLists}
 use Rattle.pairs.specs.declared.lists.Lists.{Lists}
 use Rattle.pairs.specs.declared.met.MetOne.{MetOne}
-use Rattle.pairs.specs.View.{SourceContent, shiftedContent, Views, Viewed, firstIn, fromIn, toIn}
+use Rattle.pairs.specs.View.{SourceContent, Views, firstIn, fromIn, toIn}
 use Rattle.pairs.specs.Walks.{listOf, Once, Adds, MetAsks, MetFinds}
 use Rattle.pairs.specs.Rounds.{contentOf}
 use Rattle.pairs.specs.PairNumbers.{ruleAt, fruitfulOf, contentsOfPair, contentsIn, metIn}
-use Rattle.pairs.specs.TypeLists.{ListsOf}
 use Rattle.pairs.proofs.ViewLaws.{content-is, seen}
 use Rattle.pairs.proofs.MetLaws.{finds-adds, finds-once}
 use Rattle.pairs.proofs.OnceLaws.{taken-mem, adds-none, adds-join, adds-same}

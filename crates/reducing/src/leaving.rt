@@ -7,7 +7,6 @@ use reader::numbers::wide;
 use reader::tables::TableIndex;
 use sets::four::Set4;
 ghost use mathlib.Core.Path.{_≡_};
-ghost use mathlib.Core.Bool.{_||_};
 ghost use mathlib.Core.List.{List};
 ghost use Prim.Native.Nat.{ℕ, _<_};
 ghost use lib.ListN.{length};

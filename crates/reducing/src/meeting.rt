@@ -6,7 +6,6 @@ use pairs::union::United;
 use reader::numbers::wide;
 use sets::four::Set4;
 ghost use mathlib.Core.Path.{_≡_};
-ghost use mathlib.Core.List.{[]};
 ghost use Prim.Native.Nat.{_<_};
 ghost use lib.Dec.{eqb};
 ghost use lib.ListN.{length, take};

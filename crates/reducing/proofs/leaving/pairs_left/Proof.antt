@@ -1,13 +1,12 @@
 -- `pairs_left` meets its contract. The loop's invariant: the pairs seen are left, and the starts are among them. The measure is the
 -- pairs still outside.
 use Prim.Native.Nat.{ℕ, _-_}
-use mathlib.Core.Bool.{Bool, true}
 use mathlib.Core.List.{List}
-use mathlib.Core.Path.{_≡_, refl, sym, _∙_, ap}
+use mathlib.Core.Path.{_≡_, sym, _∙_, ap}
 use lib.ListN.{length}
 use borrow.Author.Needs.{needs}
 use Rattle.grammar.specs.Table.{Table}
-use Rattle.sets.specs.Sets.{member, both, size}
+use Rattle.sets.specs.Sets.{member, size}
 use Rattle.sets.proofs.SetLaws.{member-union, length-union}
 use Rattle.pairs.specs.View.{Views}
 use Rattle.pairs.specs.PairNumbers.{fruitfulOf, isStart}

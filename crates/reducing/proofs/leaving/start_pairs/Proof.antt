@@ -1,7 +1,7 @@
 -- `start_pairs` meets its contract: the pairs of the start types are those of the lists.
 use Prim.Native.Nat.{ℕ}
 use mathlib.Core.List.{List}
-use mathlib.Core.Path.{_≡_, _∙_, ap}
+use mathlib.Core.Path.{_∙_, ap}
 use lib.ListN.{length, length-replicate}
 use borrow.Author.Needs.{needs}
 use Rattle.grammar.specs.Lists.{isIn, joinedOf, numbersBelow}

@@ -1,8 +1,8 @@
 -- `with_list` meets its contract. The loop's invariant: the numbers of the list before `i` are in the set.
 use Prim.Native.Nat.{ℕ, _-_, _≤_, _<_}
 use native.Mathlib.Omega.{arith}
-use mathlib.Core.Path.{_≡_, refl, sym, _∙_, ap, ap₂, subst}
-use lib.ListN.{length, getD, take, drop}
+use mathlib.Core.Path.{_≡_, sym, _∙_, ap, ap₂, subst}
+use lib.ListN.{length, take, drop}
 use borrow.Author.Needs.{needs}
 use Rattle.grammar.specs.Lists.{isIn}
 use Rattle.sets.specs.Sets.{member, both}

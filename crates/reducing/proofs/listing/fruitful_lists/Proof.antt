@@ -5,7 +5,7 @@ use Rattle.sets.specs.Sets.{member}
 use Rattle.pairs.specs.PairNumbers.{fruitfulOf}
 use Rattle.reducing.specs.PairsListed.{pairsIn}
 use Rattle.reducing.proofs.ListingLaws.{lists-both, pairs-fruitful}
-use Prim.Native.Nat.{ℕ, _+_}
+use Prim.Native.Nat.{_+_}
 use mathlib.Core.Path.{_≡_, _∙_, ap}
 use Rattle.reducing.proofs.listing.fruitful_lists.Statement.{statement}
 use Rattle.reducing.proofs.listing.fruitful_lists.Tie as tie

@@ -1,7 +1,7 @@
 -- `lists_from` meets its contract. The loop's invariant: the lists of the types before `k` are laid down.
 use Prim.Native.Nat.{ℕ, _-_, _≤_}
 use native.Mathlib.Omega.{arith}
-use mathlib.Core.Path.{_≡_, refl, sym, _∙_, subst}
+use mathlib.Core.Path.{_≡_, refl, sym, subst}
 use Rattle.sets.specs.Sets.{member}
 use Rattle.reducing.proofs.ListingLaws.{
   Filling,
