@@ -7,7 +7,6 @@ use Prim.Native.Nat.{ℕ, zero, suc, _+_, _-_, _≤_, _<_}
 use native.Mathlib.Omega.{arith}
 use mathlib.Core.Bool.{Bool, true, false, not, _&&_}
 use mathlib.Core.List.{List, [], _∷_, _++_, map, map-append, List·Memᴰ·head}
-use mathlib.Core.Logic.{⊎-elim}
 use mathlib.Core.Path.{_≡_, refl, sym, _∙_, ap, subst}
 use lib.ListN.{length, getD, length-append, List·getD-eq-default}
 use lib.Dec.{eqb, ltb}
@@ -24,11 +23,12 @@ use Rattle.pairs.specs.declared.union.United.{United}
 use Rattle.pairs.specs.View.{Views, labelIn}
 use Rattle.pairs.specs.PairNumbers.{ruleAt}
 use Rattle.pairs.proofs.ViewLaws.{seen}
+use Rattle.reducing.proofs.NumberLaws.{numbers-end}
 use Rattle.forms.specs.SetForms.{labelled, labelSets, setLabel}
 use Rattle.forms.specs.declared.set_words.Counted.{Counted}
 use Rattle.forms.specs.declared.set_words.Counted.the-variants.{TooMany, Count}
 use Rattle.forms.specs.SetWords.{Ascending, SetsCounted}
-use Rattle.forms.proofs.NumberLists.{numbers-end, keep-below, first-kept}
+use Rattle.forms.proofs.NumberLists.{keep-below, first-kept}
 
 module _ {old add : List ℕ} {v : United} {u : Table} (x : Views old add v u) where
   pub label-at : (i : ℕ) → i < v .rules → labelIn v i ≡ ruleAt u i .label

@@ -10,3 +10,4 @@ pub mod StandingPairs
 pub mod TablesBySets
 pub mod UnionFit
 pub mod WidenedBySets
+pub mod WorklistLaws

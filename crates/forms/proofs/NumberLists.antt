@@ -1,5 +1,4 @@
 -- Ascending lists of numbers as sets:
---   numbers-end     the numbers below n + 1 are those below n, and n
 --   keep-below      tests that agree below n keep the same of the numbers below n
 --   kept-within     what is kept of the numbers below n is below n and passes the test
 --   same-ascending  ascending lists with the same members are the same
@@ -7,12 +6,11 @@
 --   puts-kept       a loop that puts each number that is on gives the set of those kept
 use Prim.Native.Nat.{ℕ, zero, suc, _+_, _≤_, _<_}
 use native.Mathlib.Omega.{arith}
-use native.Mathlib.Numerals.{add-one}
 use mathlib.Core.Bool.{Bool, true, false, false≢true}
-use mathlib.Core.List.{List, [], _∷_, _++_}
+use mathlib.Core.List.{List, _∷_}
 use mathlib.Core.Logic.{⊎-elim}
 use mathlib.Core.Path.{_≡_, refl, sym, _∙_, ap, subst, fun-ext}
-use lib.ListN.{length, getD}
+use lib.ListN.{getD}
 use lib.Dec.{eqb}
 use borrow.Author.Tests.{eqb-true, eqb-false}
 use Rattle.grammar.specs.Lists.{keep, isIn, numbersFrom, numbersBelow}
@@ -22,19 +20,6 @@ use Rattle.sets.specs.Sets.{nothing}
 use Rattle.pairs.specs.Rounds.{puts}
 use Rattle.pairs.proofs.PutsLaws.{puts-was, puts-has}
 use Rattle.forms.proofs.KeptLists.{keep-on}
-
-numbers-next : (from n : ℕ) → numbersFrom from (suc n) ≡ numbersFrom from n ++ ((from + n) ∷ [])
-unfolding numbersFrom
-numbers-next from zero = ap (λ (k : ℕ). k ∷ []) (let z : from ≡ from + 0 = omega arith in z)
-numbers-next from (suc n) =
-    let z : suc from + n ≡ from + suc n = omega arith in
-    ap (λ (l : List ℕ). from ∷ l) (numbers-next (suc from) n ∙ ap (λ (k : ℕ). numbersFrom (suc from) n ++ (k ∷ [])) z)
-
-pub numbers-end : (n : ℕ) → numbersBelow (n + 1) ≡ numbersBelow n ++ (n ∷ [])
-unfolding numbersBelow
-numbers-end n =
-    let z : zero + n ≡ n = omega arith in
-    ap (numbersFrom zero) (add-one n) ∙ numbers-next zero n ∙ ap (λ (k : ℕ). numbersFrom zero n ++ (k ∷ [])) z
 
 pub keep-below : (p q : ℕ → Bool) (n : ℕ) → ((i : ℕ) → i < n → p i ≡ q i) → keep p (numbersBelow n) ≡ keep q (numbersBelow n)
 keep-below p q n h = keep-on p q (numbersBelow n) (λ i m. h i (numbers-below n i .0 m))

@@ -13,20 +13,17 @@ use lib.ListN.{length, getD, set, take, drop, replicate, length-map, List·getD-
 use lib.Seq.{getD-set-same, getD-set-other, ext-getD}
 use lib.Dec.{eqb, ltb}
 use borrow.Author.Tests.{eqb-true, eqb-false, ltb-true, ltb-false}
-use Rattle.grammar.specs.Lists.{keep, place, isIn, sameNumbers, numbersBelow}
+use Rattle.grammar.specs.Lists.{place, isIn, sameNumbers, numbersBelow}
 use Rattle.grammar.specs.Limits.{standard}
 use Rattle.grammar.specs.Unite.{shifted}
 use Rattle.grammar.specs.Table.{Rule, Table}
-use Rattle.grammar.specs.Normalise.{pairOf, pairsOf, normalise}
+use Rattle.grammar.specs.Normalise.{pairsOf, normalise}
 use Rattle.grammar.specs.Reduce.{fruitful}
 use Rattle.grammar.specs.SingleTypeForm.{TypeSet}
 use Rattle.theory.proofs.Alternatives.{resultsOf}
 use Rattle.theory.proofs.ListLaws.{kept, below-at, at-else, at-mem, numbers-below}
 use Rattle.theory.proofs.TableConditions.{Labelled}
-use Rattle.sets.specs.Sets.{member}
-use Rattle.pairs.specs.declared.union.United.{United}
 use Rattle.pairs.specs.declared.lists.TypeLists.{TypeLists}
-use Rattle.pairs.specs.View.{Views, labelIn}
 use Rattle.pairs.specs.Walks.{listOf, Listed}
 use Rattle.pairs.specs.PairNumbers.{ruleAt, fruitfulOf, isLeft}
 use Rattle.pairs.specs.TypeLists.{ListsOf}

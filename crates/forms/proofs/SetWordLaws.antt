@@ -11,20 +11,19 @@ use mathlib.Core.Bool.{Bool, true, false, not}
 use mathlib.Core.List.{List, [], _∷_, _++_, append-nil, List·Memᴰ, List·Memᴰ·append-cases, List·Memᴰ·eq-of-singleton}
 use mathlib.Core.Logic.{⊎-elim}
 use mathlib.Core.Option.{some as just}
-use mathlib.Core.Path.{_≡_, refl, sym, _∙_, ap, ap₂, subst}
+use mathlib.Core.Path.{_≡_, refl, sym, _∙_, ap, subst}
 use lib.ListN.{length, getElem?, length-append}
-use lib.Dec.{eqb, ltb}
+use lib.Dec.{ltb}
 use borrow.Author.Tests.{ltb-true, ltb-false}
 use Rattle.grammar.specs.Lists.{any, keep, distinct, place, isIn, sameNumbers, numbersBelow}
 use Rattle.grammar.specs.ReadTable.{isEmpty}
 use Rattle.grammar.specs.SingleTypeForm.{TypeSet}
-use Rattle.theory.proofs.BoolLaws.{false-of, not-both}
+use Rattle.theory.proofs.BoolLaws.{false-of}
 use Rattle.theory.proofs.ListLaws.{at-below, below-at, at-joined, at-mem, just-eq, place-found, same-numbers, same-numbers-refl, numbers-decide, keep-yes}
 use Rattle.theory.proofs.DistinctLaws.{one-more-new, one-more-old}
-use Rattle.sets.specs.Sets.{member, wordsAt, storeAt, nothing, Empties}
+use Rattle.sets.specs.Sets.{member, storeAt, Empties}
 use Rattle.sets.proofs.SetLaws.{words-store, store-before, length-store}
-use Rattle.pairs.proofs.UnitedLabelsLaws.{place-at-most, place-first, place-nowhere, place-some}
-use Rattle.forms.specs.declared.set_words.Counted.{Counted}
+use Rattle.pairs.proofs.UnitedLabelsLaws.{place-first, place-nowhere, place-some}
 use Rattle.forms.specs.declared.set_words.Counted.the-variants.{TooMany, Count}
 use Rattle.forms.specs.SetWords.{setIn, Ascending, SetsHeld, SetsCounted}
 use Rattle.forms.specs.Worklist.{Few}

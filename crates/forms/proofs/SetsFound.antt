@@ -58,6 +58,7 @@ use Rattle.pairs.specs.PairNumbers.{ruleAt, isLeft, isStart, metIn}
 use Rattle.pairs.proofs.ReachedLaws.{start-reached}
 use Rattle.forms.specs.SetForms.{labelled, labelSets, labelLeft, setLabel, singleTypeSets, metWithin}
 use Rattle.forms.specs.SetWords.{Ascending}
+use Rattle.forms.specs.Worklist.{setsWithin}
 use Rattle.forms.proofs.KeptLists.{
   map-on,
   past-nothing,
@@ -71,10 +72,6 @@ use Rattle.forms.proofs.KeptLists.{
 }
 use Rattle.forms.proofs.UnionFit.{UnionFit}
 use Rattle.forms.proofs.StandingPairs.{AllLeft, left-pair, left-label, label-set, types-met, met-left}
-
--- the sets that the pairs met in a set give, in meeting order, one for each pair
-abbrev pub setsOfMet : Table → TypeSet → List TypeSet
-setsOfMet u s = map (λ p. labelled u (metWithin u s) (ruleAt u p .label)) (distinct eqb (metIn u (λ q. isIn q s)))
 
 -- what is added later takes nothing away
 pub part-many : (xs ys zs : List TypeSet)
@@ -256,7 +253,7 @@ module _ (u : Table) where
     labels = map (λ p. ruleAt u p .label) met
 
     -- the sets of the pairs met are the sets met
-    sets-of-met : distinct sameNumbers (setsOfMet u s) ≡ setsMet (reduce (normalise u)) s
+    sets-of-met : distinct sameNumbers (setsWithin u s) ≡ setsMet (reduce (normalise u)) s
     sets-of-met =
         let set = labelled u (metWithin u s) in
         distinct-image eqb eqb-decides sameNumbers numbers-decide (λ p. set (ruleAt u p .label)) met
@@ -272,10 +269,10 @@ module _ (u : Table) where
         ∙ sym (sets-met s left)
 
     sets-added : (sets : List TypeSet) → distinct sameNumbers sets ≡ sets
-        → distinct sameNumbers (sets ++ setsOfMet u s)
+        → distinct sameNumbers (sets ++ setsWithin u s)
         ≡ sets ++ keep (λ t. not (any (sameNumbers t) sets)) (setsMet (reduce (normalise u)) s)
     sets-added sets once =
-        distinct-append sameNumbers numbers-decide sets (setsOfMet u s)
+        distinct-append sameNumbers numbers-decide sets (setsWithin u s)
         ∙ ap₂ _++_ once (ap (keep (λ t. not (any (sameNumbers t) sets))) sets-of-met)
 
   pub found-start : Found u 0 (labelSets u (isStart u))
@@ -293,18 +290,18 @@ module _ (u : Table) where
       }
 
   pub found-next : (next : ℕ) (sets : List TypeSet) (s : TypeSet) → Found u next sets → getElem? sets next ≡ just s → next < 64
-      → Found u (next + 1) (distinct sameNumbers (sets ++ setsOfMet u s))
+      → Found u (next + 1) (distinct sameNumbers (sets ++ setsWithin u s))
   found-next next sets s f e h =
       let left = f .left s (at-mem sets next e) in
       let fuel : 64 - next ≡ suc (64 - (next + 1)) = omega arith in
       let one : suc next ≡ next + 1 = omega arith in
       let g = reduce (normalise u) in
       record {
-        once = distinct-again sameNumbers numbers-decide (sets ++ setsOfMet u s);
+        once = distinct-again sameNumbers numbers-decide (sets ++ setsWithin u s);
         left =
             λ t m.
             ⊎-elim (f .left t) (met-set-left s left t)
-            (List·Memᴰ·append-cases sets (distinct-was sameNumbers (sets ++ setsOfMet u s) m));
+            (List·Memᴰ·append-cases sets (distinct-was sameNumbers (sets ++ setsWithin u s) m));
         whole =
             ap (moreSets g (64 - (next + 1)) (next + 1)) (sets-added s left sets (f .once))
             ∙ ap (λ (n : ℕ). moreSets g (64 - (next + 1)) n (sets ++ newSets g sets s)) (sym one)
@@ -313,7 +310,7 @@ module _ (u : Table) where
             ∙ f .whole;
       }
     where
-      met-set-left : (s : TypeSet) → AllLeft u s → (t : TypeSet) → List·Memᴰ t (setsOfMet u s) → AllLeft u t
+      met-set-left : (s : TypeSet) → AllLeft u s → (t : TypeSet) → List·Memᴰ t (setsWithin u s) → AllLeft u t
       met-set-left s left t m p n =
           let (q, o, f) = Memᴰ·of-map (λ p. labelled u (metWithin u s) (ruleAt u p .label)) (distinct eqb (met s left)) m in
           let h =

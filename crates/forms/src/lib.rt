@@ -8,3 +8,6 @@ pub mod label_sets;
 
 // The numbers of the sets in place of pairs.
 pub mod results;
+
+// The sets of the single-type form.
+pub mod worklist;

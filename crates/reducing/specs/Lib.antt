@@ -1,1 +1,2 @@
 pub mod PairsListed
+pub mod PairsMet
