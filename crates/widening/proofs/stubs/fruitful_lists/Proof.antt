@@ -1,4 +1,0 @@
-use Rattle.widening.proofs.stubs.fruitful_lists.Statement.{statement}
-
-pub fruitful-lists-spec : {M : Type 1} → statement M
-fruitful-lists-spec = ?
