@@ -1,0 +1,4 @@
+pub mod LabelLaws
+pub mod SetLaws
+pub mod ResultLaws
+pub mod ContentLaws

@@ -1,0 +1,6 @@
+// Widening tables by a table or by a document to the least local or single-type table, and the sample of a document.
+pub mod labels_used;
+pub mod result;
+pub mod rules;
+pub mod starts;
+pub mod stubs;
