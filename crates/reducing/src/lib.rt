@@ -1,1 +1,2 @@
 // The fruitful pairs by type, and the pairs that reducing leaves.
+pub mod listing;
