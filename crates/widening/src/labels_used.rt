@@ -1,7 +1,7 @@
 // The labels of a result: those that its sets have, in label order.
-use crate::stubs::set_label;
 use emitting::writing::Drafted;
 use emitting::writing::put_field;
+use forms::label_sets::set_label;
 use pairs::labels::Names;
 use pairs::union::United;
 use sets::four::Set4;

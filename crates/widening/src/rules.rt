@@ -1,16 +1,16 @@
 // The rules of a result: one for each set of pairs, in the order of the sets.
 use crate::labels_used::label_place;
-use crate::stubs::content_of_set;
-use crate::stubs::label_numbers;
 use crate::stubs::met_set;
-use crate::stubs::result_lists;
-use crate::stubs::set_label;
-use crate::stubs::types_listed;
 use emitting::completing::ContentMade;
 use emitting::writing::Drafted;
 use emitting::writing::put_field;
+use forms::label_sets::label_numbers;
+use forms::label_sets::set_label;
+use forms::results::result_lists;
+use merging::contents::content_of_set;
 use pairs::lists::TypeLists;
 use pairs::union::United;
+use reducing::listing::types_listed;
 use sets::four::Set4;
 use sets::words::load;
 ghost use Prim.Native.Nat.{ℕ, _*_, _≤_, _<_};
