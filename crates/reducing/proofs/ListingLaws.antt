@@ -113,11 +113,11 @@ zero-at n i = go (ltb i n) refl
         List·getD-eq-default (zeros n) 0
         (subst (λ (x : ℕ). x ≤ i) (sym (length-replicate {A = ℕ} n 0)) (ltb-false i n e))
 
-pub none-once : (list : List ℕ) → 128 ≤ length list → Once 128 list 0
+none-once : (list : List ℕ) → 128 ≤ length list → Once 128 list 0
 unfolding distinct
 none-once list h = record { room = h; held = omega arith; once = refl; below = λ p m. elim m [ ] }
 
-filled-zeros : Filled (replicate 128 0) 0
+pub filled-zeros : Filled (replicate 128 0) 0
 filled-zeros =
     record {
       once = none-once (replicate 128 0) (subst (λ (n : ℕ). 128 ≤ n) (sym (length-replicate {A = ℕ} 128 0)) (omega arith));
