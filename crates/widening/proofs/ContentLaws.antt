@@ -1,6 +1,5 @@
 -- What the content of a set is merged from.
 use Prim.Native.Nat.{ℕ, _<_}
-use native.Mathlib.Omega.{arith}
 use mathlib.Core.Bool.{Bool}
 use mathlib.Core.List.{List}
 use mathlib.Core.Path.{_≡_, subst}
@@ -13,7 +12,6 @@ use Rattle.sets.specs.declared.four.Set4.{Set4}
 use Rattle.pairs.specs.declared.lists.TypeLists.{TypeLists}
 use Rattle.pairs.specs.declared.union.United.{United}
 use Rattle.pairs.specs.TypeLists.{ListsOf}
-use Rattle.pairs.specs.View.{Viewed}
 use Rattle.merging.specs.Merging.{Merging}
 use Rattle.forms.specs.SetForms.{setNumber}
 use Rattle.forms.specs.Worklist.{NumbersOf}

@@ -1,24 +1,23 @@
--- The labels used, and fields of those numbers that are on.
---   joined-kept  : the fields of the numbers that are on are those of the numbers kept
+-- The labels used, and fields that are written if they are on.
 --   place-among  : the place of a number among those kept is how many kept ones come before it
 --   kept-in, kept-out : one number more
 --   used-are     : the keys of some sets are the labels used
 --   put-on, put-off : a field is written if it is on
-use Prim.Native.Nat.{ℕ, zero, suc, _+_, _≤_, _<_}
+use Prim.Native.Nat.{ℕ, zero, _+_, _≤_, _<_}
 use native.Mathlib.Omega.{arith}
 use mathlib.Core.Bool.{Bool, true, false, false≢true}
-use mathlib.Core.List.{List, [], _∷_, _++_}
-use mathlib.Core.Logic.{inl, inr, ⊎-elim}
+use mathlib.Core.List.{List, [], _∷_, _++_, append-nil}
+use mathlib.Core.Logic.{⊎-elim}
 use mathlib.Core.Path.{_≡_, refl, sym, _∙_, ap, subst, fun-ext}
 use lib.Dec.{eqb}
-use lib.ListN.{length, length-append, getD, getElem?}
+use lib.ListN.{length, length-append, getD}
 use borrow.Author.Tests.{eqb-true, eq-eqb}
-use Rattle.grammar.specs.Lists.{any, keep, place, joinedOf, numbersBelow}
+use Rattle.grammar.specs.Lists.{any, keep, place, numbersBelow}
 use Rattle.grammar.specs.Table.{Table}
 use Rattle.grammar.specs.SingleTypeForm.{TypeSet}
 use Rattle.theory.proofs.Alternatives.{onlyIf}
 use Rattle.theory.proofs.BoolLaws.{false-of, same-test}
-use Rattle.theory.proofs.ListLaws.{any-found, any-of, keep-yes, keep-no, kept, keep-shorter, at-mem, mem-at, at-below, at-else, at-or-else, numbers-below, numbers-length}
+use Rattle.theory.proofs.ListLaws.{any-found, any-of, keep-yes, kept, keep-shorter, at-mem, mem-at, at-below, at-else, at-or-else, numbers-below, numbers-length}
 use Rattle.theory.proofs.DistinctLaws.{keep-append}
 use Rattle.sets.specs.Sets.{nothing}
 use Rattle.pairs.specs.Rounds.{puts}
@@ -28,26 +27,10 @@ use Rattle.emitting.specs.declared.writing.Drafted.{Drafted}
 use Rattle.emitting.specs.declared.writing.Drafted.the-variants.{Length}
 use Rattle.emitting.specs.Writing.{Puts}
 use Rattle.emitting.proofs.PutLaws.{put-none}
-use Rattle.sampling.proofs.NumberingLaws.{numbers-end, numbers-split, place-yes, place-past}
+use Rattle.reducing.proofs.NumberLaws.{keep-next, keep-start}
+use Rattle.sampling.proofs.NumberingLaws.{numbers-split, place-yes, place-past}
 use Rattle.forms.specs.SetForms.{setLabel}
 use Rattle.widening.specs.Results.{isUsed}
-
-pub joined-kept : {A B : Type 0} (on : A → Bool) (f : A → List B) (xs : List A)
-    → joinedOf (λ x. onlyIf (on x) (f x)) xs ≡ joinedOf f (keep on xs)
-unfolding joinedOf onlyIf keep
-joined-kept on f [] = refl
-joined-kept {A} {B} on f (x ∷ xs) = go (on x) refl (joined-kept on f xs)
-  where
-    go : (b : Bool) → on x ≡ b → joinedOf (λ y. onlyIf (on y) (f y)) xs ≡ joinedOf f (keep on xs)
-        → joinedOf (λ y. onlyIf (on y) (f y)) (x ∷ xs) ≡ joinedOf f (keep on (x ∷ xs))
-    go true e ih =
-        ap (λ (b : Bool). onlyIf b (f x) ++ joinedOf (λ y. onlyIf (on y) (f y)) xs) e
-        ∙ ap (λ (l : List B). f x ++ l) ih
-        ∙ ap (joinedOf f) (sym (keep-yes on x xs e))
-    go false e ih =
-        ap (λ (b : Bool). onlyIf b (f x) ++ joinedOf (λ y. onlyIf (on y) (f y)) xs) e
-        ∙ ih
-        ∙ ap (joinedOf f) (sym (keep-no on x xs e))
 
 module _ (on : ℕ → Bool) where
   not-before : (l : ℕ) → any (eqb l) (keep on (numbersBelow l)) ≡ false
@@ -71,30 +54,24 @@ module _ (on : ℕ → Bool) where
       let same = ap (place eqb l) all in
       omega arith
 
-  more : (l : ℕ) → keep on (numbersBelow (l + 1)) ≡ keep on (numbersBelow l) ++ keep on (l ∷ [])
-  more l = ap (keep on) (numbers-end l) ∙ keep-append on (numbersBelow l) (l ∷ [])
-
   pub kept-in : (l : ℕ) → on l ≡ true → length (keep on (numbersBelow (l + 1))) ≡ length (keep on (numbersBelow l)) + 1
-  unfolding keep
+  unfolding onlyIf
   kept-in l e =
-      ap length (more l ∙ ap (λ (x : List ℕ). keep on (numbersBelow l) ++ x) (keep-yes on l [] e))
+      ap length (keep-next on l ∙ ap (λ (b : Bool). keep on (numbersBelow l) ++ onlyIf b (l ∷ [])) e)
       ∙ length-append (keep on (numbersBelow l)) (l ∷ [])
 
   pub kept-out : (l : ℕ) → on l ≡ false → length (keep on (numbersBelow (l + 1))) ≡ length (keep on (numbersBelow l))
-  unfolding keep
+  unfolding onlyIf
   kept-out l e =
-      let a = ap length (more l ∙ ap (λ (x : List ℕ). keep on (numbersBelow l) ++ x) (keep-no on l [] e)) in
-      let b = length-append (keep on (numbersBelow l)) [] in
-      let c : length {A = ℕ} [] ≡ 0 = refl in
-      omega arith
+      ap length
+      (keep-next on l ∙ ap (λ (b : Bool). keep on (numbersBelow l) ++ onlyIf b (l ∷ [])) e ∙ append-nil (keep on (numbersBelow l)))
 
   pub kept-few : (l : ℕ) → length (keep on (numbersBelow l)) ≤ l
   unfolding numbersBelow
   kept-few l = let a = keep-shorter on (numbersBelow l) in let b = numbers-length zero l in omega arith
 
   pub kept-none : length (keep on (numbersBelow 0)) ≡ 0
-  unfolding keep numbersBelow
-  kept-none = refl
+  kept-none = ap length (keep-start on)
 
 module _ (u : Table) (sets : List TypeSet) where
   abbrev pub labelAt : ℕ → ℕ

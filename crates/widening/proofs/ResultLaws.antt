@@ -8,15 +8,14 @@ use Prim.Native.Nat.{ℕ, suc, _+_, _-_, _≤_, _<_}
 use native.Mathlib.Omega.{arith}
 use mathlib.Core.Bool.{Bool, true}
 use mathlib.Core.List.{List, [], _∷_, _++_, append-assoc, map}
-use mathlib.Core.Path.{_≡_, refl, sym, _∙_, ap, subst}
-use lib.Dec.{eqb}
-use lib.ListN.{length, length-append, getD, set, take, drop, List·getD-append}
+use mathlib.Core.Path.{_≡_, sym, _∙_, ap, subst}
+use lib.ListN.{length, length-append, getD, set, take, List·getD-append}
 use lib.Seq.{take-append-le, getD-append-add}
 use Rattle.grammar.specs.Lists.{keep, joinedOf, numbersBelow}
 use Rattle.grammar.specs.Limits.{standard}
 use Rattle.grammar.specs.Names.{Name}
 use Rattle.grammar.specs.Content.{Content}
-use Rattle.grammar.specs.Table.{Rule, Table}
+use Rattle.grammar.specs.Table.{Table}
 use Rattle.grammar.specs.Fields.{fieldBytes}
 use Rattle.grammar.specs.Unite.{unite}
 use Rattle.grammar.specs.WriteTable.{ruleBytes, tableBytes}
@@ -34,9 +33,9 @@ use Rattle.pairs.proofs.UnitedLabelsLaws.{name-at}
 use Rattle.emitting.specs.declared.completing.ContentMade.{ContentMade}
 use Rattle.emitting.specs.declared.completing.ContentMade.the-variants.{TooLarge, Upto}
 use Rattle.emitting.specs.Completing.{Stored, Made}
-use Rattle.sampling.specs.SampleTable.{ruleField, rulesBytes}
+use Rattle.reducing.proofs.NumberLaws.{joined-only}
+use Rattle.sampling.specs.SampleTable.{rulesBytes}
 use Rattle.forms.specs.SetForms.{labelsOf, tableBySets}
-use Rattle.widening.proofs.LabelLaws.{joined-kept}
 use Rattle.widening.specs.Results.{pairsWithin, resultRule, isUsed, LabelsIn, labelsBytes, startsBytes, bodyBytes}
 
 -- names of labels
@@ -76,7 +75,7 @@ module _ {old add : List ℕ} {olds news : Names} (q : LabelsIn old add olds new
       let b = q .new-names .count in
       let c = length-append (q .first) (q .second) in
       let e : olds .count + news .count ≡ length (q .first ++ q .second) = omega arith in
-      joined-kept on (λ l. fieldBytes 0x10 (getD (q .first ++ q .second) l [])) (numbersBelow (olds .count + news .count))
+      joined-only on (λ l. fieldBytes 0x10 (getD (q .first ++ q .second) l [])) (numbersBelow (olds .count + news .count))
       ∙ ap (λ (n : ℕ). joinedOf (λ l. fieldBytes 0x10 (getD (q .first ++ q .second) l [])) (keep on (numbersBelow n))) e
 
 -- the value of a rule's field

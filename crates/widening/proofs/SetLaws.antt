@@ -10,7 +10,7 @@ use lib.ListN.{length, getD, getElem?}
 use borrow.Author.Tests.{eq-eqb}
 use Rattle.grammar.specs.Lists.{keep, place, joinedOf, isIn, numbersBelow}
 use Rattle.grammar.specs.Content.{none}
-use Rattle.grammar.specs.Table.{Rule, Table}
+use Rattle.grammar.specs.Table.{Table}
 use Rattle.grammar.specs.ReadTable.{isEmpty}
 use Rattle.grammar.specs.Normalise.{pairsOf, normalise}
 use Rattle.grammar.specs.Reduce.{fruitful}

@@ -3,4 +3,3 @@ pub mod labels_used;
 pub mod result;
 pub mod rules;
 pub mod starts;
-pub mod stubs;

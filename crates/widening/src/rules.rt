@@ -1,6 +1,5 @@
 // The rules of a result: one for each set of pairs, in the order of the sets.
 use crate::labels_used::label_place;
-use crate::stubs::met_set;
 use emitting::completing::ContentMade;
 use emitting::writing::Drafted;
 use emitting::writing::put_field;
@@ -11,22 +10,22 @@ use merging::contents::content_of_set;
 use pairs::lists::TypeLists;
 use pairs::union::United;
 use reducing::listing::types_listed;
+use reducing::meeting::met_set;
 use sets::four::Set4;
 use sets::words::load;
-ghost use Prim.Native.Nat.{ℕ, _*_, _≤_, _<_};
-ghost use mathlib.Core.List.{List};
+ghost use Prim.Native.Nat.{_*_, _≤_, _<_};
 ghost use mathlib.Core.Path.{_≡_};
 ghost use lib.ListN.{length};
 ghost use Rattle.grammar.specs.Lists.{isIn};
 ghost use Rattle.grammar.specs.Table.{Table};
 ghost use Rattle.grammar.specs.SingleTypeForm.{TypeSet};
 ghost use Rattle.sets.specs.Sets.{member, wordsAt};
-ghost use Rattle.pairs.specs.View.{Views, Viewed};
+ghost use Rattle.pairs.specs.View.{Views};
 ghost use Rattle.pairs.specs.TypeLists.{ListsOf};
 ghost use Rattle.pairs.specs.PairNumbers.{fruitfulOf, isLeft};
 ghost use Rattle.emitting.specs.Completing.{Made};
-ghost use Rattle.sampling.specs.SampleTable.{RulePuts, RulesPut, TablePut};
-ghost use Rattle.widening.specs.Results.{pairsWithin, RulesFrom, RulesWith, ruleFrom, restBytes};
+ghost use Rattle.sampling.specs.SampleTable.{RulePuts, RulesPut, TablePut, restBytes};
+ghost use Rattle.widening.specs.Results.{pairsWithin, RulesFrom, RulesWith, ruleFrom};
 
 // The pairs that form the sets named in the content of a set.
 fn pairs_within(

@@ -2,7 +2,7 @@
 use emitting::writing::Drafted;
 use emitting::writing::put_field;
 use sets::four::Set4;
-ghost use Prim.Native.Nat.{ℕ, _≤_, _<_};
+ghost use Prim.Native.Nat.{_≤_, _<_};
 ghost use mathlib.Core.List.{[], _∷_};
 ghost use lib.ListN.{length};
 ghost use Rattle.grammar.specs.Fields.{fieldBytes};

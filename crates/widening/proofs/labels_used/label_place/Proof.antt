@@ -4,7 +4,6 @@ use native.Mathlib.Omega.{arith}
 use mathlib.Core.Logic.{⊎-elim}
 use mathlib.Core.Path.{_≡_, sym, _∙_, ap}
 use lib.ListN.{length}
-use borrow.Author.Needs.{needs}
 use Rattle.grammar.specs.Lists.{keep, numbersBelow}
 use Rattle.sets.specs.Sets.{member}
 use Rattle.widening.proofs.LabelLaws.{place-among, kept-in, kept-out, kept-few, kept-none}

@@ -1,5 +1,4 @@
 -- `put_name` meets its contract: the name stands where the arrays of its own table say.
-use lib.ListN.{getD}
 use mathlib.Core.List.{List}
 use mathlib.Core.Path.{subst}
 use Prim.Native.Nat.{ℕ}

@@ -5,8 +5,9 @@ use mathlib.Core.Path.{_≡_}
 use lib.ListN.{length}
 use borrow.Author.Needs.{needs}
 use Rattle.sets.specs.Sets.{member}
+use Rattle.sampling.specs.SampleTable.{restBytes}
 use Rattle.sampling.proofs.RuleLaws.{put-length-is, put-over, put-then}
-use Rattle.widening.specs.Results.{ruleFrom, startsBytes, restBytes}
+use Rattle.widening.specs.Results.{ruleFrom, startsBytes}
 use Rattle.widening.proofs.result.put_body.Statement.{statement}
 use Rattle.widening.proofs.result.put_body.Tie as tie
 

@@ -2,7 +2,6 @@
 use Prim.Native.Nat.{ℕ}
 use mathlib.Core.Bool.{Bool}
 use mathlib.Core.Path.{sym, _∙_, ap}
-use borrow.Author.Needs.{needs}
 use Rattle.grammar.specs.Lists.{isIn}
 use Rattle.pairs.specs.PairNumbers.{metIn}
 use Rattle.widening.specs.Results.{pairsWithin}

@@ -1,7 +1,6 @@
 -- `put_rule` meets its contract.
 use Prim.Native.Nat.{ℕ, _-_}
 use native.Mathlib.Omega.{arith}
-use mathlib.Core.List.{List}
 use mathlib.Core.Logic.{inl}
 use mathlib.Core.Path.{_≡_, _∙_, ap, subst}
 use lib.Dec.{eqb}

@@ -1,5 +1,5 @@
 -- `put_rules` meets its contract. The loop's invariant: the rules before `i` are written, and none of their contents is too large.
-use Prim.Native.Nat.{ℕ, _+_, _-_, _≤_, _<_}
+use Prim.Native.Nat.{ℕ, _-_, _≤_, _<_}
 use native.Mathlib.Omega.{arith}
 use mathlib.Core.Bool.{false}
 use mathlib.Core.Path.{_≡_, refl, subst}

@@ -1,7 +1,6 @@
 -- `set_content` meets its contract: the content of the set's pairs, with the number of a set for each pair.
-use Prim.Native.Nat.{ℕ}
 use native.Mathlib.Omega.{arith}
-use mathlib.Core.Path.{_≡_, sym, _∙_, ap, subst}
+use mathlib.Core.Path.{sym, subst}
 use borrow.Author.Needs.{needs}
 use Rattle.grammar.specs.Lists.{place, sameNumbers}
 use Rattle.grammar.specs.Content.{Content}

@@ -11,8 +11,8 @@ use Rattle.grammar.specs.Fields.{fieldBytes}
 use Rattle.theory.proofs.Alternatives.{onlyIf}
 use Rattle.sets.specs.Sets.{member}
 use Rattle.emitting.specs.Writing.{Put}
+use Rattle.reducing.proofs.NumberLaws.{joined-only}
 use Rattle.sampling.proofs.RuleLaws.{up-start, step-stop, step-more}
-use Rattle.widening.proofs.LabelLaws.{joined-kept}
 use Rattle.widening.proofs.starts.put_starts.Statement.{statement}
 use Rattle.widening.proofs.starts.put_starts.Tie as tie
 
@@ -55,7 +55,7 @@ returns : tie.Need-returns Inv-loop μ-loop
 returns c =
     let on = member (c .before .before .before .before .before .before .before .before .before .before .args .starts .words) 0 in
     subst (λ (b : List ℕ). 32768 < c .before .before .before .before .before .before .before .before .before .before .args .at + length b)
-    (joined-kept on (λ k. fieldBytes 0x11 (k ∷ [])) (numbersBelow (c .before .before .before .before .before .before .before .before .before .before .args .count)))
+    (joined-only on (λ k. fieldBytes 0x11 (k ∷ [])) (numbersBelow (c .before .before .before .before .before .before .before .before .before .before .args .count)))
     (step-stop (startField on) (c .before .before .before .before .before .before .before .before .loop .t) (c .before .before .before .before .before .before .before .before .loop .inv .3) _ (c .before .before .before .before .put-start .last .0) (c .before .before .before .before .put-start .result)
     (ap (λ (b : Bool). onlyIf b (fieldBytes 0x11 (c .before .before .before .before .before .before .before .before .loop .t ∷ []))) (c .before .before .before .before .before .has .ensures))
     (c .before .before .before .before .put-start .ensures)
@@ -92,7 +92,7 @@ returns-2 c =
     let e : c .before .loop .t ≡ count = omega arith in (
       subst (λ (b : List ℕ). Put (c .before .before .before .args .draft .now) (c .before .before .before .args .at) b (c .before .loop .draft) (c .before .loop .end))
           (ap (λ (n : ℕ). joinedOf (startField on) (numbersBelow n)) e
-          ∙ joined-kept on (λ k. fieldBytes 0x11 (k ∷ [])) (numbersBelow count))
+          ∙ joined-only on (λ k. fieldBytes 0x11 (k ∷ [])) (numbersBelow count))
           (c .before .loop .inv .3),
       c .before .loop .inv .1,
     )
