@@ -1,5 +1,9 @@
+pub mod LabelLaws
+pub mod SetLaws
+pub mod ResultLaws
+pub mod ContentLaws
 pub mod WidenLaws
 pub mod StartTypes
-pub mod UnionNamesTmp
 pub mod ReducedLaws
 pub mod UnionLaws
+pub mod CallLaws

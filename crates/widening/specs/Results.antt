@@ -26,7 +26,7 @@ use Rattle.emitting.specs.Completing.{Regular}
 use Rattle.merging.specs.Merging.{Shallow}
 use Rattle.forms.specs.SetForms.{metWithin, setLabel, ruleBySet}
 use Rattle.forms.specs.SetWords.{SetsHeld}
-use Rattle.sampling.specs.SampleTable.{rulesBytes}
+use Rattle.sampling.specs.SampleTable.{restBytes}
 
 -- the pairs that form the sets named in the content of a set: single-type those met in its contents, local all that are left
 abbrev pub pairsWithin : Table → Bool → TypeSet → ℕ → Bool
@@ -97,9 +97,6 @@ labelsBytes names on = joinedOf (λ l. fieldBytes 0x10 (getD names l [])) (keep 
 abbrev pub startsBytes : (ℕ → Bool) → ℕ → List ℕ
 startsBytes on count = joinedOf (λ k. fieldBytes 0x11 (k ∷ [])) (keep on (numbersBelow count))
 
--- the rules and the end; the starts, the rules and the end
-abbrev pub restBytes : (ℕ → Rule) → ℕ → List ℕ
-restBytes rule count = rulesBytes rule count ++ fieldBytes 0x1F []
-
+-- the starts, the rules and the end
 abbrev pub bodyBytes : (ℕ → Bool) → (ℕ → Rule) → ℕ → List ℕ
 bodyBytes on rule count = startsBytes on count ++ restBytes rule count
