@@ -2,3 +2,4 @@ pub mod LabelLaws
 pub mod SetLaws
 pub mod ResultLaws
 pub mod ContentLaws
+pub mod UnionShallow
