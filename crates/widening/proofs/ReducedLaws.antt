@@ -44,7 +44,7 @@ use Rattle.widening.specs.Widened.{madeOf, Widens, UnionReduced}
 use Rattle.widening.specs.declared.widen.Made.{Made}
 use Rattle.widening.specs.declared.widen.Made.the-variants.{TooLarge}
 use Rattle.widening.proofs.StartTypes.{local-starts, start-key, first-starts}
-use Rattle.widening.proofs.UnionNamesTmp.{union-names, union-same, union-count, union-few}
+use Rattle.widening.proofs.ResultLaws.{union-names, union-same, union-count, union-few}
 use Rattle.widening.proofs.WidenLaws.{too-many, put-widens}
 
 pub some-length : (s : TypeSet) → List·Memᴰ (getD s 0 0) s → 0 < length s

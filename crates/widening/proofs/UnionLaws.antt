@@ -2,8 +2,8 @@
 --   seen-viewed, listed-both, starts-small   what the steps ask
 --   none-started                             where no start pair is fruitful, no document is derived
 --   reduced                                  where there is one, what is known for the result
-use Prim.Native.Nat.{ℕ, _<_}
-use native.Mathlib.Omega.{arith}
+--   for-kind                                 the answer for the kind that is meant
+use Prim.Native.Nat.{ℕ}
 use mathlib.Core.Bool.{Bool, true, false}
 use mathlib.Core.List.{List}
 use mathlib.Core.Path.{_≡_, sym, _∙_, ap, subst}
@@ -18,6 +18,7 @@ use Rattle.theory.proofs.ListLaws.{at-mem}
 use Rattle.sets.specs.Sets.{member, Empties}
 use Rattle.sets.specs.declared.four.Set4.{Set4}
 use Rattle.reader.specs.declared.tables.TableIndex.{TableIndex}
+use Rattle.reader.specs.TableIndex.{startType}
 use Rattle.reader.proofs.TableIndexLaws.{start-at}
 use Rattle.pairs.specs.declared.lists.TypeLists.{TypeLists}
 use Rattle.pairs.specs.declared.union.Union.{Union}
@@ -26,7 +27,8 @@ use Rattle.pairs.specs.PairNumbers.{fruitfulOf, isStart, isLeft}
 use Rattle.pairs.specs.TypeLists.{ListsOf}
 use Rattle.reducing.specs.PairsListed.{BothListed, StartsSmall}
 use Rattle.widening.specs.declared.widen.Kind.{Kind}
-use Rattle.widening.specs.Widened.{kindOf, UnionReduced}
+use Rattle.widening.specs.declared.widen.Made.{Made}
+use Rattle.widening.specs.Widened.{kindOf, Widens, UnionReduced}
 use Rattle.widening.proofs.WidenLaws.{none-derived}
 
 pub seen-viewed : {old add : List ℕ} {g h : Table} {union : Union} → UnionSeen old add g h union → Viewed old add (union .rules)
@@ -42,9 +44,7 @@ starts-small {s} {index} {g} held =
       few = held .indexes .few-starts;
       small =
           λ i b.
-          let (k, at, e) = start-at (held .indexes) i b in
-          let small = held .within .start-types k (at-mem (g .starts) i at) in
-          subst (λ (t : ℕ). t < 64) (sym e) small;
+          held .within .start-types (startType index i) (at-mem (g .starts) i (start-at (held .indexes) i b));
     }
 
 module _ {old add : List ℕ} {index addition : TableIndex} {g h : Table} (p : TableHeld old index g) (q : TableHeld add addition h) where
@@ -70,3 +70,8 @@ module _ {old add : List ℕ} {index addition : TableIndex} {g h : Table} (p : T
         left-room = left-room;
         some-start = (k, sym (ap (λ (test : ℕ → Bool). test k) starts) ∙ has);
       }
+
+-- the answer for the kind that is meant
+pub for-kind : (g h : Table) (before after : List ℕ) (r : Made) (k l : Kind) → k ≡ l → Widens (kindOf l) g h before after r
+    → Widens (kindOf k) g h before after r
+for-kind g h before after r k l e w = subst (λ (x : Kind). Widens (kindOf x) g h before after r) (sym e) w

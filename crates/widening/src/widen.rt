@@ -1,21 +1,21 @@
 // Widening a table that was read by another, to either kind: the union, its fruitful pairs, those that are left, the sets that are the
 // types of the result, and the result in a draft.
+use crate::result::put_result;
 use crate::start_types::first_numbers;
 use crate::start_types::start_numbers;
-use crate::stubs::fruitful_lists;
-use crate::stubs::more_sets;
-use crate::stubs::pairs_left;
-use crate::stubs::put_result;
-use crate::stubs::start_pairs;
 use emitting::writing::Drafted;
 use forms::label_sets::label_numbers;
 use forms::label_sets::label_sets;
 use forms::set_words::Counted;
+use forms::worklist::more_sets;
 use pairs::fruitful::fruitful_pairs;
 use pairs::lists::TypeLists;
 use pairs::union::Union;
 use pairs::union::unite_tables;
 use reader::tables::TableIndex;
+use reducing::leaving::pairs_left;
+use reducing::leaving::start_pairs;
+use reducing::listing::fruitful_lists;
 use sets::four::Set4;
 ghost use mathlib.Core.Bool.{false, true};
 ghost use mathlib.Core.List.{List};

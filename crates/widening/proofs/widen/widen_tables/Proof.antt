@@ -1,9 +1,7 @@
 -- `widen_tables` meets its contract: the union is reduced, no document is derived, or the result is drafted.
-use native.Mathlib.Omega.{arith}
-use mathlib.Core.Path.{_≡_, sym, _∙_, ap, subst}
 use borrow.Author.Needs.{needs}
 use Rattle.pairs.proofs.ViewLaws.{views-sized}
-use Rattle.widening.specs.declared.widen.Kind.{Kind}
+use Rattle.widening.specs.declared.widen.Kind.the-variants.{Local, SingleType}
 use Rattle.widening.specs.Widened.{kindOf, Widens}
 use Rattle.widening.proofs.UnionLaws as laws
 use Rattle.widening.proofs.widen.widen_tables.Statement.{statement}
@@ -11,18 +9,18 @@ use Rattle.widening.proofs.widen.widen_tables.Tie as tie
 
 fruitful-pairs-requires : tie.Need-fruitful-pairs-requires
 fruitful-pairs-requires c κs =
-    let (p, q, room) = c .before .before .before .before .before .before .pre in
+    let (p, q, words, draft) = c .before .before .before .before .before .before .pre in
     laws.seen-viewed (c .before .unite-tables .ensures (p .table) (q .table) (p .held) (q .held))
 
 fruitful-lists-requires : tie.Need-fruitful-lists-requires
 fruitful-lists-requires c κs =
-    let (p, q, room) = c .before .before .before .before .before .before .before .pre in
+    let (p, q, words, draft) = c .before .before .before .before .before .before .before .pre in
     let seen = c .before .before .unite-tables .ensures (p .table) (q .table) (p .held) (q .held) in
     (views-sized (seen .rules), c .fruitful-pairs .ensures .1)
 
 start-pairs-requires : tie.Need-start-pairs-requires
 start-pairs-requires c κs =
-    let (p, q, room) = c .before .before .before .before .before .before .before .before .pre in
+    let (p, q, words, draft) = c .before .before .before .before .before .before .before .before .pre in
     let seen = c .before .before .before .unite-tables .ensures (p .table) (q .table) (p .held) (q .held) in
     let known = c .before .fruitful-pairs .ensures .0 _ (seen .rules) in
     let lists = c .fruitful-lists .ensures _ _ _ (seen .rules) known in
@@ -39,7 +37,7 @@ returns c g h p q =
 
 pairs-left-requires : tie.Need-pairs-left-requires
 pairs-left-requires c κs =
-    let (p, q, room) = c .before .before .before .before .before .before .before .before .before .before .before .pre in
+    let (p, q, words, draft) = c .before .before .before .before .before .before .before .before .before .before .before .pre in
     let seen = c .before .before .before .before .before .before .unite-tables .ensures (p .table) (q .table) (p .held) (q .held) in
     let known = c .before .before .before .before .fruitful-pairs .ensures .0 _ (seen .rules) in
     let lists = c .before .before .before .fruitful-lists .ensures _ _ _ (seen .rules) known in
@@ -47,7 +45,7 @@ pairs-left-requires c κs =
 
 widen-local-requires : tie.Need-widen-local-requires
 widen-local-requires c κs =
-    let (p, q, room) = c .before .before .before .before .before .before .before .before .before .before .before .before .before .before .before .before .pre in
+    let (p, q, words, draft) = c .before .before .before .before .before .before .before .before .before .before .before .before .before .before .before .before .pre in
     let seen = c .before .before .before .before .before .before .before .before .before .before .before .unite-tables .ensures (p .table) (q .table) (p .held) (q .held) in
     let known = c .before .before .before .before .before .before .before .before .before .fruitful-pairs .ensures .0 _ (seen .rules) in
     let lists = c .before .before .before .before .before .before .before .before .fruitful-lists .ensures _ _ _ (seen .rules) known in
@@ -58,11 +56,11 @@ widen-local-requires c κs =
       first = p .table;
       second = q .table;
       reduced = laws.reduced (p .held) (q .held) seen lists are (starts .1) (left .0 _ (seen .rules) lists are) (left .1) (c .before .before .before .before .before .before .is-empty .ensures) (c .before .before .before .before .before .if1 .left);
-    }, room .0, room .1)
+    }, words, draft)
 
 widen-single-type-requires : tie.Need-widen-single-type-requires
 widen-single-type-requires c κs =
-    let (p, q, room) = c .before .before .before .before .before .before .before .before .before .before .before .before .before .before .before .before .pre in
+    let (p, q, words, draft) = c .before .before .before .before .before .before .before .before .before .before .before .before .before .before .before .before .pre in
     let seen = c .before .before .before .before .before .before .before .before .before .before .before .unite-tables .ensures (p .table) (q .table) (p .held) (q .held) in
     let known = c .before .before .before .before .before .before .before .before .before .fruitful-pairs .ensures .0 _ (seen .rules) in
     let lists = c .before .before .before .before .before .before .before .before .fruitful-lists .ensures _ _ _ (seen .rules) known in
@@ -73,7 +71,7 @@ widen-single-type-requires c κs =
       first = p .table;
       second = q .table;
       reduced = laws.reduced (p .held) (q .held) seen lists are (starts .1) (left .0 _ (seen .rules) lists are) (left .1) (c .before .before .before .before .before .before .is-empty .ensures) (c .before .before .before .before .before .if1 .left);
-    }, room .0, room .1)
+    }, words, draft)
 
 returns-2 : tie.Need-returns-2
 unfolding kindOf
@@ -84,7 +82,7 @@ returns-2 c g h p q =
     let starts = c .before .before .before .before .before .before .before .before .before .before .before .before .start-pairs .ensures in
     let left = c .before .before .before .before .before .before .before .before .before .pairs-left .ensures in
     let are = starts .0 _ _ g h p q lists in
-    subst (λ (k : Kind). Widens (kindOf k) g h _ _ _) (sym (c .before .before .before .before .before .before .before .enum-told .given .1))
+    laws.for-kind g h _ _ _ _ Local (c .before .before .before .before .before .before .before .enum-told .given .1)
     (c .before .before .before .before .widen-local .ensures g h
     (laws.reduced p q seen lists are (starts .1) (left .0 _ (seen .rules) lists are) (left .1) (c .before .before .before .before .before .before .before .before .before .before .before .is-empty .ensures) (c .before .before .before .before .before .before .before .before .before .before .if1 .left)))
 
@@ -97,7 +95,7 @@ returns-3 c g h p q =
     let starts = c .before .before .before .before .before .before .before .before .before .before .before .before .start-pairs .ensures in
     let left = c .before .before .before .before .before .before .before .before .before .pairs-left .ensures in
     let are = starts .0 _ _ g h p q lists in
-    subst (λ (k : Kind). Widens (kindOf k) g h _ _ _) (sym (c .before .before .before .before .before .before .before .enum-told2 .given .1))
+    laws.for-kind g h _ _ _ _ SingleType (c .before .before .before .before .before .before .before .enum-told2 .given .1)
     (c .before .before .before .before .widen-single-type .ensures g h
     (laws.reduced p q seen lists are (starts .1) (left .0 _ (seen .rules) lists are) (left .1) (c .before .before .before .before .before .before .before .before .before .before .before .is-empty .ensures) (c .before .before .before .before .before .before .before .before .before .before .if1 .left)))
 
