@@ -1,5 +1,5 @@
 -- The pairs that reducing leaves:
---   part-next      one number more of a list in a set
+--   list-part      the list of a type is a part
 --   starts-small   the start types of a table that was read
 --   start-set      the pairs in the lists of the start types are the starts
 --   seen-*         the loop that makes rounds
@@ -23,29 +23,24 @@ use Rattle.theory.proofs.ListLaws.{kept, joined-from, joined-mem, numbers-below
 use Rattle.sets.specs.Sets.{member, putAt, nothing, both}
 use Rattle.pairs.specs.declared.lists.TypeLists.{TypeLists}
 use Rattle.pairs.specs.View.{TableHeld}
-use Rattle.pairs.specs.Walks.{listOf}
+use Rattle.pairs.specs.Walks.{listOf, Listed}
 use Rattle.pairs.specs.PairNumbers.{fruitfulOf, isStart, isLeft, metIn}
 use Rattle.pairs.specs.TypeLists.{ListsOf}
 use Rattle.pairs.proofs.OnceLaws.{part-more}
 use Rattle.pairs.proofs.MetLaws.{met-hold}
 use Rattle.pairs.proofs.ReachedLaws.{start-pairs, start-reached, met-reached, reached-set}
-use Rattle.reducing.specs.PairsListed.{StartsSmall}
+use Rattle.reducing.specs.PairsListed.{PartBelow, StartsSmall}
 use Rattle.reducing.proofs.NumberLaws.{put-next}
 use Rattle.reducing.proofs.MeetingLaws.{MetBy, met-was, met-has}
 
-pub part-next : (words more numbers : List ℕ) (first i k : ℕ) (base : ℕ → Bool) → more ≡ putAt words 0 k → k ≡ getD numbers i 0
-    → k < 128
-    → length words ≡ 4
-    → first ≤ i
-    → i < length numbers
-    → member words 0 ≡ both (λ p. isIn p (take (i - first) (drop first numbers))) base
-    → (member more 0 ≡ both (λ p. isIn p (take (i + 1 - first) (drop first numbers))) base) × (length more ≡ 4)
-part-next words more numbers first i k base m e small l low high q =
-    let part = take (i - first) (drop first numbers) in
-    let r = put-next words more part k base m small l q in
-    let t : part ++ (k ∷ []) ≡ take (i + 1 - first) (drop first numbers) =
-    ap (λ (n : ℕ). part ++ (n ∷ [])) e ∙ sym (part-more numbers first i low high) in
-    (r .0 ∙ ap (λ (xs : List ℕ). both (λ p. isIn p xs) base) t, r .1)
+-- the list of a type
+pub list-part : {from numbers : List ℕ} → Listed 64 128 from numbers → (k first end : ℕ) → k < 64 → first ≡ getD from k 0
+    → end ≡ getD from (k + 1) 0
+    → PartBelow numbers first end
+list-part {from} {numbers} l k first end h a b =
+    let order = l .order k h in
+    let inside = l .inside k h in
+    record { order = omega arith; inside = omega arith; below = λ i s. l .below i }
 
 -- the start types
 module _ {s : List ℕ} {index : TableIndex} {g : Table} (x : TableHeld s index g) where

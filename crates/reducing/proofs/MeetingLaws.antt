@@ -4,6 +4,7 @@
 --   pair-met, set-met        the pairs met in a pair's contents, and in those of a set of pairs, rule by rule and pair by pair
 --   meets-*                  a loop that adds the pairs met
 --   met-was, met-has         which pairs are met
+--   part-next                one number more of a part in a set
 use Prim.Native.Nat.{ℕ, _+_, _-_, _≤_, _<_}
 use native.Mathlib.Omega.{arith}
 use native.Mathlib.Numerals.{add-one}
@@ -38,8 +39,10 @@ use Rattle.pairs.specs.Rounds.{contentOf}
 use Rattle.pairs.specs.PairNumbers.{ruleAt, fruitfulOf, contentsOfPair, contentsIn, metIn}
 use Rattle.pairs.proofs.ViewLaws.{content-is, seen}
 use Rattle.pairs.proofs.MetLaws.{finds-adds, finds-once}
-use Rattle.pairs.proofs.OnceLaws.{taken-mem, adds-none, adds-join, adds-same}
-use Rattle.reducing.specs.PairsMet.{ContentMet, metInRule, metInPair, Meets}
+use Rattle.pairs.proofs.OnceLaws.{part-more, taken-mem, adds-none, adds-join, adds-same}
+use Rattle.reducing.specs.declared.meeting.Met.{Met}
+use Rattle.reducing.specs.PairsListed.{PartBelow}
+use Rattle.reducing.specs.PairsMet.{MetHeld, ContentMet, metInRule, metInPair, Meets}
 use Rattle.reducing.proofs.NumberLaws.{put-next, keep-same, joined-only, joined-next, joined-start}
 use Rattle.reducing.proofs.ListingLaws.{rule-at}
 
@@ -270,14 +273,25 @@ distinct-in xs =
 pub once-at : (list : List ℕ) (count i : ℕ) → Once 128 list count → i < count → getD list i 0 < 128
 once-at list count i o h = let held = o .held in o .below (getD list i 0) (taken-mem list i count h (omega arith))
 
--- the next number of a list put into a set of words
-pub set-next : (words more numbers : List ℕ) (i k : ℕ) (base : ℕ → Bool) → more ≡ putAt words 0 k → k ≡ getD numbers i 0 → k < 128
+pub met-part : (found : Met) → MetHeld found → PartBelow (found .numbers) 0 (found .count)
+met-part found h =
+    record {
+      order = omega arith;
+      inside = h .once .held;
+      below = λ i b. once-at (found .numbers) (found .count) i (h .once) b;
+    }
+
+-- the next number of a part put into a set of words
+pub part-next : (words more numbers : List ℕ) (first i k : ℕ) (base : ℕ → Bool) → more ≡ putAt words 0 k → k ≡ getD numbers i 0
+    → k < 128
     → length words ≡ 4
+    → first ≤ i
     → i < length numbers
-    → member words 0 ≡ both (λ p. isIn p (take i numbers)) base
-    → (member more 0 ≡ both (λ p. isIn p (take (i + 1) numbers)) base) × (length more ≡ 4)
-set-next words more numbers i k base m e small l h q =
-    let r = put-next words more (take i numbers) k base m small l q in
-    let t : take i numbers ++ (k ∷ []) ≡ take (i + 1) numbers =
-    ap (λ (n : ℕ). take i numbers ++ (n ∷ [])) e ∙ sym (ap (λ (n : ℕ). take n numbers) (add-one i) ∙ take-suc numbers i 0 h) in
+    → member words 0 ≡ both (λ p. isIn p (take (i - first) (drop first numbers))) base
+    → (member more 0 ≡ both (λ p. isIn p (take (i + 1 - first) (drop first numbers))) base) × (length more ≡ 4)
+part-next words more numbers first i k base m e small l low high q =
+    let part = take (i - first) (drop first numbers) in
+    let r = put-next words more part k base m small l q in
+    let t : part ++ (k ∷ []) ≡ take (i + 1 - first) (drop first numbers) =
+    ap (λ (n : ℕ). part ++ (n ∷ [])) e ∙ sym (part-more numbers first i low high) in
     (r .0 ∙ ap (λ (xs : List ℕ). both (λ p. isIn p xs) base) t, r .1)

@@ -3,7 +3,7 @@ use Prim.Native.Nat.{ℕ, _+_, _≤_, _<_}
 use mathlib.Core.Bool.{Bool, _&&_}
 use mathlib.Core.List.{List, _++_, List·Memᴰ}
 use mathlib.Core.Path.{_≡_}
-use lib.ListN.{getD, take}
+use lib.ListN.{length, getD, take}
 use lib.Dec.{eqb}
 use Rattle.grammar.specs.Lists.{keep, joinedOf, numbersBelow}
 use Rattle.reader.specs.declared.tables.TableIndex.{TableIndex}
@@ -46,6 +46,12 @@ Earlier v kind list = (q : ℕ) → List·Memᴰ q list → typeIn v q < kind
 pub record ListsEach (of : ℕ → List ℕ) (r : Lists) : Type 0 where
   pub listed : Listed 64 128 (r .from) (r .numbers)
   pub each : (k : ℕ) → k < 64 → listOf (r .from) (r .numbers) k ≡ of k
+
+-- a part of a list, of numbers below 128
+pub record PartBelow (numbers : List ℕ) (first end : ℕ) : Type 0 where
+  pub order : first ≤ end
+  pub inside : end ≤ length numbers
+  pub below : (i : ℕ) → i < end → getD numbers i 0 < 128
 
 -- both tables' types have lists, of numbers below 128
 pub record BothListed (r : TypeLists) : Type 0 where

@@ -1,5 +1,6 @@
 // The pairs that reducing leaves: those that are reached from the pairs of the start types, by rounds until one adds nothing.
 use crate::meeting::met_set;
+use crate::meeting::with_part;
 use pairs::lists::Lists;
 use pairs::lists::TypeLists;
 use pairs::union::United;
@@ -29,15 +30,7 @@ fn with_list(set: Set4, lists: Lists, k: usize) -> Set4
 {
     let begins = lists.from;
     let numbers = lists.numbers;
-    let end = wide(begins[k + 1]);
-    let mut more = set;
-    let mut i = wide(begins[k]);
-    while i < end {
-        let larger = more.with(wide(numbers[i]));
-        more = larger;
-        i += 1;
-    }
-    more
+    with_part(set, &numbers, wide(begins[k]), wide(begins[k + 1]))
 }
 
 // A set with the numbers of the lists of a table's start types.

@@ -6,18 +6,18 @@ use pairs::union::United;
 use reader::numbers::wide;
 use sets::four::Set4;
 ghost use mathlib.Core.Path.{_≡_};
-ghost use Prim.Native.Nat.{_<_};
+ghost use Prim.Native.Nat.{_-_, _<_};
 ghost use lib.Dec.{eqb};
-ghost use lib.ListN.{length, take};
+ghost use lib.ListN.{length, take, drop};
 ghost use Rattle.grammar.specs.Lists.{isIn, distinct};
 ghost use Rattle.grammar.specs.Table.{Table};
 ghost use Rattle.theory.proofs.Alternatives.{onlyIf};
-ghost use Rattle.sets.specs.Sets.{member};
+ghost use Rattle.sets.specs.Sets.{member, both};
 ghost use Rattle.pairs.specs.View.{Views, Viewed, firstIn};
 ghost use Rattle.pairs.specs.Walks.{MetAsks};
 ghost use Rattle.pairs.specs.PairNumbers.{fruitfulOf, metIn};
 ghost use Rattle.pairs.specs.TypeLists.{ListsOf};
-ghost use Rattle.reducing.specs.PairsListed.{BothListed};
+ghost use Rattle.reducing.specs.PairsListed.{BothListed, PartBelow};
 ghost use Rattle.reducing.specs.PairsMet.{ContentMet, metInRule, metInPair, MeetAsks, Meets, MetHeld};
 
 // Pairs, each once, in the order in which they are met.
@@ -144,21 +144,29 @@ pub fn met_in_set(old: &[u8], add: &[u8], v: United, lists: TypeLists, set: Set4
     Met { numbers, count }
 }
 
+// A set with the numbers of a part.
+pub fn with_part(set: Set4, numbers: &[u8], first: usize, end: usize) -> Set4
+    requires { ⌜ (length (set .words) ≡ 4) × (PartBelow (now numbers) first end) ⌝ }
+    ensures { λ r. ⌜ (member (r .words) 0 ≡ both (λ p. isIn p (take (end - first) (drop first (now (numbers .entry))))) (member (set .words) 0)) × (length (r .words) ≡ 4) ⌝ }
+{
+    let mut more = set;
+    let mut i = first;
+    while i < end {
+        let larger = more.with(wide(numbers[i]));
+        more = larger;
+        i += 1;
+    }
+    more
+}
+
 // The set of the pairs met.
 pub fn set_of(found: Met) -> Set4
     requires { ⌜ MetHeld found ⌝ }
     ensures { λ r. ⌜ (member (r .words) 0 ≡ (λ p. isIn p (take (found .count) (found .numbers)))) × (length (r .words) ≡ 4) ⌝ }
 {
     let numbers = found.numbers;
-    let count = found.count;
-    let mut set = Set4::empty();
-    let mut i: usize = 0;
-    while i < count {
-        let more = set.with(wide(numbers[i]));
-        set = more;
-        i += 1;
-    }
-    set
+    let none = Set4::empty();
+    with_part(none, &numbers, 0, found.count)
 }
 
 // The pairs met in the contents of a set of pairs, as a set.
