@@ -238,11 +238,11 @@ module _ {s names sizes parents types firsts : List ℕ} {n count : ℕ} (q : Sa
         let long : m ≡ length (tableBytes (sample d)) = p .next-is ∙ (let z : 0 + length bytes ≡ length bytes = omega arith in z) ∙ ap length e in
         let k = rules-many in (
           not-too-large d
-          (all-fit (sample d) (omega arith)
-          (λ r m.
-          let (t, h, f) = from-sample r m in
-          subst (λ (z : Rule). contentTooLarge standard (z .content) ≡ false) f (fits t h))
-          (omega arith)),
+              (all-fit (sample d) (omega arith)
+              (λ r m.
+              let (t, h, f) = from-sample r m in
+              subst (λ (z : Rule). contentTooLarge standard (z .content) ≡ false) f (fits t h))
+              (omega arith)),
           p .is ∙ ap (λ (x : List ℕ). x ++ drop m before) e,
           long,
           small,
