@@ -57,9 +57,9 @@ use Rattle.pairs.specs.View.{TableHeld, Held}
 use Rattle.emitting.specs.declared.writing.Drafted.{Drafted}
 use Rattle.emitting.specs.declared.writing.Drafted.the-variants.{Length as DraftedTo, TooLarge as Undrafted}
 use Rattle.sampling.specs.SampleTable.{SampleDrafted, Indexes}
-use Rattle.widening.specs.declared.widen.Made.{Made}
-use Rattle.widening.specs.declared.widen.Made.the-variants.{Length as MadeTo, NoDocument as Nothing, TooLarge}
-use Rattle.widening.specs.Widened.{Widens, ResultDrafted}
+use Rattle.results.specs.declared.widen.Made.{Made}
+use Rattle.results.specs.declared.widen.Made.the-variants.{Length as MadeTo, NoDocument as Nothing, TooLarge}
+use Rattle.results.specs.Widened.{Widens, ResultDrafted}
 use Rattle.widening.specs.WideningCalls.{
   sampleOf,
   addedTo,

@@ -1,2 +1,1 @@
-pub mod Widened
 pub mod WideningCalls

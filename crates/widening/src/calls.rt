@@ -1,8 +1,5 @@
 // The public calls. A call that is lent too few words changes none; otherwise the words that it needs are zero after it, and words
 // beyond them never change. A result is made in a draft, so that a refusal leaves the output as it came.
-use crate::widen::Kind;
-use crate::widen::Made;
-use crate::widen::widen_tables;
 use emitting::writing::Drafted;
 use grammar::Reading;
 use grammar::Refusal;
@@ -12,6 +9,9 @@ use reader::documents::read_document;
 use reader::limits::WORDS;
 use reader::tables::TableIndex;
 use reader::tables::read_table;
+use results::widen::Kind;
+use results::widen::Made;
+use results::widen::widen_tables;
 use sampling::sample::sample_table;
 ghost use mathlib.Core.Path.{_≡_};
 ghost use Prim.Native.Nat.{_≤_};
@@ -21,7 +21,7 @@ ghost use Rattle.grammar.specs.Kinds.{local, singleType};
 ghost use Rattle.grammar.specs.Table.{Table};
 ghost use Rattle.grammar.specs.Outcome.{Outcome};
 ghost use Rattle.pairs.specs.View.{TableHeld, Held};
-ghost use Rattle.widening.specs.Widened.{kindOf};
+ghost use Rattle.results.specs.Widened.{kindOf};
 ghost use Rattle.widening.specs.WideningCalls.{sampleOf, byTableOf, byDocumentOf, addedTo, sampledTo, InDraft, Fits, Delivers, Cleared, Sampled, WidenedByTable, WidenedByDocument};
 
 // The bytes at the front of the output.

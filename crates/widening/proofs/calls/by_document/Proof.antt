@@ -2,7 +2,7 @@
 use Prim.Native.Nat.{ℕ}
 use mathlib.Core.Path.{_∙_, ap}
 use lib.ListN.{replicate}
-use Rattle.widening.specs.Widened.{kindOf}
+use Rattle.results.specs.Widened.{kindOf}
 use Rattle.widening.specs.WideningCalls.{byDocumentOf}
 use borrow.Author.Needs.{needs}
 use Rattle.widening.proofs.CallLaws as laws

@@ -1,6 +1,6 @@
 -- `read_and_widen` meets its contract: the refusal of the addition, else what widening by it made.
 use Rattle.reader.proofs.TableFound.{table-found}
-use Rattle.widening.specs.Widened.{kindOf}
+use Rattle.results.specs.Widened.{kindOf}
 use borrow.Author.Needs.{needs}
 use Rattle.widening.proofs.CallLaws as laws
 use Rattle.widening.proofs.calls.read_and_widen.Statement.{statement}

@@ -1,6 +1,6 @@
 -- `widen_by_sample` meets its contract: the refusal of the document or of its sample, else what widening by the sample made.
 use native.Mathlib.Nat.{sub-zero}
-use Rattle.widening.specs.Widened.{kindOf}
+use Rattle.results.specs.Widened.{kindOf}
 use Rattle.widening.specs.WideningCalls.{sampleOf}
 use borrow.Author.Needs.{needs}
 use Rattle.widening.proofs.CallLaws as laws
