@@ -1,16 +1,19 @@
 #!/usr/bin/env python3
-"""Membership, measured: the proved program crates/vectors (target/bin/vectors, made by `rt check vectors`) on growing inputs.
+"""Membership and widening, measured: the proved program crates/vectors (target/bin/vectors, made by `rt check vectors`) on growing
+inputs. Not part of the gate; a test never looks at time.
 
 Prints, for each input, the time of one call less that of a call on the smallest inputs (the program fills and sums the lent words
-for each case), the product of children and content bytes that bounds the work, and the time for each unit of it, side by side
-in one run: growth is linear where the last column does not rise. Not part of the gate; a test never looks at time.
+for each case), side by side in one run. For membership also the product of children and content bytes that bounds the work, and the
+time for each unit of it: growth is linear where the last column does not rise. For widening, each table by itself, to either kind,
+also how many times the time of the size before it is: each size is twice the one before.
 
-    python3 tests/benchmark.py [--seconds S | --instructions]
+    python3 tests/benchmark.py [--seconds S | --instructions] [--program FILE]
 """
-import argparse, pathlib, re, resource, subprocess, sys, tempfile
+import argparse, itertools, pathlib, re, resource, subprocess, sys, tempfile
 
 ROOT = pathlib.Path(__file__).resolve().parent.parent
-PROGRAM = ROOT / "target/bin/vectors"
+LETS_IN, LOCAL, SINGLE_TYPE = 4, 8, 10
+OUTPUT = 32768
 
 
 def field(tag, value):
@@ -60,55 +63,100 @@ def full(children, bytes_each=496):
     return name_table, document(node("list", *[node("card")] * children)), children * 63 * (len(content) + 1)
 
 
-def case(first, second, words=16384):
+def choice(operands):
+    """A choice of any number of operands, by choices of as many as a count can say."""
+    if len(operands) <= 255:
+        return [4, len(operands)] + sum(operands, [])
+    return [4, 2] + choice(operands[:-255]) + choice(operands[-255:])
+
+
+def leaves(kind, names):
+    return [(kind, label, [1]) for label in names]
+
+
+def full_rules(count):
+    """Each rule a type and a label of its own, with a content of some 500 bytes that names all types."""
+    rules = [(k, k, choice([[2, (k + i) % count] for i in range(245)] + [[1]])) for k in range(count)]
+    return table([f"n{k}" for k in range(count)], [0], rules)
+
+
+def full_pairs(count):
+    """Each type with two labels, so that a type in a content stands for two pairs; each content names all types, in sequences."""
+    row = lambda k: [7, 3, 16] + sum(([2, (k + i) % (count // 2)] for i in range(16)), [])
+    rules = [(k // 2, k % 8, [4, 6] + sum((row(k + i) for i in range(6)), [])) for k in range(count)]
+    return table([f"n{k}" for k in range(8)], [0], rules)
+
+
+def many_labels(count):
+    """One type of so many labels, named as often as a content can."""
+    rules = [(0, 0, choice([[2, 0]] * 245 + [[1]]))] + leaves(0, range(1, count))
+    return table([f"n{k}" for k in range(count)], [0], rules)
+
+
+def deep_contents(count):
+    """Contents that nest 31 deep, with an operator of two operands at each level."""
+    rules = [(k, k % 8, [3, 2, 7, 2, k] * 15 + [4, 2, 2, k // 2] * 14 + [1]) for k in range(count)]
+    return table([f"n{k}" for k in range(8)], [0], rules)
+
+
+def many_sets(count):
+    """Types of one label, each naming all later ones: as many sets as types."""
+    later = lambda k: choice([[2, i] for i in range(k + 1, count)] * (240 // count) + [[1], [5, 1]])
+    return table(["a"], [0], [(k, 0, later(k)) for k in range(count - 1)] + leaves(count - 1, [0]))
+
+
+def equal_operands(count):
+    """The slowest found: types of one label in many sets, whose contents name, after many other operands, a type of many labels as
+    often as they can. Each time each of its labels is looked for among the operands kept."""
+    others = [list(marks) + [1] for n in (1, 2, 3, 4, 5) for marks in itertools.product([5, 6, 7], repeat=n)][:170]
+    named = lambda k: [[2, 0]] + [[2, i] for i in range(k + 1, count)]
+    first = (0, 0, choice(others + [[2, 63]]))
+    rules = [first] + [(k, 0, choice(named(k) + [[2, 63]] * (430 - count))) for k in range(1, count)]
+    return table([f"n{k}" for k in range(33)], [1], rules + leaves(63, range(1, 33)))
+
+
+def case(call, first, second, words=16384):
     number = lambda n: n.to_bytes(4, "big")
     part = lambda b: number(len(b)) + b
-    return bytes([4]) + number(words) + number(0) + number(0) + number(0) + part(first) + part(second)
+    return bytes([call]) + number(words) + number(0) + number(0 if call == LETS_IN else OUTPUT) + number(0) + part(first) + part(second)
 
 
-def seconds(one, repeats):
+def seconds(program, one, repeats):
     with tempfile.TemporaryFile() as cases:
         cases.write(one * repeats + bytes([0]))
         cases.seek(0)
         before = resource.getrusage(resource.RUSAGE_CHILDREN).ru_utime
-        run = subprocess.run([PROGRAM], stdin=cases, capture_output=True, check=True)
+        run = subprocess.run([program], stdin=cases, capture_output=True, check=True)
         spent = resource.getrusage(resource.RUSAGE_CHILDREN).ru_utime - before
     answers = {" ".join(line.split()[1:3]) for line in run.stdout.decode().split("\n") if line}
     return spent / repeats, answers
 
 
-def measured(one, least_seconds):
+def measured(program, one, least_seconds):
     """Seconds a call, over as many calls as take at least so long, so that the clock's tick does not tell."""
-    repeats = 20
+    repeats = 1
     while True:
-        spent, answers = seconds(one, repeats)
+        spent, answers = seconds(program, one, repeats)
         if spent * repeats >= least_seconds:
             return spent, answers
-        repeats = max(2 * repeats, int(1.2 * least_seconds / max(spent, 1e-5)))
+        repeats = min(10 * repeats, max(2 * repeats, int(1.2 * least_seconds / max(spent, 1e-5))))
 
 
-def instructions(one):
+def instructions(program, one):
     """Instructions of one call, by valgrind: the same in every run, whatever else the machine does."""
     with tempfile.TemporaryFile() as cases:
         cases.write(one + bytes([0]))
         cases.seek(0)
-        tool = ["valgrind", "--tool=callgrind", "--callgrind-out-file=/dev/null", PROGRAM]
+        tool = ["valgrind", "--tool=callgrind", "--callgrind-out-file=/dev/null", program]
         run = subprocess.run(tool, stdin=cases, capture_output=True, text=True, check=True)
     answers = {" ".join(line.split()[1:3]) for line in run.stdout.split("\n") if line}
     return int(re.search(r"Collected : (\d+)", run.stderr).group(1)), answers
 
 
-def main():
-    parser = argparse.ArgumentParser(description=__doc__.split("\n")[0])
-    parser.add_argument("--seconds", type=float, default=2.0, help="least time spent on each input")
-    parser.add_argument("--instructions", action="store_true", help="count instructions (valgrind) in place of time")
-    args = parser.parse_args()
-    measure = instructions if args.instructions else lambda one: measured(one, args.seconds)
-    if not PROGRAM.exists():
-        sys.exit("build it first: rt check vectors")
-    least, _ = measure(case(*flat(0)[:2]))
-    scale, call, unit = (1, "a call", "a unit") if args.instructions else (1e3, "ms a call", "ns a unit")
-    print(f"{'input':36} {'answer':>8} {call:>13} {'children x bytes':>17} {unit:>10}")
+def membership(measure, counted):
+    least, _ = measure(case(LETS_IN, *flat(0)[:2]))
+    scale, call, unit = (1, "a call", "a unit") if counted else (1e3, "ms a call", "ns a unit")
+    print(f"{'membership':36} {'answer':>8} {call:>13} {'children x bytes':>17} {unit:>10}")
     for name, make, sizes in [
         ("flat list, cards:", flat, (50, 100, 200)),
         ("64 levels, chains:", lambda n: deep(n, 64), (4, 8, 16)),
@@ -117,10 +165,46 @@ def main():
     ]:
         for size in sizes:
             first, second, units = make(size)
-            spent, answers = measure(case(first, second))
+            spent, answers = measure(case(LETS_IN, first, second))
             spent = max(spent - least, 0)
-            each = spent * (1 if args.instructions else 1e9) / units
+            each = spent * (1 if counted else 1e9) / units
             print(f"{name + ' ' + str(size):36} {'/'.join(sorted(answers)):>8} {spent * scale:13.3f} {units:17} {each:10.1f}")
+
+
+def widening(measure, counted):
+    scale, call = (1, "a call") if counted else (1e3, "ms a call")
+    print(f"\n{'widening of a table by itself':36} {'bytes':>6} {'kind':>12} {'answer':>8} {call:>13} {'times':>7}")
+    for name, make, sizes in [
+        ("full contents, rules:", full_rules, (16, 32, 64)),
+        ("two labels a type, rules:", full_pairs, (16, 32, 64)),
+        ("labels of one type:", many_labels, (16, 32, 64)),
+        ("contents nested 31 deep, rules:", deep_contents, (16, 32, 64)),
+        ("one label, types:", many_sets, (16, 32, 64)),
+        ("equal operands, types:", equal_operands, (8, 16, 32)),
+    ]:
+        for kind, number in (("local", LOCAL), ("single-type", SINGLE_TYPE)):
+            least, _ = measure(case(number, field(0x1F, []), field(0x1F, [])))
+            before = None
+            for size in sizes:
+                made = make(size)
+                spent, answers = measure(case(number, made, made))
+                spent = max(spent - least, 0)
+                times = f"{spent / before:7.1f}" if before else ""
+                before = spent
+                print(f"{name + ' ' + str(size):36} {len(made):6} {kind:>12} {'/'.join(sorted(answers)):>8} {spent * scale:13.3f} {times:>7}")
+
+
+def main():
+    parser = argparse.ArgumentParser(description=__doc__.split("\n")[0])
+    parser.add_argument("--seconds", type=float, default=2.0, help="least time spent on each input")
+    parser.add_argument("--instructions", action="store_true", help="count instructions (valgrind) in place of time")
+    parser.add_argument("--program", type=pathlib.Path, default=ROOT / "target/bin/vectors")
+    args = parser.parse_args()
+    if not args.program.exists():
+        sys.exit("build it first: rt check vectors")
+    measure = lambda one: instructions(args.program, one) if args.instructions else measured(args.program, one, args.seconds)
+    membership(measure, args.instructions)
+    widening(measure, args.instructions)
 
 
 main()
