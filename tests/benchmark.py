@@ -94,9 +94,9 @@ def many_labels(count):
 
 
 def deep_contents(count):
-    """Contents that nest 31 deep, with an operator of two operands at each level."""
+    """All types starts, with contents that nest 30 deep, an operator of two operands at each level."""
     rules = [(k, k % 8, [3, 2, 7, 2, k] * 15 + [4, 2, 2, k // 2] * 14 + [1]) for k in range(count)]
-    return table([f"n{k}" for k in range(8)], [0], rules)
+    return table([f"n{k}" for k in range(8)], range(count), rules)
 
 
 def many_sets(count):
@@ -178,7 +178,7 @@ def widening(measure, counted):
         ("full contents, rules:", full_rules, (16, 32, 64)),
         ("two labels a type, rules:", full_pairs, (16, 32, 64)),
         ("labels of one type:", many_labels, (16, 32, 64)),
-        ("contents nested 31 deep, rules:", deep_contents, (16, 32, 64)),
+        ("contents nested 30 deep, rules:", deep_contents, (16, 32, 64)),
         ("one label, types:", many_sets, (16, 32, 64)),
         ("equal operands, types:", equal_operands, (8, 16, 32)),
     ]:
