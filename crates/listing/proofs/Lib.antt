@@ -1,0 +1,5 @@
+pub mod DecimalLaws
+pub mod ContentTextLaws
+pub mod RoomLaws
+pub mod PrintSteps
+pub mod LineLaws
