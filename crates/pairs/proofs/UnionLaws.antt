@@ -213,7 +213,7 @@ no-views old add v e a b c d f =
     }
 
 -- a content of a table that was read
-pub source-of : {s : List ℕ} {from to : ℕ} {c : Content} → Stands s from to (contentBytes c) → isProper standard c ≡ true
+source-of : {s : List ℕ} {from to : ℕ} {c : Content} → Stands s from to (contentBytes c) → isProper standard c ≡ true
     → SourceContent s from to c
 source-of {s} {from} {to} {c} w p =
     let e = w .bytes-are in
@@ -236,7 +236,7 @@ source-of {s} {from} {to} {c} w p =
         let m = ap length e in
         omega arith
 
-pub take-more : {A : Type 0} (xs : List A) (i : ℕ) {x : A} → getElem? xs i ≡ just x → take (i + 1) xs ≡ take i xs ++ (x ∷ [])
+take-more : {A : Type 0} (xs : List A) (i : ℕ) {x : A} → getElem? xs i ≡ just x → take (i + 1) xs ≡ take i xs ++ (x ∷ [])
 take-more xs i {x} e =
     ap (λ (k : ℕ). take k xs) (add-one i)
     ∙ take-suc xs i x (at-below xs i e)
