@@ -3,3 +3,4 @@ pub mod ContentTextLaws
 pub mod RoomLaws
 pub mod PrintSteps
 pub mod LineLaws
+pub mod ListingLaws

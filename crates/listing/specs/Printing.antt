@@ -8,8 +8,8 @@ use Rattle.grammar.specs.Content.{none, Contents, []ᶜ, _∷ᶜ_}
 use Rattle.grammar.specs.Table.{Rule, Table}
 use Rattle.grammar.specs.Listing.{Text, contentText, continued}
 use Rattle.reader.specs.declared.tables.TableIndex.{TableIndex}
+use Rattle.reader.proofs.TableFound.{TableFound}
 use Rattle.pairs.specs.ContentAt.{ContentAt, ContentsAt}
-use Rattle.pairs.specs.View.{TableHeld}
 use Rattle.emitting.specs.Writing.{Put}
 use Rattle.listing.specs.declared.contents.Ends.{Ends}
 
@@ -42,7 +42,7 @@ pub record Printed (before : List ℕ) (at : ℕ) (bytes : Text) (next : ℕ) (a
 unfoldable pub ruleOf : Table → ℕ → Rule
 ruleOf g i = getD (g .rules) i (record { type = 0; label = 0; content = none })
 
--- The text is written that the table of the index has, and it is no longer than this.
+-- This text of the table that was read is written, and it is no longer than so much.
 pub record TextPut (s : List ℕ) (index : TableIndex) (words : Table → Text) (most : ℕ) (before : List ℕ) (at : ℕ) (after : List ℕ) (r : ℕ) : Type 0 where
-  pub put : (g : Table) → TableHeld s index g → Put before at (words g) after r
+  pub put : (f : TableFound s index) → Put before at (words (f .table)) after r
   pub short : r ≤ at + most

@@ -4,23 +4,28 @@ use crate::pieces::put_byte;
 use crate::pieces::put_bytes;
 use crate::pieces::put_decimal;
 use crate::pieces::put_type;
+use grammar::Reading;
 use grammar::Refusal;
 use reader::calls::number_of;
 use reader::numbers::wide;
 use reader::tables::TableIndex;
+use reader::tables::read_table;
 ghost use Prim.Native.Nat.{_+_, _≤_, _<_};
 ghost use mathlib.Core.List.{[]};
 ghost use lib.ListN.{length, getD};
 ghost use Rattle.grammar.specs.Lists.{joinedOf};
+ghost use Rattle.grammar.specs.Limits.{standard};
+ghost use Rattle.grammar.specs.Names.{asciiClasses};
 ghost use Rattle.grammar.specs.Outcome.{refused};
+ghost use Rattle.grammar.specs.ReadTable.{readTable};
 ghost use Rattle.grammar.specs.Listing.{contentText, startLine, ruleLine, localText, outcomeText};
-ghost use Rattle.pairs.specs.View.{Held};
+ghost use Rattle.reader.proofs.TableFound.{TableFound};
 ghost use Rattle.emitting.specs.Writing.{Put};
 ghost use Rattle.listing.specs.Printing.{ruleOf, TextPut};
 
 // A label's name.
 fn put_name(table: &[u8], index: TableIndex, label: usize, text: &mut [u8], at: usize) -> usize
-    requires { ⌜ Held (now table) index × (label < index .labels) × (at + 63 ≤ length (now text)) ⌝ }
+    requires { ⌜ TableFound (now table) index × (label < index .labels) × (at + 63 ≤ length (now text)) ⌝ }
     ensures { λ r. ⌜ TextPut (now (table .entry)) index (λ g. getD (g .labels) label []) 63 (now (text .entry)) at (now (text .exit)) r ⌝ }
 {
     let label_from = index.label_from;
@@ -32,7 +37,7 @@ fn put_name(table: &[u8], index: TableIndex, label: usize, text: &mut [u8], at: 
 
 // The content of a rule.
 fn put_rule_content(table: &[u8], index: TableIndex, i: usize, text: &mut [u8], at: usize) -> usize
-    requires { ⌜ Held (now table) index × (i < index .rules) × (at + 3071 ≤ length (now text)) ⌝ }
+    requires { ⌜ TableFound (now table) index × (i < index .rules) × (at + 3071 ≤ length (now text)) ⌝ }
     ensures { λ r. ⌜ TextPut (now (table .entry)) index (λ g. contentText (ruleOf g i .content)) 3071 (now (text .entry)) at (now (text .exit)) r ⌝ }
 {
     let content_from = index.content_from;
@@ -45,7 +50,7 @@ fn put_rule_content(table: &[u8], index: TableIndex, i: usize, text: &mut [u8], 
 
 // The line of a rule: type, name and content.
 fn put_rule_line(table: &[u8], index: TableIndex, i: usize, text: &mut [u8], at: usize) -> usize
-    requires { ⌜ Held (now table) index × (i < index .rules) × (at + 3140 ≤ length (now text)) ⌝ }
+    requires { ⌜ TableFound (now table) index × (i < index .rules) × (at + 3140 ≤ length (now text)) ⌝ }
     ensures { λ r. ⌜ TextPut (now (table .entry)) index (λ g. ruleLine g (ruleOf g i)) 3140 (now (text .entry)) at (now (text .exit)) r ⌝ }
 {
     let rule_type = index.rule_type;
@@ -70,7 +75,7 @@ fn put_start_line(text: &mut [u8], at: usize, k: usize) -> usize
 
 // The lines of the starts.
 fn put_starts(table: &[u8], index: TableIndex, text: &mut [u8], at: usize) -> usize
-    requires { ⌜ Held (now table) index × (at + 640 ≤ length (now text)) ⌝ }
+    requires { ⌜ TableFound (now table) index × (at + 640 ≤ length (now text)) ⌝ }
     ensures { λ r. ⌜ TextPut (now (table .entry)) index (λ g. joinedOf startLine (g .starts)) 640 (now (text .entry)) at (now (text .exit)) r ⌝ }
 {
     let start_type = index.start_type;
@@ -86,7 +91,7 @@ fn put_starts(table: &[u8], index: TableIndex, text: &mut [u8], at: usize) -> us
 
 // The lines of the rules.
 fn put_rules(table: &[u8], index: TableIndex, text: &mut [u8], at: usize) -> usize
-    requires { ⌜ Held (now table) index × (at + 200960 ≤ length (now text)) ⌝ }
+    requires { ⌜ TableFound (now table) index × (at + 200960 ≤ length (now text)) ⌝ }
     ensures { λ r. ⌜ TextPut (now (table .entry)) index (λ g. joinedOf (ruleLine g) (g .rules)) 200960 (now (text .entry)) at (now (text .exit)) r ⌝ }
 {
     let rules = index.rules;
@@ -100,8 +105,8 @@ fn put_rules(table: &[u8], index: TableIndex, text: &mut [u8], at: usize) -> usi
 }
 
 // The text of a table that was read: a first line `local`, the starts, the rules.
-pub fn list_table(table: &[u8], index: TableIndex, text: &mut [u8]) -> usize
-    requires { ⌜ Held (now table) index × (202000 ≤ length (now text)) ⌝ }
+fn list_table(table: &[u8], index: TableIndex, text: &mut [u8]) -> usize
+    requires { ⌜ TableFound (now table) index × (202000 ≤ length (now text)) ⌝ }
     ensures { λ r. ⌜ TextPut (now (table .entry)) index localText 202000 (now (text .entry)) 0 (now (text .exit)) r ⌝ }
 {
     let starts = put_bytes(text, 0, b"local\n");
@@ -117,4 +122,17 @@ pub fn refusal_line(refusal: Refusal, text: &mut [u8]) -> usize
     let number = put_bytes(text, 0, b"refused ");
     let end = put_decimal(text, number, number_of(refusal) as usize);
     put_byte(text, end, b'\n')
+}
+
+// What some bytes read as: the text of the table, or the line of the refusal.
+pub fn list_bytes(table: &[u8], text: &mut [u8]) -> usize
+    requires { ⌜ 202000 ≤ length (now text) ⌝ }
+    ensures { λ r. ⌜ Put (now (text .entry)) 0 (outcomeText (readTable standard asciiClasses (now (table .entry)))) (now (text .exit)) r ⌝ }
+{
+    let read = read_table(table);
+    let answer = read.answer;
+    match answer {
+        Reading::Refused(refusal) => refusal_line(refusal, text),
+        Reading::Readable => list_table(table, read.index, text),
+    }
 }

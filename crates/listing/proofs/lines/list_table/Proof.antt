@@ -31,7 +31,7 @@ returns c =
     let a = first .next-is in
     let b = starts .short in
     let d = rules .short in
-    record { put = λ g t. put-join (put-join first (starts .put g t)) (rules .put g t); short = omega arith }
+    record { put = λ f. put-join (put-join first (starts .put f)) (rules .put f); short = omega arith }
 
 pub list-table-spec : {M : Type 1} → statement M
 list-table-spec =

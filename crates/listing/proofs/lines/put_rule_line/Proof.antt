@@ -3,16 +3,17 @@ use Prim.Native.Nat.{_+_}
 use native.Mathlib.Omega.{arith}
 use mathlib.Core.Path.{_∙_}
 use borrow.Author.Needs.{needs}
+use Rattle.reader.proofs.TableFound.{rule-found-at}
 use Rattle.emitting.proofs.PutLaws.{put-join}
 use Rattle.listing.specs.Printing.{ruleOf}
 use Rattle.listing.proofs.DecimalLaws.{type-size}
-use Rattle.listing.proofs.LineLaws.{rule-type-is, rule-type-small, rule-label-is, rule-label-small, line-joined}
+use Rattle.listing.proofs.LineLaws.{rule-type-is, rule-label-is, line-joined}
 use Rattle.listing.proofs.lines.put_rule_line.Statement.{statement}
 use Rattle.listing.proofs.lines.put_rule_line.Tie as tie
 
 put-type-requires : tie.Need-put-type-requires
 put-type-requires c κs =
-    let small = rule-type-small (c .before .before .before .before .before .before .pre .0 .held) _ (c .before .before .before .before .before .before .pre .1) in
+    let small = rule-found-at (c .before .before .before .before .before .before .pre .0) _ (c .before .before .before .before .before .before .pre .1) .type-below in
     let e = c .wide .ensures .0 in
     let n = type-size (c .wide .result) (omega arith) in
     let h = c .before .before .before .before .before .before .pre .2 in
@@ -20,7 +21,7 @@ put-type-requires c κs =
 
 put-byte-requires : tie.Need-put-byte-requires
 put-byte-requires c κs =
-    let small = rule-type-small (c .before .before .before .before .before .before .before .before .before .before .pre .0 .held) _ (c .before .before .before .before .before .before .before .before .before .before .pre .1) in
+    let small = rule-found-at (c .before .before .before .before .before .before .before .before .before .before .pre .0) _ (c .before .before .before .before .before .before .before .before .before .before .pre .1) .type-below in
     let e = c .before .before .before .before .wide .ensures .0 in
     let n = type-size (c .before .before .before .before .wide .result) (omega arith) in
     let h = c .before .before .before .before .before .before .before .before .before .before .pre .2 in
@@ -30,10 +31,10 @@ put-byte-requires c κs =
 
 put-name-requires : tie.Need-put-name-requires
 put-name-requires c κs =
-    let small = rule-type-small (c .before .before .before .before .before .before .before .before .before .before .before .before .before .before .before .pre .0 .held) _ (c .before .before .before .before .before .before .before .before .before .before .before .before .before .before .before .pre .1) in
-    let label = rule-label-small (c .before .before .before .before .before .before .before .before .before .before .before .before .before .before .before .pre .0 .held) _ (c .before .before .before .before .before .before .before .before .before .before .before .before .before .before .before .pre .1) in
+    let small = rule-found-at (c .before .before .before .before .before .before .before .before .before .before .before .before .before .before .before .pre .0) _ (c .before .before .before .before .before .before .before .before .before .before .before .before .before .before .before .pre .1) .type-below in
+    let label = rule-found-at (c .before .before .before .before .before .before .before .before .before .before .before .before .before .before .before .pre .0) _ (c .before .before .before .before .before .before .before .before .before .before .before .before .before .before .before .pre .1) .label-below in
     let e = c .before .before .before .before .before .before .before .before .before .wide .ensures .0 in
-    let f = c .before .wide2 .ensures .0 in
+    let m = c .before .wide2 .ensures .0 in
     let n = type-size (c .before .before .before .before .before .before .before .before .before .wide .result) (omega arith) in
     let h = c .before .before .before .before .before .before .before .before .before .before .before .before .before .before .before .pre .2 in
     let a1 = c .before .before .before .before .before .before .before .before .put-type .ensures .next-is in
@@ -44,7 +45,7 @@ put-name-requires c κs =
 
 put-byte-requires-2 : tie.Need-put-byte-requires-2
 put-byte-requires-2 c κs =
-    let small = rule-type-small (c .before .before .before .before .before .before .before .before .before .before .before .before .before .before .before .before .before .before .before .pre .0 .held) _ (c .before .before .before .before .before .before .before .before .before .before .before .before .before .before .before .before .before .before .before .pre .1) in
+    let small = rule-found-at (c .before .before .before .before .before .before .before .before .before .before .before .before .before .before .before .before .before .before .before .pre .0) _ (c .before .before .before .before .before .before .before .before .before .before .before .before .before .before .before .before .before .before .before .pre .1) .type-below in
     let e = c .before .before .before .before .before .before .before .before .before .before .before .before .before .wide .ensures .0 in
     let n = type-size (c .before .before .before .before .before .before .before .before .before .before .before .before .before .wide .result) (omega arith) in
     let h = c .before .before .before .before .before .before .before .before .before .before .before .before .before .before .before .before .before .before .before .pre .2 in
@@ -58,7 +59,7 @@ put-byte-requires-2 c κs =
 
 put-rule-content-requires : tie.Need-put-rule-content-requires
 put-rule-content-requires c κs =
-    let small = rule-type-small (c .before .before .before .before .before .before .before .before .before .before .before .before .before .before .before .before .before .before .before .before .before .before .before .pre .0 .held) _ (c .before .before .before .before .before .before .before .before .before .before .before .before .before .before .before .before .before .before .before .before .before .before .before .pre .1) in
+    let small = rule-found-at (c .before .before .before .before .before .before .before .before .before .before .before .before .before .before .before .before .before .before .before .before .before .before .before .pre .0) _ (c .before .before .before .before .before .before .before .before .before .before .before .before .before .before .before .before .before .before .before .before .before .before .before .pre .1) .type-below in
     let e = c .before .before .before .before .before .before .before .before .before .before .before .before .before .before .before .before .before .wide .ensures .0 in
     let n = type-size (c .before .before .before .before .before .before .before .before .before .before .before .before .before .before .before .before .before .wide .result) (omega arith) in
     let h = c .before .before .before .before .before .before .before .before .before .before .before .before .before .before .before .before .before .before .before .before .before .before .before .pre .2 in
@@ -74,7 +75,7 @@ put-rule-content-requires c κs =
 
 put-byte-requires-3 : tie.Need-put-byte-requires-3
 put-byte-requires-3 c κs =
-    let small = rule-type-small (c .before .before .before .before .before .before .before .before .before .before .before .before .before .before .before .before .before .before .before .before .before .before .before .before .before .before .before .pre .0 .held) _ (c .before .before .before .before .before .before .before .before .before .before .before .before .before .before .before .before .before .before .before .before .before .before .before .before .before .before .before .pre .1) in
+    let small = rule-found-at (c .before .before .before .before .before .before .before .before .before .before .before .before .before .before .before .before .before .before .before .before .before .before .before .before .before .before .before .pre .0) _ (c .before .before .before .before .before .before .before .before .before .before .before .before .before .before .before .before .before .before .before .before .before .before .before .before .before .before .before .pre .1) .type-below in
     let e = c .before .before .before .before .before .before .before .before .before .before .before .before .before .before .before .before .before .before .before .before .before .wide .ensures .0 in
     let n = type-size (c .before .before .before .before .before .before .before .before .before .before .before .before .before .before .before .before .before .before .before .before .before .wide .result) (omega arith) in
     let h = c .before .before .before .before .before .before .before .before .before .before .before .before .before .before .before .before .before .before .before .before .before .before .before .before .before .before .before .pre .2 in
@@ -94,9 +95,9 @@ returns : tie.Need-returns
 returns c =
     let start = c .before .before .before .before .before .before .before .before .before .before .before .before .before .before .before .before .before .before .before .before .before .before .before .before .before .before .before .before .before .before in
     let h = start .pre .1 in
-    let small = rule-type-small (start .pre .0 .held) _ h in
+    let small = rule-found-at (start .pre .0) _ h .type-below in
     let e = c .before .before .before .before .before .before .before .before .before .before .before .before .before .before .before .before .before .before .before .before .before .before .before .before .wide .ensures .0 in
-    let f = c .before .before .before .before .before .before .before .before .before .before .before .before .before .before .before .before .wide2 .ensures .0 in
+    let m = c .before .before .before .before .before .before .before .before .before .before .before .before .before .before .before .before .wide2 .ensures .0 in
     let n = type-size (c .before .before .before .before .before .before .before .before .before .before .before .before .before .before .before .before .before .before .before .before .before .before .before .before .wide .result) (omega arith) in
     let typed = c .before .before .before .before .before .before .before .before .before .before .before .before .before .before .before .before .before .before .before .before .before .before .before .put-type .ensures in
     let gap = c .before .before .before .before .before .before .before .before .before .before .before .before .before .before .before .before .before .before .before .put-byte .ensures in
@@ -112,9 +113,9 @@ returns c =
     let a6 = last .next-is in
     record {
       put =
-          λ g t.
-          line-joined g (ruleOf g (start .args .i)) _ _ (e ∙ rule-type-is t _ h) (f ∙ rule-label-is t _ h)
-          (put-join (put-join (put-join (put-join (put-join typed gap) (named .put g t)) gap2) (content .put g t)) last);
+          λ f.
+          line-joined (f .table) (ruleOf (f .table) (start .args .i)) _ _ (e ∙ rule-type-is f _ h) (m ∙ rule-label-is f _ h)
+          (put-join (put-join (put-join (put-join (put-join typed gap) (named .put f)) gap2) (content .put f)) last);
       short = omega arith;
     }
 

@@ -6,9 +6,8 @@ use lib.ListN.{length, take}
 use lib.Seq.{take-all}
 use borrow.Author.Needs.{needs}
 use Rattle.grammar.specs.Lists.{joinedOf}
-use Rattle.grammar.specs.Table.{Table}
 use Rattle.grammar.specs.Listing.{ruleLine}
-use Rattle.pairs.specs.View.{TableHeld}
+use Rattle.reader.proofs.TableFound.{TableFound}
 use Rattle.emitting.specs.Writing.{Put}
 use Rattle.emitting.proofs.PutLaws.{put-join, put-none}
 use Rattle.listing.proofs.PrintSteps.{put-as}
@@ -21,7 +20,7 @@ Inv-loop table index text₀ at rules end₀ i₀ text end i =
     (i ≤ rules)
     × (length text ≡ length text₀)
     × (end ≤ at + 3140 * i)
-    × ((g : Table) → TableHeld table index g → Put text₀ at (joinedOf (ruleLine g) (take i (g .rules))) text end)
+    × ((f : TableFound table index) → Put text₀ at (joinedOf (ruleLine (f .table)) (take i (f .table .rules))) text end)
 
 abbrev μ-loop : tie.MeasureT-loop
 μ-loop table index text₀ at rules end₀ i₀ text end i = rules - i
@@ -30,17 +29,17 @@ loop-holds : tie.Need-loop-holds Inv-loop μ-loop
 unfolding joinedOf
 loop-holds c =
     let h = c .before .before .pre .1 in
-    (omega arith, refl, omega arith, λ g t. put-none (c .before .before .args .text .now) (c .before .before .args .at) (omega arith))
+    (omega arith, refl, omega arith, λ f. put-none (c .before .before .args .text .now) (c .before .before .args .at) (omega arith))
 
 put-rule-line-requires : tie.Need-put-rule-line-requires Inv-loop μ-loop
 put-rule-line-requires c κs =
-    let few = c .before .before .before .before .before .pre .0 .held .indexes .few-rules in
+    let few = c .before .before .before .before .before .pre .0 .indexes .few-rules in
     let h = c .before .before .before .before .before .pre .1 in
     (c .before .before .before .before .before .pre .0, c .before .loop-test .taken, omega arith)
 
 add-i : tie.Need-add-i Inv-loop μ-loop
 add-i c =
-    let few = c .before .before .before .before .before .before .before .before .pre .0 .held .indexes .few-rules in
+    let few = c .before .before .before .before .before .before .before .before .pre .0 .indexes .few-rules in
     omega arith
 
 loop-again : tie.Need-loop-again Inv-loop μ-loop
@@ -54,7 +53,7 @@ loop-again c =
       omega arith,
       omega arith,
       omega arith,
-      λ g t. put-as (lines-next t (l .i) h) (put-join (l .inv .3 g t) (p .put g t)),
+      λ f. put-as (lines-next f (l .i) h) (put-join (l .inv .3 f) (p .put f)),
     )
 
 same-length : tie.Need-same-length Inv-loop μ-loop
@@ -64,12 +63,12 @@ returns : tie.Need-returns Inv-loop μ-loop
 returns c =
     let start = c .before .before .before .before in
     let l = c .before .loop in
-    let few = start .pre .0 .held .indexes .few-rules in
+    let few = start .pre .0 .indexes .few-rules in
     record {
       put =
-          λ g t.
-          let n = t .indexes .rules in
-          put-as (ap (joinedOf (ruleLine g)) (take-all (l .i) (g .rules) (omega arith))) (l .inv .3 g t);
+          λ f.
+          let n = f .indexes .rules in
+          put-as (ap (joinedOf (ruleLine (f .table))) (take-all (l .i) (f .table .rules) (omega arith))) (l .inv .3 f);
       short = omega arith;
     }
 

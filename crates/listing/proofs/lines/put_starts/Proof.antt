@@ -7,10 +7,11 @@ use lib.ListN.{length, take}
 use borrow.Author.Needs.{needs}
 use Rattle.grammar.specs.Lists.{joinedOf}
 use Rattle.grammar.specs.Listing.{startLine}
+use Rattle.reader.proofs.TableFound.{starts-are, start-found-at}
 use Rattle.emitting.specs.Writing.{Put}
 use Rattle.emitting.proofs.PutLaws.{put-join, put-none}
 use Rattle.listing.proofs.PrintSteps.{put-as}
-use Rattle.listing.proofs.LineLaws.{start-small, start-line-size, starts-are, joined-next}
+use Rattle.listing.proofs.LineLaws.{start-line-size, joined-next}
 use Rattle.listing.proofs.lines.put_starts.Statement.{statement}
 use Rattle.listing.proofs.lines.put_starts.Tie as tie
 
@@ -32,20 +33,20 @@ loop-holds c =
 
 array-read-wide : tie.Need-array-read-wide Inv-loop μ-loop
 array-read-wide c =
-    let few = c .before .before .before .before .before .before .pre .0 .held .indexes .few-starts in
+    let few = c .before .before .before .before .before .before .pre .0 .indexes .few-starts in
     omega arith
 
 put-start-line-requires : tie.Need-put-start-line-requires Inv-loop μ-loop
 put-start-line-requires c κs =
-    let k = start-small (c .before .before .before .before .before .before .before .pre .0 .held) (c .before .before .before .loop .i) (c .before .before .loop-test .taken) in
+    let k = start-found-at (c .before .before .before .before .before .before .before .pre .0) (c .before .before .before .loop .i) (c .before .before .loop-test .taken) .1 in
     let e = c .wide .ensures .0 in
-    let few = c .before .before .before .before .before .before .before .pre .0 .held .indexes .few-starts in
+    let few = c .before .before .before .before .before .before .before .pre .0 .indexes .few-starts in
     let h = c .before .before .before .before .before .before .before .pre .1 in
     (omega arith, omega arith)
 
 add-i : tie.Need-add-i Inv-loop μ-loop
 add-i c =
-    let few = c .before .before .before .before .before .before .before .before .before .before .pre .0 .held .indexes .few-starts in
+    let few = c .before .before .before .before .before .before .before .before .before .before .pre .0 .indexes .few-starts in
     omega arith
 
 loop-again : tie.Need-loop-again Inv-loop μ-loop
@@ -53,9 +54,9 @@ loop-again c =
     let start = c .before .before .before .before .before .before .before .before .before .before in
     let l = c .before .before .before .before .before .before .loop in
     let types = start .args .index .«start_type» in
-    let few = start .pre .0 .held .indexes .few-starts in
-    let rooms = start .pre .0 .held .indexes .rooms .start-type in
-    let small = start-small (start .pre .0 .held) (l .i) (c .before .before .before .before .before .loop-test .taken) in
+    let few = start .pre .0 .indexes .few-starts in
+    let rooms = start .pre .0 .indexes .rooms .start-type in
+    let small = start-found-at (start .pre .0) (l .i) (c .before .before .before .before .before .loop-test .taken) .1 in
     let e = c .before .before .before .wide .ensures .0 in
     let p = c .before .before .put-start-line .ensures in
     let size = start-line-size (c .before .before .before .wide .result) (omega arith) in
@@ -74,12 +75,12 @@ returns : tie.Need-returns Inv-loop μ-loop
 returns c =
     let start = c .before .before .before .before .before in
     let l = c .before .loop in
-    let few = start .pre .0 .held .indexes .few-starts in
+    let few = start .pre .0 .indexes .few-starts in
     let z : l .i ≡ start .args .index .starts = omega arith in
     record {
       put =
-          λ g t.
-          put-as (ap (λ (n : ℕ). joinedOf startLine (take n (start .args .index .«start_type»))) z ∙ ap (joinedOf startLine) (starts-are t))
+          λ f.
+          put-as (ap (λ (n : ℕ). joinedOf startLine (take n (start .args .index .«start_type»))) z ∙ ap (joinedOf startLine) (starts-are f))
           (l .inv .3);
       short = omega arith;
     }
