@@ -123,4 +123,5 @@ def main():
             print(f"{name + ' ' + str(size):36} {'/'.join(sorted(answers)):>8} {spent * scale:13.3f} {units:17} {each:10.1f}")
 
 
-main()
+if __name__ == "__main__":
+    main()
