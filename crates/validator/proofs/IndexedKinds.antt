@@ -13,7 +13,7 @@ use mathlib.Core.Logic.{⊎-elim}
 use mathlib.Core.Option.{some as just}
 use mathlib.Core.Path.{_≡_, sym, _∙_, ap, ap₂}
 use lib.Dec.{eqb, ltb}
-use lib.ListN.{length, getD, getElem?}
+use lib.ListN.{length, getElem?}
 use borrow.Author.Tests.{eqb-true, eqb-false, eq-eqb, ne-eqb, ltb-true, ltb-false, not-true}
 use Rattle.grammar.specs.Lists.{all, allDistinct, isIn}
 use Rattle.grammar.specs.Content.{typesIn}
@@ -23,6 +23,7 @@ use Rattle.grammar.specs.KindTests.{sameLabel, samePair, isLocal, noneCompete, 
 use Rattle.theory.proofs.BoolLaws.{and-left, and-right, and-intro, false-of, not-both, passes-or-fails, same-test}
 use Rattle.theory.proofs.ListLaws.{differ-at, all-differ, mem-at, at-mem, at-below, below-at, in-mem, mem-in, eqb-sym, all-of, all-at}
 use Rattle.theory.proofs.KindTests.{none-compete}
+use Rattle.sets.specs.Sets.{member}
 use Rattle.reader.specs.declared.tables.TableIndex.{TableIndex}
 use Rattle.reader.specs.TableIndex.{ruleType, ruleLabel, Indexes}
 use Rattle.reader.proofs.TableIndexLaws.{rule-at}
@@ -113,32 +114,32 @@ module _ {s : List ℕ} {index : TableIndex} {g : Table} (x : Indexes s index g)
           (ap₂ eqb (x .rule i r a .type) (x .rule j q b .type))
           (ap₂ eqb (x .rule i r a .label) (x .rule j q b .label))
 
-  module _ (set : List Bool) (types : List ℕ) (holds : Holds set types) where
+  module _ (words types : List ℕ) (holds : Holds words types) where
     abbrev rivalled : ℕ → Bool
-    rivalled i = anyBelow (rivalsAt index set i) (index .rules)
+    rivalled i = anyBelow (rivalsAt index words i) (index .rules)
 
-    stands : (k l : ℕ) → k ≡ l → List·Memᴰ l types → getD set k false ≡ true
+    stands : (k l : ℕ) → k ≡ l → List·Memᴰ l types → member words 0 k ≡ true
     stands k l e m = holds k ∙ ap (λ (n : ℕ). isIn n types) e ∙ mem-in m
 
     -- two rules that are rivals in the set are of types that compete
     compete-of : NoneCompete g types → anyBelow rivalled (index .rules) ≡ true → ⊥
     compete-of none e =
         let (i, i-below, f) = below-found rivalled (index .rules) e in
-        let (j, j-below, t) = below-found (rivalsAt index set i) (index .rules) f in
+        let (j, j-below, t) = below-found (rivalsAt index words i) (index .rules) f in
         let (r, at-i, r-at) = rule-at x i i-below in
         let (q, at-j, q-at) = rule-at x j j-below in
         let k = ruleType index i in
         let l = ruleType index j in
-        let there = getD set l false in
+        let there = member words 0 l in
         let labels = eqb (ruleLabel index i) (ruleLabel index j) in
-        let both = and-right (getD set k false) (not (eqb k l) && (labels && there)) t in
+        let both = and-right (member words 0 k) (not (eqb k l) && (labels && there)) t in
         let last = and-right (not (eqb k l)) (labels && there) both in
         let one = eqb-true (ruleLabel index i) (ruleLabel index j) (and-left labels there last) in
         let same =
         none
         k
         l
-        (in-mem k types (sym (holds k) ∙ and-left (getD set k false) (not (eqb k l) && (labels && there)) t))
+        (in-mem k types (sym (holds k) ∙ and-left (member words 0 k) (not (eqb k l) && (labels && there)) t))
         (in-mem l types (sym (holds l) ∙ and-right labels there last))
         (record {
           rule₁ = r;
@@ -173,9 +174,9 @@ module _ {s : List ℕ} {index : TableIndex} {g : Table} (x : Indexes s index g)
             and-intro _ _
             (stands (ruleType index i) k k-is m)
             (and-intro _ _ (not-of apart) (and-intro _ _ one (stands (ruleType index j) l l-is n))) in
-            not-both (one-below rivalled (index .rules) i i-below (one-below (rivalsAt index set i) (index .rules) j j-below t)) e
+            not-both (one-below rivalled (index .rules) i i-below (one-below (rivalsAt index words i) (index .rules) j j-below t)) e
 
-    pub none-compete-at : noneCompete g types ≡ not (anyBelow (λ i. anyBelow (rivalsAt index set i) (index .rules)) (index .rules))
+    pub none-compete-at : noneCompete g types ≡ not (anyBelow (λ i. anyBelow (rivalsAt index words i) (index .rules)) (index .rules))
     none-compete-at =
         same-test (noneCompete g types) (not (anyBelow rivalled (index .rules))) (
           λ e. not-of (false-of (anyBelow rivalled (index .rules)) (compete-of (none-compete g types .0 e))),

@@ -5,7 +5,7 @@
 --   left-start : so it is at the front of a content's bytes, with no type seen
 --   left-type, left-count, left-alone : so it stays after each operator (2, the counted ones, the others)
 --   left-end : at the end the types seen are those that stand in the content
-use Prim.Native.Nat.{ℕ, suc, _+_, _≤_, _<_}
+use Prim.Native.Nat.{ℕ, suc, _+_, _/_, _≤_, _<_}
 use native.Mathlib.Omega.{arith}
 use native.Mathlib.Numerals.{add-one, add-two}
 use mathlib.Core.Bool.{Bool, true, false, _||_}
@@ -13,13 +13,14 @@ use mathlib.Core.List.{List, [], _∷_, _++_, append-assoc, append-nil}
 use mathlib.Core.Logic.{_⊎_, inl, inr, ⊎-elim}
 use mathlib.Core.Path.{_≡_, refl, sym, _∙_, ap, subst}
 use lib.Dec.{eqb}
-use lib.ListN.{length, getD, set, drop, length-drop, drop-of-length-le}
+use lib.ListN.{length, getD, drop, length-drop, drop-of-length-le}
 use lib.Seq.{drop-cons}
 use Rattle.grammar.specs.Content.{Content, none, empty, type, sequence, choice, anyNumber, oneOrMore, optional, Contents, []ᶜ, _∷ᶜ_, count, typesIn, typesInAll}
 use Rattle.grammar.specs.Lists.{isIn}
 use Rattle.grammar.specs.ReadContent.{contentBytes, operandBytes}
+use Rattle.sets.specs.Sets.{member, putAt, nothing}
+use Rattle.sets.proofs.SetLaws.{member-put}
 use Rattle.validator.specs.RulesAt.{Holds}
-use Rattle.validator.proofs.SeenTypes.{seen-put}
 
 -- these bytes are those of contents one after the other, in which these types stand
 record Standing (bytes types : List ℕ) : Type 0 where
@@ -87,12 +88,12 @@ after : (b : ℕ) (bytes types : List ℕ) → Standing (b ∷ bytes) types → 
 after b bytes types w = subst (After b bytes) (sym (w .types-are)) (after-of (w .contents) b bytes (w .bytes-are))
 
 -- the types seen, and those that stand from a place on
-pub record Left (bytes : List ℕ) (seen : List Bool) (types : List ℕ) (at : ℕ) : Type 0 where
+pub record Left (bytes seen types : List ℕ) (at : ℕ) : Type 0 where
   others : List ℕ
   standing : Standing (drop at bytes) others
-  together : (k : ℕ) → (getD seen k false || isIn k others) ≡ isIn k types
+  together : (k : ℕ) → (member seen 0 k || isIn k others) ≡ isIn k types
 
-pub left-start : (seen : List Bool) (c : Content) (bytes : List ℕ) → ((k : ℕ) → getD seen k false ≡ false) → bytes ≡ contentBytes c
+pub left-start : (seen : List ℕ) (c : Content) (bytes : List ℕ) → member seen 0 ≡ nothing → bytes ≡ contentBytes c
     → Left bytes seen (typesIn c) 0
 unfolding contentBytes typesIn
 left-start seen c bytes fresh e =
@@ -104,7 +105,7 @@ left-start seen c bytes fresh e =
             bytes-are = e ∙ sym (append-nil (contentBytes c));
             types-are = sym (append-nil (typesIn c));
           };
-      together = λ k. ap (λ (b : Bool). b || isIn k (typesIn c)) (fresh k);
+      together = λ k. ap (λ (b : Bool). b || isIn k (typesIn c)) (ap (λ (p : ℕ → Bool). p k) fresh);
     }
 
 -- a type more is seen
@@ -113,13 +114,13 @@ swap true true c = refl
 swap true false c = refl
 swap false b c = refl
 
-seen-more : (seen : List Bool) (k : ℕ) (others : List ℕ) → k < length seen → (j : ℕ)
-    → (getD (set seen k true) j false || isIn j others) ≡ (getD seen j false || isIn j (k ∷ others))
+seen-more : (seen : List ℕ) (k : ℕ) (others : List ℕ) → 0 + k / 32 < length seen → (j : ℕ)
+    → (member (putAt seen 0 k) 0 j || isIn j others) ≡ (member seen 0 j || isIn j (k ∷ others))
 unfolding isIn
 seen-more seen k others h j =
-    ap (λ (b : Bool). b || isIn j others) (seen-put seen k h j) ∙ swap (eqb j k) (getD seen j false) (isIn j others)
+    ap (λ (b : Bool). b || isIn j others) (ap (λ (p : ℕ → Bool). p j) (member-put seen 0 k h)) ∙ swap (eqb j k) (member seen 0 j) (isIn j others)
 
-module _ (bytes : List ℕ) (seen : List Bool) (types : List ℕ) (at : ℕ) (left : Left bytes seen types at) where
+module _ (bytes seen types : List ℕ) (at : ℕ) (left : Left bytes seen types at) where
   next : at < length bytes → After (getD bytes at 0) (drop (suc at) bytes) (left .others)
   next h =
       after (getD bytes at 0) (drop (suc at) bytes) (left .others)
@@ -137,11 +138,11 @@ module _ (bytes : List ℕ) (seen : List Bool) (types : List ℕ) (at : ℕ) (le
       (omega arith, ap (λ (i : ℕ). getD bytes i 0) (add-one at) ∙ n-is, ap (λ (i : ℕ). drop i bytes) (add-two at) ∙ rest-is)
 
   pub left-type : at < length bytes → getD bytes at 0 ≡ 2
-      → (at + 1 < length bytes) × ((k : ℕ) → k ≡ getD bytes (at + 1) 0 → k < length seen → Left bytes (set seen k true) types (at + 2))
+      → (at + 1 < length bytes) × ((k : ℕ) → k ≡ getD bytes (at + 1) 0 → 0 + k / 32 < length seen → Left bytes (putAt seen 0 k) types (at + 2))
   left-type h e = go (next h)
     where
       go : After (getD bytes at 0) (drop (suc at) bytes) (left .others)
-          → (at + 1 < length bytes) × ((k : ℕ) → k ≡ getD bytes (at + 1) 0 → k < length seen → Left bytes (set seen k true) types (at + 2))
+          → (at + 1 < length bytes) × ((k : ℕ) → k ≡ getD bytes (at + 1) 0 → 0 + k / 32 < length seen → Left bytes (putAt seen 0 k) types (at + 2))
       go (a-type n rest others p q r w) =
           let s = second n rest q in (
             s .0,
@@ -151,7 +152,7 @@ module _ (bytes : List ℕ) (seen : List Bool) (types : List ℕ) (at : ℕ) (le
                   standing = subst (λ (l : List ℕ). Standing l others) (sym (s .2)) w;
                   together = λ j.
                       seen-more seen k others fits j
-                      ∙ ap (λ (l : List ℕ). getD seen j false || isIn j l) (ap (λ (m : ℕ). m ∷ others) (same ∙ s .1) ∙ sym r)
+                      ∙ ap (λ (l : List ℕ). member seen 0 j || isIn j l) (ap (λ (m : ℕ). m ∷ others) (same ∙ s .1) ∙ sym r)
                       ∙ left .together j;
                 },
           )
@@ -196,9 +197,9 @@ module _ (bytes : List ℕ) (seen : List Bool) (types : List ℕ) (at : ℕ) (le
       none-or true = refl
       none-or false = refl
 
-      go : (cs : Contents) → [] ≡ operandBytes cs → left .others ≡ typesInAll cs → getD seen k false ≡ isIn k types
+      go : (cs : Contents) → [] ≡ operandBytes cs → left .others ≡ typesInAll cs → member seen 0 k ≡ isIn k types
       go []ᶜ e t =
-          none-or (getD seen k false) ∙ ap (λ (l : List ℕ). getD seen k false || isIn k l) (sym t) ∙ left .together k
+          none-or (member seen 0 k) ∙ ap (λ (l : List ℕ). member seen 0 k || isIn k l) (sym t) ∙ left .together k
       go (c ∷ᶜ cs) e t = absurd (no-bytes c e)
         where
           no-bytes : (c : Content) → [] ≡ contentBytes c ++ operandBytes cs → ⊥

@@ -1,13 +1,13 @@
--- Tests on the rules of an index by their numbers, and sets of types.
+-- Tests on the rules of an index by their numbers, and the set of types at the front of words.
 use Prim.Native.Nat.{ℕ, zero, suc}
 use mathlib.Core.Bool.{Bool, false, not, _&&_, _||_}
 use mathlib.Core.List.{List}
 use mathlib.Core.Path.{_≡_}
 use lib.Dec.{eqb}
-use lib.ListN.{getD}
 use Rattle.grammar.specs.Content.{Content}
 use Rattle.grammar.specs.Lists.{isIn}
 use Rattle.grammar.specs.ReadContent.{contentBytes}
+use Rattle.sets.specs.Sets.{member}
 use Rattle.reader.specs.declared.tables.TableIndex.{TableIndex}
 use Rattle.reader.specs.TableIndex.{ruleType, ruleLabel}
 
@@ -29,14 +29,14 @@ abbrev pub rivals : (k label l other : ℕ) → Bool → Bool
 rivals k label l other stands = not (eqb k l) && (eqb label other && stands)
 
 -- rules i and j are rivals of types that both are in the set
-abbrev pub rivalsAt : TableIndex → List Bool → (i j : ℕ) → Bool
-rivalsAt index set i j =
-    getD set (ruleType index i) false
-    && rivals (ruleType index i) (ruleLabel index i) (ruleType index j) (ruleLabel index j) (getD set (ruleType index j) false)
+abbrev pub rivalsAt : TableIndex → List ℕ → (i j : ℕ) → Bool
+rivalsAt index words i j =
+    member words 0 (ruleType index i)
+    && rivals (ruleType index i) (ruleLabel index i) (ruleType index j) (ruleLabel index j) (member words 0 (ruleType index j))
 
 -- the set has these types and no others
-abbrev pub Holds : List Bool → List ℕ → Type 0
-Holds set types = (k : ℕ) → getD set k false ≡ isIn k types
+abbrev pub Holds : List ℕ → List ℕ → Type 0
+Holds words types = (k : ℕ) → member words 0 k ≡ isIn k types
 
 -- these are the bytes of some content
 pub record IsContent (bytes : List ℕ) : Type 0 where

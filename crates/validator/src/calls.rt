@@ -86,8 +86,9 @@ fn read_and_test_local(table: &[u8]) -> Verdict
     yes_or_no(local_table(index))
 }
 
-// Reads the table, then decides whether it is single-type.
-fn read_and_test_single_type(table: &[u8]) -> Verdict
+// Reads the table, then decides whether it is single-type, with its set of types in the first eight words.
+fn read_and_test_single_type(table: &[u8], words: &mut [u32]) -> Verdict
+    requires { ⌜ 16384 ≤ length (now words) ⌝ }
     ensures { λ r. ⌜ r ≡ verdict (kindOf isSingleType (now (table .entry))) ⌝ }
 {
     let known = read_table(table);
@@ -96,7 +97,17 @@ fn read_and_test_single_type(table: &[u8]) -> Verdict
         return Verdict::Refused(r);
     }
     let index = known.index;
-    yes_or_no(single_type_table(table, index))
+    yes_or_no(single_type_table(table, index, &mut words[0..8]))
+}
+
+// The same, and the words are zero after it.
+fn test_single_type_and_clear(table: &[u8], words: &mut [u32]) -> Verdict
+    requires { ⌜ 16384 ≤ length (now words) ⌝ }
+    ensures { λ r. ⌜ Cleared (kindOf isSingleType (now (table .entry))) (now (words .entry)) (now (words .exit)) r ⌝ }
+{
+    let answer = read_and_test_single_type(table, words);
+    clear(words);
+    answer
 }
 
 // Is the table local?
@@ -117,6 +128,5 @@ pub fn is_single_type(table: &[u8], work: &mut [u32]) -> Verdict
     if work.len() < WORDS {
         return Verdict::Refused(Refusal::WorkTooShort);
     }
-    clear_work(work);
-    read_and_test_single_type(table)
+    test_single_type_and_clear(table, &mut work[0..16384])
 }

@@ -1,13 +1,18 @@
 // The kinds of a table, by its index: local, and single-type.
+//
+// The types of one content, or the starts, are a set at the front of the lent words. Eight words have a bit for each value of a byte.
+use reader::calls::clear;
 use reader::numbers::wide;
 use reader::tables::TableIndex;
+use sets::words::has;
+use sets::words::put;
 ghost use mathlib.Core.Path.{_≡_};
 ghost use mathlib.Core.List.{List};
 ghost use mathlib.Core.Option.{some};
 ghost use Prim.Native.Nat.{ℕ, _≤_, _<_};
 ghost use mathlib.Core.Bool.{_&&_};
 ghost use lib.Dec.{eqb};
-ghost use lib.ListN.{getElem?};
+ghost use lib.ListN.{length, getElem?};
 ghost use Rattle.grammar.specs.Content.{Content, typesIn};
 ghost use Rattle.grammar.specs.ReadContent.{contentBytes};
 ghost use Rattle.grammar.specs.Table.{Rule, Table};
@@ -94,19 +99,19 @@ fn distinct_pairs(index: TableIndex) -> bool
     true
 }
 
-// The types that stand in a content: its operators one after the other, whatever they are operands of.
-fn content_types(content: &[u8]) -> [bool; 256]
-    requires { ⌜ IsContent (now content) ⌝ }
-    ensures { λ r. ⌜ ((c : Content) → now (content .entry) ≡ contentBytes c → Holds r (typesIn c)) ⌝ }
+// Leaves the set of the types that stand in a content: its operators one after the other, whatever they are operands of.
+fn content_types(content: &[u8], words: &mut [u32])
+    requires { ⌜ (IsContent (now content)) × (8 ≤ length (now words)) ⌝ }
+    ensures { λ r. ⌜ ((c : Content) → now (content .entry) ≡ contentBytes c → Holds (now (words .exit)) (typesIn c)) ⌝ }
 {
-    let mut types = [false; 256];
+    clear(words);
     let mut at: usize = 0;
     while at < content.len() {
         let operator = wide(content[at]);
         match operator {
             2 => {
                 let k = wide(content[at + 1]);
-                types[k] = true;
+                put(words, 0, k);
                 at += 2;
             }
             3..=4 => {
@@ -117,24 +122,22 @@ fn content_types(content: &[u8]) -> [bool; 256]
             }
         }
     }
-    types
 }
 
-// The starts.
-fn start_types(index: TableIndex) -> [bool; 256]
-    requires { ⌜ index .starts ≤ 64 ⌝ }
-    ensures { λ r. ⌜ ((s : List ℕ) (g : Table) → Indexes s index g → Holds r (g .starts)) ⌝ }
+// Leaves the set of the starts.
+fn start_types(index: TableIndex, words: &mut [u32])
+    requires { ⌜ (index .starts ≤ 64) × (8 ≤ length (now words)) ⌝ }
+    ensures { λ r. ⌜ ((s : List ℕ) (g : Table) → Indexes s index g → Holds (now (words .exit)) (g .starts)) ⌝ }
 {
     let start_type = index.start_type;
     let starts = index.starts;
-    let mut types = [false; 256];
+    clear(words);
     let mut i: usize = 0;
     while i < starts {
         let start = wide(start_type[i]);
-        types[start] = true;
+        put(words, 0, start);
         i += 1;
     }
-    types
 }
 
 // One label, and two different types, the second of which stands.
@@ -150,10 +153,10 @@ fn is_rival(k: u8, label: u8, l: u8, other: u8, stands: bool) -> bool
     stands
 }
 
-// This rule has a rival, and the types of both stand.
-fn has_rival(index: TableIndex, among: [bool; 256], i: usize) -> bool
-    requires { ⌜ (i < 64) × (index .rules ≤ 64) ⌝ }
-    ensures { λ r. ⌜ r ≡ anyBelow (rivalsAt index among i) (index .rules) ⌝ }
+// This rule has a rival, and the types of both are in the set.
+fn has_rival(index: TableIndex, words: &[u32], i: usize) -> bool
+    requires { ⌜ (i < 64) × (index .rules ≤ 64) × (8 ≤ length (now words)) ⌝ }
+    ensures { λ r. ⌜ r ≡ anyBelow (rivalsAt index (now (words .entry)) i) (index .rules) ⌝ }
 {
     let rule_type = index.rule_type;
     let rule_label = index.rule_label;
@@ -161,12 +164,12 @@ fn has_rival(index: TableIndex, among: [bool; 256], i: usize) -> bool
     let k = rule_type[i];
     let label = rule_label[i];
     let first = wide(k);
-    if among[first] {
+    if has(words, 0, first) {
         let mut j: usize = 0;
         while j < rules {
             let l = rule_type[j];
             let second = wide(l);
-            if is_rival(k, label, l, rule_label[j], among[second]) {
+            if is_rival(k, label, l, rule_label[j], has(words, 0, second)) {
                 return true;
             }
             j += 1;
@@ -176,15 +179,15 @@ fn has_rival(index: TableIndex, among: [bool; 256], i: usize) -> bool
     false
 }
 
-// No two different types of these have rules with one label.
-fn none_compete(index: TableIndex, among: [bool; 256]) -> bool
-    requires { ⌜ index .rules ≤ 64 ⌝ }
-    ensures { λ r. ⌜ ((s : List ℕ) (g : Table) (types : List ℕ) → Indexes s index g → Holds among types → r ≡ noneCompete g types) ⌝ }
+// No two different types of the set have rules with one label.
+fn none_compete(index: TableIndex, words: &[u32]) -> bool
+    requires { ⌜ (index .rules ≤ 64) × (8 ≤ length (now words)) ⌝ }
+    ensures { λ r. ⌜ ((s : List ℕ) (g : Table) (types : List ℕ) → Indexes s index g → Holds (now (words .entry)) types → r ≡ noneCompete g types) ⌝ }
 {
     let rules = index.rules;
     let mut i: usize = 0;
     while i < rules {
-        if has_rival(index, among, i) {
+        if has_rival(index, words, i) {
             return false;
         }
         i += 1;
@@ -193,27 +196,27 @@ fn none_compete(index: TableIndex, among: [bool; 256]) -> bool
 }
 
 // No two different types that stand in the content of this rule have rules with one label.
-fn none_compete_in(table: &[u8], index: TableIndex, i: usize) -> bool
-    requires { ⌜ (Indexed (now table) index) × (i < index .rules) ⌝ }
+fn none_compete_in(table: &[u8], index: TableIndex, i: usize, words: &mut [u32]) -> bool
+    requires { ⌜ (Indexed (now table) index) × (i < index .rules) × (8 ≤ length (now words)) ⌝ }
     ensures { λ r. ⌜ ((g : Table) (rule : Rule) → Indexes (now (table .entry)) index g → getElem? (g .rules) i ≡ some rule → r ≡ noneCompete g (typesIn (rule .content))) ⌝ }
 {
     let content_from = index.content_from;
     let content_to = index.content_to;
     let from = content_from[i];
     let to = content_to[i];
-    let types = content_types(&table[from..to]);
-    none_compete(index, types)
+    content_types(&table[from..to], words);
+    none_compete(index, words)
 }
 
 // The same of every content.
-fn none_compete_in_any(table: &[u8], index: TableIndex) -> bool
-    requires { ⌜ Indexed (now table) index ⌝ }
+fn none_compete_in_any(table: &[u8], index: TableIndex, words: &mut [u32]) -> bool
+    requires { ⌜ (Indexed (now table) index) × (8 ≤ length (now words)) ⌝ }
     ensures { λ r. ⌜ ((g : Table) → Indexes (now (table .entry)) index g → r ≡ all (λ (rule : Rule). noneCompete g (typesIn (rule .content))) (g .rules)) ⌝ }
 {
     let rules = index.rules;
     let mut rule: usize = 0;
     while rule < rules {
-        if none_compete_in(table, index, rule) {
+        if none_compete_in(table, index, rule, words) {
             rule += 1;
         } else {
             return false;
@@ -223,13 +226,14 @@ fn none_compete_in_any(table: &[u8], index: TableIndex) -> bool
 }
 
 // No two rules have one type and label, and no two different types compete among the starts or in a content.
-pub fn single_type_table(table: &[u8], index: TableIndex) -> bool
-    requires { ⌜ Indexed (now table) index ⌝ }
+pub fn single_type_table(table: &[u8], index: TableIndex, words: &mut [u32]) -> bool
+    requires { ⌜ (Indexed (now table) index) × (8 ≤ length (now words)) ⌝ }
     ensures { λ r. ⌜ ((g : Table) → Indexes (now (table .entry)) index g → r ≡ isSingleType g) ⌝ }
 {
     if distinct_pairs(index) {
-        if none_compete(index, start_types(index)) {
-            return none_compete_in_any(table, index);
+        start_types(index, words);
+        if none_compete(index, words) {
+            return none_compete_in_any(table, index, words);
         }
         return false;
     }

@@ -127,12 +127,12 @@ fn some_start(table: &[u8], index: TableIndex, words: &[u32], at: usize) -> bool
     requires { ⌜ (SomeTable (now table) index) × (at + 4 ≤ length (now words)) ⌝ }
     ensures { λ r. ⌜ ((g : Table) → Known (now (table .entry)) index g → r ≡ any (setAt (now (words .entry)) at) (g .starts)) ⌝ }
 {
-    let mut i: usize = 0;
-    while i < index.starts {
-        if has(words, at, wide(index.start_type[i])) {
+    let mut start: usize = 0;
+    while start < index.starts {
+        if has(words, at, wide(index.start_type[start])) {
             return true;
         }
-        i += 1;
+        start += 1;
     }
     false
 }

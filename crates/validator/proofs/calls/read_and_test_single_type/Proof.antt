@@ -1,5 +1,7 @@
 -- `read_and_test_single_type` meets its contract: the refusal of the table, else the test.
+use native.Mathlib.Omega.{arith}
 use borrow.Author.Needs.{needs}
+use lib.Seq.{length-take-le}
 use Rattle.grammar.specs.KindTests.{isSingleType}
 use Rattle.reader.proofs.TableFound.{table-found}
 use Rattle.validator.proofs.VerdictLaws as laws
@@ -8,21 +10,20 @@ use Rattle.validator.proofs.calls.read_and_test_single_type.Tie as tie
 
 returns : tie.Need-returns
 returns c =
-    let a = c .before .before .before .before .before .args in
-    laws.kind-refuses isSingleType (a .table .now) (c .before .before .before .read-table .result) (c .before .before .before .read-table .ensures) _ (c .before .readable .given .1)
+    laws.kind-refuses isSingleType (c .before .before .before .before .before .before .args .table .now) (c .before .before .before .read-table .result) (c .before .before .before .read-table .ensures) _ (c .before .readable .given .1)
 
 single-type-table-requires : tie.Need-single-type-table-requires
 single-type-table-requires c κs =
-    let a = c .before .before .before .before .before .args in
-    let f = table-found (a .table .now) (c .before .before .before .read-table .result) (c .before .before .before .read-table .ensures) (c .before .enum-told .given .1) in
-    record { table = f .table; indexes = f .indexes }
+    let f = table-found (c .before .before .before .before .before .before .before .args .table .now) (c .before .before .before .before .read-table .result) (c .before .before .before .before .read-table .ensures) (c .before .before .enum-told .given .1) in
+    let room = c .before .before .before .before .before .before .before .pre in
+    let size = length-take-le 8 (c .before .before .before .before .before .before .before .args .words .now) (omega arith) in
+    (record { table = f .table; indexes = f .indexes }, omega arith)
 
 returns-2 : tie.Need-returns-2
 returns-2 c =
-    let a = c .before .before .before .before .before .before .before .args in
-    laws.kind-decided isSingleType (a .table .now) (c .before .before .before .before .before .read-table .result) (c .before .before .before .before .before .read-table .ensures) (c .before .before .before .enum-told .given .1) (c .yes-or-no .result)
-    (c .before .single-type-table .result) (c .yes-or-no .ensures)
-    (λ g known. c .before .single-type-table .ensures g (known .indexes))
+    laws.kind-decided isSingleType (c .before .before .before .before .before .before .before .before .before .before .before .args .table .now) (c .before .before .before .before .before .before .before .before .read-table .result) (c .before .before .before .before .before .before .before .before .read-table .ensures) (c .before .before .before .before .before .before .enum-told .given .1) (c .yes-or-no .result)
+    (c .before .before .before .single-type-table .result) (c .yes-or-no .ensures)
+    (λ g known. c .before .before .before .single-type-table .ensures g (known .indexes))
 
 pub read-and-test-single-type-spec : {M : Type 1} → statement M
 read-and-test-single-type-spec =
@@ -32,6 +33,10 @@ read-and-test-single-type-spec =
     (λ c. search needs)
     returns
     (λ c. search needs)
+    (λ c. search needs)
+    (λ c. search needs)
+    (λ c. search needs)
     single-type-table-requires
     (λ c κs. search needs)
+    (λ c. search needs)
     returns-2)

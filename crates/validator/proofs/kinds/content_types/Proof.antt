@@ -1,11 +1,11 @@
--- `kinds::content_types` meets its contract. The loop's invariant: the types seen and those that stand from `at` on are the
+-- `kinds::content_types` meets its contract. The loop's invariant: the types in the set and those that stand from `at` on are the
 -- content's.
-use Prim.Native.Nat.{_-_}
+use Prim.Native.Nat.{ℕ, _+_, _-_}
 use native.Mathlib.Omega.{arith}
-use mathlib.Core.Bool.{false}
+use mathlib.Core.List.{List}
 use mathlib.Core.Logic.{⊎-elim}
-use mathlib.Core.Path.{_≡_, refl, _∙_}
-use lib.ListN.{length, replicate, length-set}
+use mathlib.Core.Path.{_≡_, refl, sym, _∙_, subst}
+use lib.ListN.{length}
 use Rattle.grammar.specs.Content.{Content, typesIn}
 use Rattle.grammar.specs.ReadContent.{contentBytes}
 use Rattle.validator.proofs.SeenTypes.{none-seen}
@@ -14,45 +14,59 @@ use Rattle.validator.proofs.kinds.content_types.Statement.{statement}
 use Rattle.validator.proofs.kinds.content_types.Tie as tie
 
 abbrev Inv-loop : tie.InvT-loop
-Inv-loop content types₀ at₀ types at =
-    (length types ≡ 256) × ((c : Content) → content ≡ contentBytes c → Left content types (typesIn c) at)
+Inv-loop content words₀ at₀ words at =
+    (length words ≡ length words₀) × ((c : Content) → content ≡ contentBytes c → Left content words (typesIn c) at)
 
 abbrev μ-loop : tie.MeasureT-loop
-μ-loop content types₀ at₀ types at = length content - at
+μ-loop content words₀ at₀ words at = length content - at
 
 loop-holds : tie.Need-loop-holds Inv-loop μ-loop
-loop-holds c = (refl, λ d e. left-start (replicate 256 false) d _ (none-seen 256) e)
+loop-holds c = (refl, λ d e. left-start _ d _ (none-seen _ (length (c .before .before .before .before .before .before .args .words .now)) (c .before .before .clear .ensures)) e)
 
 shared-slice-read-wide-2 : tie.Need-shared-slice-read-wide-2 Inv-loop μ-loop
 shared-slice-read-wide-2 c =
-    let start = c .before .before .before .before .before .before .before in
-    let loop = c .before .before .before .before .before .loop in
-    left-type _ _ _ (loop .at) (loop .inv .1 (start .pre .content) (start .pre .bytes-are)) (omega arith) (omega arith) .0
+    let content = c .before .before .before .before .before .before .before .before .before .before .before .before .pre .0 in
+    left-type _ _ _ (c .before .before .before .before .before .loop .at) (c .before .before .before .before .before .loop .inv .1 (content .content) (content .bytes-are)) (omega arith) (omega arith) .0
+
+put-requires : tie.Need-put-requires Inv-loop μ-loop
+put-requires c κs =
+    let room = c .before .before .before .before .before .before .before .before .before .before .before .before .before .before .pre .1 in
+    let cleared = c .before .before .before .before .before .before .before .before .before .before .clear .kept .0 in
+    let same = c .before .before .before .before .before .before .before .loop .inv .0 in
+    let small = c .before .wide2 .ensures .1 in
+    omega arith
 
 loop-again : tie.Need-loop-again Inv-loop μ-loop
 loop-again c =
-    let loop = c .before .before .before .before .before .before .loop in
-    let k = c .wide2 .ensures in (
-      length-set (loop .types) _ _ ∙ loop .inv .0,
-      λ d e. left-type _ _ _ (loop .at) (loop .inv .1 d e) (omega arith) (omega arith) .1 _ (k .0) (omega arith),
+    let room = c .before .before .before .before .before .before .before .before .before .before .before .before .before .before .before .before .before .pre .1 in
+    let cleared = c .before .before .before .before .before .before .before .before .before .before .before .before .before .clear .kept .0 in
+    let same = c .before .before .before .before .before .before .before .before .before .before .loop .inv .0 in
+    let k = c .before .before .before .before .wide2 .ensures in (
+      c .before .before .put .kept .0 ∙ same,
+      λ d e.
+          subst
+          (λ (l : List ℕ). Left (c .before .before .before .before .before .before .before .before .before .before .before .before .before .before .before .before .before .args .content .now) l (typesIn d) (c .before .before .before .before .before .before .before .before .before .before .loop .at + 2))
+          (sym (c .before .before .put .ensures))
+          (left-type _ _ _ (c .before .before .before .before .before .before .before .before .before .before .loop .at) (c .before .before .before .before .before .before .before .before .before .before .loop .inv .1 d e) (omega arith) (omega arith) .1 _ (k .0) (omega arith)),
     )
 
 loop-again-2 : tie.Need-loop-again-2 Inv-loop μ-loop
 loop-again-2 c =
-    let loop = c .before .before .before .before .before .before .loop in
-    (loop .inv .0, λ d e. left-count _ _ _ (loop .at) (loop .inv .1 d e) (omega arith) (omega arith) (omega arith) .1)
+    (c .before .before .before .before .before .before .loop .inv .0, λ d e. left-count _ _ _ (c .before .before .before .before .before .before .loop .at) (c .before .before .before .before .before .before .loop .inv .1 d e) (omega arith) (omega arith) (omega arith) .1)
 
 loop-again-3 : tie.Need-loop-again-3 Inv-loop μ-loop
 loop-again-3 c =
-    let loop = c .before .before .before .before .before .loop in
     let not-2 = c .before .match .rest .1 in
     let operator = c .before .before .wide .ensures .0 in (
-      loop .inv .0,
+      c .before .before .before .before .before .loop .inv .0,
       λ d e.
-          left-alone _ _ _ (loop .at) (loop .inv .1 d e) (omega arith)
+          left-alone _ _ _ (c .before .before .before .before .before .loop .at) (c .before .before .before .before .before .loop .inv .1 d e) (omega arith)
           (λ q. not-2 (operator ∙ q))
           (λ p q. ⊎-elim (λ w. omega arith) (λ w. omega arith) (c .if1 .came)),
     )
+
+same-length : tie.Need-same-length Inv-loop μ-loop
+same-length c = c .before .loop .inv .0 ∙ c .before .before .before .before .clear .kept .0
 
 returns : tie.Need-returns Inv-loop μ-loop
 returns c = λ d e. left-end _ _ _ (c .before .loop .at) (c .before .loop .inv .1 d e) (omega arith)
@@ -63,13 +77,14 @@ content-types-spec =
     (tie.spec
     Inv-loop
     μ-loop
+    (λ c κs. tt)
     loop-holds
     (λ c. omega arith)
     (λ c κs. tt)
     (λ c. omega arith)
     shared-slice-read-wide-2
     (λ c κs. tt)
-    (λ c. c .wide2 .ensures .1)
+    put-requires
     (λ c. omega arith)
     (λ c. omega arith)
     loop-again
@@ -79,4 +94,5 @@ content-types-spec =
     (λ c. omega arith)
     (λ c. omega arith)
     loop-again-3
+    same-length
     returns)

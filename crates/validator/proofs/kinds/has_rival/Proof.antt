@@ -7,6 +7,7 @@ use mathlib.Core.List.{List}
 use mathlib.Core.Path.{_≡_, refl, sym, _∙_, ap}
 use lib.ListN.{getD}
 use Rattle.reader.specs.TableIndex.{ruleType, ruleLabel}
+use Rattle.sets.specs.Sets.{member}
 use Rattle.theory.proofs.BoolLaws.{and-intro}
 use Rattle.validator.specs.RulesAt.{rivals, rivalsAt}
 use Rattle.validator.proofs.BelowLaws.{one-below, none-below}
@@ -17,91 +18,89 @@ and-none : (a b : Bool) → b ≡ false → (a && b) ≡ false
 and-none true b e = e
 and-none false b e = refl
 
--- what the call for a second rule says, where the types are read as wider numbers
-module _ (among : List Bool) (k label l other second : ℕ) (r : Bool) (wide : second ≡ l) (is : r ≡ rivals k label l other (getD among second false))
-  where
-    rival : r ≡ rivals k label l other (getD among l false)
-    rival = is ∙ ap (λ (n : ℕ). rivals k label l other (getD among n false)) wide
+-- what the test of a type that is read as a wider number says
+in-set : (words : List ℕ) (k wider : ℕ) (r : Bool) → r ≡ member words 0 wider → wider ≡ k → r ≡ member words 0 k
+in-set words k wider r is e = is ∙ ap (member words 0) e
 
-    rival-yes : (first : ℕ) → first ≡ k → getD among first false ≡ true → r ≡ true
-        → (getD among k false && rivals k label l other (getD among l false)) ≡ true
-    rival-yes first e t q =
-        and-intro (getD among k false) (rivals k label l other (getD among l false)) (ap (λ (n : ℕ). getD among n false) (sym e) ∙ t) (sym rival ∙ q)
-
-    rival-no : r ≡ false → rivals k label l other (getD among l false) ≡ false
-    rival-no q = sym rival ∙ q
-
--- nothing is a rival of a rule whose type is not in the set
-out-of-set : (among : List Bool) (k first : ℕ) (others : Bool) → first ≡ k → getD among first false ≡ false
-    → (getD among k false && others) ≡ false
-out-of-set among k first others e t = ap (λ (b : Bool). b && others) (ap (λ (n : ℕ). getD among n false) (sym e) ∙ t)
+-- what the call for a second rule says
+rival : (words : List ℕ) (k label l other second : ℕ) (stands r : Bool) → second ≡ l → stands ≡ member words 0 second
+    → r ≡ rivals k label l other stands → r ≡ rivals k label l other (member words 0 l)
+rival words k label l other second stands r wide there is = is ∙ ap (rivals k label l other) (in-set words l second stands there wide)
 
 abbrev Inv-loop : tie.InvT-loop
-Inv-loop i among rule-type rule-label rules k label first j₀ j =
-    (n : ℕ) → n < j → rivals k label (getD rule-type n 0) (getD rule-label n 0) (getD among (getD rule-type n 0) false) ≡ false
+Inv-loop words i rule-type rule-label rules k label first j₀ j =
+    (n : ℕ) → n < j → rivals k label (getD rule-type n 0) (getD rule-label n 0) (member words 0 (getD rule-type n 0)) ≡ false
 
 abbrev μ-loop : tie.MeasureT-loop
-μ-loop i among rule-type rule-label rules k label first j₀ j = rules - j
+μ-loop words i rule-type rule-label rules k label first j₀ j = rules - j
+
+has-requires : tie.Need-has-requires Inv-loop μ-loop
+has-requires c κs =
+    let room = c .before .before .before .before .pre .2 in
+    let small = c .wide .ensures .1 in
+    omega arith
+
+has-requires-2 : tie.Need-has-requires-2 Inv-loop μ-loop
+has-requires-2 c κs =
+    let room = c .before .before .before .before .before .before .before .before .before .pre .2 in
+    let small = c .wide2 .ensures .1 in
+    omega arith
 
 returns : tie.Need-returns Inv-loop μ-loop
 returns c =
-    let a = c .before .before .before .before .before .before .before .before .before .args in
-    let j = c .before .before .before .before .loop .j in
+    let a = c .before .before .before .before .before .before .before .before .before .before .before .before .args in
+    let words = a .words .now in
+    let k = ruleType (a .index) (a .i) in
+    let label = ruleLabel (a .index) (a .i) in
+    let j = c .before .before .before .before .before .loop .j in
+    let l = ruleType (a .index) j in
+    let other = ruleLabel (a .index) j in
+    let first = in-set words k _ _ (c .before .before .before .before .before .before .before .has .ensures) (c .before .before .before .before .before .before .before .before .wide .ensures .0) in
+    let second = rival words k label l other _ _ _ (c .before .before .before .wide2 .ensures .0) (c .before .before .has2 .ensures) (c .before .is-rival .ensures) in
     sym
     (one-below
-    (rivalsAt (a .index) (a .t2) (a .i))
+    (rivalsAt (a .index) words (a .i))
     (a .index .rules)
     j
-    (c .before .before .before .loop-test .taken)
-    (rival-yes
-    (a .t2)
-    (ruleType (a .index) (a .i))
-    (ruleLabel (a .index) (a .i))
-    (ruleType (a .index) j)
-    (ruleLabel (a .index) j)
-    _
-    _
-    (c .before .before .wide2 .ensures .0)
-    (c .before .is-rival .ensures)
-    _
-    (c .before .before .before .before .before .before .wide .ensures .0)
-    (c .before .before .before .before .before .if1 .taken)
-    (c .if2 .taken)))
+    (c .before .before .before .before .loop-test .taken)
+    (and-intro
+    (member words 0 k)
+    (rivals k label l other (member words 0 l))
+    (sym first ∙ c .before .before .before .before .before .before .if1 .taken)
+    (sym second ∙ c .if2 .taken)))
 
 loop-again : tie.Need-loop-again Inv-loop μ-loop
 loop-again c =
-    let a = c .before .before .before .before .before .before .before .before .before .args in
-    let loop = c .before .before .before .before .loop in
-    below-more _ (loop .j) (loop .inv)
-    (rival-no
-    (a .t2)
-    (ruleType (a .index) (a .i))
-    (ruleLabel (a .index) (a .i))
-    (ruleType (a .index) (loop .j))
-    (ruleLabel (a .index) (loop .j))
-    _
-    _
-    (c .before .before .wide2 .ensures .0)
-    (c .before .is-rival .ensures)
-    (c .if2 .left))
+    let a = c .before .before .before .before .before .before .before .before .before .before .before .before .args in
+    let words = a .words .now in
+    let k = ruleType (a .index) (a .i) in
+    let label = ruleLabel (a .index) (a .i) in
+    let j = c .before .before .before .before .before .loop .j in
+    let second =
+    rival words k label (ruleType (a .index) j) (ruleLabel (a .index) j) _ _ _ (c .before .before .before .wide2 .ensures .0) (c .before .before .has2 .ensures) (c .before .is-rival .ensures) in
+    below-more _ j (c .before .before .before .before .before .loop .inv) (sym second ∙ c .if2 .left)
 
 returns-2 : tie.Need-returns-2 Inv-loop μ-loop
 returns-2 c =
-    let a = c .before .before .before .before .before .before .args in
+    let a = c .before .before .before .before .before .before .before .before .args in
+    let words = a .words .now in
     sym
     (none-below
-    (rivalsAt (a .index) (a .t2) (a .i))
+    (rivalsAt (a .index) words (a .i))
     (a .index .rules)
-    (λ n h. and-none (getD (a .t2) (ruleType (a .index) (a .i)) false) _ (c .before .loop .inv n (omega arith))))
+    (λ n h. and-none (member words 0 (ruleType (a .index) (a .i))) _ (c .before .loop .inv n (omega arith))))
 
 returns-3 : tie.Need-returns-3 Inv-loop μ-loop
 returns-3 c =
-    let a = c .before .before .before .before .args in
+    let a = c .before .before .before .before .before .before .args in
+    let words = a .words .now in
+    let k = ruleType (a .index) (a .i) in
+    let out = sym (in-set words k _ _ (c .before .has .ensures) (c .before .before .wide .ensures .0)) ∙ c .if1 .left in
     sym
     (none-below
-    (rivalsAt (a .index) (a .t2) (a .i))
+    (rivalsAt (a .index) words (a .i))
     (a .index .rules)
-    (λ n h. out-of-set (a .t2) (ruleType (a .index) (a .i)) _ _ (c .before .wide .ensures .0) (c .if1 .left)))
+    (λ n h. ap (λ (b : Bool). b && rivals k (ruleLabel (a .index) (a .i)) (ruleType (a .index) n) (ruleLabel (a .index) n) (member words 0 (ruleType (a .index) n))) out))
 
 pub has-rival-spec : {M : Type 1} → statement M
 has-rival-spec =
@@ -112,12 +111,12 @@ has-rival-spec =
     (λ c. omega arith)
     (λ c. omega arith)
     (λ c κs. tt)
-    (λ c. c .wide .ensures .1)
+    has-requires
     (λ c n h. absurd (omega arith))
     (λ c. omega arith)
     (λ c κs. tt)
     (λ c. omega arith)
-    (λ c. c .wide2 .ensures .1)
+    has-requires-2
     (λ c κs. tt)
     returns
     (λ c. omega arith)

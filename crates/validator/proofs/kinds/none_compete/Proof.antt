@@ -11,21 +11,26 @@ use Rattle.validator.proofs.kinds.none_compete.Statement.{statement}
 use Rattle.validator.proofs.kinds.none_compete.Tie as tie
 
 abbrev Inv-loop : tie.InvT-loop
-Inv-loop index among rules i₀ i = (k : ℕ) → k < i → anyBelow (rivalsAt index among k) (index .rules) ≡ false
+Inv-loop index words rules i₀ i = (k : ℕ) → k < i → anyBelow (rivalsAt index words k) (index .rules) ≡ false
 
 abbrev μ-loop : tie.MeasureT-loop
-μ-loop index among rules i₀ i = rules - i
+μ-loop index words rules i₀ i = rules - i
+
+has-rival-requires : tie.Need-has-rival-requires Inv-loop μ-loop
+has-rival-requires c κs =
+    let few = c .before .before .before .pre .0 in
+    (omega arith, few, c .before .before .before .pre .1)
 
 returns : tie.Need-returns Inv-loop μ-loop
 returns c =
-    let a = c .before .before .before .before .args in
+    let a = c .before .before .before .before .before .args in
     λ s g types x holds.
     sym
-    (none-compete-at x (a .among) types holds
+    (none-compete-at x (a .words .now) types holds
     ∙ ap
     not
     (one-below
-    (λ k. anyBelow (rivalsAt (a .index) (a .among) k) (a .index .rules))
+    (λ k. anyBelow (rivalsAt (a .index) (a .words .now) k) (a .index .rules))
     (a .index .rules)
     (c .before .before .before .loop .i)
     (c .before .before .loop-test .taken)
@@ -37,14 +42,14 @@ loop-again c =
 
 returns-2 : tie.Need-returns-2 Inv-loop μ-loop
 returns-2 c =
-    let a = c .before .before .args in
+    let a = c .before .before .before .args in
     λ s g types x holds.
     sym
-    (none-compete-at x (a .among) types holds
+    (none-compete-at x (a .words .now) types holds
     ∙ ap
     not
     (none-below
-    (λ k. anyBelow (rivalsAt (a .index) (a .among) k) (a .index .rules))
+    (λ k. anyBelow (rivalsAt (a .index) (a .words .now) k) (a .index .rules))
     (a .index .rules)
     (λ k h. c .before .loop .inv k (omega arith))))
 
@@ -55,7 +60,7 @@ none-compete-spec =
     Inv-loop
     μ-loop
     (λ c k h. absurd (omega arith))
-    (λ c κs. (omega arith, omega arith))
+    has-rival-requires
     returns
     (λ c. omega arith)
     (λ c. omega arith)

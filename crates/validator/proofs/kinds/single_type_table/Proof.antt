@@ -1,30 +1,47 @@
 -- `kinds::single_type_table` meets its contract: the pairs, the starts, then the contents.
+use native.Mathlib.Omega.{arith}
 use mathlib.Core.Path.{sym, _∙_}
 use Rattle.validator.proofs.IndexedKinds.{pairs-repeated, starts-compete, then-contents}
 use Rattle.validator.proofs.kinds.single_type_table.Statement.{statement}
 use Rattle.validator.proofs.kinds.single_type_table.Tie as tie
 
+none-compete-requires : tie.Need-none-compete-requires
+none-compete-requires c κs =
+    let room = c .before .before .before .before .before .before .before .before .before .pre .1 in
+    let same = c .before .before .before .start-types .kept .1 .0 in
+    (c .before .before .before .before .before .before .before .before .before .pre .0 .indexes .few-rules, omega arith)
+
+none-compete-in-any-requires : tie.Need-none-compete-in-any-requires
+none-compete-in-any-requires c κs =
+    let room = c .before .before .before .before .before .before .before .before .before .before .before .before .pre .1 in
+    let same = c .before .before .before .before .before .before .start-types .kept .1 .0 in
+    (c .before .before .before .before .before .before .before .before .before .before .before .before .pre .0, omega arith)
+
+same-length : tie.Need-same-length
+same-length c = c .before .before .none-compete-in-any .kept .1 .1 .0 ∙ c .before .before .before .before .before .before .before .before .before .start-types .kept .1 .0
+
+same-length-2 : tie.Need-same-length-2
+same-length-2 c = c .before .before .before .before .before .start-types .kept .1 .0
+
 returns : tie.Need-returns
 returns c =
-    let pairs = c .before .before .before .before .before .distinct-pairs in
-    let seen = c .before .before .before .start-types in
-    let starts = c .before .before .none-compete in
+    let pairs = c .before .before .before .before .before .before .before .before .before .before .before .before .distinct-pairs in
+    let starts = c .before .before .before .before .before .none-compete in
     λ g x.
-    c .none-compete-in-any .ensures g x
+    c .before .before .none-compete-in-any .ensures g x
     ∙ sym
     (then-contents
     g
     _
     (pairs .ensures _ g x)
     _
-    (starts .ensures _ g (g .starts) x (seen .ensures _ g x))
-    (c .before .before .before .before .if1 .taken)
-    (c .before .if2 .taken))
+    (starts .ensures _ g (g .starts) x (c .before .before .before .before .before .before .before .before .before .start-types .ensures _ g x))
+    (c .before .before .before .before .before .before .before .before .before .before .before .if1 .taken)
+    (c .before .before .before .before .if2 .taken))
 
 returns-2 : tie.Need-returns-2
 returns-2 c =
-    let pairs = c .before .before .before .before .distinct-pairs in
-    let seen = c .before .before .start-types in
+    let pairs = c .before .before .before .before .before .before .before .before .distinct-pairs in
     let starts = c .before .none-compete in
     λ g x.
     sym
@@ -33,8 +50,8 @@ returns-2 c =
     _
     (pairs .ensures _ g x)
     _
-    (starts .ensures _ g (g .starts) x (seen .ensures _ g x))
-    (c .before .before .before .if1 .taken)
+    (starts .ensures _ g (g .starts) x (c .before .before .before .before .before .start-types .ensures _ g x))
+    (c .before .before .before .before .before .before .before .if1 .taken)
     (c .if2 .left))
 
 returns-3 : tie.Need-returns-3
@@ -45,10 +62,12 @@ pub single-type-table-spec : {M : Type 1} → statement M
 single-type-table-spec =
     tie.close
     (tie.spec
-    (λ c κs. c .before .pre .indexes .few-rules)
-    (λ c κs. c .before .before .before .pre .indexes .few-starts)
-    (λ c κs. c .before .before .before .before .pre .indexes .few-rules)
-    (λ c κs. c .before .before .before .before .before .before .pre)
+    (λ c κs. c .before .before .pre .0 .indexes .few-rules)
+    (λ c κs. (c .before .before .before .before .before .pre .0 .indexes .few-starts, c .before .before .before .before .before .pre .1))
+    none-compete-requires
+    none-compete-in-any-requires
+    same-length
     returns
+    same-length-2
     returns-2
     returns-3)

@@ -1,7 +1,7 @@
--- `some_start` meets its contract: no start before `i` is in the set.
+-- `some_start` meets its contract: no start before `start` is in the set.
 use Prim.Native.Nat.{ℕ, _-_, _<_}
 use native.Mathlib.Omega.{arith}
-use mathlib.Core.Bool.{Bool, false}
+use mathlib.Core.Bool.{false}
 use mathlib.Core.Path.{_≡_, sym, _∙_, ap}
 use borrow.Author.Count.{below-more}
 use borrow.Author.Needs.{needs}
@@ -14,17 +14,17 @@ use Rattle.validator.proofs.membership.some_start.Statement.{statement}
 use Rattle.validator.proofs.membership.some_start.Tie as tie
 
 abbrev Inv-loop : tie.InvT-loop
-Inv-loop table words at index i₀ i = (k : ℕ) → k < i → setAt words at (startType index k) ≡ false
+Inv-loop table words at index start₀ start = (k : ℕ) → k < start → setAt words at (startType index k) ≡ false
 
 abbrev μ-loop : tie.MeasureT-loop
-μ-loop table words at index i₀ i = index .starts - i
+μ-loop table words at index start₀ start = index .starts - start
 
 element-copy-out-wide : tie.Need-element-copy-out-wide Inv-loop μ-loop
 element-copy-out-wide c = omega (arith, c .before .before .before .before .pre .0 .known .indexes .few-starts)
 
 has-requires : tie.Need-has-requires Inv-loop μ-loop
 has-requires c κs =
-    let small = start-small (c .before .before .before .before .before .before .pre .0 .known) (c .before .before .before .loop .i) (c .before .before .loop-test .taken) in
+    let small = start-small (c .before .before .before .before .before .before .pre .0 .known) (c .before .before .before .loop .start) (c .before .before .loop-test .taken) in
     let read = c .wide .ensures .0 in
     let room = c .before .before .before .before .before .before .pre .1 in
     omega arith
@@ -32,7 +32,7 @@ has-requires c κs =
 returns : tie.Need-returns Inv-loop μ-loop
 returns c =
     let a = c .before .before .before .before .before .before .before .before .args in
-    let i = c .before .before .before .before .before .loop .i in
+    let i = c .before .before .before .before .before .loop .start in
     let below = c .before .before .before .before .loop-test .taken in
     let small = start-small (c .before .before .before .before .before .before .before .before .pre .0 .known) i below in
     λ g known.
@@ -41,13 +41,13 @@ returns c =
     ∙ sym (c .before .has .ensures ∙ ap (λ (k : ℕ). member (a .words .now) (a .at) k) (c .before .before .wide .ensures .0))
     ∙ c .if1 .taken))
 
-add-i : tie.Need-add-i Inv-loop μ-loop
-add-i c = omega (arith, c .before .before .before .before .before .before .before .before .pre .0 .known .indexes .few-starts)
+add-start : tie.Need-add-start Inv-loop μ-loop
+add-start c = omega (arith, c .before .before .before .before .before .before .before .before .pre .0 .known .indexes .few-starts)
 
 loop-again : tie.Need-loop-again Inv-loop μ-loop
 loop-again c =
     let a = c .before .before .before .before .before .before .before .before .args in
-    let i = c .before .before .before .before .before .loop .i in
+    let i = c .before .before .before .before .before .loop .start in
     let small = start-small (c .before .before .before .before .before .before .before .before .pre .0 .known) i (c .before .before .before .before .loop-test .taken) in
     below-more _ i (c .before .before .before .before .before .loop .inv)
     (sym (set-has (a .words .now) (a .at) (startType (a .t2) i) small)
@@ -72,7 +72,7 @@ some-start-spec =
     (λ c κs. search needs)
     has-requires
     returns
-    add-i
+    add-start
     (λ c. omega arith)
     loop-again
     returns-2)

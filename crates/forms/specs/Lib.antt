@@ -1,0 +1,2 @@
+pub mod SetForms
+pub mod SetWords

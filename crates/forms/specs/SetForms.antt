@@ -1,0 +1,92 @@
+-- The result of a widening by sets of pairs, of either kind: local from one set a label, single-type from the sets as they are met.
+-- A set is a list of pairs' numbers in rule order, as in the single-type form.
+use Prim.Native.Nat.{ℕ}
+use mathlib.Core.Bool.{Bool, true, false, not, _&&_}
+use mathlib.Core.List.{List, [], map}
+use lib.ListN.{length, getD}
+use lib.Dec.{eqb}
+use Rattle.grammar.specs.Lists.{any, keep, place, joinedOf, isIn, sameNumbers, numbersBelow}
+use Rattle.grammar.specs.Limits.{standard}
+use Rattle.grammar.specs.Content.{Content}
+use Rattle.grammar.specs.Table.{Rule, Table}
+use Rattle.grammar.specs.ReadTable.{isEmpty}
+use Rattle.grammar.specs.Normalise.{pairsOf, normalise}
+use Rattle.grammar.specs.Reduce.{fruitful, withoutUnfruitful, reduce}
+use Rattle.grammar.specs.SingleTypeForm.{TypeSet, allSets}
+use Rattle.theory.proofs.Alternatives.{alts, written, resultsOf}
+use Rattle.pairs.specs.PairNumbers.{ruleAt, isLeft, isStart, contentsIn, metIn}
+
+module _ (u : Table) where
+  -- those of some pairs that have a label
+  unfoldable pub labelled : (ℕ → Bool) → ℕ → TypeSet
+  unfolding keep numbersBelow
+  labelled pairs l = keep (λ p. pairs p && eqb (ruleAt u p .label) l) (numbersBelow (length (u .rules)))
+
+  -- one set a label, in label order
+  unfoldable pub labelSets : (ℕ → Bool) → List TypeSet
+  unfolding keep labelled numbersBelow
+  labelSets pairs = keep (λ s. not (isEmpty s)) (map (labelled pairs) (numbersBelow (length (u .labels))))
+
+  -- the label of a pair, where it is left
+  unfoldable pub labelLeft : ℕ → ℕ
+  labelLeft p = elim (isLeft u p) [ true ↦ ruleAt u p .label | false ↦ 0 ]
+
+  -- the number of the set, among some sets, of those pairs that share the label of a pair
+  unfoldable pub setNumber : List TypeSet → (pairs : ℕ → Bool) → ℕ → ℕ
+  unfolding place sameNumbers labelled labelLeft
+  setNumber sets pairs p = place sameNumbers (labelled pairs (labelLeft p)) sets
+
+  -- the label of a set, and the labels of some sets, ascending
+  unfoldable pub setLabel : TypeSet → ℕ
+  setLabel s = ruleAt u (getD s 0 0) .label
+
+  unfoldable pub labelsOf : List TypeSet → List ℕ
+  unfolding keep any setLabel numbersBelow
+  labelsOf sets = keep (λ l. any (λ s. eqb (setLabel s) l) sets) (numbersBelow (length (u .labels)))
+
+  -- the content of a set: what the contents of its pairs give, with the number of a set for each pair
+  unfoldable pub contentBySet : List TypeSet → (pairs : ℕ → Bool) → TypeSet → Content
+  unfolding written joinedOf alts setNumber contentsIn isIn
+  contentBySet sets pairs s =
+      written
+      (joinedOf (alts (resultsOf (pairsOf u) (fruitful (normalise u)) (setNumber sets pairs))) (contentsIn u (λ p. isIn p s)))
+
+  unfoldable pub ruleBySet : List TypeSet → (TypeSet → ℕ → Bool) → ℕ → Rule
+  unfolding place setLabel labelsOf contentBySet
+  ruleBySet sets pairs i =
+      let s : TypeSet = getD sets i [] in
+      record { type = i; label = place eqb (setLabel s) (labelsOf sets); content = contentBySet sets (pairs s) s }
+
+  unfoldable pub tableBySets : List TypeSet → (TypeSet → ℕ → Bool) → (starts : List ℕ) → Table
+  unfolding labelsOf ruleBySet numbersBelow
+  tableBySets sets pairs starts =
+      record {
+        labels = map (λ l. getD (u .labels) l []) (labelsOf sets);
+        starts = starts;
+        rules = map (ruleBySet sets pairs) (numbersBelow (length sets));
+      }
+
+  -- Local: one set a label; the pairs that share a label with another are all that are left.
+  abbrev pub localSets : List TypeSet
+  localSets = labelSets (isLeft u)
+
+  unfoldable pub localStarts : List ℕ
+  unfolding keep any setNumber numbersBelow
+  localStarts =
+      keep (λ t. any (λ p. eqb (setNumber localSets (isLeft u) p) t) (withoutUnfruitful (normalise u) .starts))
+      (numbersBelow (length localSets))
+
+  unfoldable pub localTable : Table
+  unfolding tableBySets localStarts
+  localTable = tableBySets localSets (λ s. isLeft u) localStarts
+
+  -- Single-type: the start sets and those met; within a set, the pairs that share a label are those met in its contents.
+  abbrev pub singleTypeSets : List TypeSet
+  singleTypeSets = allSets standard (reduce (normalise u))
+
+  abbrev pub metWithin : TypeSet → ℕ → Bool
+  metWithin s p = isIn p (metIn u (λ q. isIn q s))
+
+  unfoldable pub singleTypeTable : Table
+  unfolding tableBySets labelSets numbersBelow
+  singleTypeTable = tableBySets singleTypeSets metWithin (numbersBelow (length (labelSets (isStart u))))

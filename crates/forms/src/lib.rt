@@ -1,0 +1,2 @@
+// The sets of pairs that are the types of a result, of either kind.
+pub mod set_words;

@@ -1,0 +1,1 @@
+// The content of a set of pairs.

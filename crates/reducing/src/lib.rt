@@ -1,0 +1,1 @@
+// The fruitful pairs by type, and the pairs that reducing leaves.
