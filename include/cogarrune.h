@@ -1,7 +1,8 @@
 /* Cogarrune: schema tables for card lists, as verified software. The calls of crates/exports for C.
  *
- * Link target/staticlib/libexports.a (`rt staticlib exports`). The library has no state, allocates nothing, calls no other
- * library, and may be used from several threads as long as no lent slice is shared between them.
+ * Link target/staticlib/libexports.a (`rt staticlib exports`). The library has no state, allocates nothing, and calls nothing but memcpy
+ * and memset. It may be used from several threads as long as no lent slice is shared between them. A call takes up to
+ * COGARRUNE_STACK_BYTES bytes of stack.
  *
  * Slices. Each is a pointer and a length; a length counts bytes for `uint8_t` and words for `uint32_t`. A pointer must be good for
  * its length: to read for inputs, to read and write for `out` and `work`. With length 0 it must still not be null. `out` and `work`
@@ -25,6 +26,9 @@ extern "C" {
 
 /* Words that every call needs. */
 #define COGARRUNE_WORK_WORDS 16384
+
+/* Stack that a thread should leave for a call (measured, with room to spare). */
+#define COGARRUNE_STACK_BYTES 262144
 
 /* No input is longer, and no table written. An output of this many bytes is never too short. */
 #define COGARRUNE_MOST_BYTES 32768
@@ -75,23 +79,6 @@ uint64_t cogarrune_is_local(const uint8_t *table, size_t table_length, uint32_t 
 /* Is the table single-type: neither among its starts nor within one content do two types have rules with one label, and no two
  * rules share type and label? Value 1 for yes, 0 for no. */
 uint64_t cogarrune_is_single_type(const uint8_t *table, size_t table_length, uint32_t *work, size_t work_length);
-
-/* Writes the sample table of a document. Value: how many bytes of `out` it takes; bytes past them stay as they came. */
-uint64_t cogarrune_sample(const uint8_t *document, size_t document_length, uint8_t *out, size_t out_length,
-                          uint32_t *work, size_t work_length);
-
-/* Writes the least local (or single-type) table that lets in all that the old table and the addition let in. Value as for
- * cogarrune_sample. A document is added through its sample; the result is least over the old table and that one document. */
-uint64_t cogarrune_widen_local_by_table(const uint8_t *old, size_t old_length, const uint8_t *addition, size_t addition_length,
-                                        uint8_t *out, size_t out_length, uint32_t *work, size_t work_length);
-uint64_t cogarrune_widen_local_by_document(const uint8_t *old, size_t old_length, const uint8_t *document, size_t document_length,
-                                           uint8_t *out, size_t out_length, uint32_t *work, size_t work_length);
-uint64_t cogarrune_widen_single_type_by_table(const uint8_t *old, size_t old_length, const uint8_t *addition,
-                                              size_t addition_length, uint8_t *out, size_t out_length, uint32_t *work,
-                                              size_t work_length);
-uint64_t cogarrune_widen_single_type_by_document(const uint8_t *old, size_t old_length, const uint8_t *document,
-                                                 size_t document_length, uint8_t *out, size_t out_length, uint32_t *work,
-                                                 size_t work_length);
 
 #ifdef __cplusplus
 }

@@ -5,7 +5,12 @@
 mod archive {
     extern "C" {
         pub fn cogarrune_table_reads(table: *const u8, table_length: usize, work: *mut u32, work_length: usize) -> u64;
-        pub fn cogarrune_document_reads(document: *const u8, document_length: usize, work: *mut u32, work_length: usize) -> u64;
+        pub fn cogarrune_document_reads(
+            document: *const u8,
+            document_length: usize,
+            work: *mut u32,
+            work_length: usize,
+        ) -> u64;
         pub fn cogarrune_label_name(
             table: *const u8,
             table_length: usize,
@@ -22,7 +27,12 @@ mod archive {
             work_length: usize,
         ) -> u64;
         pub fn cogarrune_is_local(table: *const u8, table_length: usize, work: *mut u32, work_length: usize) -> u64;
-        pub fn cogarrune_is_single_type(table: *const u8, table_length: usize, work: *mut u32, work_length: usize) -> u64;
+        pub fn cogarrune_is_single_type(
+            table: *const u8,
+            table_length: usize,
+            work: *mut u32,
+            work_length: usize,
+        ) -> u64;
     }
 }
 
@@ -39,7 +49,16 @@ fn one_input(call: OneInput, input: &[u8], work: &mut [u32]) -> u64 {
 
 fn two_inputs(call: TwoInputs, first: &[u8], second: &[u8], work: &mut [u32]) -> u64 {
     // SAFETY: as above; the two inputs are only read.
-    unsafe { call(first.as_ptr(), first.len(), second.as_ptr(), second.len(), work.as_mut_ptr(), work.len()) }
+    unsafe {
+        call(
+            first.as_ptr(),
+            first.len(),
+            second.as_ptr(),
+            second.len(),
+            work.as_mut_ptr(),
+            work.len(),
+        )
+    }
 }
 
 pub fn table_reads(table: &[u8], work: &mut [u32]) -> u64 {

@@ -32,7 +32,12 @@ fn p3_no_bytes_are_refused() {
 
 #[test]
 fn kinds_of_p5_to_p8() {
-    let both = |bytes: &[u8]| (is_local(bytes, &mut new_work()).unwrap(), is_single_type(bytes, &mut new_work()).unwrap());
+    let both = |bytes: &[u8]| {
+        (
+            is_local(bytes, &mut new_work()).unwrap(),
+            is_single_type(bytes, &mut new_work()).unwrap(),
+        )
+    };
     assert_eq!(both(&p5()), (Verdict::No, Verdict::Yes));
     assert_eq!(both(&p6()), (Verdict::No, Verdict::Yes));
     assert_eq!(both(&p7()), (Verdict::No, Verdict::No));
@@ -55,7 +60,14 @@ fn p5() -> Vec<u8> {
 }
 
 fn p6() -> Vec<u8> {
-    table(&[0], &[(0, "group", &sequence(&[&t(1), &t(1)])), (1, "group", &t(2)), (2, "card", EMPTY)])
+    table(
+        &[0],
+        &[
+            (0, "group", &sequence(&[&t(1), &t(1)])),
+            (1, "group", &t(2)),
+            (2, "card", EMPTY),
+        ],
+    )
 }
 
 fn p7() -> Vec<u8> {

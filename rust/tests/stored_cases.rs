@@ -44,7 +44,14 @@ fn next_case(cases: &mut Cases) -> Option<Case> {
     let (words, fill, out_length, label) = (cases.number(), cases.number(), cases.number(), cases.number());
     let out = (0..out_length).map(|i| ((165 + 7 * i) % 256) as u8).collect();
     let work = vec![fill; words as usize];
-    Some(Case { call, label: label as usize, first: cases.slice(), second: cases.slice(), out, work })
+    Some(Case {
+        call,
+        label: label as usize,
+        first: cases.slice(),
+        second: cases.slice(),
+        out,
+        work,
+    })
 }
 
 fn checksum(items: impl Iterator<Item = u32>) -> u32 {
@@ -88,7 +95,10 @@ fn line(case: &mut Case) -> String {
 #[test]
 fn every_stored_case_has_its_line() {
     let vectors: PathBuf = Path::new(env!("CARGO_MANIFEST_DIR")).join("../crates/vectors");
-    let mut cases = Cases { bytes: fs::read(vectors.join("stdin")).unwrap(), at: 0 };
+    let mut cases = Cases {
+        bytes: fs::read(vectors.join("stdin")).unwrap(),
+        at: 0,
+    };
     let expected = fs::read_to_string(vectors.join("stdout")).unwrap();
     let mut lines = expected.lines();
     let mut count = 0;
