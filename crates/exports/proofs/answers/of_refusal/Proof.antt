@@ -9,4 +9,4 @@ returns c = omega (arith, c .number-of .ensures)
 
 pub of-refusal-spec : {M : Type 1} → statement M
 of-refusal-spec =
-    tie.close (tie.spec (λ c κs. search needs) (λ c. search needs) returns)
+    tie.close (tie.spec (λ c κs. search needs) (λ c. search needs) (λ c. search needs) returns)
