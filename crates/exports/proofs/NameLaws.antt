@@ -3,10 +3,11 @@
 --   offset-found, offset-unread, offset-past : the offset, where there is a name
 --   name-short : a name that was found has at most 63 bytes
 --   name-answer : the whole answer
+--   name-below : its value is below 2^32
 use Prim.Native.Nat.{ℕ, zero, suc, _+_, _*_, _-_, _≤_, _<_}
 use native.Mathlib.Omega.{arith}
 use native.Mathlib.Numerals.{add-one}
-use mathlib.Core.List.{List, [], _∷_, _++_}
+use mathlib.Core.List.{List, [], _∷_, _++_, List·Memᴰ, List·Memᴰ·head, List·Memᴰ·tail}
 use mathlib.Core.Option.{some as just}
 use mathlib.Core.Path.{_≡_, refl, sym, _∙_, ap}
 use lib.ListN.{length, getD, getElem?, take, length-append}
@@ -107,6 +108,20 @@ module _ {s : List ℕ} {index : TableIndex} (f : TableFound s index) where
       let next = begins-next (f .table .labels) i (p .0) (p .1) in
       omega arith
 
+-- so many labels take at most 66 bytes each
+joined-short : (labels : List Name) → ((n : Name) → List·Memᴰ n labels → length n ≤ 63) → (i : ℕ)
+    → length (joinedOf (fieldBytes labelTag) (take i labels)) ≤ 66 * i
+unfolding joinedOf
+joined-short [] h zero = omega arith
+joined-short [] h (suc i) = omega arith
+joined-short (n ∷ labels) h zero = omega arith
+joined-short (n ∷ labels) h (suc i) =
+    let l = length-append (fieldBytes labelTag n) (joinedOf (fieldBytes labelTag) (take i labels)) in
+    let f = field-size n in
+    let short = h n (List·Memᴰ·head refl) in
+    let rest = joined-short labels (λ m k. h m (List·Memᴰ·tail k)) i in
+    omega arith
+
 -- the offset of a name
 module _ (s : List ℕ) (label : ℕ) where
   pub offset-unread : (q : Refusal) → readTable standard asciiClasses s ≡ refused q → (p : Part) → labelIn s label ≡ given p → ⊥
@@ -151,9 +166,39 @@ module _ (s : List ℕ) (label : ℕ) (work : List ℕ) where
       let b = had-no-fault (workTooShort standard work) WorkTooShort (readTable standard asciiClasses s) (a .0) (a .1) in
       given-then (readTable standard asciiClasses s) (a .0) _ (b .1) ∙ a .2
 
+  name-bounds : (p : Part) → labelIn s label ≡ given p → (p .from ≤ 4227) × (p .size ≤ 63)
+  unfolding labelIn standard partOfLabel
+  name-bounds p e =
+      let a = was-given (readTable standard asciiClasses s) _ p e in
+      let g : Table = a .0 in
+      let b = had-no-fault _ OutOfRange _ p (a .2) in
+      let among = leb-false (length (g .labels)) label (b .0) in
+      let n = below-at (g .labels) label among in
+      let q : partOfLabel (g .labels) label ≡ p = given-eq (b .1) in
+      let within = read-within standard asciiClasses s g (a .1) in
+      let few = within .labels in
+      let begins = joined-short (g .labels) (λ m k. within .names m k .size) label in
+      let from : p .from ≡ length (joinedOf (fieldBytes labelTag) (take label (g .labels))) + 3 = ap (λ (r : Part). r .from) (sym q) in
+      let size : p .size ≡ length (n .0) = ap (λ (r : Part). r .size) (sym q) ∙ ap length (getD-of (g .labels) label (n .0) [] (n .1)) in
+      let short = within .names (n .0) (at-mem (g .labels) label (n .1)) .size in
+      (omega arith, omega arith)
+
+  -- names begin early enough that no value reaches 2^32
+  pub name-below : nameNumbers (labelName standard asciiClasses s label work) .value < 4294967296
+  unfolding nameNumbers
+  name-below = go (labelName standard asciiClasses s label work) refl
+    where
+      go : (o : Outcome Part) → labelName standard asciiClasses s label work ≡ o
+          → nameNumbers (labelName standard asciiClasses s label work) .value < 4294967296
+      go (refused q) e = let v : nameNumbers (labelName standard asciiClasses s label work) .value ≡ 0 = ap (λ (o : Outcome Part). nameNumbers o .value) e in omega arith
+      go (given p) e =
+          let v : nameNumbers (labelName standard asciiClasses s label work) .value ≡ p .from * 65536 + p .size = ap (λ (o : Outcome Part). nameNumbers o .value) e in
+          let b = name-bounds p (name-in p e) in
+          omega (arith, b .0, b .1)
+
   module _ (small : AreBytes s) where
-    name-size : (p : Part) → labelIn s label ≡ given p → (length (partBytes (given p) s) ≡ p .size) × (p .size ≤ 63)
-    unfolding labelIn standard partOfLabel
+    name-size : (p : Part) → labelIn s label ≡ given p → length (partBytes (given p) s) ≡ p .size
+    unfolding labelIn partOfLabel
     name-size p e =
         let a = was-given (readTable standard asciiClasses s) _ p e in
         let g : Table = a .0 in
@@ -163,8 +208,7 @@ module _ (s : List ℕ) (label : ℕ) (work : List ℕ) where
         let bytes = label-part standard asciiClasses s g small (a .1) label (n .0) (n .1) in
         let size : p .size ≡ length (n .0) =
         ap (λ (r : Part). r .size) (sym q) ∙ ap length (getD-of (g .labels) label (n .0) [] (n .1)) in
-        let short = read-within standard asciiClasses s g (a .1) .names (n .0) (at-mem (g .labels) label (n .1)) .size in
-        (ap (λ (r : Part). length (partBytes (given r) s)) (sym q) ∙ ap length bytes ∙ sym size, omega arith)
+        ap (λ (r : Part). length (partBytes (given r) s)) (sym q) ∙ ap length bytes ∙ sym size
 
     module _ (left : List ℕ) (refusal : ℕ) (name : List ℕ) (so : LabelAnswered s label work left refusal name) where
       pub name-short : refusal ≡ 0 → length name ≤ 63
@@ -178,8 +222,9 @@ module _ (s : List ℕ) (label : ℕ) (work : List ℕ) where
               absurd (omega arith)
           go (given p) e =
               let n = name-size p (name-in p e) in
+              let b = name-bounds p (name-in p e) in
               let l : length name ≡ length (partBytes (given p) s) = ap length (so .name-is) ∙ ap (λ (o : Outcome Part). length (partBytes o s)) e in
-              omega (arith, n .0, n .1, l)
+              omega (arith, b .1)
 
       pub name-answer : (answer : ℕ) → (0 < refusal → answer ≡ told refusal 0)
           → (refusal ≡ 0 → (p : Part) → labelIn s label ≡ given p → answer ≡ told 0 (p .from * 65536 + length name))
@@ -199,7 +244,7 @@ module _ (s : List ℕ) (label : ℕ) (work : List ℕ) where
           go (given p) e =
               let n : refusal ≡ 0 = so .number-is ∙ ap numberAfter e in
               let l : length name ≡ p .size =
-              ap length (so .name-is) ∙ ap (λ (o : Outcome Part). length (partBytes o s)) e ∙ name-size p (name-in p e) .0 in
+              ap length (so .name-is) ∙ ap (λ (o : Outcome Part). length (partBytes o s)) e ∙ name-size p (name-in p e) in
               good n p (name-in p e)
               ∙ ap (λ (m : ℕ). told 0 (p .from * 65536 + m)) l
               ∙ sym (ap (λ (o : Outcome Part). told (nameNumbers o .refusal) (nameNumbers o .value)) e)
