@@ -80,6 +80,23 @@ uint64_t cogarrune_is_local(const uint8_t *table, size_t table_length, uint32_t 
  * rules share type and label? Value 1 for yes, 0 for no. */
 uint64_t cogarrune_is_single_type(const uint8_t *table, size_t table_length, uint32_t *work, size_t work_length);
 
+/* Writes the sample table of a document. Value: how many bytes of `out` it takes; bytes past them stay as they came. */
+uint64_t cogarrune_sample(const uint8_t *document, size_t document_length, uint8_t *out, size_t out_length,
+                          uint32_t *work, size_t work_length);
+
+/* Writes the least local (or single-type) table that lets in all that the old table and the addition let in. Value as for
+ * cogarrune_sample. A document is added through its sample; the result is least over the old table and that one document. */
+uint64_t cogarrune_widen_local_by_table(const uint8_t *old, size_t old_length, const uint8_t *addition, size_t addition_length,
+                                        uint8_t *out, size_t out_length, uint32_t *work, size_t work_length);
+uint64_t cogarrune_widen_local_by_document(const uint8_t *old, size_t old_length, const uint8_t *document, size_t document_length,
+                                           uint8_t *out, size_t out_length, uint32_t *work, size_t work_length);
+uint64_t cogarrune_widen_single_type_by_table(const uint8_t *old, size_t old_length, const uint8_t *addition,
+                                              size_t addition_length, uint8_t *out, size_t out_length, uint32_t *work,
+                                              size_t work_length);
+uint64_t cogarrune_widen_single_type_by_document(const uint8_t *old, size_t old_length, const uint8_t *document,
+                                                 size_t document_length, uint8_t *out, size_t out_length, uint32_t *work,
+                                                 size_t work_length);
+
 #ifdef __cplusplus
 }
 #endif

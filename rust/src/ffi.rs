@@ -33,6 +33,54 @@ mod archive {
             work: *mut u32,
             work_length: usize,
         ) -> u64;
+        pub fn cogarrune_sample(
+            document: *const u8,
+            document_length: usize,
+            out: *mut u8,
+            out_length: usize,
+            work: *mut u32,
+            work_length: usize,
+        ) -> u64;
+        pub fn cogarrune_widen_local_by_table(
+            old: *const u8,
+            old_length: usize,
+            addition: *const u8,
+            addition_length: usize,
+            out: *mut u8,
+            out_length: usize,
+            work: *mut u32,
+            work_length: usize,
+        ) -> u64;
+        pub fn cogarrune_widen_local_by_document(
+            old: *const u8,
+            old_length: usize,
+            document: *const u8,
+            document_length: usize,
+            out: *mut u8,
+            out_length: usize,
+            work: *mut u32,
+            work_length: usize,
+        ) -> u64;
+        pub fn cogarrune_widen_single_type_by_table(
+            old: *const u8,
+            old_length: usize,
+            addition: *const u8,
+            addition_length: usize,
+            out: *mut u8,
+            out_length: usize,
+            work: *mut u32,
+            work_length: usize,
+        ) -> u64;
+        pub fn cogarrune_widen_single_type_by_document(
+            old: *const u8,
+            old_length: usize,
+            document: *const u8,
+            document_length: usize,
+            out: *mut u8,
+            out_length: usize,
+            work: *mut u32,
+            work_length: usize,
+        ) -> u64;
     }
 }
 
@@ -41,6 +89,9 @@ type OneInput = unsafe extern "C" fn(*const u8, usize, *mut u32, usize) -> u64;
 
 /// A call on two inputs.
 type TwoInputs = unsafe extern "C" fn(*const u8, usize, *const u8, usize, *mut u32, usize) -> u64;
+
+/// A call that widens.
+type Widening = unsafe extern "C" fn(*const u8, usize, *const u8, usize, *mut u8, usize, *mut u32, usize) -> u64;
 
 fn one_input(call: OneInput, input: &[u8], work: &mut [u32]) -> u64 {
     // SAFETY: both pointers come from slices of these lengths, and no two of the slices overlap.
@@ -84,4 +135,56 @@ pub fn is_local(table: &[u8], work: &mut [u32]) -> u64 {
 
 pub fn is_single_type(table: &[u8], work: &mut [u32]) -> u64 {
     one_input(archive::cogarrune_is_single_type, table, work)
+}
+
+pub fn sample(document: &[u8], out: &mut [u8], work: &mut [u32]) -> u64 {
+    // SAFETY: as above; `out` is written within its length.
+    unsafe {
+        archive::cogarrune_sample(
+            document.as_ptr(),
+            document.len(),
+            out.as_mut_ptr(),
+            out.len(),
+            work.as_mut_ptr(),
+            work.len(),
+        )
+    }
+}
+
+fn widen(call: Widening, old: &[u8], added: &[u8], out: &mut [u8], work: &mut [u32]) -> u64 {
+    // SAFETY: as above.
+    unsafe {
+        call(
+            old.as_ptr(),
+            old.len(),
+            added.as_ptr(),
+            added.len(),
+            out.as_mut_ptr(),
+            out.len(),
+            work.as_mut_ptr(),
+            work.len(),
+        )
+    }
+}
+
+pub fn widen_local_by_table(old: &[u8], addition: &[u8], out: &mut [u8], work: &mut [u32]) -> u64 {
+    widen(archive::cogarrune_widen_local_by_table, old, addition, out, work)
+}
+
+pub fn widen_local_by_document(old: &[u8], document: &[u8], out: &mut [u8], work: &mut [u32]) -> u64 {
+    widen(archive::cogarrune_widen_local_by_document, old, document, out, work)
+}
+
+pub fn widen_single_type_by_table(old: &[u8], addition: &[u8], out: &mut [u8], work: &mut [u32]) -> u64 {
+    widen(archive::cogarrune_widen_single_type_by_table, old, addition, out, work)
+}
+
+pub fn widen_single_type_by_document(old: &[u8], document: &[u8], out: &mut [u8], work: &mut [u32]) -> u64 {
+    widen(
+        archive::cogarrune_widen_single_type_by_document,
+        old,
+        document,
+        out,
+        work,
+    )
 }

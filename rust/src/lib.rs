@@ -61,3 +61,48 @@ pub fn is_local(table: &[u8], work: &mut [u32]) -> Result<Verdict, Refusal> {
 pub fn is_single_type(table: &[u8], work: &mut [u32]) -> Result<Verdict, Refusal> {
     verdict_of(ffi::is_single_type(table, work))
 }
+
+/// Writes the sample table of a document, and gives its part of the output.
+pub fn sample<'a>(document: &[u8], out: &'a mut [u8], work: &mut [u32]) -> Result<&'a [u8], Refusal> {
+    value_of(ffi::sample(document, out, work)).map(|length| &out[..length])
+}
+
+/// Writes the least local table that lets in all of the old table and of the addition. Gives its part of the output.
+pub fn widen_local_by_table<'a>(
+    old: &[u8],
+    addition: &[u8],
+    out: &'a mut [u8],
+    work: &mut [u32],
+) -> Result<&'a [u8], Refusal> {
+    value_of(ffi::widen_local_by_table(old, addition, out, work)).map(|length| &out[..length])
+}
+
+/// Writes the least local table that lets in all of the old table, and the document. Gives its part of the output.
+pub fn widen_local_by_document<'a>(
+    old: &[u8],
+    document: &[u8],
+    out: &'a mut [u8],
+    work: &mut [u32],
+) -> Result<&'a [u8], Refusal> {
+    value_of(ffi::widen_local_by_document(old, document, out, work)).map(|length| &out[..length])
+}
+
+/// Writes the least single-type table that lets in all of the old table and of the addition. Gives its part of the output.
+pub fn widen_single_type_by_table<'a>(
+    old: &[u8],
+    addition: &[u8],
+    out: &'a mut [u8],
+    work: &mut [u32],
+) -> Result<&'a [u8], Refusal> {
+    value_of(ffi::widen_single_type_by_table(old, addition, out, work)).map(|length| &out[..length])
+}
+
+/// Writes the least single-type table that lets in all of the old table, and the document. Gives its part of the output.
+pub fn widen_single_type_by_document<'a>(
+    old: &[u8],
+    document: &[u8],
+    out: &'a mut [u8],
+    work: &mut [u32],
+) -> Result<&'a [u8], Refusal> {
+    value_of(ffi::widen_single_type_by_document(old, document, out, work)).map(|length| &out[..length])
+}

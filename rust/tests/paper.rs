@@ -31,6 +31,88 @@ fn p3_no_bytes_are_refused() {
 }
 
 #[test]
+fn p4_no_document() {
+    assert_eq!(local(E, E), Err(Refusal::NoDocument));
+    assert_eq!(single_type(E, E), Err(Refusal::NoDocument));
+}
+
+#[test]
+fn p5_doors_merge_in_local_work_only() {
+    let door = |inner: &str| node("door", &[node(inner, &[])]);
+    let crossed = document(node(
+        "block",
+        &[node("floor", &[door("code")]), node("lift", &[door("time")])],
+    ));
+    assert_eq!(
+        lets_in(&local(&p5(), E).unwrap(), &crossed, &mut new_work()),
+        Ok(Verdict::Yes)
+    );
+    assert_eq!(
+        lets_in(&single_type(&p5(), E).unwrap(), &crossed, &mut new_work()),
+        Ok(Verdict::No)
+    );
+}
+
+#[test]
+fn p6_groups() {
+    let pair = sequence(&[&t(0), &t(0)]);
+    let wide = table(&[0], &[(0, "group", &choice(&[&pair, &t(1)])), (1, "card", EMPTY)]);
+    assert_eq!(local(&p6(), E), Ok(wide));
+}
+
+#[test]
+fn p7_unfruitful_types_go_first() {
+    let less = table(&[0], &[(0, "list", &t(1)), (1, "door", &t(2)), (2, "code", EMPTY)]);
+    // the result's labels keep the order of the table: list, door, code
+    assert_eq!(local(&p7(), E), Ok(less.clone()));
+    assert_eq!(single_type(&p7(), E), Ok(less));
+}
+
+#[test]
+fn p8_two_labels_of_one_type_do_not_compete() {
+    let apart = table(
+        &[0],
+        &[
+            (0, "list", &choice(&[&t(1), &t(2)])),
+            (1, "door", EMPTY),
+            (2, "lift", EMPTY),
+        ],
+    );
+    assert_eq!(local(&p8(), E), Ok(apart.clone()));
+    assert_eq!(single_type(&p8(), E), Ok(apart));
+}
+
+#[test]
+fn a_widening_by_a_document_lets_it_in() {
+    let added = document(node("list", &[node("door", &[]), node("zone", &[])]));
+    let mut out = vec![0; MOST_BYTES];
+    let mut work = new_work();
+    let wider = widen_local_by_document(&p8(), &added, &mut out, &mut work)
+        .unwrap()
+        .to_vec();
+    assert_eq!(is_local(&wider, &mut work), Ok(Verdict::Yes));
+    assert_eq!(lets_in(&wider, &added, &mut work), Ok(Verdict::Yes));
+    let wider = widen_single_type_by_document(&p8(), &added, &mut out, &mut work)
+        .unwrap()
+        .to_vec();
+    assert_eq!(is_single_type(&wider, &mut work), Ok(Verdict::Yes));
+    assert_eq!(lets_in(&wider, &added, &mut work), Ok(Verdict::Yes));
+    let taken = sample(&added, &mut out, &mut work).unwrap().to_vec();
+    assert_eq!(lets_in(&taken, &added, &mut work), Ok(Verdict::Yes));
+    assert_eq!(sample(&added, &mut out[..3], &mut work), Err(Refusal::OutputTooShort));
+}
+
+/// The local widening by a table.
+fn local(old: &[u8], addition: &[u8]) -> Result<Vec<u8>, Refusal> {
+    widen_local_by_table(old, addition, &mut vec![0; MOST_BYTES], &mut new_work()).map(<[u8]>::to_vec)
+}
+
+/// The single-type widening by a table.
+fn single_type(old: &[u8], addition: &[u8]) -> Result<Vec<u8>, Refusal> {
+    widen_single_type_by_table(old, addition, &mut vec![0; MOST_BYTES], &mut new_work()).map(<[u8]>::to_vec)
+}
+
+#[test]
 fn kinds_of_p5_to_p8() {
     let both = |bytes: &[u8]| {
         (

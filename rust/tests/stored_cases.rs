@@ -77,6 +77,11 @@ fn answered(case: &mut Case) -> (Result<usize, Refusal>, u32) {
         4 => of_verdict(lets_in(first, second, work)),
         5 => of_verdict(is_local(first, work)),
         6 => of_verdict(is_single_type(first, work)),
+        7 => sample(first, out, work).map(<[u8]>::len),
+        8 => widen_local_by_table(first, second, out, work).map(<[u8]>::len),
+        9 => widen_local_by_document(first, second, out, work).map(<[u8]>::len),
+        10 => widen_single_type_by_table(first, second, out, work).map(<[u8]>::len),
+        11 => widen_single_type_by_document(first, second, out, work).map(<[u8]>::len),
         other => panic!("no call {other}"),
     };
     (value, checksum(out.iter().map(|byte| u32::from(*byte))))

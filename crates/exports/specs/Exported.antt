@@ -5,8 +5,8 @@ use mathlib.Core.Path.{_≡_}
 use Rattle.grammar.specs.Limits.{standard}
 use Rattle.grammar.specs.Names.{Name}
 use Rattle.grammar.specs.Outcome.{Outcome, given, refused, number}
-use Rattle.grammar.specs.Answers.{Numbers}
-use Rattle.grammar.specs.Calls.{Part, workAfter, partOfLabel}
+use Rattle.grammar.specs.Answers.{Numbers, writtenNumbers, written}
+use Rattle.grammar.specs.Calls.{Part, workAfter, outAfter, partOfLabel}
 
 -- refusal × 2^32 + value
 abbrev pub told : ℕ → ℕ → ℕ
@@ -26,4 +26,10 @@ nameBegins labels label = partOfLabel labels label .from
 -- a call that writes nothing: its answer, and the working memory as it came and as it is left
 pub record Told (n : Numbers) (work left : List ℕ) (answer : ℕ) : Type 0 where
   pub answer-is : answer ≡ told (n .refusal) (n .value)
+  pub work-left : left ≡ workAfter standard work
+
+-- a call that writes a table, whose outcome is this: its answer, and the output and the working memory as they came and as they are left
+pub record Wrote (o : Outcome (List ℕ)) (out out-after work left : List ℕ) (answer : ℕ) : Type 0 where
+  pub answer-is : answer ≡ told (writtenNumbers (written o) .refusal) (writtenNumbers (written o) .value)
+  pub out-left : out-after ≡ outAfter o out
   pub work-left : left ≡ workAfter standard work

@@ -1,11 +1,12 @@
 // Answers as one number: the refusal's number times 2^32, and the value.
 ghost use mathlib.Core.Path.{_≡_};
-ghost use Rattle.grammar.specs.Answers.{readingNumbers, verdictNumbers};
+ghost use Rattle.grammar.specs.Answers.{readingNumbers, verdictNumbers, writtenNumbers};
 ghost use Rattle.grammar.specs.Outcome.{number};
 ghost use Rattle.exports.specs.Exported.{told};
 use grammar::Reading;
 use grammar::Refusal;
 use grammar::Verdict;
+use grammar::Written;
 use reader::calls::number_of;
 
 // A refusal.
@@ -33,5 +34,15 @@ pub fn of_verdict(answer: Verdict) -> u64
         Verdict::Yes => 1,
         Verdict::No => 0,
         Verdict::Refused(r) => of_refusal(r),
+    }
+}
+
+// The answer of a call that writes a table.
+pub fn of_written(answer: Written) -> u64
+    ensures { λ r. ⌜ r ≡ told (writtenNumbers answer .refusal) (writtenNumbers answer .value) ⌝ }
+{
+    match answer {
+        Written::Length(n) => n as u64,
+        Written::Refused(r) => of_refusal(r),
     }
 }

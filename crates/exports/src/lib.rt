@@ -6,10 +6,12 @@ mod places;
 ghost use Rattle.grammar.specs.Limits.{standard};
 ghost use Rattle.grammar.specs.Names.{asciiClasses};
 ghost use Rattle.grammar.specs.Answers.{readingNumbers, verdictNumbers, reading, verdict};
-ghost use Rattle.grammar.specs.Calls.{tableReads, documentReads, labelName, tableLetsIn, tableIsLocal, tableIsSingleType};
-ghost use Rattle.exports.specs.Exported.{Told, nameNumbers};
+ghost use Rattle.grammar.specs.Kinds.{local, singleType};
+ghost use Rattle.grammar.specs.Calls.{tableReads, documentReads, labelName, tableLetsIn, tableIsLocal, tableIsSingleType, documentSample, widenedByTable, widenedByDocument};
+ghost use Rattle.exports.specs.Exported.{Told, Wrote, nameNumbers};
 use crate::answers::of_reading;
 use crate::answers::of_verdict;
+use crate::answers::of_written;
 use crate::places::name_told;
 use reader::calls::document_reads;
 use reader::calls::label_name;
@@ -17,6 +19,11 @@ use reader::calls::table_reads;
 use validator::calls::is_local;
 use validator::calls::is_single_type;
 use validator::calls::lets_in;
+use widening::calls::sample;
+use widening::calls::widen_local_by_document;
+use widening::calls::widen_local_by_table;
+use widening::calls::widen_single_type_by_document;
+use widening::calls::widen_single_type_by_table;
 
 // Does a table read?
 #[no_mangle]
@@ -73,4 +80,69 @@ pub extern "C" fn cogarrune_is_single_type(table: &[u8], work: &mut [u32]) -> u6
         (now (work .entry)) (now (work .exit)) r ⌝ }
 {
     of_verdict(is_single_type(table, work))
+}
+
+// Writes the sample table of a document.
+#[no_mangle]
+pub extern "C" fn cogarrune_sample(document: &[u8], out: &mut [u8], work: &mut [u32]) -> u64
+    ensures { λ r. ⌜ Wrote (documentSample standard asciiClasses (now (document .entry)) (now (out .entry)) (now (work .entry)))
+        (now (out .entry)) (now (out .exit)) (now (work .entry)) (now (work .exit)) r ⌝ }
+{
+    of_written(sample(document, out, work))
+}
+
+// Writes the least local table that lets in all of the old table and of the addition.
+#[no_mangle]
+pub extern "C" fn cogarrune_widen_local_by_table(
+    old: &[u8],
+    addition: &[u8],
+    out: &mut [u8],
+    work: &mut [u32],
+) -> u64
+    ensures { λ r. ⌜ Wrote (widenedByTable standard asciiClasses local (now (old .entry)) (now (addition .entry)) (now (out .entry)) (now (work .entry)))
+        (now (out .entry)) (now (out .exit)) (now (work .entry)) (now (work .exit)) r ⌝ }
+{
+    of_written(widen_local_by_table(old, addition, out, work))
+}
+
+// Writes the least local table that lets in all of the old table, and the document.
+#[no_mangle]
+pub extern "C" fn cogarrune_widen_local_by_document(
+    old: &[u8],
+    document: &[u8],
+    out: &mut [u8],
+    work: &mut [u32],
+) -> u64
+    ensures { λ r. ⌜ Wrote (widenedByDocument standard asciiClasses local (now (old .entry)) (now (document .entry)) (now (out .entry)) (now (work .entry)))
+        (now (out .entry)) (now (out .exit)) (now (work .entry)) (now (work .exit)) r ⌝ }
+{
+    of_written(widen_local_by_document(old, document, out, work))
+}
+
+// Writes the least single-type table that lets in all of the old table and of the addition.
+#[no_mangle]
+pub extern "C" fn cogarrune_widen_single_type_by_table(
+    old: &[u8],
+    addition: &[u8],
+    out: &mut [u8],
+    work: &mut [u32],
+) -> u64
+    ensures { λ r. ⌜ Wrote (widenedByTable standard asciiClasses singleType (now (old .entry)) (now (addition .entry)) (now (out .entry)) (now (work .entry)))
+        (now (out .entry)) (now (out .exit)) (now (work .entry)) (now (work .exit)) r ⌝ }
+{
+    of_written(widen_single_type_by_table(old, addition, out, work))
+}
+
+// Writes the least single-type table that lets in all of the old table, and the document.
+#[no_mangle]
+pub extern "C" fn cogarrune_widen_single_type_by_document(
+    old: &[u8],
+    document: &[u8],
+    out: &mut [u8],
+    work: &mut [u32],
+) -> u64
+    ensures { λ r. ⌜ Wrote (widenedByDocument standard asciiClasses singleType (now (old .entry)) (now (document .entry)) (now (out .entry)) (now (work .entry)))
+        (now (out .entry)) (now (out .exit)) (now (work .entry)) (now (work .exit)) r ⌝ }
+{
+    of_written(widen_single_type_by_document(old, document, out, work))
 }
