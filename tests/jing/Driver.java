@@ -24,7 +24,7 @@ public final class Driver {
 
   public static void main(String[] args) throws Exception {
     BufferedReader in = new BufferedReader(new InputStreamReader(System.in, StandardCharsets.US_ASCII));
-    PrintStream out = new PrintStream(System.out, false, "US-ASCII");
+    PrintStream out = new PrintStream(System.out, true, "US-ASCII");
     ValidationDriver driver = null;
     boolean loaded = false;
     for (String line = in.readLine(); line != null; line = in.readLine()) {
@@ -44,6 +44,5 @@ public final class Driver {
         }
       }
     }
-    out.flush();
   }
 }
