@@ -1,0 +1,13 @@
+pub mod KeptLists
+pub mod LabelLaws
+pub mod LocalBySets
+pub mod NumberLists
+pub mod ResultLaws
+pub mod SetWordLaws
+pub mod SetsFound
+pub mod SingleTypeBySets
+pub mod StandingPairs
+pub mod TablesBySets
+pub mod UnionFit
+pub mod WidenedBySets
+pub mod WorklistLaws

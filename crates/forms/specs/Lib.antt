@@ -1,2 +1,3 @@
 pub mod SetForms
 pub mod SetWords
+pub mod Worklist

@@ -1,1 +1,2 @@
 // The content of a set of pairs.
+pub mod contents;

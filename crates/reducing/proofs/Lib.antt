@@ -1,0 +1,4 @@
+pub mod NumberLaws
+pub mod ListingLaws
+pub mod MeetingLaws
+pub mod LeavingLaws

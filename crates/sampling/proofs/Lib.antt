@@ -8,5 +8,6 @@ pub mod KidLaws
 pub mod SequenceLaws
 pub mod FlatLaws
 pub mod RuleLaws
+pub mod TableSize
 pub mod SampleWritten
 pub mod SampleIndexed

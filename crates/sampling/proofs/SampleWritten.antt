@@ -4,12 +4,11 @@
 --   sample-drafted : so the sample is written, or is too large ; sample-wide : too many types
 use Prim.Native.Nat.{ℕ, zero, suc, _+_, _-_, _≤_, _<_}
 use native.Mathlib.Omega.{arith}
-use mathlib.Core.Bool.{Bool, true, false, not, _||_}
+use mathlib.Core.Bool.{Bool, true, false, not}
 use mathlib.Core.List.{List, [], _∷_, _++_, map, append-assoc, append-nil, List·Memᴰ, List·Memᴰ·head, List·Memᴰ·tail, Memᴰ·map, Memᴰ·of-map}
 use mathlib.Core.Logic.{⊎-elim}
 use mathlib.Core.Path.{_≡_, refl, sym, _∙_, ap, subst}
 use lib.Dec.{eqb, ltb}
-use borrow.Author.Tests.{lt-ltb, le-ltb}
 use lib.ListN.{length, length-map, getD, take, drop, replicate}
 use lib.Seq.{length-take-le, getD-take}
 use Rattle.grammar.specs.Lists.{any, keep, distinct, place, joinedOf, numbersFrom, numbersBelow}
@@ -27,8 +26,7 @@ use Rattle.grammar.specs.Size.{contentTooLarge, tooLarge}
 use Rattle.grammar.specs.Sample.{sample, sequenceOf}
 use Rattle.grammar.specs.Widen.{ofSize, sampleTable}
 use Rattle.grammar.specs.declared.Refusal.the-variants.{ResultTooLarge}
-use Rattle.theory.proofs.BoolLaws.{or-left, or-right, or-none, false-of, not-both}
-use Rattle.theory.proofs.ListLaws.{at-else, any-of, any-found, at-mem, mem-at, at-below, at-or-else, distinct-was, kept, numbers-below}
+use Rattle.theory.proofs.ListLaws.{at-else, at-mem, mem-at, at-below, at-or-else, distinct-was, kept, numbers-below}
 use Rattle.theory.proofs.Gathering.{gathered}
 use Rattle.emitting.specs.declared.writing.Drafted.{Drafted}
 use Rattle.emitting.specs.declared.writing.Drafted.the-variants.{Length, TooLarge}
@@ -36,6 +34,7 @@ use Rattle.sampling.specs.SampleNodes.{KeyAt, KeysAt, LabelledTo, nameIn
 use Rattle.sampling.specs.SampleContents.{kidTypes, sequenceIn, sequencesAmong}
 use Rattle.sampling.specs.SampleTable.{contentIn, ruleIn, labelField, ruleField, rulesBytes, startBytes, TablePut, SampleHeld, SampleReady, NodesHeld, RulesHeld, SampleDrafted}
 use Rattle.sampling.proofs.NumberingLaws.{listed-from, place-agree, numbers-within}
+use Rattle.sampling.proofs.TableSize.{size-over, size-fits, content-over, bytes-over, all-fit, types-over}
 use Rattle.sampling.proofs.SampleByNodes.{keep-same, map-same, sample-nodes, kids-count}
 
 -- lists by places, and what agrees on their elements
@@ -89,41 +88,12 @@ taken-place l c h m =
 -- the size of a sample
 module _ (d : Tree) where
   too-large-is : tooLarge standard (sample d) ≡ true → sampleTable standard d ≡ refused ResultTooLarge
-  unfolding sampleTable ofSize
-  too-large-is e = ap (λ (b : Bool). turnBack b ResultTooLarge >> given (sample d)) e
+  unfolding sampleTable
+  too-large-is e = size-over (sample d) e
 
   not-too-large : tooLarge standard (sample d) ≡ false → sampleTable standard d ≡ given (sample d)
-  unfolding sampleTable ofSize
-  not-too-large e = ap (λ (b : Bool). turnBack b ResultTooLarge >> given (sample d)) e
-
-  abbrev contentOver : Rule → Bool
-  contentOver r = contentTooLarge standard (r .content)
-
-  types-over : 64 < length (sample d .rules) → tooLarge standard (sample d) ≡ true
-  unfolding tooLarge standard
-  types-over h =
-      or-left (ltb 64 (length (sample d .rules)) || any contentOver (sample d .rules)) (ltb 32768 (length (tableBytes (sample d))))
-      (or-left (ltb 64 (length (sample d .rules))) (any contentOver (sample d .rules)) (lt-ltb 64 (length (sample d .rules)) h))
-
-  content-over : any contentOver (sample d .rules) ≡ true → tooLarge standard (sample d) ≡ true
-  unfolding tooLarge standard
-  content-over h =
-      or-left (ltb 64 (length (sample d .rules)) || any contentOver (sample d .rules)) (ltb 32768 (length (tableBytes (sample d))))
-      (or-right (ltb 64 (length (sample d .rules))) (any contentOver (sample d .rules)) h)
-
-  bytes-over : 32768 < length (tableBytes (sample d)) → tooLarge standard (sample d) ≡ true
-  unfolding tooLarge standard
-  bytes-over h =
-      or-right (ltb 64 (length (sample d .rules)) || any contentOver (sample d .rules)) (ltb 32768 (length (tableBytes (sample d))))
-      (lt-ltb 32768 (length (tableBytes (sample d))) h)
-
-  all-fit : length (sample d .rules) ≤ 64 → any contentOver (sample d .rules) ≡ false → length (tableBytes (sample d)) ≤ 32768
-      → tooLarge standard (sample d) ≡ false
-  unfolding tooLarge standard
-  all-fit a b c =
-      or-none (ltb 64 (length (sample d .rules)) || any contentOver (sample d .rules)) (ltb 32768 (length (tableBytes (sample d))))
-      (or-none (ltb 64 (length (sample d .rules))) (any contentOver (sample d .rules)) (le-ltb 64 (length (sample d .rules)) a) b)
-      (le-ltb 32768 (length (tableBytes (sample d))) c)
+  unfolding sampleTable
+  not-too-large e = size-fits (sample d) e
 
 module _ {s names sizes parents types firsts : List ℕ} {n count : ℕ} (q : SampleHeld s names sizes parents types firsts n count) where
   abbrev ns : List Node
@@ -187,7 +157,7 @@ module _ {s names sizes parents types firsts : List ℕ} {n count : ℕ} (q : Sa
 
   -- too many types
   pub sample-wide : 64 < count → sampleTable standard d ≡ refused ResultTooLarge
-  sample-wide h = let m = rules-many in too-large-is d (types-over d (omega arith))
+  sample-wide h = let m = rules-many in too-large-is d (types-over (sample d) (omega arith))
 
   module _ {labels lfirsts : List ℕ} {lcount : ℕ} (l : LabelledTo s names sizes firsts labels lfirsts lcount count) (held : lcount ≤ length lfirsts) where
     labels-distinct : distinct (sameNameIn s names sizes) (take count firsts) ≡ labelled ns d
@@ -266,14 +236,13 @@ module _ {s names sizes parents types firsts : List ℕ} {n count : ℕ} (q : Sa
     sample-drafted few before after (Length m) (p, small, fits) =
         let e = table-same in
         let long : m ≡ length (tableBytes (sample d)) = p .next-is ∙ (let z : 0 + length bytes ≡ length bytes = omega arith in z) ∙ ap length e in
-        let k = rules-many in
-        let none : any (contentOver d) (sample d .rules) ≡ false =
-        false-of (any (contentOver d) (sample d .rules))
-        (λ o.
-        let (x, y, w) = any-found (contentOver d) (sample d .rules) o in
-        let (t, h, f) = from-sample x y in
-        not-both w (subst (λ (z : Rule). contentTooLarge standard (z .content) ≡ false) f (fits t h))) in (
-          not-too-large d (all-fit d (omega arith) none (omega arith)),
+        let k = rules-many in (
+          not-too-large d
+              (all-fit (sample d) (omega arith)
+              (λ r m.
+              let (t, h, f) = from-sample r m in
+              subst (λ (z : Rule). contentTooLarge standard (z .content) ≡ false) f (fits t h))
+              (omega arith)),
           p .is ∙ ap (λ (x : List ℕ). x ++ drop m before) e,
           long,
           small,
@@ -281,8 +250,8 @@ module _ {s names sizes parents types firsts : List ℕ} {n count : ℕ} (q : Sa
     sample-drafted few before after TooLarge o =
         let e = ap length table-same in
         ⊎-elim
-        (λ x. too-large-is d (content-over d (any-of (contentOver d) (in-sample (x .0) (x .1)) (x .2))))
-        (λ x. too-large-is d (bytes-over d (omega arith)))
+        (λ x. too-large-is d (content-over (sample d) (in-sample (x .0) (x .1)) (x .2)))
+        (λ x. too-large-is d (bytes-over (sample d) (omega arith)))
         o
 
 -- what the writing asks of the arrays

@@ -1,0 +1,300 @@
+-- Laws of lists for the forms by sets. Of what is kept, and of images:
+--   keep-on, map-on, map-itself, joined-on    tests and functions that agree on the elements of a list
+--   keep-nothing                      nothing is kept where nothing passes the test
+--   any-map, place-image              some image passes a test; the place of an image
+--   some-mem, mem-some                a list that is not empty has an element
+--   in-kept                           a number is kept of a list that has it just where it passes the test
+-- Of lists by places: same-at, numbered, past-nothing; kept-below. Of distinct elements:
+--   first-itself     an element of the distinct ones stands at its own place
+--   distinct-append  of two lists joined: of the second those that are not in the first
+--   distinct-all, distinct-on, distinct-image, distinct-longer
+use Prim.Native.Nat.{ℕ, zero, suc, _+_, _-_, _≤_}
+use native.Mathlib.Omega.{arith}
+use mathlib.Core.Bool.{Bool, true, false, not, _||_, false≢true}
+use mathlib.Core.List.{
+  List,
+  [],
+  _∷_,
+  _++_,
+  append-assoc,
+  append-nil,
+  map,
+  map-id,
+  List·Memᴰ,
+  List·Memᴰ·head,
+  List·Memᴰ·tail,
+  List·Memᴰ·cases-cons,
+}
+use mathlib.Core.Logic.{_↔_, ⊎-elim}
+use mathlib.Core.Option.{none as nothing, some as just}
+use mathlib.Core.Path.{_≡_, refl, sym, _∙_, ap, ap₂}
+use lib.ListN.{length, length-append, length-map, getElem?, getD}
+use borrow.Author.Tests.{not-true}
+use Rattle.grammar.specs.Lists.{any, keep, distinct, allDistinct, place, joinedOf, isIn, numbersFrom, numbersBelow}
+use Rattle.grammar.specs.ReadTable.{isEmpty}
+use Rattle.theory.proofs.BoolLaws.{and-left, and-right, same-test, false-of, not-both, or-false}
+use Rattle.theory.proofs.ListLaws.{
+  any-of,
+  keep-yes,
+  keep-no,
+  keep-all,
+  keep-map,
+  keep-mem,
+  kept,
+  distinct-was,
+  at-map,
+  mem-at,
+  numbers-below,
+  at-else,
+  numbers-at,
+  numbers-length,
+  in-mem,
+  mem-in,
+}
+use Rattle.theory.proofs.DistinctLaws.{keep-append, keep-within, keep-distinct, distinct-grows}
+
+module _ {A : Type 0} where
+  pub keep-on : (p q : A → Bool) (xs : List A) → ((x : A) → List·Memᴰ x xs → p x ≡ q x) → keep p xs ≡ keep q xs
+  unfolding keep
+  keep-on p q [] h = refl
+  keep-on p q (x ∷ xs) h = go (q x) refl (keep-on p q xs (λ y m. h y (List·Memᴰ·tail m)))
+    where
+      go : (b : Bool) → q x ≡ b → keep p xs ≡ keep q xs → keep p (x ∷ xs) ≡ keep q (x ∷ xs)
+      go true e ih =
+          keep-yes p x xs (h x (List·Memᴰ·head refl) ∙ e) ∙ ap (λ (l : List A). x ∷ l) ih ∙ sym (keep-yes q x xs e)
+      go false e ih = keep-no p x xs (h x (List·Memᴰ·head refl) ∙ e) ∙ ih ∙ sym (keep-no q x xs e)
+
+  pub keep-nothing : (test : A → Bool) (xs : List A) → ((x : A) → List·Memᴰ x xs → test x ≡ false) → keep test xs ≡ []
+  unfolding keep
+  keep-nothing test [] h = refl
+  keep-nothing test (x ∷ xs) h =
+      keep-no test x xs (h x (List·Memᴰ·head refl)) ∙ keep-nothing test xs (λ y m. h y (List·Memᴰ·tail m))
+
+  pub some-mem : (xs : List A) → not (isEmpty xs) ≡ true → (x : A) × List·Memᴰ x xs
+  some-mem [] e = absurd (false≢true e)
+  some-mem (x ∷ xs) e = (x, List·Memᴰ·head refl)
+
+  pub mem-some : {x : A} {xs : List A} → List·Memᴰ x xs → not (isEmpty xs) ≡ true
+  mem-some (List·Memᴰ·head e) = refl
+  mem-some (List·Memᴰ·tail m) = refl
+
+  -- past the end nothing stands
+  pub past-nothing : (xs : List A) (i : ℕ) → length xs ≤ i → getElem? xs i ≡ nothing
+  past-nothing [] i h = refl
+  past-nothing (x ∷ xs) zero h = absurd (omega arith)
+  past-nothing (x ∷ xs) (suc i) h = past-nothing xs i (omega arith)
+
+  -- lists that have the same at each place are equal
+  pub same-at : (xs ys : List A) → length xs ≡ length ys
+      → ((i : ℕ) (x y : A) → getElem? xs i ≡ just x → getElem? ys i ≡ just y → x ≡ y)
+      → xs ≡ ys
+  same-at [] [] l h = refl
+  same-at [] (y ∷ ys) l h = absurd (omega arith)
+  same-at (x ∷ xs) [] l h = absurd (omega arith)
+  same-at (x ∷ xs) (y ∷ ys) l h =
+      ap₂ _∷_ (h zero x y refl refl) (same-at xs ys (omega arith) (λ i a b p q. h (suc i) a b p q))
+
+  -- a list is what stands at its places
+  pub numbered : (d : A) (xs : List A) → xs ≡ map (λ i. getD xs i d) (numbersBelow (length xs))
+  unfolding numbersBelow
+  numbered d xs =
+      same-at xs (map (λ i. getD xs i d) (numbersBelow (length xs)))
+      (sym (length-map (numbersBelow (length xs)) (λ i. getD xs i d) ∙ numbers-length zero (length xs)))
+      (λ i x y p q.
+      let (k, at, e) = at-map (λ i. getD xs i d) (numbersBelow (length xs)) i q in
+      let here = numbers-at zero (length xs) i at in
+      let same : i ≡ k = omega arith in
+      sym (at-else xs i d p) ∙ ap (λ (j : ℕ). getD xs j d) same ∙ e)
+
+  module _ (same : A → A → Bool) (same-refl : (x : A) → same x x ≡ true)
+      (same-sym : (x y : A) → same x y ≡ true → same y x ≡ true) (d : A) where
+    pub first-itself : (xs : List A) {x : A} → List·Memᴰ x (distinct same xs) → getD xs (place same x xs) d ≡ x
+    unfolding distinct place
+    first-itself [] m = elim m [ ]
+    first-itself (y ∷ ys) {x} m = ⊎-elim here (λ n. there n (λ o. first-itself ys o)) (List·Memᴰ·cases-cons m)
+      where
+        here : x ≡ y → getD (y ∷ ys) (place same x (y ∷ ys)) d ≡ x
+        here e = rw (ap (λ (z : A). same z y) e ∙ same-refl y, place) (sym e)
+
+        there : List·Memᴰ x (keep (λ z. not (same y z)) (distinct same ys))
+            → (List·Memᴰ x (distinct same ys) → getD ys (place same x ys) d ≡ x) → getD (y ∷ ys) (place same x (y ∷ ys)) d ≡ x
+        there n ih =
+            let (o, t) = kept (λ z. not (same y z)) (distinct same ys) n in
+            let unlike = false-of (same x y) (λ s. not-both (same-sym x y s) (not-true (same y x) t)) in
+            rw (unlike, place) (ih o)
+
+  module _ (same : A → A → Bool) (decides : (x y : A) → (same x y ≡ true) ↔ (x ≡ y)) where
+    -- the one is not the other, nor among some
+    abbrev unlike : A → A → Bool
+    unlike x y = not (same x y)
+
+    abbrev newTo : List A → A → Bool
+    newTo xs y = not (any (same y) xs)
+
+    new-apart : (x : A) (xs : List A) (y : A) → newTo (x ∷ xs) y ≡ true → unlike x y ≡ true
+    unfolding any
+    new-apart x xs y e =
+        let f = or-false (same y x) (any (same y) xs) (not-true (any (same y) (x ∷ xs)) e) in
+        ap not (false-of (same x y) (λ s. not-both (decides y x .1 (sym (decides x y .0 s))) (f .0)))
+
+    new-later : (x : A) (xs : List A) (y : A) → newTo (x ∷ xs) y ≡ true → newTo xs y ≡ true
+    unfolding any
+    new-later x xs y e = ap not (or-false (same y x) (any (same y) xs) (not-true (any (same y) (x ∷ xs)) e) .1)
+
+    new-both : (x : A) (xs : List A) (y : A) → newTo xs y ≡ true → unlike x y ≡ newTo (x ∷ xs) y
+    unfolding any
+    new-both x xs y e =
+        same-test (unlike x y) (newTo (x ∷ xs) y)
+        (λ t. ap not (none t), λ t. new-apart x xs y t)
+      where
+        none : unlike x y ≡ true → any (same y) (x ∷ xs) ≡ false
+        none t =
+            ap₂ _||_
+            (false-of (same y x) (λ s. not-both (decides x y .1 (sym (decides y x .0 s))) (not-true (same x y) t)))
+            (not-true (any (same y) xs) e)
+
+    pub distinct-append : (xs ys : List A)
+        → distinct same (xs ++ ys) ≡ distinct same xs ++ keep (λ y. not (any (same y) xs)) (distinct same ys)
+    unfolding distinct any
+    distinct-append [] ys = sym (keep-all (newTo []) (distinct same ys) (λ y m. refl))
+    distinct-append (x ∷ xs) ys =
+        let new = keep (newTo xs) (distinct same ys) in
+        ap (λ (l : List A). x ∷ l)
+        (ap (keep (unlike x)) (distinct-append xs ys)
+        ∙ keep-append (unlike x) (distinct same xs) new
+        ∙ ap (λ (l : List A). keep (unlike x) (distinct same xs) ++ l)
+        (keep-on (unlike x) (newTo (x ∷ xs)) new (λ y m. new-both x xs y (kept (newTo xs) (distinct same ys) m .1))
+        ∙ keep-within (newTo (x ∷ xs)) (newTo xs) (distinct same ys) (new-later x xs)))
+
+    -- what comes after takes nothing away
+    pub distinct-longer : (xs ys zs : List A) → length (distinct same (xs ++ ys)) ≤ length (distinct same (xs ++ (ys ++ zs)))
+    distinct-longer xs ys zs =
+        let (more, e) = distinct-grows same decides (xs ++ ys) zs in
+        let n =
+        ap (λ (l : List A). length (distinct same l)) (sym (append-assoc xs ys zs))
+        ∙ ap length e
+        ∙ length-append (distinct same (xs ++ ys)) more
+        in
+        omega arith
+
+  -- elements that all differ are the distinct ones
+  pub distinct-all : (same : A → A → Bool) (xs : List A) → allDistinct same xs ≡ true → distinct same xs ≡ xs
+  unfolding distinct allDistinct
+  distinct-all same [] d = refl
+  distinct-all same (x ∷ xs) d =
+      let new = not (any (same x) xs) in
+      ap (λ (l : List A). x ∷ l)
+      (ap (keep (λ y. not (same x y))) (distinct-all same xs (and-right new (allDistinct same xs) d))
+      ∙ keep-all (λ y. not (same x y)) xs
+      (λ y m.
+      ap not
+      (false-of (same x y)
+      (λ e. not-both (any-of (same x) m e) (not-true (any (same x) xs) (and-left new (allDistinct same xs) d))))))
+
+  pub distinct-on : (p q : A → A → Bool) (xs : List A)
+      → ((x y : A) → List·Memᴰ x xs → List·Memᴰ y xs → p x y ≡ q x y)
+      → distinct p xs ≡ distinct q xs
+  unfolding distinct
+  distinct-on p q [] h = refl
+  distinct-on p q (x ∷ xs) h =
+      ap (λ (l : List A). x ∷ l)
+      (ap (keep (λ y. not (p x y))) (distinct-on p q xs (λ y z m n. h y z (List·Memᴰ·tail m) (List·Memᴰ·tail n)))
+      ∙ keep-on (λ y. not (p x y)) (λ y. not (q x y)) (distinct q xs)
+      (λ y m. ap not (h x y (List·Memᴰ·head refl) (List·Memᴰ·tail (distinct-was q xs m)))))
+
+module _ {A B : Type 0} where
+  pub map-on : (f g : A → B) (xs : List A) → ((x : A) → List·Memᴰ x xs → f x ≡ g x) → map f xs ≡ map g xs
+  map-on f g [] h = refl
+  map-on f g (x ∷ xs) h = ap₂ _∷_ (h x (List·Memᴰ·head refl)) (map-on f g xs (λ y m. h y (List·Memᴰ·tail m)))
+
+  pub joined-on : (f g : A → List B) (xs : List A) → ((x : A) → List·Memᴰ x xs → f x ≡ g x) → joinedOf f xs ≡ joinedOf g xs
+  unfolding joinedOf
+  joined-on f g [] h = refl
+  joined-on f g (x ∷ xs) h = ap₂ _++_ (h x (List·Memᴰ·head refl)) (joined-on f g xs (λ y m. h y (List·Memᴰ·tail m)))
+
+  pub any-map : (f : A → B) (test : B → Bool) (xs : List A) → any test (map f xs) ≡ any (λ x. test (f x)) xs
+  unfolding any
+  any-map f test [] = refl
+  any-map f test (x ∷ xs) = ap (λ (b : Bool). test (f x) || b) (any-map f test xs)
+
+  -- the place of an image, where images are the same just where their sources are
+  pub place-image : (f : A → B) (p : A → A → Bool) (q : B → B → Bool) (x : A) (xs : List A)
+      → ((y : A) → List·Memᴰ y xs → q (f x) (f y) ≡ p x y)
+      → place p x xs ≡ place q (f x) (map f xs)
+  unfolding place
+  place-image f p q x [] h = refl
+  place-image f p q x (y ∷ ys) h =
+      go (p x y) refl (place-image f p q x ys (λ z m. h z (List·Memᴰ·tail m)))
+    where
+      go : (b : Bool) → p x y ≡ b → place p x ys ≡ place q (f x) (map f ys)
+          → place p x (y ∷ ys) ≡ place q (f x) (map f (y ∷ ys))
+      go true e ih = rw (e, h y (List·Memᴰ·head refl) ∙ e, place)
+      go false e ih = rw (e, h y (List·Memᴰ·head refl) ∙ e, place) (ap suc ih)
+
+  -- equal elements may go before their images are told apart
+  module _ (p : A → A → Bool) (p-decides : (x y : A) → (p x y ≡ true) ↔ (x ≡ y)) (q : B → B → Bool)
+      (q-decides : (x y : B) → (q x y ≡ true) ↔ (x ≡ y)) (f : A → B) where
+    pub distinct-image : (xs : List A) → distinct q (map f (distinct p xs)) ≡ distinct q (map f xs)
+    unfolding distinct
+    distinct-image [] = refl
+    distinct-image (x ∷ xs) =
+        let apart : (B → Bool) = λ y. not (q (f x) y) in
+        let unlike : (A → Bool) = λ y. not (p x y) in
+        let D = distinct p xs in
+        ap (λ (l : List B). f x ∷ l)
+        (keep-distinct q q-decides apart (map f (keep unlike D))
+        ∙ ap (distinct q)
+        (keep-map f apart (keep unlike D)
+        ∙ ap (map f) (keep-within (λ y. apart (f y)) unlike D apart-unlike)
+        ∙ sym (keep-map f apart D))
+        ∙ sym (keep-distinct q q-decides apart (map f D))
+        ∙ ap (keep apart) (distinct-image xs))
+      where
+        apart-unlike : (y : A) → not (q (f x) (f y)) ≡ true → not (p x y) ≡ true
+        apart-unlike y e =
+            ap not
+            (false-of (p x y)
+            (λ s. not-both (q-decides (f x) (f y) .1 (ap f (p-decides x y .0 s))) (not-true (q (f x) (f y)) e)))
+
+pub map-itself : {A : Type 0} (f : A → A) (xs : List A) → ((x : A) → List·Memᴰ x xs → f x ≡ x) → map f xs ≡ xs
+map-itself f xs h = map-on f (λ x. x) xs h ∙ map-id xs
+
+pub in-kept : (test : ℕ → Bool) (n : ℕ) (ns : List ℕ) → List·Memᴰ n ns → isIn n (keep test ns) ≡ test n
+in-kept test n ns m =
+    same-test (isIn n (keep test ns)) (test n)
+    (λ e. kept test ns (in-mem n (keep test ns) e) .1, λ e. mem-in (keep-mem test m e))
+
+-- the numbers below a bound, and those that follow
+numbers-joined : (a m k : ℕ) → numbersFrom a (m + k) ≡ numbersFrom a m ++ numbersFrom (a + m) k
+unfolding numbersFrom
+numbers-joined a zero k =
+    let z : zero + k ≡ k = omega arith in
+    let y : a ≡ a + zero = omega arith in
+    ap₂ numbersFrom y z
+numbers-joined a (suc m) k =
+    let z : suc m + k ≡ suc (m + k) = omega arith in
+    let y : suc a + m ≡ a + suc m = omega arith in
+    ap (numbersFrom a) z
+    ∙ ap (λ (l : List ℕ). a ∷ l)
+    (numbers-joined (suc a) m k ∙ ap (λ (b : ℕ). numbersFrom (suc a) m ++ numbersFrom b k) y)
+
+-- what is kept of the numbers below a bound, told by a larger bound
+pub kept-below : (test : ℕ → Bool) (n m : ℕ) → n ≤ m
+    → keep (λ p. isIn p (keep test (numbersBelow n))) (numbersBelow m) ≡ keep test (numbersBelow n)
+unfolding numbersBelow
+kept-below test n m h =
+    let few : List ℕ = keep test (numbersBelow n) in
+    let z : m ≡ n + (m - n) = omega arith in
+    ap (λ (k : ℕ). keep (λ p. isIn p few) (numbersBelow k)) z
+    ∙ ap (keep (λ p. isIn p few)) (numbers-joined zero n (m - n))
+    ∙ keep-append (λ p. isIn p few) (numbersBelow n) (numbersFrom (zero + n) (m - n))
+    ∙ ap₂ _++_ (keep-on (λ p. isIn p few) test (numbersBelow n) (λ p o. in-kept test p (numbersBelow n) o))
+    (keep-nothing (λ p. isIn p few) (numbersFrom (zero + n) (m - n))
+    (λ p o.
+    false-of (isIn p few)
+    (λ e.
+    let low = numbers-below n p .0 (kept test (numbersBelow n) (in-mem p few e) .0) in
+    let (i, at) = mem-at o in
+    let high = numbers-at (zero + n) (m - n) i at in
+    omega arith)))
+    ∙ append-nil few

@@ -1,0 +1,329 @@
+-- The sets of the single-type form as a program finds them, by pairs' numbers:
+--   start-sets     the start sets are those of the start pairs, one a label; of all sets they come first, start-sets-first
+--   sets-met       the sets met in a set of left pairs
+--   Found          the sets found when those below a number have been looked into
+--   found-start    to begin with, the start sets
+--   found-next     the next is looked into: each set of a pair met in it is added unless it is there
+--   found-all      when all have been looked into, they are all sets
+--   found-many     more than 64 on the way are more than 64 in the end
+use Prim.Native.Nat.{ℕ, zero, suc, _+_, _-_, _≤_, _<_}
+use native.Mathlib.Omega.{arith}
+use mathlib.Core.Bool.{Bool, true, not, _&&_}
+use mathlib.Core.List.{
+  List,
+  [],
+  _∷_,
+  _++_,
+  append-assoc,
+  append-nil,
+  map,
+  map-map,
+  List·Memᴰ,
+  List·Memᴰ·head,
+  List·Memᴰ·append-cases,
+  Memᴰ·of-map,
+}
+use mathlib.Core.Logic.{_↔_, ⊎-elim}
+use mathlib.Core.Option.{Option, none as nothing, some as just}
+use mathlib.Core.Path.{_≡_, refl, sym, _∙_, ap, ap₂, subst, fun-ext}
+use lib.ListN.{length, length-append, getElem?, getD}
+use lib.Dec.{eqb}
+use borrow.Author.Tests.{eqb-true, eq-eqb}
+use Rattle.grammar.specs.Lists.{any, keep, distinct, isIn, sameNumbers, numbersBelow}
+use Rattle.grammar.specs.Limits.{standard}
+use Rattle.grammar.specs.Table.{Table}
+use Rattle.grammar.specs.ReadTable.{isEmpty}
+use Rattle.grammar.specs.Normalise.{normalise}
+use Rattle.grammar.specs.Reduce.{withoutUnfruitful, withoutUnreached, reduce}
+use Rattle.grammar.specs.LocalForm.{labelOf}
+use Rattle.grammar.specs.SingleTypeForm.{TypeSet, ofLabel, startSets, setsMet, moreSets, allSets}
+use Rattle.theory.proofs.BoolLaws.{and-left, and-right, and-intro, same-test}
+use Rattle.theory.proofs.ListLaws.{
+  kept,
+  keep-mem,
+  keep-map,
+  at-mem,
+  distinct-was,
+  distinct-map,
+  in-mem,
+  mem-in,
+  numbers-below,
+  numbers-differ,
+  numbers-decide,
+  eqb-decides,
+}
+use Rattle.theory.proofs.SetsClosed.{starts-first}
+use Rattle.theory.proofs.DistinctLaws.{keep-distinct, distinct-again}
+use Rattle.pairs.specs.PairNumbers.{ruleAt, isLeft, isStart, metIn}
+use Rattle.pairs.proofs.ReachedLaws.{start-reached}
+use Rattle.forms.specs.SetForms.{labelled, labelSets, labelLeft, setLabel, singleTypeSets, metWithin}
+use Rattle.forms.specs.SetWords.{Ascending}
+use Rattle.forms.specs.Worklist.{setsWithin}
+use Rattle.forms.proofs.KeptLists.{
+  map-on,
+  past-nothing,
+  some-mem,
+  distinct-append,
+  distinct-all,
+  distinct-on,
+  distinct-image,
+  distinct-longer,
+  kept-below,
+}
+use Rattle.forms.proofs.UnionFit.{UnionFit}
+use Rattle.forms.proofs.StandingPairs.{AllLeft, left-pair, left-label, label-set, types-met, met-left}
+
+-- what is added later takes nothing away
+pub part-many : (xs ys zs : List TypeSet)
+    → length (distinct sameNumbers (xs ++ ys)) ≤ length (distinct sameNumbers (xs ++ (ys ++ zs)))
+part-many = distinct-longer sameNumbers numbers-decide
+
+-- a pair of a label among some
+pub record HasLabel (u : Table) (pairs : ℕ → Bool) (l p : ℕ) : Type 0 where
+  pub below : p < length (u .rules)
+  pub listed : pairs p ≡ true
+  pub label : ruleAt u p .label ≡ l
+
+module _ (u : Table) (pairs : ℕ → Bool) where
+  pub labelled-pair : (l p : ℕ) → List·Memᴰ p (labelled u pairs l) ↔ HasLabel u pairs l p
+  unfolding labelled
+  labelled-pair l p =
+      let test : (ℕ → Bool) = λ q. pairs q && eqb (ruleAt u q .label) l in (
+        λ m.
+            let (n, e) = kept test (numbersBelow (length (u .rules))) m in
+            record {
+              below = numbers-below (length (u .rules)) p .0 n;
+              listed = and-left (pairs p) (eqb (ruleAt u p .label) l) e;
+              label = eqb-true (ruleAt u p .label) l (and-right (pairs p) (eqb (ruleAt u p .label) l) e);
+            },
+        λ h.
+            keep-mem test (numbers-below (length (u .rules)) p .1 (h .below))
+            (and-intro (pairs p) (eqb (ruleAt u p .label) l) (h .listed) (eq-eqb (ruleAt u p .label) l (h .label))),
+      )
+
+  pub labelled-ascending : length (u .rules) ≤ 128 → (l : ℕ) → Ascending (labelled u pairs l)
+  unfolding labelled
+  labelled-ascending few l = kept-below (λ p. pairs p && eqb (ruleAt u p .label) l) (length (u .rules)) 128 few
+
+  -- a set with a member is told by its label
+  pub label-told : (x y p : ℕ) → List·Memᴰ p (labelled u pairs x) → labelled u pairs x ≡ labelled u pairs y → x ≡ y
+  label-told x y p m e =
+      sym (labelled-pair x p .0 m .label) ∙ labelled-pair y p .0 (subst (λ (s : TypeSet). List·Memᴰ p s) e m) .label
+
+  -- so of sets of which one has a member, the labels are equal just where the sets are
+  pub same-label : (x y p : ℕ) → List·Memᴰ p (labelled u pairs y)
+      → sameNumbers (labelled u pairs x) (labelled u pairs y) ≡ eqb x y
+  same-label x y p m =
+      same-test (sameNumbers (labelled u pairs x) (labelled u pairs y)) (eqb x y) (
+        λ e. eq-eqb x y (sym (label-told y x p m (sym (numbers-decide (labelled u pairs x) (labelled u pairs y) .0 e)))),
+        λ e. numbers-decide (labelled u pairs x) (labelled u pairs y) .1 (ap (labelled u pairs) (eqb-true x y e)),
+      )
+
+  -- the labels that have a set, and the sets, one a label
+  abbrev hasSet : ℕ → Bool
+  hasSet l = not (isEmpty (labelled u pairs l))
+
+  abbrev pub labelsWithSet : List ℕ
+  labelsWithSet = keep (λ l. not (isEmpty (labelled u pairs l))) (numbersBelow (length (u .labels)))
+
+  pub label-sets-are : labelSets u pairs ≡ map (labelled u pairs) labelsWithSet
+  unfolding labelSets
+  label-sets-are = keep-map (labelled u pairs) (λ s. not (isEmpty s)) (numbersBelow (length (u .labels)))
+
+  pub label-sets-once : distinct sameNumbers (labelSets u pairs) ≡ labelSets u pairs
+  label-sets-once =
+      ap (distinct sameNumbers) label-sets-are
+      ∙ distinct-map (labelled u pairs) sameNumbers labelsWithSet
+      ∙ ap (map (labelled u pairs))
+      (distinct-on (λ x y. sameNumbers (labelled u pairs x) (labelled u pairs y)) eqb labelsWithSet
+      (λ x y m n.
+      let (p, o) = some-mem (labelled u pairs y) (kept hasSet (numbersBelow (length (u .labels))) n .1) in
+      same-label x y p o)
+      ∙ sym (keep-distinct eqb eqb-decides hasSet (numbersBelow (length (u .labels))))
+      ∙ ap (keep hasSet) (distinct-all eqb (numbersBelow (length (u .labels))) (numbers-differ (length (u .labels)))))
+      ∙ sym label-sets-are
+
+-- some left pairs of one label
+pub record SetOfLabel (u : Table) (s : TypeSet) : Type 0 where
+  pub first : List·Memᴰ (getD s 0 0) s
+  pub left : AllLeft u s
+  pub alike : (p : ℕ) → List·Memᴰ p s → ruleAt u p .label ≡ setLabel u s
+  pub among : setLabel u s < length (u .labels)
+  pub ascending : Ascending s
+
+first-of : (s : TypeSet) {p : ℕ} → List·Memᴰ p s → List·Memᴰ (getD s 0 0) s
+first-of [] m = elim m [ ]
+first-of (q ∷ s) m = List·Memᴰ·head refl
+
+pub label-of-set : (u : Table) (pairs : ℕ → Bool) (l : ℕ) {p : ℕ} → List·Memᴰ p (labelled u pairs l)
+    → setLabel u (labelled u pairs l) ≡ l
+unfolding setLabel
+label-of-set u pairs l m =
+    let s = labelled u pairs l in
+    labelled-pair u pairs l (getD s 0 0) .0 (first-of s m) .label
+
+pub set-of-label : (u : Table) → UnionFit u → (pairs : ℕ → Bool) → ((p : ℕ) → pairs p ≡ true → isLeft u p ≡ true) → (l : ℕ)
+    → {p : ℕ} → List·Memᴰ p (labelled u pairs l) → SetOfLabel u (labelled u pairs l)
+unfolding setLabel
+set-of-label u fit pairs left l m =
+    let s = labelled u pairs l in
+    let first = first-of s m in
+    let among = left (getD s 0 0) (labelled-pair u pairs l (getD s 0 0) .0 first .listed) in
+    record {
+      first = first;
+      left = λ p n. left p (labelled-pair u pairs l p .0 n .listed);
+      alike = λ p n. labelled-pair u pairs l p .0 n .label ∙ sym (label-of-set u pairs l m);
+      among = fit .labelled (ruleAt u (getD s 0 0)) (left-pair u (getD s 0 0) among .there);
+      ascending = labelled-ascending u pairs (fit .few) l;
+    }
+
+-- the worklist, one step
+module _ (g : Table) where
+  abbrev newSets : List TypeSet → TypeSet → List TypeSet
+  newSets sets s = keep (λ t. not (any (sameNumbers t) sets)) (setsMet g s)
+
+  look-into : (n next : ℕ) (sets : List TypeSet) {s : TypeSet} → getElem? sets next ≡ just s
+      → moreSets g (suc n) next sets ≡ moreSets g n (suc next) (sets ++ newSets sets s)
+  unfolding moreSets
+  look-into n next sets e = rw (e, moreSets)
+
+  look-none : (n next : ℕ) (sets : List TypeSet) → getElem? sets next ≡ nothing → moreSets g n next sets ≡ sets
+  unfolding moreSets
+  look-none zero next sets e = refl
+  look-none (suc n) next sets e = rw (e, moreSets)
+
+  -- sets are only added
+  more-grow : (n next : ℕ) (sets : List TypeSet) → (rest : List TypeSet) × (moreSets g n next sets ≡ sets ++ rest)
+  unfolding moreSets
+  more-grow zero next sets = ([], sym (append-nil sets))
+  more-grow (suc n) next sets =
+      go (getElem? sets next) refl (λ s. more-grow n (suc next) (sets ++ newSets sets s))
+    where
+      go : (o : Option TypeSet) → getElem? sets next ≡ o
+          → ((s : TypeSet) → (rest : List TypeSet)
+          × (moreSets g n (suc next) (sets ++ newSets sets s) ≡ (sets ++ newSets sets s) ++ rest))
+          → (rest : List TypeSet) × (moreSets g (suc n) next sets ≡ sets ++ rest)
+      go nothing e ih = ([], look-none (suc n) next sets e ∙ sym (append-nil sets))
+      go (just s) e ih =
+          let (rest, f) = ih s in
+          (newSets sets s ++ rest, look-into n next sets e ∙ f ∙ append-assoc sets (newSets sets s) rest)
+
+-- These sets are found, and those below `next` have been looked into: what is left to do, done from here, gives all sets.
+pub record Found (u : Table) (next : ℕ) (sets : List TypeSet) : Type 0 where
+  pub once : distinct sameNumbers sets ≡ sets
+  pub left : (s : TypeSet) → List·Memᴰ s sets → AllLeft u s
+  pub whole : moreSets (reduce (normalise u)) (64 - next) next sets ≡ singleTypeSets u
+
+module _ (u : Table) where
+  pub start-left : AllLeft u (withoutUnfruitful (normalise u) .starts)
+  start-left p m = mem-in (start-reached u p m)
+
+  pub start-sets : startSets (reduce (normalise u)) ≡ labelSets u (isStart u)
+  unfolding startSets labelSets reduce withoutUnreached withoutUnfruitful normalise
+  start-sets =
+      ap (λ (f : ℕ → TypeSet). keep (λ s. not (isEmpty s)) (map f (numbersBelow (length (u .labels)))))
+      (fun-ext (label-set u (withoutUnfruitful (normalise u) .starts) start-left))
+
+  pub start-sets-first : (rest : List TypeSet) × (singleTypeSets u ≡ labelSets u (isStart u) ++ rest)
+  start-sets-first =
+      let (rest, e) = starts-first standard (reduce (normalise u)) in
+      (rest, e ∙ ap (λ (sets : List TypeSet). sets ++ rest) start-sets)
+
+  -- the label of a left pair
+  pub label-of-left : (p : ℕ) → isLeft u p ≡ true → labelOf (reduce (normalise u)) p ≡ ruleAt u p .label
+  unfolding labelLeft
+  label-of-left p e = left-label u p ∙ rw (e, labelLeft)
+
+  pub sets-met : (s : TypeSet) → AllLeft u s
+      → setsMet (reduce (normalise u)) s
+      ≡ map (labelled u (metWithin u s)) (distinct eqb (map (λ p. ruleAt u p .label) (metIn u (λ q. isIn q s))))
+  unfolding setsMet
+  sets-met s left =
+      let met = metIn u (λ q. isIn q s) in
+      let g = reduce (normalise u) in
+      ap (λ (ks : List ℕ). map (ofLabel g ks) (distinct eqb (map (labelOf g) ks))) (types-met u s left)
+      ∙ ap₂ (λ (f : ℕ → TypeSet) (ls : List ℕ). map f (distinct eqb ls)) (fun-ext (label-set u met (met-left u s left)))
+      (map-on (labelOf g) (λ p. ruleAt u p .label) met (λ p m. label-of-left p (met-left u s left p m)))
+
+  module _ (s : TypeSet) (left : AllLeft u s) where
+    abbrev met : List ℕ
+    met = metIn u (λ q. isIn q s)
+
+    abbrev labels : List ℕ
+    labels = map (λ p. ruleAt u p .label) met
+
+    -- the sets of the pairs met are the sets met
+    sets-of-met : distinct sameNumbers (setsWithin u s) ≡ setsMet (reduce (normalise u)) s
+    sets-of-met =
+        let set = labelled u (metWithin u s) in
+        distinct-image eqb eqb-decides sameNumbers numbers-decide (λ p. set (ruleAt u p .label)) met
+        ∙ ap (distinct sameNumbers) (sym (map-map set (λ p. ruleAt u p .label) met))
+        ∙ distinct-map set sameNumbers labels
+        ∙ ap (map set)
+        (distinct-on (λ x y. sameNumbers (set x) (set y)) eqb labels
+        (λ x y m n.
+        let (p, o, e) = Memᴰ·of-map (λ p. ruleAt u p .label) met n in
+        same-label u (metWithin u s) x y p
+        (labelled-pair u (metWithin u s) y p .1
+        (record { below = left-pair u p (met-left u s left p o) .below; listed = mem-in o; label = e }))))
+        ∙ sym (sets-met s left)
+
+    sets-added : (sets : List TypeSet) → distinct sameNumbers sets ≡ sets
+        → distinct sameNumbers (sets ++ setsWithin u s)
+        ≡ sets ++ keep (λ t. not (any (sameNumbers t) sets)) (setsMet (reduce (normalise u)) s)
+    sets-added sets once =
+        distinct-append sameNumbers numbers-decide sets (setsWithin u s)
+        ∙ ap₂ _++_ once (ap (keep (λ t. not (any (sameNumbers t) sets))) sets-of-met)
+
+  pub found-start : Found u 0 (labelSets u (isStart u))
+  unfolding allSets standard labelSets
+  found-start =
+      record {
+        once = label-sets-once u (isStart u);
+        left =
+            λ s m p n.
+            let (o, e) = kept (λ t. not (isEmpty t)) (map (labelled u (isStart u)) (numbersBelow (length (u .labels)))) m in
+            let (l, q, f) = Memᴰ·of-map (labelled u (isStart u)) (numbersBelow (length (u .labels))) o in
+            let h = labelled-pair u (isStart u) l p .0 (subst (λ (t : TypeSet). List·Memᴰ p t) (sym f) n) in
+            start-left p (in-mem p (withoutUnfruitful (normalise u) .starts) (h .listed));
+        whole = ap (moreSets (reduce (normalise u)) 64 0) (sym start-sets);
+      }
+
+  pub found-next : (next : ℕ) (sets : List TypeSet) (s : TypeSet) → Found u next sets → getElem? sets next ≡ just s → next < 64
+      → Found u (next + 1) (distinct sameNumbers (sets ++ setsWithin u s))
+  found-next next sets s f e h =
+      let left = f .left s (at-mem sets next e) in
+      let fuel : 64 - next ≡ suc (64 - (next + 1)) = omega arith in
+      let one : suc next ≡ next + 1 = omega arith in
+      let g = reduce (normalise u) in
+      record {
+        once = distinct-again sameNumbers numbers-decide (sets ++ setsWithin u s);
+        left =
+            λ t m.
+            ⊎-elim (f .left t) (met-set-left s left t)
+            (List·Memᴰ·append-cases sets (distinct-was sameNumbers (sets ++ setsWithin u s) m));
+        whole =
+            ap (moreSets g (64 - (next + 1)) (next + 1)) (sets-added s left sets (f .once))
+            ∙ ap (λ (n : ℕ). moreSets g (64 - (next + 1)) n (sets ++ newSets g sets s)) (sym one)
+            ∙ sym (look-into g (64 - (next + 1)) next sets e)
+            ∙ ap (λ (n : ℕ). moreSets g n next sets) (sym fuel)
+            ∙ f .whole;
+      }
+    where
+      met-set-left : (s : TypeSet) → AllLeft u s → (t : TypeSet) → List·Memᴰ t (setsWithin u s) → AllLeft u t
+      met-set-left s left t m p n =
+          let (q, o, f) = Memᴰ·of-map (λ p. labelled u (metWithin u s) (ruleAt u p .label)) (distinct eqb (met s left)) m in
+          let h =
+          labelled-pair u (metWithin u s) (ruleAt u q .label) p .0 (subst (λ (t : TypeSet). List·Memᴰ p t) (sym f) n)
+          in
+          met-left u s left p (in-mem p (met s left) (h .listed))
+
+  pub found-all : (next : ℕ) (sets : List TypeSet) → Found u next sets → length sets ≤ next → sets ≡ singleTypeSets u
+  found-all next sets f h =
+      sym (look-none (reduce (normalise u)) (64 - next) next sets (past-nothing sets next h)) ∙ f .whole
+
+  pub found-many : (next : ℕ) (sets : List TypeSet) → Found u next sets → 64 < length sets → 64 < length (singleTypeSets u)
+  found-many next sets f h =
+      let (rest, e) = more-grow (reduce (normalise u)) (64 - next) next sets in
+      let n = ap length (sym (f .whole) ∙ e) ∙ length-append sets rest in
+      omega arith

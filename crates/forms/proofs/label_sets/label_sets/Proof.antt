@@ -1,0 +1,104 @@
+-- `label_sets` meets its contract. The loop's invariant: the sets of the labels before `l` stand in the words.
+use Prim.Native.Nat.{ℕ, _-_, _≤_}
+use native.Mathlib.Omega.{arith}
+use mathlib.Core.List.{List}
+use mathlib.Core.Path.{_≡_, refl, sym, subst}
+use lib.ListN.{length}
+use borrow.Author.Needs.{needs}
+use Rattle.grammar.specs.SingleTypeForm.{TypeSet}
+use Rattle.grammar.specs.Table.{Table}
+use Rattle.sets.specs.Sets.{member}
+use Rattle.pairs.specs.View.{Views}
+use Rattle.forms.specs.declared.set_words.Counted.the-variants.{Count}
+use Rattle.forms.specs.SetWords.{SetsCounted}
+use Rattle.forms.proofs.SetWordLaws.{no-sets}
+use Rattle.forms.proofs.SetsFound.{labelled-ascending}
+use Rattle.forms.proofs.LabelLaws.{few-rules, setsUp, up-none, up-more, up-many, up-whole}
+use Rattle.forms.proofs.label_sets.label_sets.Statement.{statement}
+use Rattle.forms.proofs.label_sets.label_sets.Tie as tie
+
+abbrev Inv-loop : tie.InvT-loop
+Inv-loop v labels pairs words₀ count₀ l₀ words count l =
+    (l ≤ labels)
+    × (count ≤ 64)
+    × (length words ≡ length words₀)
+    × ((old add : List ℕ) (u : Table) → Views old add v u → SetsCounted words (setsUp u (member (pairs .words) 0) l) (Count count))
+
+abbrev μ-loop : tie.MeasureT-loop
+μ-loop v labels pairs words₀ count₀ l₀ words count l = labels - l
+
+loop-holds : tie.Need-loop-holds Inv-loop μ-loop
+loop-holds c =
+    let a = c .before .args in (
+      omega arith,
+      omega arith,
+      refl,
+      λ old add u x.
+          subst (λ (s : List TypeSet). SetsCounted (a .words .now) s (Count 0)) (sym (up-none u (member (a .pairs .words) 0)))
+          (no-sets (a .words .now) (c .before .pre .1 .room)),
+    )
+
+labelled-pairs-requires : tie.Need-labelled-pairs-requires Inv-loop μ-loop
+labelled-pairs-requires c κs = (c .before .before .before .pre .0, c .before .before .before .pre .1 .four)
+
+put-some-requires : tie.Need-put-some-requires Inv-loop μ-loop
+put-some-requires c κs =
+    let l = c .before .before .before .loop in
+    let same = l .inv .2 in
+    let room = c .before .before .before .before .before .pre .1 .room in
+    record { few = l .inv .1; room = omega arith; four = c .before .labelled-pairs .ensures .1 }
+
+returns : tie.Need-returns Inv-loop μ-loop
+returns c =
+    λ old add u x labels.
+    let l = c .before .before .before .before .before .before .before .before .loop in
+    let s = l .inv .3 old add u x in
+    let pairs = member (c .before .before .before .before .before .before .before .before .before .before .args .pairs .words) 0 in
+    up-many u pairs (l .l) _ _
+    (c .before .before .before .before .put-some .ensures .0 _ _ (s .1) (s .0) (c .before .before .before .before .before .before .labelled-pairs .ensures .0 old add u x) (labelled-ascending u pairs (few-rules x) (l .l)))
+    (c .enum-told .given .1)
+    (c .before .before .before .before .before .before .before .before .before .before .args .labels)
+    (c .before .before .before .before .before .before .before .loop-test .taken)
+    labels
+
+loop-again : tie.Need-loop-again Inv-loop μ-loop
+loop-again c =
+    let l = c .before .before .before .before .before .before .before .before .before .loop in
+    let pairs = member (c .before .before .before .before .before .before .before .before .before .before .before .args .pairs .words) 0 in (
+      omega arith,
+      c .before .before .before .before .before .put-some .ensures .1 _ (c .before .more .given .1),
+      search needs,
+      λ old add u x.
+          let s = l .inv .3 old add u x in
+          up-more u pairs (l .l) _ _
+          (c .before .before .before .before .before .put-some .ensures .0 _ _ (s .1) (s .0) (c .before .before .before .before .before .before .before .labelled-pairs .ensures .0 old add u x) (labelled-ascending u pairs (few-rules x) (l .l)))
+          _
+          (c .before .more .given .1),
+    )
+
+returns-2 : tie.Need-returns-2 Inv-loop μ-loop
+returns-2 c =
+    λ old add u x labels.
+    let l = c .before .loop in
+    let e : l .l ≡ length (u .labels) = omega arith in
+    subst (λ (s : List TypeSet). SetsCounted (l .words) s (Count (l .count))) (up-whole u (member (c .before .before .before .args .pairs .words) 0) (l .l) e)
+    (l .inv .3 old add u x)
+
+pub label-sets-spec : {M : Type 1} → statement M
+label-sets-spec =
+    tie.close
+    (tie.spec
+    Inv-loop
+    μ-loop
+    loop-holds
+    labelled-pairs-requires
+    put-some-requires
+    (λ c. search needs)
+    (λ c. search needs)
+    returns
+    (λ c. search needs)
+    (λ c. omega arith)
+    (λ c. omega arith)
+    loop-again
+    (λ c. search needs)
+    returns-2)

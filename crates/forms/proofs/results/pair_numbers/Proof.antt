@@ -1,0 +1,75 @@
+-- `pair_numbers` meets its contract. The loop's invariant: the pairs before `p` have their numbers.
+use Prim.Native.Nat.{ℕ, _-_, _≤_}
+use native.Mathlib.Omega.{arith}
+use mathlib.Core.List.{List}
+use mathlib.Core.Path.{_≡_, _∙_, ap}
+use lib.ListN.{length, getD, length-set, length-replicate}
+use borrow.Author.Needs.{needs}
+use Rattle.grammar.specs.Table.{Table}
+use Rattle.sets.specs.Sets.{member}
+use Rattle.pairs.specs.View.{Views}
+use Rattle.pairs.specs.PairNumbers.{isLeft}
+use Rattle.forms.specs.SetForms.{labelLeft}
+use Rattle.forms.specs.Worklist.{NumbersOf}
+use Rattle.forms.proofs.ResultLaws.{numbers-more, small-more, none-small}
+use Rattle.forms.proofs.results.pair_numbers.Statement.{statement}
+use Rattle.forms.proofs.results.pair_numbers.Tie as tie
+
+abbrev Inv-loop : tie.InvT-loop
+Inv-loop v left by-label rules of₀ p₀ of p =
+    (p ≤ rules)
+    × ((old add : List ℕ) (u : Table) → Views old add v u → member (left .words) 0 ≡ isLeft u
+    → NumbersOf (λ q. getD by-label (labelLeft u q) 0) p of)
+    × ((q : ℕ) → getD of q 0 ≤ 64)
+    × (length of ≡ 128)
+
+abbrev μ-loop : tie.MeasureT-loop
+μ-loop v left by-label rules of₀ p₀ of p = rules - p
+
+loop-holds : tie.Need-loop-holds Inv-loop μ-loop
+loop-holds c = (omega arith, λ old add u x is q h. absurd (omega arith), none-small 128 64, length-replicate {A = ℕ} 128 0)
+
+label-left-requires : tie.Need-label-left-requires Inv-loop μ-loop
+label-left-requires c κs = (c .before .before .before .pre .0, c .before .before .before .pre .1, c .before .before .before .pre .2, c .loop-test .taken)
+
+array-read-of : tie.Need-array-read-of Inv-loop μ-loop
+array-read-of c = let h = c .label-left .ensures .1 in search needs
+
+array-write-of : tie.Need-array-write-of Inv-loop μ-loop
+array-write-of c = let h = c .before .before .before .before .pre .0 .few in omega arith
+
+add-p : tie.Need-add-p Inv-loop μ-loop
+add-p c = let h = c .before .before .before .before .pre .0 .few in omega arith
+
+loop-again : tie.Need-loop-again Inv-loop μ-loop
+loop-again c =
+    let few = c .before .before .before .before .pre .0 .few in
+    let by = c .before .before .before .before .args .numbers .of in
+    let l = c .before .before .loop in
+    let long = l .inv .3 in (
+      omega arith,
+      λ old add u x is.
+          numbers-more (l .p) (l .of) _ (omega arith) _ (l .inv .1 old add u x is) (ap (λ (k : ℕ). getD by k 0) (c .label-left .ensures .0 old add u x is)),
+      small-more (l .p) (l .of) _ (omega arith) 64 (l .inv .2) (c .before .before .before .before .pre .3 (c .label-left .result)),
+      length-set (l .of) (l .p) _ ∙ long,
+    )
+
+returns : tie.Need-returns Inv-loop μ-loop
+returns c =
+    let l = c .before .loop in
+    (λ old add u x is q h. l .inv .1 old add u x is q (omega arith), l .inv .2)
+
+pub pair-numbers-spec : {M : Type 1} → statement M
+pair-numbers-spec =
+    tie.close
+    (tie.spec
+    Inv-loop
+    μ-loop
+    loop-holds
+    label-left-requires
+    array-read-of
+    array-write-of
+    add-p
+    (λ c. omega arith)
+    loop-again
+    returns)

@@ -1,0 +1,88 @@
+// The lists of the fruitful pairs by type, with the numbers of sets in place of pairs.
+use crate::label_sets::Numbers;
+use pairs::lists::Lists;
+use pairs::lists::TypeLists;
+use pairs::union::United;
+use reader::numbers::wide;
+use sets::four::Set4;
+ghost use mathlib.Core.Bool.{Bool};
+ghost use mathlib.Core.List.{List, map};
+ghost use mathlib.Core.Path.{_≡_};
+ghost use Prim.Native.Nat.{ℕ, _≤_, _<_};
+ghost use lib.ListN.{length, getD};
+ghost use Rattle.grammar.specs.Lists.{place, sameNumbers};
+ghost use Rattle.grammar.specs.SingleTypeForm.{TypeSet};
+ghost use Rattle.grammar.specs.Table.{Table};
+ghost use Rattle.grammar.specs.Normalise.{pairsOf, normalise};
+ghost use Rattle.grammar.specs.Reduce.{fruitful};
+ghost use Rattle.theory.proofs.Alternatives.{resultsOf};
+ghost use Rattle.theory.proofs.TableConditions.{Labelled};
+ghost use Rattle.sets.specs.Sets.{member};
+ghost use Rattle.pairs.specs.View.{Views, ViewSized};
+ghost use Rattle.pairs.specs.PairNumbers.{isLeft, fruitfulOf};
+ghost use Rattle.pairs.specs.TypeLists.{ListsOf};
+ghost use Rattle.forms.specs.SetForms.{labelled, labelLeft, setNumber};
+ghost use Rattle.forms.specs.Worklist.{LabelsSized, NumbersOf};
+
+// The label of a pair, where it is left.
+pub fn label_left(v: United, left: Set4, p: usize) -> usize
+    requires { ⌜ (ViewSized v) × (LabelsSized v) × (length (left .words) ≡ 4) × (p < v .rules) ⌝ }
+    ensures { λ r. ⌜ ((old add : List ℕ) (u : Table) → Views old add v u → member (left .words) 0 ≡ isLeft u → r ≡ labelLeft u p) × (r < 128) ⌝ }
+{
+    if left.has(p) {
+        let labels = v.labels;
+        return labels[p];
+    }
+    0
+}
+
+// For each pair the number of the set of its label.
+pub fn pair_numbers(v: United, left: Set4, numbers: Numbers) -> Numbers
+    requires { ⌜ (ViewSized v) × (LabelsSized v) × (length (left .words) ≡ 4) × ((l : ℕ) → getD (numbers .of) l 0 ≤ 64) ⌝ }
+    ensures { λ r. ⌜ ((old add : List ℕ) (u : Table) → Views old add v u → member (left .words) 0 ≡ isLeft u → NumbersOf (λ p. getD (numbers .of) (labelLeft u p) 0) (v .rules) (r .of)) × ((p : ℕ) → getD (r .of) p 0 ≤ 64) ⌝ }
+{
+    let by_label = numbers.of;
+    let rules = v.rules;
+    let mut of = [0u8; 128];
+    let mut p: usize = 0;
+    while p < rules {
+        let label = label_left(v, left, p);
+        of[p] = by_label[label];
+        p += 1;
+    }
+    Numbers { of }
+}
+
+// The lists with other numbers in place of their own.
+pub fn renumbered(lists: Lists, numbers: Numbers) -> Lists
+    requires { ⌜ ((i : ℕ) → getD (lists .numbers) i 0 < 128) ⌝ }
+    ensures { λ r. ⌜ (r .from ≡ lists .from) × (r .numbers ≡ map (λ p. getD (numbers .of) p 0) (lists .numbers)) ⌝ }
+{
+    let from = lists.from;
+    let before = lists.numbers;
+    let of = numbers.of;
+    let mut after = [0u8; 128];
+    let mut i: usize = 0;
+    while i < 128 {
+        let p = wide(before[i]);
+        after[i] = of[p];
+        i += 1;
+    }
+    Lists {
+        from,
+        numbers: after,
+    }
+}
+
+// For each type the numbers of the sets of its fruitful pairs. `numbers` are those of the labels.
+pub fn result_lists(v: United, lists: TypeLists, left: Set4, numbers: Numbers) -> TypeLists
+    requires { ⌜ (ViewSized v) × (LabelsSized v) × (length (left .words) ≡ 4) × ((l : ℕ) → getD (numbers .of) l 0 ≤ 64) × ((i : ℕ) → getD (lists .old .numbers) i 0 < 128) × ((i : ℕ) → getD (lists .addition .numbers) i 0 < 128) ⌝ }
+    ensures { λ r. ⌜ ((old add : List ℕ) (u : Table) (sets : List TypeSet) (pairs : ℕ → Bool) → Views old add v u → ListsOf (fruitfulOf u) lists → member (left .words) 0 ≡ isLeft u → Labelled u → NumbersOf (λ l. place sameNumbers (labelled u pairs l) sets) (length (u .labels)) (numbers .of) → ListsOf (resultsOf (pairsOf u) (fruitful (normalise u)) (setNumber u sets pairs)) r) ⌝ }
+{
+    let of = pair_numbers(v, left, numbers);
+    let before = lists.old;
+    let old = renumbered(before, of);
+    let added = lists.addition;
+    let addition = renumbered(added, of);
+    TypeLists { old, addition }
+}

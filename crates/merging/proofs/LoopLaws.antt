@@ -1,0 +1,204 @@
+-- Alternatives gathered number by number, for what the numbers below n give.
+--   given-on, given-off, given-as   what a number gives only if it is asked for
+--   so-far-none, so-far-next        no number yet; one number more; ready-for : and the draft is ready for the next
+--   so-far-wide, so-far-all         what one number gives does not fit, so all do not; all numbers
+--   pair-gives, set-gives           what the contents of a pair give, by its rules; of a set, by its pairs
+--   made-wide, made-kept, made-so   the content of all: too large, or made of the operands that stand in the draft
+use Prim.Native.Nat.{ℕ, suc, _+_, _-_, _≤_, _<_}
+use native.Mathlib.Omega.{arith}
+use mathlib.Core.Bool.{Bool, true, false}
+use mathlib.Core.List.{List, [], _∷_, _++_, map, append-assoc, append-nil}
+use mathlib.Core.Path.{_≡_, refl, sym, _∙_, ap, subst}
+use lib.ListN.{length}
+use lib.Dec.{eqb}
+use Rattle.grammar.specs.Lists.{keep, joinedOf, numbersFrom, numbersBelow}
+use Rattle.grammar.specs.Limits.{standard}
+use Rattle.grammar.specs.Content.{Content, choiceOf}
+use Rattle.grammar.specs.Size.{contentTooLarge}
+use Rattle.grammar.specs.Table.{Table}
+use Rattle.grammar.specs.Normalise.{pairOf}
+use Rattle.theory.proofs.ListLaws.{keep-yes, keep-no, joined-append}
+use Rattle.theory.proofs.Alternatives.{alts, written, onlyIf}
+use Rattle.theory.proofs.Gathering.{gathered, gather-nothing, gather-more, written-gathered}
+use Rattle.pairs.specs.Rounds.{contentOf}
+use Rattle.pairs.specs.PairNumbers.{ruleAt, contentsOfPair, contentsIn}
+use Rattle.emitting.specs.declared.drafts.Gathering.{Gathering}
+use Rattle.emitting.specs.declared.drafts.Gathering.the-variants.{TooLarge, Upto}
+use Rattle.emitting.specs.declared.completing.ContentMade.{ContentMade}
+use Rattle.emitting.specs.declared.completing.ContentMade.the-variants as made
+use Rattle.emitting.specs.Drafts.{Row, Kept, TooWide}
+use Rattle.emitting.specs.Completing.{Regular, Made}
+use Rattle.emitting.proofs.WideLaws.{wide-gathered, too-large}
+use Rattle.merging.specs.Merging.{Ready, GathersIn}
+
+-- what is asked for, and what is not
+pub given-on : (draft : List ℕ) (ds xs : List Content) (r : Gathering) (on : Bool) → on ≡ true → GathersIn draft (gathered ds xs) r
+    → GathersIn draft (gathered ds (onlyIf on xs)) r
+unfolding onlyIf
+given-on draft ds xs r on e g = subst (λ (b : Bool). GathersIn draft (gathered ds (onlyIf b xs)) r) (sym e) g
+
+pub given-off : (draft : List ℕ) (count end : ℕ) (xs : List Content) (on : Bool) → on ≡ false → (k : Ready draft count end)
+    → GathersIn draft (gathered (k .kept .list) (onlyIf on xs)) (Upto 0 count end)
+unfolding onlyIf GathersIn
+given-off draft count end xs on e k =
+    let ds = k .kept .list in
+    let same : ds ≡ gathered ds (onlyIf on xs) =
+    sym (ap (λ (b : Bool). gathered ds (onlyIf b xs)) e ∙ gather-nothing ds (k .kept .row .apart)) in
+    (subst (λ (l : List Content). Row draft 2 count l end) same (k .kept .row), k .fits)
+
+pub given-as : (draft : List ℕ) (ds xs : List Content) (r : Gathering) (on on′ : Bool) → on ≡ on′ → GathersIn draft (gathered ds (onlyIf on xs)) r
+    → GathersIn draft (gathered ds (onlyIf on′ xs)) r
+given-as draft ds xs r on on′ e g = subst (λ (b : Bool). GathersIn draft (gathered ds (onlyIf b xs)) r) e g
+
+-- Operands stand in the draft that were kept before or that the numbers below i give.
+module _ (give : ℕ → List Content) (n : ℕ) where
+  abbrev pub restFrom : ℕ → List Content
+  restFrom i = joinedOf give (numbersFrom i (n - i))
+
+  pub record SoFar (ds : List Content) (draft : List ℕ) (count end i : ℕ) : Type 0 where
+    pub list : List Content
+    pub row : Row draft 2 count (gathered ds list) end
+    pub fits : end ≤ 1026
+    pub rest : list ++ restFrom i ≡ joinedOf give (numbersBelow n)
+
+  rest-next : (i : ℕ) → i < n → restFrom i ≡ give i ++ restFrom (i + 1)
+  unfolding joinedOf numbersFrom
+  rest-next i h =
+      let z : n - i ≡ suc (n - (i + 1)) = omega arith in
+      let s : suc i ≡ i + 1 = omega arith in
+      ap (λ (m : ℕ). joinedOf give (numbersFrom i m)) z
+      ∙ ap (λ (j : ℕ). give i ++ joinedOf give (numbersFrom j (n - (i + 1)))) s
+
+  rest-none : restFrom n ≡ []
+  unfolding joinedOf numbersFrom
+  rest-none = let z : n - n ≡ 0 = omega arith in ap (λ (m : ℕ). joinedOf give (numbersFrom n m)) z
+
+  pub so-far-none : {draft : List ℕ} {count end : ℕ} (k : Ready draft count end) → SoFar (k .kept .list) draft count end 0
+  unfolding numbersBelow
+  so-far-none {draft} {count} {end} k =
+      record {
+        list = [];
+        row =
+            subst (λ (l : List Content). Row draft 2 count l end) (sym (gather-nothing (k .kept .list) (k .kept .row .apart))) (k .kept .row);
+        fits = k .fits;
+        rest = let z : n - 0 ≡ n = omega arith in ap (λ (m : ℕ). joinedOf give (numbersFrom 0 m)) z;
+      }
+
+  module _ {ds : List Content} {draft : List ℕ} {count end i : ℕ} (s : SoFar ds draft count end i) where
+    -- ready for the next number
+    abbrev pub ready-for : 33858 ≤ length draft → Ready draft count end
+    ready-for room = record { kept = record { list = gathered ds (s .list); row = s .row }; fits = s .fits; room = room }
+
+    module _ (h : i < n) (after : List ℕ) (r : Gathering) (g : GathersIn after (gathered (gathered ds (s .list)) (give i)) r) where
+      abbrev next-list : List Content
+      next-list = s .list ++ give i
+
+      next-gathers : GathersIn after (gathered ds next-list) r
+      next-gathers = subst (λ (l : List Content). GathersIn after l r) (gather-more ds (s .list) (give i)) g
+
+      next-rest : next-list ++ restFrom (i + 1) ≡ joinedOf give (numbersBelow n)
+      next-rest =
+          append-assoc (s .list) (give i) (restFrom (i + 1))
+          ∙ ap (λ (l : List Content). s .list ++ l) (sym (rest-next i h))
+          ∙ s .rest
+
+      pub so-far-wide : r ≡ TooLarge → (last : List ℕ) (all : List Content) → joinedOf give (numbersBelow n) ≡ all
+          → GathersIn last (gathered ds all) TooLarge
+      unfolding GathersIn
+      so-far-wide e last all whole =
+          subst (λ (l : List Content). TooWide 1024 (gathered ds l)) (next-rest ∙ whole)
+          (wide-gathered 1024 ds next-list (restFrom (i + 1))
+          (subst (λ (x : Gathering). GathersIn after (gathered ds next-list) x) e next-gathers))
+
+      pub so-far-next : {m c stop : ℕ} → r ≡ Upto m c stop → SoFar ds after c stop (i + 1)
+      unfolding GathersIn
+      so-far-next {m} {c} {stop} e =
+          let t : Row after 2 c (gathered ds next-list) stop × (stop ≤ 1026) =
+          subst (λ (x : Gathering). GathersIn after (gathered ds next-list) x) e next-gathers in
+          record { list = next-list; row = t .0; fits = t .1; rest = next-rest }
+
+    pub so-far-all : i ≡ n → (all : List Content) → joinedOf give (numbersBelow n) ≡ all → GathersIn draft (gathered ds all) (Upto 0 count end)
+    unfolding GathersIn
+    so-far-all e all whole = (
+      subst (λ (l : List Content). Row draft 2 count (gathered ds l) end)
+          (sym (append-nil (s .list)) ∙ ap (λ (l : List Content). s .list ++ l) (sym (ap restFrom e ∙ rest-none)) ∙ s .rest ∙ whole)
+          (s .row),
+      s .fits,
+    )
+
+-- what some elements give, by all of them
+joined-kept : {A B : Type 0} (f : A → List B) (test : A → Bool) (xs : List A)
+    → joinedOf f (keep test xs) ≡ joinedOf (λ x. onlyIf (test x) (f x)) xs
+unfolding joinedOf keep onlyIf
+joined-kept f test [] = refl
+joined-kept {A} {B} f test (x ∷ xs) = go (test x) refl (joined-kept f test xs)
+  where
+    rest : List B
+    rest = joinedOf (λ y. onlyIf (test y) (f y)) xs
+
+    go : (b : Bool) → test x ≡ b → joinedOf f (keep test xs) ≡ rest
+        → joinedOf f (keep test (x ∷ xs)) ≡ onlyIf (test x) (f x) ++ rest
+    go true e ih =
+        ap (joinedOf f) (keep-yes test x xs e)
+        ∙ ap (λ (l : List B). f x ++ l) ih
+        ∙ ap (λ (b : Bool). onlyIf b (f x) ++ rest) (sym e)
+    go false e ih = ap (joinedOf f) (keep-no test x xs e) ∙ ih ∙ ap (λ (b : Bool). onlyIf b (f x) ++ rest) (sym e)
+
+joined-map : {A B C : Type 0} (f : B → List C) (g : A → B) (xs : List A) → joinedOf f (map g xs) ≡ joinedOf (λ x. f (g x)) xs
+unfolding joinedOf
+joined-map f g [] = refl
+joined-map {A} {B} {C} f g (x ∷ xs) = ap (λ (l : List C). f (g x) ++ l) (joined-map f g xs)
+
+joined-joined : {A B C : Type 0} (f : B → List C) (g : A → List B) (xs : List A)
+    → joinedOf f (joinedOf g xs) ≡ joinedOf (λ x. joinedOf f (g x)) xs
+unfolding joinedOf
+joined-joined f g [] = refl
+joined-joined {A} {B} {C} f g (x ∷ xs) =
+    joined-append f (g x) (joinedOf g xs) ∙ ap (λ (l : List C). joinedOf f (g x) ++ l) (joined-joined f g xs)
+
+module _ (of : ℕ → List ℕ) (u : Table) where
+  -- what a rule gives to a pair, and a pair to a set
+  abbrev pub ruleGives : (p i : ℕ) → List Content
+  ruleGives p i = onlyIf (eqb (pairOf u (ruleAt u i)) p) (alts of (contentOf u i))
+
+  abbrev pub pairGives : (ℕ → Bool) → ℕ → List Content
+  pairGives set p = onlyIf (set p) (joinedOf (alts of) (contentsOfPair u p))
+
+  pub pair-gives : (p n : ℕ) → n ≡ length (u .rules) → joinedOf (ruleGives p) (numbersBelow n) ≡ joinedOf (alts of) (contentsOfPair u p)
+  unfolding contentsOfPair
+  pair-gives p n e =
+      let own : ℕ → Bool = λ i. eqb (pairOf u (ruleAt u i)) p in
+      ap (λ (m : ℕ). joinedOf (ruleGives p) (numbersBelow m)) e
+      ∙ sym (joined-kept (λ i. alts of (contentOf u i)) own (numbersBelow (length (u .rules))))
+      ∙ sym (joined-map (alts of) (contentOf u) (keep own (numbersBelow (length (u .rules)))))
+
+  pub set-gives : (set : ℕ → Bool) (n : ℕ) → n ≡ length (u .rules)
+      → joinedOf (pairGives set) (numbersBelow n) ≡ joinedOf (alts of) (contentsIn u set)
+  unfolding contentsIn
+  set-gives set n e =
+      ap (λ (m : ℕ). joinedOf (pairGives set) (numbersBelow m)) e
+      ∙ sym (joined-kept (λ p. joinedOf (alts of) (contentsOfPair u p)) set (numbersBelow (length (u .rules))))
+      ∙ sym (joined-joined (alts of) (contentsOfPair u) (keep set (numbersBelow (length (u .rules)))))
+
+-- the content of all
+module _ (draft : List ℕ) (xs : List Content) (r : Gathering) (g : GathersIn draft (gathered [] xs) r) where
+  pub made-wide : r ≡ TooLarge → (after : List ℕ) → Made after (written xs) made.TooLarge
+  unfolding GathersIn Made
+  made-wide e after =
+      ap (λ (l : List Content). contentTooLarge standard (written l)) (sym (append-nil xs))
+      ∙ too-large xs [] (subst (λ (x : Gathering). GathersIn draft (gathered [] xs) x) e g)
+
+  pub made-row : {m count end : ℕ} → r ≡ Upto m count end → Row draft 2 count (gathered [] xs) end
+  unfolding GathersIn
+  made-row {m} {count} {end} e =
+      let t : Row draft 2 count (gathered [] xs) end × (end ≤ 1026) = subst (λ (x : Gathering). GathersIn draft (gathered [] xs) x) e g in
+      t .0
+
+  abbrev pub made-kept : {m count end : ℕ} → r ≡ Upto m count end → Kept draft 2 count end
+  made-kept e = record { list = gathered [] xs; row = made-row e }
+
+pub made-so : (draft : List ℕ) (xs : List Content) (r : ContentMade)
+    → (Regular (choiceOf (gathered [] xs)) → Made draft (choiceOf (gathered [] xs)) r)
+    → Regular (written xs) → Made draft (written xs) r
+made-so draft xs r f q =
+    subst (λ (c : Content). Made draft c r) (sym (written-gathered xs)) (f (subst Regular (written-gathered xs) q))

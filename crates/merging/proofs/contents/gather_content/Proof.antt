@@ -1,0 +1,12 @@
+-- `gather_content` meets its contract.
+use borrow.Author.Needs.{needs}
+use Rattle.merging.proofs.RuleLaws.{gathers-in}
+use Rattle.merging.proofs.contents.gather_content.Statement.{statement}
+use Rattle.merging.proofs.contents.gather_content.Tie as tie
+
+returns : tie.Need-returns
+returns c = λ q. gathers-in _ _ _ _ _ _ (c .before .before .gather .ensures q)
+
+pub gather-content-spec : {M : Type 1} → statement M
+gather-content-spec =
+    tie.close (tie.spec (λ c. search needs) (λ c. search needs) (λ c κs. search needs) (λ c. search needs) returns)

@@ -1,0 +1,42 @@
+-- What merging the contents of a union is given, and what gathering them answers.
+use Prim.Native.Nat.{ℕ, _≤_, _<_}
+use mathlib.Core.List.{List, List·Memᴰ}
+use mathlib.Core.Path.{_≡_}
+use lib.ListN.{length}
+use Rattle.grammar.specs.Content.{Content, nesting}
+use Rattle.grammar.specs.Table.{Rule, Table}
+use Rattle.theory.proofs.Alternatives.{someLeft}
+use Rattle.sets.specs.Sets.{member}
+use Rattle.sets.specs.declared.four.Set4.{Set4}
+use Rattle.pairs.specs.declared.lists.TypeLists.{TypeLists}
+use Rattle.pairs.specs.declared.union.United.{United}
+use Rattle.pairs.specs.View.{Views}
+use Rattle.pairs.specs.TypeLists.{ListsOf}
+use Rattle.emitting.specs.declared.drafts.Gathering.{Gathering}
+use Rattle.emitting.specs.declared.drafts.Gathering.the-variants.{TooLarge, Upto}
+use Rattle.emitting.specs.Drafts.{Row, Kept, TooWide}
+
+-- its contents nest no deeper than those of a table that was read
+abbrev pub Shallow : Table → Type 0
+Shallow u = (r : Rule) → List·Memᴰ r (u .rules) → nesting (r .content) ≤ 32
+
+-- A union by its view, the result types of each of its types, and the set of its types that have some.
+pub record Merging (old add : List ℕ) (v : United) (types : Set4) (results : TypeLists) : Type 0 where
+  pub table : Table
+  pub views : Views old add v table
+  pub shallow : Shallow table
+  pub of : ℕ → List ℕ
+  pub lists : ListsOf of results
+  pub words : length (types .words) ≡ 4
+  pub typed : (k : ℕ) → k < 128 → member (types .words) 0 k ≡ someLeft of k
+
+-- some operands stand in the draft from the third byte on, and there is room for what any content gives
+pub record Ready (draft : List ℕ) (count end : ℕ) : Type 0 where
+  pub kept : Kept draft 2 count end
+  pub fits : end ≤ 1026
+  pub room : 33858 ≤ length draft
+
+-- these operands stand there; or they are too large for a content
+unfoldable pub GathersIn : List ℕ → List Content → Gathering → Type 0
+GathersIn draft ds TooLarge = TooWide 1024 ds
+GathersIn draft ds (Upto next count end) = Row draft 2 count ds end × (end ≤ 1026)

@@ -1,0 +1,269 @@
+// The content of a set of pairs of a union: what the contents of all their rules give, pair by pair and rule by rule, as one content.
+// `results` has the result types of each type of the union, and `types` is the set of the types that have some.
+use emitting::completing::ContentMade;
+use emitting::completing::complete;
+use emitting::drafts::Gathering;
+use emitting::emitter::gather;
+use emitting::limits::HEADED;
+use pairs::lists::Lists;
+use pairs::lists::TypeLists;
+use pairs::union::United;
+use sets::four::Set4;
+ghost use Prim.Native.Nat.{_≤_, _<_};
+ghost use mathlib.Core.List.{[]};
+ghost use lib.ListN.{length};
+ghost use Rattle.grammar.specs.Lists.{joinedOf};
+ghost use Rattle.theory.proofs.Alternatives.{alts, written, onlyIf};
+ghost use Rattle.theory.proofs.Gathering.{gathered};
+ghost use Rattle.sets.specs.Sets.{member};
+ghost use Rattle.pairs.specs.Walks.{listOf};
+ghost use Rattle.pairs.specs.Rounds.{contentOf};
+ghost use Rattle.pairs.specs.PairNumbers.{contentsOfPair, contentsIn};
+ghost use Rattle.emitting.specs.Emitting.{Source};
+ghost use Rattle.emitting.specs.Completing.{Regular, Made};
+ghost use Rattle.merging.specs.Merging.{Merging, Ready, GathersIn};
+
+// Adds what a source content gives, with the lists of its own table.
+fn gather_content(
+    content: &[u8],
+    types: &[u32],
+    lists: Lists,
+    draft: &mut [u8],
+    count: usize,
+    end: usize,
+) -> Gathering
+    requires { ⌜ Source (now content) 0 (now types) (lists .from) (lists .numbers) (now draft) 2 count end 1026 ⌝ }
+    ensures { λ r. ⌜ ((q : Source (now (content .entry)) 0 (now (types .entry)) (lists .from) (lists .numbers) (now (draft .entry)) 2 count end 1026)
+        → GathersIn (now (draft .exit)) (gathered (q .kept .list) (alts (listOf (lists .from) (lists .numbers)) (q .there .content))) r) ⌝ }
+{
+    let from = lists.from;
+    let numbers = lists.numbers;
+    gather(
+        content,
+        0,
+        types,
+        &from,
+        &numbers,
+        draft,
+        2,
+        count,
+        end,
+        HEADED,
+    )
+}
+
+// Adds what the content of a rule gives. It stands in the bytes of its own table, with that table's own types.
+fn gather_rule(
+    old: &[u8],
+    add: &[u8],
+    v: United,
+    i: usize,
+    types: Set4,
+    results: TypeLists,
+    draft: &mut [u8],
+    count: usize,
+    end: usize,
+) -> Gathering
+    requires { ⌜ Merging (now old) (now add) v types results × (i < v .rules) × Ready (now draft) count end ⌝ }
+    ensures { λ r. ⌜ ((q : Merging (now (old .entry)) (now (add .entry)) v types results) (k : Ready (now (draft .entry)) count end)
+        → GathersIn (now (draft .exit)) (gathered (k .kept .list) (alts (q .of) (contentOf (q .table) i))) r) ⌝ }
+{
+    let content_from = v.content_from;
+    let content_to = v.content_to;
+    let from = content_from[i];
+    let to = content_to[i];
+    let words = types.words;
+    if i < v.old_rules {
+        let lists = results.old;
+        return gather_content(&old[from..to], &words, lists, draft, count, end);
+    }
+    let lists = results.addition;
+    gather_content(&add[from..to], &words[2..4], lists, draft, count, end)
+}
+
+// The same if the rule is asked for.
+fn gather_rule_if(
+    on: bool,
+    old: &[u8],
+    add: &[u8],
+    v: United,
+    i: usize,
+    types: Set4,
+    results: TypeLists,
+    draft: &mut [u8],
+    count: usize,
+    end: usize,
+) -> Gathering
+    requires { ⌜ Merging (now old) (now add) v types results × (i < v .rules) × Ready (now draft) count end ⌝ }
+    ensures { λ r. ⌜ ((q : Merging (now (old .entry)) (now (add .entry)) v types results) (k : Ready (now (draft .entry)) count end)
+        → GathersIn (now (draft .exit)) (gathered (k .kept .list) (onlyIf on (alts (q .of) (contentOf (q .table) i)))) r) ⌝ }
+{
+    if on {
+        return gather_rule(old, add, v, i, types, results, draft, count, end);
+    }
+    Gathering::Upto {
+        next: 0,
+        count,
+        end,
+    }
+}
+
+// Adds what the contents of a pair's rules give.
+fn gather_pair(
+    old: &[u8],
+    add: &[u8],
+    v: United,
+    p: usize,
+    types: Set4,
+    results: TypeLists,
+    draft: &mut [u8],
+    count: usize,
+    end: usize,
+) -> Gathering
+    requires { ⌜ Merging (now old) (now add) v types results × Ready (now draft) count end ⌝ }
+    ensures { λ r. ⌜ ((q : Merging (now (old .entry)) (now (add .entry)) v types results) (k : Ready (now (draft .entry)) count end)
+        → GathersIn (now (draft .exit)) (gathered (k .kept .list) (joinedOf (alts (q .of)) (contentsOfPair (q .table) p))) r) ⌝ }
+{
+    let firsts = v.firsts;
+    let rules = v.rules;
+    let mut total = count;
+    let mut last = end;
+    let mut i: usize = 0;
+    while i < rules {
+        let first = firsts[i];
+        match gather_rule_if(
+            first == p,
+            old,
+            add,
+            v,
+            i,
+            types,
+            results,
+            draft,
+            total,
+            last,
+        ) {
+            Gathering::TooLarge => {
+                return Gathering::TooLarge;
+            }
+            Gathering::Upto {
+                next: _,
+                count: more,
+                end: fresh,
+            } => {
+                total = more;
+                last = fresh;
+            }
+        }
+        i += 1;
+    }
+    Gathering::Upto {
+        next: 0,
+        count: total,
+        end: last,
+    }
+}
+
+// The same if the pair is asked for.
+fn gather_pair_if(
+    on: bool,
+    old: &[u8],
+    add: &[u8],
+    v: United,
+    p: usize,
+    types: Set4,
+    results: TypeLists,
+    draft: &mut [u8],
+    count: usize,
+    end: usize,
+) -> Gathering
+    requires { ⌜ Merging (now old) (now add) v types results × Ready (now draft) count end ⌝ }
+    ensures { λ r. ⌜ ((q : Merging (now (old .entry)) (now (add .entry)) v types results) (k : Ready (now (draft .entry)) count end)
+        → GathersIn (now (draft .exit)) (gathered (k .kept .list) (onlyIf on (joinedOf (alts (q .of)) (contentsOfPair (q .table) p)))) r) ⌝ }
+{
+    if on {
+        return gather_pair(old, add, v, p, types, results, draft, count, end);
+    }
+    Gathering::Upto {
+        next: 0,
+        count,
+        end,
+    }
+}
+
+// Gathers what the contents of the pairs of a set give.
+fn gather_set(
+    old: &[u8],
+    add: &[u8],
+    v: United,
+    set: Set4,
+    types: Set4,
+    results: TypeLists,
+    draft: &mut [u8],
+) -> Gathering
+    requires { ⌜ Merging (now old) (now add) v types results × (33858 ≤ length (now draft)) ⌝ }
+    ensures { λ r. ⌜ ((q : Merging (now (old .entry)) (now (add .entry)) v types results)
+        → GathersIn (now (draft .exit)) (gathered [] (joinedOf (alts (q .of)) (contentsIn (q .table) (member (set .words) 0)))) r) ⌝ }
+{
+    let rules = v.rules;
+    let mut total = 0usize;
+    let mut last = 2usize;
+    let mut p: usize = 0;
+    while p < rules {
+        match gather_pair_if(
+            set.has(p),
+            old,
+            add,
+            v,
+            p,
+            types,
+            results,
+            draft,
+            total,
+            last,
+        ) {
+            Gathering::TooLarge => {
+                return Gathering::TooLarge;
+            }
+            Gathering::Upto {
+                next: _,
+                count: more,
+                end: fresh,
+            } => {
+                total = more;
+                last = fresh;
+            }
+        }
+        p += 1;
+    }
+    Gathering::Upto {
+        next: 0,
+        count: total,
+        end: last,
+    }
+}
+
+// Makes the content of a set of pairs at the front of the draft.
+pub fn content_of_set(
+    old: &[u8],
+    add: &[u8],
+    v: United,
+    set: Set4,
+    types: Set4,
+    results: TypeLists,
+    draft: &mut [u8],
+) -> ContentMade
+    requires { ⌜ Merging (now old) (now add) v types results × (33858 ≤ length (now draft)) ⌝ }
+    ensures { λ r. ⌜ ((q : Merging (now (old .entry)) (now (add .entry)) v types results)
+        → Regular (written (joinedOf (alts (q .of)) (contentsIn (q .table) (member (set .words) 0))))
+        → Made (now (draft .exit)) (written (joinedOf (alts (q .of)) (contentsIn (q .table) (member (set .words) 0)))) r) ⌝ }
+{
+    match gather_set(old, add, v, set, types, results, draft) {
+        Gathering::TooLarge => ContentMade::TooLarge,
+        Gathering::Upto {
+            next: _,
+            count,
+            end,
+        } => complete(draft, count, end),
+    }
+}

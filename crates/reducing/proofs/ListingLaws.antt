@@ -1,0 +1,387 @@
+-- The known pairs of a union by type, listed:
+--   pair-new                a pair is not among those of earlier types or numbers
+--   append-new, append-off  one number more, or none
+--   pairs-fruitful          the known pairs of a type are its fruitful pairs
+--   filling-*               the loop that lists type after type
+--   listed-old, listed-added, types-all   the types with a list that is not empty
+use Prim.Native.Nat.{ℕ, zero, suc, _+_, _-_, _≤_, _<_}
+use native.Mathlib.Omega.{arith}
+use native.Mathlib.Numerals.{add-one}
+use mathlib.Core.Bool.{Bool, true, false, not, _&&_, false≢true}
+use mathlib.Core.List.{List, [], _∷_, _++_, append-nil, append-assoc, List·Memᴰ, List·Memᴰ·append-cases, List·Memᴰ·eq-of-singleton}
+use mathlib.Core.Logic.{⊎-elim}
+use mathlib.Core.Path.{_≡_, refl, sym, _∙_, ap, ap₂, subst}
+use lib.ListN.{length, getD, set, take, drop, replicate, length-set, length-append, length-replicate, getD-replicate, take-append-drop, List·getD-eq-default}
+use lib.Seq.{take-suc-set, take-at, drop-at, length-take-le, getD-set-same, getD-set-other}
+use lib.Dec.{eqb, ltb}
+use borrow.Author.Tests.{eqb-true, eqb-false, eq-eqb, ne-eqb, ltb-true, ltb-false}
+use Rattle.grammar.specs.Lists.{keep, distinct, isIn, numbersBelow}
+use Rattle.grammar.specs.Limits.{standard}
+use Rattle.grammar.specs.Content.{none}
+use Rattle.grammar.specs.Table.{Rule, Table}
+use Rattle.grammar.specs.ReadTable.{isEmpty}
+use Rattle.grammar.specs.Unite.{shifted}
+use Rattle.grammar.specs.Normalise.{pairOf, normalise}
+use Rattle.grammar.specs.Reduce.{fruitful}
+use Rattle.theory.proofs.BoolLaws.{and-left, false-of, same-test}
+use Rattle.theory.proofs.ListLaws.{kept, joined-from, in-mem, numbers-below, at-else}
+use Rattle.theory.proofs.Alternatives.{onlyIf, someLeft}
+use Rattle.sets.specs.Sets.{nothing}
+use Rattle.pairs.specs.declared.union.United.{United}
+use Rattle.pairs.specs.declared.lists.Lists.{Lists}
+use Rattle.pairs.specs.declared.lists.TypeLists.{TypeLists}
+use Rattle.pairs.specs.View.{Views, typeIn, firstIn}
+use Rattle.pairs.specs.Walks.{listOf, Once}
+use Rattle.pairs.specs.Rounds.{puts}
+use Rattle.pairs.specs.PairNumbers.{ruleAt, fruitfulOf}
+use Rattle.pairs.specs.TypeLists.{ListsOf}
+use Rattle.pairs.proofs.OnceLaws.{new-room, adds-new, adds-once}
+use Rattle.pairs.proofs.MetLaws.{some-listed}
+use Rattle.pairs.proofs.PutsLaws.{puts-was, puts-has}
+use Rattle.pairs.proofs.ViewLaws.{seen}
+use Rattle.pairs.proofs.PairLists.{pairs-are}
+use Rattle.reducing.specs.PairsListed.{isPair, pairsIn, pairsFrom, Filled, Appends, Earlier, ListsEach}
+use Rattle.reducing.proofs.NumberLaws.{keep-same, keep-both, joined-next, joined-start}
+
+-- numbers after others
+pub appends-same : {front xs ys list : List ℕ} {count : ℕ} → xs ≡ ys → Appends front xs list count → Appends front ys list count
+appends-same {front} {xs} {ys} {list} {count} e a = subst (λ (l : List ℕ). Appends front l list count) e a
+
+pub appends-none : {list : List ℕ} {count : ℕ} → Filled list count → Appends (take count list) [] list count
+appends-none {list} {count} f = record { all = sym (append-nil (take count list)); filled = f }
+
+pub appends-join : (front xs ys list list′ : List ℕ) (count r : ℕ) → Appends front xs list count
+    → Appends (take count list) ys list′ r
+    → Appends front (xs ++ ys) list′ r
+appends-join front xs ys list list′ count r a b =
+    record {
+      all = b .all ∙ ap (λ (l : List ℕ). l ++ ys) (a .all) ∙ append-assoc front xs ys;
+      filled = b .filled;
+    }
+
+set-below : (list : List ℕ) (i p bound : ℕ) → i < length list → ((j : ℕ) → getD list j 0 < bound) → p < bound → (j : ℕ)
+    → getD (set list i p) j 0 < bound
+set-below list i p bound inside h small j = go (eqb j i) refl
+  where
+    go : (b : Bool) → eqb j i ≡ b → getD (set list i p) j 0 < bound
+    go true e =
+        subst (λ (n : ℕ). getD (set list i p) n 0 < bound) (sym (eqb-true j i e))
+        (subst (λ (x : ℕ). x < bound) (sym (getD-set-same list i p 0 inside)) small)
+    go false e = subst (λ (x : ℕ). x < bound) (sym (getD-set-other list i j p 0 (eqb-false j i e))) (h j)
+
+pub append-room : (list : List ℕ) (count p : ℕ) → Filled list count → p < 128 → isIn p (take count list) ≡ false
+    → count < length list
+append-room list count p f small e = new-room 128 list count (f .once) p small e
+
+pub append-new : (list : List ℕ) (count p : ℕ) (b : Bool) → Filled list count → p < 128 → isIn p (take count list) ≡ false
+    → b ≡ true
+    → Appends (take count list) (onlyIf b (p ∷ [])) (set list count p) (count + 1)
+unfolding onlyIf
+append-new list count p b f small e on =
+    let room = append-room list count p f small e in
+    appends-same (sym (ap (λ (c : Bool). onlyIf c (p ∷ [])) on))
+    (record {
+      all =
+          ap (λ (n : ℕ). take n (set list count p)) (add-one count)
+          ∙ take-suc-set list count p room;
+      filled =
+          record {
+            once =
+                adds-once 128 list count (f .once) (p ∷ []) (set list count p) (count + 1)
+                (λ q m. subst (λ (x : ℕ). x < 128) (sym (List·Memᴰ·eq-of-singleton m)) small)
+                (adds-new 128 list count (f .once) p e room)
+                (length-set list count p);
+            below = set-below list count p 128 room (f .below) small;
+          };
+    })
+
+pub append-off : (list more : List ℕ) (count : ℕ) (b : Bool) → Filled list count → b ≡ false
+    → Appends (take count list) (onlyIf b more) list count
+unfolding onlyIf
+append-off list more count b f off = appends-same (sym (ap (λ (c : Bool). onlyIf c more) off)) (appends-none f)
+
+-- no numbers yet
+abbrev zeros : ℕ → List ℕ
+zeros n = replicate n 0
+
+zero-at : (n i : ℕ) → getD (zeros n) i 0 ≡ 0
+zero-at n i = go (ltb i n) refl
+  where
+    go : (b : Bool) → ltb i n ≡ b → getD (zeros n) i 0 ≡ 0
+    go true e = getD-replicate n i 0 0 (ltb-true i n e)
+    go false e =
+        List·getD-eq-default (zeros n) 0
+        (subst (λ (x : ℕ). x ≤ i) (sym (length-replicate {A = ℕ} n 0)) (ltb-false i n e))
+
+none-once : (list : List ℕ) → 128 ≤ length list → Once 128 list 0
+unfolding distinct
+none-once list h = record { room = h; held = omega arith; once = refl; below = λ p m. elim m [ ] }
+
+pub filled-zeros : Filled (replicate 128 0) 0
+filled-zeros =
+    record {
+      once = none-once (replicate 128 0) (subst (λ (n : ℕ). 128 ≤ n) (sym (length-replicate {A = ℕ} 128 0)) (omega arith));
+      below = λ i. subst (λ (x : ℕ). x < 128) (sym (zero-at 128 i)) (omega arith);
+    }
+
+-- a part of a list
+part-is : (a b rest numbers : List ℕ) (x y : ℕ) → x ≡ length a → y ≡ length a + length b → numbers ≡ a ++ (b ++ rest)
+    → take (y - x) (drop x numbers) ≡ b
+part-is a b rest numbers x y p q e =
+    let n : length b ≡ y - x = omega arith in
+    ap (λ (l : List ℕ). take (y - x) (drop x l)) e
+    ∙ ap (take (y - x)) (drop-at a (b ++ rest) x (sym p))
+    ∙ take-at b rest (y - x) n
+
+module _ (v : United) (known : ℕ → Bool) where
+  -- whether a number is that of a pair of the type
+  module _ (kind p : ℕ) where
+    pub pair-other : (typeIn v p ≡ kind → ⊥) → false ≡ isPair v known kind p
+    pair-other d =
+        sym (ap (λ (b : Bool). b && eqb (firstIn v p) p && known p) (ne-eqb (typeIn v p) kind d))
+
+    pub pair-later : typeIn v p ≡ kind → (firstIn v p ≡ p → ⊥) → false ≡ isPair v known kind p
+    pair-later e d =
+        sym (ap₂ (λ (a b : Bool). a && b && known p) (eq-eqb (typeIn v p) kind e) (ne-eqb (firstIn v p) p d))
+
+    pub pair-known : typeIn v p ≡ kind → firstIn v p ≡ p → known p ≡ isPair v known kind p
+    pair-known e f = sym (ap₂ (λ (a b : Bool). a && b && known p) (eq-eqb (typeIn v p) kind e) (eq-eqb (firstIn v p) p f))
+
+  pub pair-new : (kind p : ℕ) (front list : List ℕ) → Earlier v kind front
+      → list ≡ front ++ keep (isPair v known kind) (numbersBelow p)
+      → isPair v known kind p ≡ true
+      → isIn p list ≡ false
+  pair-new kind p front list h e t =
+      let same = eqb-true (typeIn v p) kind
+      (and-left (eqb (typeIn v p) kind) (eqb (firstIn v p) p)
+      (and-left (eqb (typeIn v p) kind && eqb (firstIn v p) p) (known p) t)) in
+      false-of (isIn p list)
+      (λ i.
+      ⊎-elim
+      (λ m. let b = h p m in omega arith)
+      (λ m. let b = numbers-below p p .0 (kept (isPair v known kind) (numbersBelow p) m .0) in omega arith)
+      (List·Memᴰ·append-cases front (subst (λ (l : List ℕ). List·Memᴰ p l) e (in-mem p list i))))
+
+  pub pairs-in : (kind : ℕ) → keep (isPair v known kind) (numbersBelow (v .rules)) ≡ pairsIn v known kind
+  unfolding pairsIn
+  pairs-in kind = refl
+
+  module _ (base : ℕ) where
+    pairs-next : (n : ℕ) → pairsFrom v known base (n + 1) ≡ pairsFrom v known base n ++ pairsIn v known (base + n)
+    unfolding pairsFrom
+    pairs-next n = joined-next (λ k. pairsIn v known (base + k)) n
+
+    pairs-start : pairsFrom v known base 0 ≡ []
+    unfolding pairsFrom
+    pairs-start = joined-start (λ k. pairsIn v known (base + k))
+
+    pairs-earlier : (n q : ℕ) → List·Memᴰ q (pairsFrom v known base n) → typeIn v q < base + n
+    unfolding pairsFrom pairsIn
+    pairs-earlier n q m =
+        let j = joined-from (λ k. pairsIn v known (base + k)) (numbersBelow n) m in
+        let k = j .0 in
+        let below = numbers-below n k .0 (j .1) in
+        let t = kept (isPair v known (base + k)) (numbersBelow (v .rules)) (j .2) .1 in
+        let same = eqb-true (typeIn v q) (base + k)
+        (and-left (eqb (typeIn v q) (base + k)) (eqb (firstIn v q) q)
+        (and-left (eqb (typeIn v q) (base + k) && eqb (firstIn v q) q) (known q) t)) in
+        omega arith
+
+    pairs-front : (n d : ℕ) → (rest : List ℕ) × (pairsFrom v known base (n + d) ≡ pairsFrom v known base n ++ rest)
+    pairs-front n zero =
+        let z : n + 0 ≡ n = omega arith in
+        ([], ap (pairsFrom v known base) z ∙ sym (append-nil (pairsFrom v known base n)))
+    pairs-front n (suc d) =
+        let r = pairs-front n d in
+        let z : n + suc d ≡ n + d + 1 = omega arith in
+        let last = pairsIn v known (base + (n + d)) in (
+          r .0 ++ last,
+          ap (pairsFrom v known base) z
+              ∙ pairs-next (n + d)
+              ∙ ap (λ (l : List ℕ). l ++ last) (r .1)
+              ∙ append-assoc (pairsFrom v known base n) (r .0) last,
+        )
+
+    -- the lists of the first types are laid down
+    pub record Filling (from numbers : List ℕ) (count k : ℕ) : Type 0 where
+      pub all : Appends [] (pairsFrom v known base k) numbers count
+      pub begins : (i : ℕ) → i ≤ k → getD from i 0 ≡ length (pairsFrom v known base i)
+      pub places : length from ≡ 65
+      pub room : length numbers ≡ 128
+
+    pub filling-start : Filling (replicate 65 0) (replicate 128 0) 0 0
+    filling-start =
+        record {
+          all = record { all = sym pairs-start; filled = filled-zeros };
+          begins =
+              λ i h.
+              let z : i ≡ 0 = omega arith in
+              zero-at 65 i
+              ∙ sym (ap (λ (n : ℕ). length (pairsFrom v known base n)) z ∙ ap length pairs-start);
+          places = length-replicate {A = ℕ} 65 0;
+          room = length-replicate {A = ℕ} 128 0;
+        }
+
+    module _ {from numbers : List ℕ} {count k : ℕ} (f : Filling from numbers count k) where
+      pub filling-earlier : Earlier v (base + k) (take count numbers)
+      filling-earlier q m = pairs-earlier k q (subst (λ (l : List ℕ). List·Memᴰ q l) (f .all .all) m)
+
+      pub filling-more : (numbers′ : List ℕ) (more : ℕ) → Appends (take count numbers) (pairsIn v known (base + k)) numbers′ more
+          → length numbers′ ≡ length numbers
+          → more ≤ 128
+      filling-more numbers′ more a same = let h = a .filled .once .held in let r = f .room in omega arith
+
+      pub filling-next : (numbers′ : List ℕ) (more byte : ℕ) → k < 64
+          → Appends (take count numbers) (pairsIn v known (base + k)) numbers′ more
+          → length numbers′ ≡ length numbers
+          → byte ≡ more
+          → Filling (set from (k + 1) byte) numbers′ more (k + 1)
+      filling-next numbers′ more byte h a same e =
+          let all = appends-same (sym (pairs-next k)) (appends-join [] (pairsFrom v known base k) (pairsIn v known (base + k)) numbers numbers′ count more (f .all) a) in
+          let size = sym (length-take-le more numbers′ (all .filled .once .held)) ∙ ap length (all .all) in
+          record {
+            all = all;
+            begins = λ i b. go i b size (eqb i (k + 1)) refl;
+            places = length-set from (k + 1) byte ∙ f .places;
+            room = same ∙ f .room;
+          }
+        where
+          go : (i : ℕ) → i ≤ k + 1 → more ≡ length (pairsFrom v known base (k + 1)) → (b : Bool) → eqb i (k + 1) ≡ b
+              → getD (set from (k + 1) byte) i 0 ≡ length (pairsFrom v known base i)
+          go i b size true t =
+              let z = eqb-true i (k + 1) t in
+              let p = f .places in
+              ap (λ (n : ℕ). getD (set from (k + 1) byte) n 0) z
+              ∙ getD-set-same from (k + 1) byte 0 (omega arith)
+              ∙ e
+              ∙ size
+              ∙ ap (λ (n : ℕ). length (pairsFrom v known base n)) (sym z)
+          go i b size false t =
+              let d = eqb-false i (k + 1) t in
+              getD-set-other from (k + 1) i byte 0 d ∙ f .begins i (below i b d)
+            where
+              below : (i : ℕ) → i ≤ k + 1 → (i ≡ k + 1 → ⊥) → i ≤ k
+              below i b d = omega arith
+
+    module _ {from numbers : List ℕ} {count : ℕ} (f : Filling from numbers count 64) where
+      parts : (k : ℕ) → k < 64 → (rest : List ℕ) × (numbers ≡ pairsFrom v known base k ++ (pairsIn v known (base + k) ++ rest))
+      parts k h =
+          let z : k + 1 + (64 - (k + 1)) ≡ 64 = omega arith in
+          let r = pairs-front (k + 1) (64 - (k + 1)) in
+          let a = pairsFrom v known base k in
+          let b = pairsIn v known (base + k) in (
+            r .0 ++ drop count numbers,
+            sym (take-append-drop count numbers)
+                ∙ ap (λ (l : List ℕ). l ++ drop count numbers)
+                (f .all .all
+                ∙ ap (pairsFrom v known base) (sym z)
+                ∙ r .1
+                ∙ ap (λ (l : List ℕ). l ++ r .0) (pairs-next k)
+                ∙ append-assoc a b (r .0))
+                ∙ append-assoc a (b ++ r .0) (drop count numbers)
+                ∙ ap (λ (l : List ℕ). a ++ l) (append-assoc b (r .0) (drop count numbers)),
+          )
+
+      sizes : (k : ℕ) → k < 64
+          → (getD from k 0 ≡ length (pairsFrom v known base k))
+          × (getD from (k + 1) 0 ≡ length (pairsFrom v known base k) + length (pairsIn v known (base + k)))
+      sizes k h = (
+        f .begins k (omega arith),
+        f .begins (k + 1) (omega arith)
+            ∙ ap length (pairs-next k)
+            ∙ length-append (pairsFrom v known base k) (pairsIn v known (base + k)),
+      )
+
+      pub filling-end : ListsEach (λ k. pairsIn v known (base + k)) (record { from = from; numbers = numbers })
+      unfolding listOf
+      filling-end =
+          record {
+            listed =
+                record {
+                  front = let p = f .places in omega arith;
+                  order = λ k h. let s = sizes k h in let a = s .0 in let b = s .1 in omega arith;
+                  inside =
+                      λ k h.
+                      let s = sizes k h in
+                      let b = s .1 in
+                      let p = parts k h in
+                      let first = pairsFrom v known base k in
+                      let next = pairsIn v known (base + k) in
+                      let n = ap length (p .1) ∙ length-append first (next ++ p .0) in
+                      let m = length-append next (p .0) in
+                      omega arith;
+                  below = f .all .filled .below;
+                };
+            each =
+                λ k h.
+                let s = sizes k h in
+                let p = parts k h in
+                part-is (pairsFrom v known base k) (pairsIn v known (base + k)) (p .0) numbers (getD from k 0) (getD from (k + 1) 0) (s .0) (s .1) (p .1);
+          }
+
+-- the pairs of a type in the view are those of the union
+module _ {old add : List ℕ} {v : United} {u : Table} (x : Views old add v u) where
+  pub rule-at : (i : ℕ) → i < v .rules
+      → (typeIn v i ≡ ruleAt u i .type) × (firstIn v i ≡ pairOf u (ruleAt u i))
+  rule-at i h =
+      let s = seen x i h in
+      let e = at-else (u .rules) i (record { type = 0; label = 0; content = none }) (s .1) in
+      (s .2 .type ∙ ap (λ (r : Rule). r .type) (sym e), s .2 .first ∙ ap (pairOf u) (sym e))
+
+  pub pairs-fruitful : (known : ℕ → Bool) → known ≡ (λ p. isIn p (fruitful (normalise u))) → (k : ℕ)
+      → pairsIn v known k ≡ fruitfulOf u k
+  unfolding pairsIn
+  pairs-fruitful known e k =
+      let found : ℕ → Bool = λ p. isIn p (fruitful (normalise u)) in
+      let test : ℕ → Bool = λ q. eqb (ruleAt u q .type) k && eqb (pairOf u (ruleAt u q)) q in
+      ap (λ (set : ℕ → Bool). keep (isPair v set k) (numbersBelow (v .rules))) e
+      ∙ keep-same (isPair v found k) (λ q. test q && found q) (numbersBelow (v .rules))
+      (λ q m.
+      let r = rule-at q (numbers-below (v .rules) q .0 m) in
+      ap₂ (λ (t p : ℕ). eqb t k && eqb p q && found q) (r .0) (r .1))
+      ∙ ap (λ (n : ℕ). keep (λ q. test q && found q) (numbersBelow n)) (x .rules)
+      ∙ sym (keep-both test found (numbersBelow (length (u .rules))))
+      ∙ ap (keep found) (sym (pairs-are u k))
+
+pub lists-both : (of : ℕ → List ℕ) (first second : ℕ → List ℕ) (a b : Lists) → ListsEach first a → ListsEach second b
+    → ((k : ℕ) → first k ≡ of k)
+    → ((k : ℕ) → second k ≡ of (64 + k))
+    → ListsOf of (record { old = a; addition = b })
+unfolding shifted standard
+lists-both of first second a b x y p q =
+    record {
+      old-listed = x .listed;
+      added-listed = y .listed;
+      old = λ k h. x .each k h ∙ p k;
+      added = λ k h. y .each k h ∙ q k;
+    }
+
+-- whether a type has a list that is not empty
+module _ {of : ℕ → List ℕ} {r : TypeLists} (x : ListsOf of r) where
+  pub listed-old : (k : ℕ) → k < 64 → ltb (getD (r .old .from) k 0) (getD (r .old .from) (k + 1) 0) ≡ someLeft of k
+  unfolding someLeft
+  listed-old k h =
+      some-listed (r .old .from) (r .old .numbers) k (x .old-listed .order k h) (x .old-listed .inside k h)
+      ∙ ap (λ (l : List ℕ). not (isEmpty l)) (x .old k h)
+
+  pub listed-added : (k : ℕ) → 64 ≤ k → k < 128
+      → ltb (getD (r .addition .from) (k - 64) 0) (getD (r .addition .from) (k - 63) 0) ≡ someLeft of k
+  unfolding someLeft shifted standard
+  listed-added k low high =
+      let n : k - 63 ≡ k - 64 + 1 = omega arith in
+      let m : 64 + (k - 64) ≡ k = omega arith in
+      let h : k - 64 < 64 = omega arith in
+      ap (λ (i : ℕ). ltb (getD (r .addition .from) (k - 64) 0) (getD (r .addition .from) i 0)) n
+      ∙ some-listed (r .addition .from) (r .addition .numbers) (k - 64) (x .added-listed .order (k - 64) h) (x .added-listed .inside (k - 64) h)
+      ∙ ap (λ (l : List ℕ). not (isEmpty l)) (x .added (k - 64) h ∙ ap of m)
+
+pub types-all : (test set : ℕ → Bool) (n : ℕ) → set ≡ puts test (λ j. j) nothing n → (k : ℕ) → k < n → set k ≡ test k
+types-all test set n e k h =
+    same-test (set k) (test k) (
+      λ t.
+          ⊎-elim
+          (λ b. absurd (false≢true b))
+          (λ q. ap test (sym (q .keyed)) ∙ q .is-on)
+          (puts-was test (λ j. j) nothing n k (sym (ap (λ s. s k) e) ∙ t)),
+      λ t. ap (λ s. s k) e ∙ puts-has test (λ j. j) nothing n k h t,
+    )

@@ -1,0 +1,79 @@
+-- `pairs_left` meets its contract. The loop's invariant: the pairs seen are left, and the starts are among them. The measure is the
+-- pairs still outside.
+use Prim.Native.Nat.{ℕ, _-_}
+use mathlib.Core.List.{List}
+use mathlib.Core.Path.{_≡_, sym, _∙_, ap}
+use lib.ListN.{length}
+use borrow.Author.Needs.{needs}
+use Rattle.grammar.specs.Table.{Table}
+use Rattle.sets.specs.Sets.{member, size}
+use Rattle.sets.proofs.SetLaws.{member-union, length-union}
+use Rattle.pairs.specs.View.{Views}
+use Rattle.pairs.specs.PairNumbers.{fruitfulOf, isStart}
+use Rattle.pairs.specs.TypeLists.{ListsOf}
+use Rattle.pairs.proofs.PutsLaws.{fewer-outside}
+use Rattle.theory.proofs.BoolLaws.{or-left}
+use Rattle.reducing.proofs.LeavingLaws.{Seen, seen-start, seen-next, seen-end}
+use Rattle.reducing.proofs.leaving.pairs_left.Statement.{statement}
+use Rattle.reducing.proofs.leaving.pairs_left.Tie as tie
+
+abbrev Inv-loop : tie.InvT-loop
+Inv-loop old add v lists seen₀ seen =
+    ((u : Table) → Views old add v u → ListsOf (fruitfulOf u) lists → member (seen₀ .words) 0 ≡ isStart u
+    → Seen u (member (seen .words) 0))
+    × (length (seen .words) ≡ 4)
+
+abbrev μ-loop : tie.MeasureT-loop
+μ-loop old add v lists seen₀ seen = 128 - size (member (seen .words) 0) 128
+
+loop-holds : tie.Need-loop-holds Inv-loop μ-loop
+loop-holds c = (λ u x l e. seen-start u _ e, c .before .before .pre .2)
+
+met-set-requires : tie.Need-met-set-requires Inv-loop μ-loop
+met-set-requires c κs = (c .before .before .before .pre .0, c .before .before .before .pre .1)
+
+loop-less : tie.Need-loop-less Inv-loop μ-loop
+loop-less c =
+    let seen = c .before .before .before .before .loop .seen .words in
+    let met = c .before .before .before .met-set .result .words in
+    let next = ap (λ (w : List ℕ). member w 0) (c .before .before .union .ensures) ∙ member-union seen met 0 in
+    fewer-outside _ _ _ (c .before .equal .ensures)
+    (λ p e. ap (λ set. set p) next ∙ or-left (member seen 0 p) (member met 0 p) e)
+    (c .if1 .left)
+    (c .before .before .before .before .loop .inv .1)
+
+loop-again : tie.Need-loop-again Inv-loop μ-loop
+loop-again c =
+    let seen = c .before .before .before .before .loop .seen .words in
+    let met = c .before .before .before .met-set .result .words in
+    let next = ap (λ (w : List ℕ). member w 0) (c .before .before .union .ensures) ∙ member-union seen met 0 in (
+      λ u x l e. seen-next u (member seen 0) (member met 0) _ (c .before .before .before .before .loop .inv .0 u x l e) (c .before .before .before .met-set .ensures .0 u x l) next,
+      ap length (c .before .before .union .ensures)
+          ∙ length-union seen met (c .before .before .before .before .loop .inv .1 ∙ sym (c .before .before .before .met-set .ensures .1))
+          ∙ c .before .before .before .before .loop .inv .1,
+    )
+
+returns : tie.Need-returns Inv-loop μ-loop
+returns c =
+    let seen = c .before .before .before .before .loop .seen .words in
+    let met = c .before .before .before .met-set .result .words in
+    let next = ap (λ (w : List ℕ). member w 0) (c .before .before .union .ensures) ∙ member-union seen met 0 in (
+      λ u x l e.
+          seen-end u (member seen 0) (member met 0) (c .before .before .before .before .loop .inv .0 u x l e) (c .before .before .before .met-set .ensures .0 u x l)
+          (sym next ∙ ap (λ (w : List ℕ). member w 0) (sym (c .before .equal .ensures .same (c .if1 .taken)))),
+      c .before .before .before .before .loop .inv .1,
+    )
+
+pub pairs-left-spec : {M : Type 1} → statement M
+pairs-left-spec =
+    tie.close
+    (tie.spec
+    Inv-loop
+    μ-loop
+    loop-holds
+    met-set-requires
+    (λ c κs. search needs)
+    (λ c κs. search needs)
+    loop-less
+    loop-again
+    returns)

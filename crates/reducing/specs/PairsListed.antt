@@ -1,0 +1,64 @@
+-- The known pairs of a union by type, read off its view.
+use Prim.Native.Nat.{ℕ, _+_, _≤_, _<_}
+use mathlib.Core.Bool.{Bool, _&&_}
+use mathlib.Core.List.{List, _++_, List·Memᴰ}
+use mathlib.Core.Path.{_≡_}
+use lib.ListN.{length, getD, take}
+use lib.Dec.{eqb}
+use Rattle.grammar.specs.Lists.{keep, joinedOf, numbersBelow}
+use Rattle.reader.specs.declared.tables.TableIndex.{TableIndex}
+use Rattle.reader.specs.TableIndex.{startType}
+use Rattle.pairs.specs.declared.union.United.{United}
+use Rattle.pairs.specs.declared.lists.Lists.{Lists}
+use Rattle.pairs.specs.declared.lists.TypeLists.{TypeLists}
+use Rattle.pairs.specs.View.{typeIn, firstIn}
+use Rattle.pairs.specs.Walks.{listOf, Listed, Once}
+
+-- the rule of this number is the first of a known pair of the type
+abbrev pub isPair : United → (ℕ → Bool) → (kind p : ℕ) → Bool
+isPair v known kind p = eqb (typeIn v p) kind && eqb (firstIn v p) p && known p
+
+-- the known pairs of a type
+unfoldable pub pairsIn : United → (ℕ → Bool) → ℕ → List ℕ
+unfolding keep numbersBelow
+pairsIn v known kind = keep (isPair v known kind) (numbersBelow (v .rules))
+
+-- those of so many types from a first one on
+unfoldable pub pairsFrom : United → (ℕ → Bool) → (base n : ℕ) → List ℕ
+unfolding joinedOf pairsIn numbersBelow
+pairsFrom v known base n = joinedOf (λ k. pairsIn v known (base + k)) (numbersBelow n)
+
+-- numbers below 128, each once at the front
+pub record Filled (list : List ℕ) (count : ℕ) : Type 0 where
+  pub once : Once 128 list count
+  pub below : (i : ℕ) → getD list i 0 < 128
+
+-- after some numbers others stand there
+pub record Appends (front more list : List ℕ) (count : ℕ) : Type 0 where
+  pub all : take count list ≡ front ++ more
+  pub filled : Filled list count
+
+-- they are pairs of types before this one
+abbrev pub Earlier : United → (kind : ℕ) → List ℕ → Type 0
+Earlier v kind list = (q : ℕ) → List·Memᴰ q list → typeIn v q < kind
+
+-- these are the lists of the types of one table
+pub record ListsEach (of : ℕ → List ℕ) (r : Lists) : Type 0 where
+  pub listed : Listed 64 128 (r .from) (r .numbers)
+  pub each : (k : ℕ) → k < 64 → listOf (r .from) (r .numbers) k ≡ of k
+
+-- a part of a list, of numbers below 128
+pub record PartBelow (numbers : List ℕ) (first end : ℕ) : Type 0 where
+  pub order : first ≤ end
+  pub inside : end ≤ length numbers
+  pub below : (i : ℕ) → i < end → getD numbers i 0 < 128
+
+-- both tables' types have lists, of numbers below 128
+pub record BothListed (r : TypeLists) : Type 0 where
+  pub old : Listed 64 128 (r .old .from) (r .old .numbers)
+  pub added : Listed 64 128 (r .addition .from) (r .addition .numbers)
+
+-- the start types of a table that was read
+pub record StartsSmall (index : TableIndex) : Type 0 where
+  pub few : index .starts ≤ 64
+  pub small : (i : ℕ) → i < index .starts → startType index i < 64

@@ -1,0 +1,80 @@
+// The pairs that reducing leaves: those that are reached from the pairs of the start types, by rounds until one adds nothing.
+use crate::meeting::met_set;
+use crate::meeting::with_part;
+use pairs::lists::Lists;
+use pairs::lists::TypeLists;
+use pairs::union::United;
+use reader::numbers::wide;
+use reader::tables::TableIndex;
+use sets::four::Set4;
+ghost use mathlib.Core.Path.{_≡_};
+ghost use mathlib.Core.List.{List};
+ghost use Prim.Native.Nat.{ℕ, _<_};
+ghost use lib.ListN.{length};
+ghost use Rattle.grammar.specs.Lists.{isIn, joinedOf, numbersBelow};
+ghost use Rattle.grammar.specs.Limits.{standard};
+ghost use Rattle.grammar.specs.Table.{Table};
+ghost use Rattle.grammar.specs.Unite.{unite};
+ghost use Rattle.reader.specs.TableIndex.{startType};
+ghost use Rattle.sets.specs.Sets.{member, both};
+ghost use Rattle.pairs.specs.View.{Views, Viewed, TableHeld};
+ghost use Rattle.pairs.specs.Walks.{listOf, Listed};
+ghost use Rattle.pairs.specs.PairNumbers.{fruitfulOf, isStart, isLeft};
+ghost use Rattle.pairs.specs.TypeLists.{ListsOf};
+ghost use Rattle.reducing.specs.PairsListed.{BothListed, StartsSmall};
+
+// A set with the numbers of a type's list.
+fn with_list(set: Set4, lists: Lists, k: usize) -> Set4
+    requires { ⌜ (length (set .words) ≡ 4) × (Listed 64 128 (lists .from) (lists .numbers)) × (k < 64) ⌝ }
+    ensures { λ r. ⌜ (member (r .words) 0 ≡ both (λ p. isIn p (listOf (lists .from) (lists .numbers) k)) (member (set .words) 0)) × (length (r .words) ≡ 4) ⌝ }
+{
+    let begins = lists.from;
+    let numbers = lists.numbers;
+    with_part(set, &numbers, wide(begins[k]), wide(begins[k + 1]))
+}
+
+// A set with the numbers of the lists of a table's start types.
+fn with_starts(set: Set4, lists: Lists, index: TableIndex) -> Set4
+    requires { ⌜ (length (set .words) ≡ 4) × (Listed 64 128 (lists .from) (lists .numbers)) × (StartsSmall index) ⌝ }
+    ensures { λ r. ⌜ (member (r .words) 0 ≡ both (λ p. isIn p (joinedOf (λ i. listOf (lists .from) (lists .numbers) (startType index i)) (numbersBelow (index .starts)))) (member (set .words) 0)) × (length (r .words) ≡ 4) ⌝ }
+{
+    let types = index.start_type;
+    let starts = index.starts;
+    let mut more = set;
+    let mut i: usize = 0;
+    while i < starts {
+        let larger = with_list(more, lists, wide(types[i]));
+        more = larger;
+        i += 1;
+    }
+    more
+}
+
+// The fruitful pairs of the start types.
+pub fn start_pairs(lists: TypeLists, index: TableIndex, addition: TableIndex) -> Set4
+    requires { ⌜ (BothListed lists) × (StartsSmall index) × (StartsSmall addition) ⌝ }
+    ensures { λ r. ⌜ ((old add : List ℕ) (g h : Table) → TableHeld old index g → TableHeld add addition h → ListsOf (fruitfulOf (unite standard g h)) lists → member (r .words) 0 ≡ isStart (unite standard g h)) × (length (r .words) ≡ 4) ⌝ }
+{
+    let none = Set4::empty();
+    let olds = lists.old;
+    let first = with_starts(none, olds, index);
+    let adds = lists.addition;
+    with_starts(first, adds, addition)
+}
+
+// The pairs that reducing leaves.
+pub fn pairs_left(old: &[u8], add: &[u8], v: United, lists: TypeLists, starts: Set4) -> Set4
+    requires { ⌜ (Viewed (now old) (now add) v) × (BothListed lists) × (length (starts .words) ≡ 4) ⌝ }
+    ensures { λ r. ⌜ ((u : Table) → Views (now (old .entry)) (now (add .entry)) v u → ListsOf (fruitfulOf u) lists → member (starts .words) 0 ≡ isStart u → member (r .words) 0 ≡ isLeft u) × (length (r .words) ≡ 4) ⌝ }
+{
+    let mut seen = starts;
+    let left = loop {
+        let met = met_set(old, add, v, lists, seen);
+        let next = seen.union(met);
+        if seen.equal(next) {
+            break seen;
+        }
+        seen = next;
+    };
+    left
+}

@@ -1,0 +1,43 @@
+-- What the content of a set is merged from.
+use Prim.Native.Nat.{ℕ, _<_}
+use mathlib.Core.Bool.{Bool}
+use mathlib.Core.List.{List}
+use mathlib.Core.Path.{_≡_, subst}
+use lib.ListN.{length}
+use Rattle.grammar.specs.Normalise.{pairsOf, normalise}
+use Rattle.grammar.specs.Reduce.{fruitful}
+use Rattle.theory.proofs.Alternatives.{someLeft, resultsOf}
+use Rattle.sets.specs.Sets.{member}
+use Rattle.sets.specs.declared.four.Set4.{Set4}
+use Rattle.pairs.specs.declared.lists.TypeLists.{TypeLists}
+use Rattle.pairs.specs.declared.union.United.{United}
+use Rattle.pairs.specs.TypeLists.{ListsOf}
+use Rattle.merging.specs.Merging.{Merging}
+use Rattle.forms.specs.SetForms.{setNumber}
+use Rattle.forms.specs.Worklist.{NumbersOf}
+use Rattle.results.specs.Results.{RulesFrom}
+
+module _ {old add : List ℕ} {v : United} {labels : ℕ} {lists : TypeLists} {left : Set4} {words : List ℕ} {count : ℕ} {single : Bool}
+    (q : RulesFrom old add v labels lists left words count single) where
+  -- the numbers of all labels
+  pub all-labels : (f : ℕ → ℕ) (list : List ℕ) → NumbersOf f labels list → NumbersOf f (length (q .in-words .table .labels)) list
+  all-labels f list h = subst (λ (n : ℕ). NumbersOf f n list) (q .labels-are) h
+
+  -- the sets of the pairs of a type, where these pairs form the sets
+  abbrev pub resultsIn : (ℕ → Bool) → ℕ → List ℕ
+  resultsIn within =
+      resultsOf (pairsOf (q .in-words .table)) (fruitful (normalise (q .in-words .table))) (setNumber (q .in-words .table) (q .in-words .sets) within)
+
+  abbrev pub merged : (within : ℕ → Bool) (types : Set4) (results : TypeLists) → ListsOf (resultsIn within) results → length (types .words) ≡ 4
+      → ((of : ℕ → List ℕ) → ListsOf of results → (k : ℕ) → k < 128 → member (types .words) 0 k ≡ someLeft of k)
+      → Merging old add v types results
+  merged within types results x l t =
+      record {
+        table = q .in-words .table;
+        views = q .in-words .views;
+        shallow = q .shallow;
+        of = resultsIn within;
+        lists = x;
+        words = l;
+        typed = t (resultsIn within) x;
+      }

@@ -1,0 +1,116 @@
+-- The sets that stand in the words, by number: what stands there, and the label of each.
+use Prim.Native.Nat.{ℕ, _+_, _*_, _≤_, _<_}
+use native.Mathlib.Omega.{arith}
+use mathlib.Core.Bool.{Bool, true, false}
+use mathlib.Core.List.{List, [], _∷_, List·Memᴰ}
+use mathlib.Core.Option.{some as just}
+use mathlib.Core.Path.{_≡_, refl, sym, _∙_, ap}
+use lib.Dec.{eqb}
+use lib.ListN.{length, getD, getElem?}
+use borrow.Author.Tests.{eq-eqb}
+use Rattle.grammar.specs.Lists.{keep, place, joinedOf, isIn, numbersBelow}
+use Rattle.grammar.specs.Content.{none}
+use Rattle.grammar.specs.Table.{Table}
+use Rattle.grammar.specs.ReadTable.{isEmpty}
+use Rattle.grammar.specs.Normalise.{pairsOf, normalise}
+use Rattle.grammar.specs.Reduce.{fruitful}
+use Rattle.grammar.specs.SingleTypeForm.{TypeSet}
+use Rattle.theory.proofs.Alternatives.{alts, written, resultsOf}
+use Rattle.theory.proofs.ListLaws.{any-of, at-mem, at-or-else}
+use Rattle.sets.specs.Sets.{member, wordsAt}
+use Rattle.sets.proofs.SetLaws.{length-words}
+use Rattle.pairs.specs.declared.union.United.{United}
+use Rattle.pairs.specs.PairNumbers.{ruleAt, contentsIn}
+use Rattle.pairs.proofs.ViewLaws.{seen}
+use Rattle.forms.specs.SetForms.{labelled, setLabel, labelsOf, setNumber, contentBySet, ruleBySet}
+use Rattle.forms.specs.SetWords.{Ascending}
+use Rattle.forms.specs.Worklist.{LabelsSized}
+use Rattle.results.specs.Results.{pairsWithin, resultRule, isUsed, SetsIn}
+
+not-empty : (s : List ℕ) → 0 < length s → isEmpty s ≡ false
+not-empty [] h = absurd (omega arith)
+not-empty (p ∷ ps) h = refl
+
+first-there : (s : List ℕ) → 0 < length s → List·Memᴰ (getD s 0 0) s
+first-there s h = at-mem s 0 (at-or-else s 0 0 h)
+
+module _ {old add : List ℕ} {v : United} {words : List ℕ} {count : ℕ} (q : SetsIn old add v words count) where
+  pub labels-sized : LabelsSized v
+  labels-sized i h =
+      let (r, at, s) = seen (q .views) i h in
+      let b = q .labelled r (at-mem (q .table .rules) i at) in
+      let c = q .labels-few in
+      let e = s .label in
+      omega arith
+
+  module _ (i : ℕ) (h : i < count) where
+    there : getElem? (q .sets) i ≡ just (getD (q .sets) i [])
+    there = let e = q .count-is in at-or-else (q .sets) i [] (omega arith)
+
+    among : List·Memᴰ (getD (q .sets) i []) (q .sets)
+    among = at-mem (q .sets) i there
+
+    pub set-held : (set : List ℕ) → set ≡ wordsAt words (4 * i) 4 → member set 0 ≡ (λ p. isIn p (getD (q .sets) i []))
+    set-held set e = ap (λ (w : List ℕ). member w 0) e ∙ q .held .set i (getD (q .sets) i []) there
+
+    pub set-room : 4 * i + 4 ≤ length words
+    set-room =
+        let a = q .held .few in
+        let b = q .held .room in
+        let c = q .count-is in
+        omega arith
+
+    pub set-four : (set : List ℕ) → set ≡ wordsAt words (4 * i) 4 → length set ≡ 4
+    set-four set e = ap length e ∙ length-words words (4 * i) 4 set-room
+
+    pub set-ascending : Ascending (getD (q .sets) i [])
+    set-ascending = q .held .ascending (getD (q .sets) i []) among
+
+    pub set-some : isEmpty (getD (q .sets) i []) ≡ false
+    set-some = not-empty (getD (q .sets) i []) (q .some (getD (q .sets) i []) among)
+
+    pub set-labelled : setLabel (q .table) (getD (q .sets) i []) < length (q .table .labels)
+    unfolding setLabel
+    set-labelled =
+        let s = getD (q .sets) i [] in
+        let p = getD s 0 0 in
+        let below = q .pairs s among p (first-there s (q .some s among)) in
+        q .labelled (ruleAt (q .table) p)
+        (at-mem (q .table .rules) p (at-or-else (q .table .rules) p (record { type = 0; label = 0; content = none }) below))
+
+    pub label-small : (l : ℕ) → l ≡ setLabel (q .table) (getD (q .sets) i []) → l < 128
+    label-small l e =
+        let a = set-labelled in
+        let b = q .labels-few in
+        omega arith
+
+    pub label-used : (on : ℕ → Bool) (l : ℕ) → on ≡ isUsed (q .table) (q .sets) → l ≡ setLabel (q .table) (getD (q .sets) i []) → on l ≡ true
+    label-used on l e f =
+        ap (λ (t : ℕ → Bool). t l) e
+        ∙ any-of (λ s. eqb (setLabel (q .table) s) l) among (eq-eqb (setLabel (q .table) (getD (q .sets) i [])) l (sym f))
+
+-- the content, the label and the rule of a set
+module _ (u : Table) (sets : List TypeSet) (single : Bool) (i : ℕ) where
+  pub content-is : (set within : ℕ → Bool) → set ≡ (λ p. isIn p (getD sets i [])) → within ≡ pairsWithin u single (getD sets i [])
+      → written (joinedOf (alts (resultsOf (pairsOf u) (fruitful (normalise u)) (setNumber u sets within))) (contentsIn u set))
+      ≡ resultRule u sets single i .content
+  unfolding ruleBySet contentBySet
+  content-is set within e f =
+      ap
+      (λ (w : ℕ → Bool).
+      written (joinedOf (alts (resultsOf (pairsOf u) (fruitful (normalise u)) (setNumber u sets w))) (contentsIn u set)))
+      f
+      ∙ ap
+      (λ (t : ℕ → Bool).
+      written
+      (joinedOf (alts (resultsOf (pairsOf u) (fruitful (normalise u)) (setNumber u sets (pairsWithin u single (getD sets i [])))))
+      (contentsIn u t)))
+      e
+
+  pub rule-is : (on : ℕ → Bool) (l : ℕ) → on ≡ isUsed u sets
+      → l ≡ place eqb (setLabel u (getD sets i [])) (keep on (numbersBelow (length (u .labels))))
+      → record { type = i; label = l; content = resultRule u sets single i .content } ≡ resultRule u sets single i
+  unfolding ruleBySet labelsOf
+  rule-is on l e f =
+      ap (λ (n : ℕ). record { type = i; label = n; content = resultRule u sets single i .content })
+      (f ∙ ap (λ (t : ℕ → Bool). place eqb (setLabel u (getD sets i [])) (keep t (numbersBelow (length (u .labels))))) e)

@@ -1,0 +1,127 @@
+-- Widening one table by another, by sets of pairs:
+--   none-derived   where no start pair is fruitful, no document is derived
+--   too-many       where there are more than 64 sets, the result is too large
+--   put-widens     where the table by sets is drafted, it is the result; where it cannot be, the result is too large
+--   local-starts   the start types of the local form, from the start pairs and the numbers of the labels
+--   first-starts   those of the single-type form: the numbers of the first sets
+use Prim.Native.Nat.{ℕ, zero, suc, _+_, _≤_, _<_}
+use native.Mathlib.Omega.{arith}
+use mathlib.Core.Bool.{Bool, true, false}
+use mathlib.Core.List.{List, [], _∷_, _++_, map, List·Memᴰ, Memᴰ·map, Memᴰ·of-map}
+use mathlib.Core.Logic.{inl, inr}
+use mathlib.Core.Path.{_≡_, refl, sym, _∙_, ap, subst}
+use lib.Dec.{eqb, ltb}
+use borrow.Author.Tests.{eq-eqb}
+use lib.ListN.{length, drop}
+use Rattle.grammar.specs.Lists.{isIn, numbersBelow}
+use Rattle.grammar.specs.Limits.{standard}
+use Rattle.grammar.specs.Names.{asciiClasses}
+use Rattle.grammar.specs.Table.{Rule, Table}
+use Rattle.grammar.specs.Kinds.{Kind}
+use Rattle.grammar.specs.Outcome.{given, refused, _>>_, turnBack}
+use Rattle.grammar.specs.ReadTable.{isEmpty}
+use Rattle.grammar.specs.WithinLimits.{TableWithin}
+use Rattle.grammar.specs.WriteTable.{tableBytes}
+use Rattle.grammar.specs.Size.{contentTooLarge, tooLarge}
+use Rattle.grammar.specs.Unite.{unite}
+use Rattle.grammar.specs.Normalise.{normalise}
+use Rattle.grammar.specs.Reduce.{withoutUnfruitful, withoutUnreached, reduce}
+use Rattle.grammar.specs.Widen.{reducedUnion, ofSize, widenByTable}
+use Rattle.grammar.specs.declared.Refusal.the-variants.{ResultTooLarge, NoDocument}
+use Rattle.theory.proofs.BoolLaws.{or-left}
+use Rattle.theory.proofs.ListLaws.{numbers-below}
+use Rattle.theory.proofs.OutcomeLaws.{no-fault}
+use Rattle.sets.specs.Sets.{nothing}
+use Rattle.pairs.specs.PairNumbers.{isStart}
+use Rattle.emitting.specs.declared.writing.Drafted.{Drafted}
+use Rattle.emitting.specs.declared.writing.Drafted.the-variants.{Length as Upto, TooLarge as Over}
+use Rattle.sampling.specs.SampleTable.{TablePut}
+use Rattle.sampling.proofs.TableSize.{size-over, size-fits, content-over, bytes-over, all-fit}
+use Rattle.forms.specs.SetForms.{ruleBySet}
+use Rattle.forms.proofs.UnionFit.{UnionFit, union-fit}
+use Rattle.forms.proofs.WidenedBySets.{setsOf, pairsWithin, tableOf, table-of-kind, rules-of-kind, rule-count, too-many-sets}
+use Rattle.results.specs.Widened.{madeOf, Widens}
+
+-- a list that has nothing
+nothing-in : (xs : List ℕ) → (λ p. isIn p xs) ≡ nothing → xs ≡ []
+unfolding isIn
+nothing-in [] e = refl
+nothing-in (x ∷ xs) e =
+    let t : isIn x (x ∷ xs) ≡ true = or-left (eqb x x) (isIn x xs) (eq-eqb x x refl) in
+    let f : isIn x (x ∷ xs) ≡ false = ap (λ (test : ℕ → Bool). test x) e in
+    let z : _≡_ {A = Bool} true false = sym t ∙ f in
+    let y : _≡_ {A = ℕ} 0 1 = cc in
+    absurd (omega arith)
+
+something-in : (xs : List ℕ) (p : ℕ) → isIn p xs ≡ true → isEmpty xs ≡ false
+unfolding isIn
+something-in [] p e =
+    let z : _≡_ {A = ℕ} 0 1 = cc in
+    absurd (omega arith)
+something-in (x ∷ xs) p e = refl
+
+module _ (g h : Table) (g-within : TableWithin standard asciiClasses g) (h-within : TableWithin standard asciiClasses h) where
+  abbrev u : Table
+  u = unite standard g h
+
+  fit : UnionFit u
+  fit = union-fit g h g-within h-within
+
+  starts-same : reducedUnion standard g h .starts ≡ withoutUnfruitful (normalise u) .starts
+  unfolding reducedUnion reduce withoutUnreached
+  starts-same = refl
+
+  pub none-derived : (kind : Kind) → isStart u ≡ nothing → widenByTable standard kind g h ≡ refused NoDocument
+  unfolding widenByTable
+  none-derived kind e = rw (starts-same ∙ nothing-in (withoutUnfruitful (normalise u) .starts) e) refl
+
+  module _ (kind : Kind) (p : ℕ) (some : isStart u p ≡ true) where
+    sized : widenByTable standard kind g h ≡ ofSize standard (tableOf kind u)
+    unfolding widenByTable reducedUnion
+    sized =
+        no-fault _ NoDocument _
+        (ap isEmpty starts-same ∙ something-in (withoutUnfruitful (normalise u) .starts) p some)
+        ∙ ap (ofSize standard) (table-of-kind u fit kind)
+
+    pub too-many : 64 < length (setsOf kind u) → widenByTable standard kind g h ≡ refused ResultTooLarge
+    too-many few = sized ∙ size-over (tableOf kind u) (too-many-sets u fit kind few)
+
+    abbrev rule : ℕ → Rule
+    rule = ruleBySet u (setsOf kind u) (pairsWithin kind u)
+
+    abbrev count : ℕ
+    count = length (setsOf kind u)
+
+    rule-there : (i : ℕ) → i < count → List·Memᴰ (rule i) (tableOf kind u .rules)
+    rule-there i b =
+        subst (λ (rs : List Rule). List·Memᴰ (rule i) rs) (sym (rules-of-kind u fit kind))
+        (Memᴰ·map rule (numbers-below count i .1 b))
+
+    there-rule : (r : Rule) → List·Memᴰ r (tableOf kind u .rules) → (i : ℕ) × (i < count) × (rule i ≡ r)
+    there-rule r m =
+        let n = Memᴰ·of-map rule (numbersBelow count) (subst (λ (rs : List Rule). List·Memᴰ r rs) (rules-of-kind u fit kind) m) in
+        (n .0, numbers-below count (n .0) .0 (n .1), n .2)
+
+    pub put-widens : count ≤ 64 → (before after : List ℕ) (r : Drafted)
+        → TablePut before 0 rule count (tableBytes (tableOf kind u)) after r → Widens kind g h before after (madeOf r)
+    unfolding Widens madeOf
+    put-widens few before after (Upto n) (put, small, fits) =
+        let z : 0 + length (tableBytes (tableOf kind u)) ≡ length (tableBytes (tableOf kind u)) = omega arith in
+        let long : n ≡ length (tableBytes (tableOf kind u)) = put .next-is ∙ z in
+        let many = rule-count u fit kind in
+        record {
+          result = tableOf kind u;
+          widened =
+              sized
+              ∙ size-fits (tableOf kind u)
+              (all-fit (tableOf kind u) (omega arith)
+              (λ r m.
+              let t = there-rule r m in
+              subst (λ (x : Rule). contentTooLarge standard (x .content) ≡ false) (t .2) (fits (t .0) (t .1)))
+              (omega arith));
+          size = long;
+          small = small;
+          bytes = put .is;
+        }
+    put-widens few before after Over (inl x) = sized ∙ size-over (tableOf kind u) (content-over (tableOf kind u) (rule-there (x .0) (x .1)) (x .2))
+    put-widens few before after Over (inr x) = sized ∙ size-over (tableOf kind u) (bytes-over (tableOf kind u) (omega arith))

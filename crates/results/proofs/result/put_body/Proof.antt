@@ -1,0 +1,83 @@
+-- `put_body` meets its contract.
+use native.Mathlib.Omega.{arith}
+use mathlib.Core.List.{[]}
+use mathlib.Core.Path.{_≡_}
+use lib.ListN.{length}
+use borrow.Author.Needs.{needs}
+use Rattle.sets.specs.Sets.{member}
+use Rattle.sampling.specs.SampleTable.{restBytes}
+use Rattle.sampling.proofs.RuleLaws.{put-length-is, put-over, put-then}
+use Rattle.results.specs.Results.{ruleFrom, startsBytes}
+use Rattle.results.proofs.result.put_body.Statement.{statement}
+use Rattle.results.proofs.result.put_body.Tie as tie
+
+put-starts-requires : tie.Need-put-starts-requires
+put-starts-requires c κs =
+    let few = c .before .before .before .before .before .before .pre .3 .rules .in-words .held .few in
+    let e = c .before .before .before .before .before .before .pre .3 .rules .in-words .count-is in
+    (c .before .before .before .before .before .before .pre .0, c .before .before .before .before .before .before .pre .1, omega arith)
+
+enum-told : tie.Need-enum-told
+enum-told c = search needs
+
+enum-known-end : tie.Need-enum-known-end
+enum-known-end c = search needs
+
+put-rest-requires : tie.Need-put-rest-requires
+put-rest-requires c κs =
+    let a = c .before .before .before .before .before .before .before .before .before .before .before .before .before .before .args in
+    let rule = ruleFrom (c .before .before .before .before .before .before .before .before .before .before .before .before .before .before .pre .3 .rules) in
+    let h =
+    put-length-is (a .draft .now) (a .at) rule (a .count) (startsBytes (member (a .starts .words) 0) (a .count)) (restBytes rule (a .count)) (c .before .before .before .before .before .before .before .put-starts .last .0) []
+    (c .before .before .before .before .before .before .before .put-starts .result)
+    (c .before .before .before .before .before .before .before .put-starts .ensures)
+    (c .before .before .before .end .given .1) in
+    let w : length (c .before .before .before .before .before .before .before .put-starts .last .0) ≡ length (a .draft .now) = search needs in
+    (h .1, omega arith, c .before .before .before .before .before .before .before .before .before .before .before .before .before .before .pre .2, c .before .before .before .before .before .before .before .before .before .before .before .before .before .before .pre .3)
+
+same-length : tie.Need-same-length
+same-length c = search needs
+
+returns : tie.Need-returns
+returns c =
+    λ q.
+    let a = c .before .before .before .before .before .before .before .before .before .before .before .args in
+    let rule = ruleFrom (q .rules) in
+    put-over (a .draft .now) (a .at) rule (a .count) (startsBytes (member (a .starts .words) 0) (a .count)) (restBytes rule (a .count)) (c .before .before .before .before .put-starts .last .0)
+    (c .before .before .before .before .put-starts .last .0)
+    (c .before .before .before .before .put-starts .result)
+    (c .before .before .before .before .put-starts .ensures)
+    (c .enum-told .given .1)
+
+same-length-2 : tie.Need-same-length-2
+same-length-2 c = search needs
+
+same-length-3 : tie.Need-same-length-3
+same-length-3 c = search needs
+
+returns-2 : tie.Need-returns-2
+returns-2 c =
+    λ q.
+    let a = c .before .before .before .before .before .before .before .before .before .before .before .before .before .before .before .before .before .before .before .args in
+    let rule = ruleFrom (q .rules) in
+    put-then (a .draft .now) (a .at) rule (a .count) (startsBytes (member (a .starts .words) 0) (a .count)) (restBytes rule (a .count)) (c .before .before .before .before .before .before .before .before .before .before .before .before .put-starts .last .0)
+    (c .before .before .before .before .put-rest .last .0)
+    (c .before .before .before .before .before .before .before .before .before .before .before .before .put-starts .result)
+    (c .before .before .before .before .before .before .before .before .before .before .before .before .put-starts .ensures)
+    (c .before .before .before .before .before .before .before .before .end .given .1)
+    (c .before .before .before .before .put-rest .result)
+    (c .before .before .before .before .put-rest .ensures q)
+
+pub put-body-spec : {M : Type 1} → statement M
+put-body-spec =
+    tie.close
+    (tie.spec
+    put-starts-requires
+    enum-told
+    enum-known-end
+    put-rest-requires
+    same-length
+    returns
+    same-length-2
+    same-length-3
+    returns-2)

@@ -1,0 +1,175 @@
+-- `put_rule` meets its contract.
+use Prim.Native.Nat.{ℕ, _-_}
+use native.Mathlib.Omega.{arith}
+use mathlib.Core.Logic.{inl}
+use mathlib.Core.Path.{_≡_, _∙_, ap, subst}
+use lib.Dec.{eqb}
+use lib.ListN.{length, drop}
+use borrow.Author.Needs.{needs}
+use Rattle.grammar.specs.Lists.{keep, place, numbersBelow}
+use Rattle.grammar.specs.Table.{Rule}
+use Rattle.sets.specs.Sets.{member}
+use Rattle.pairs.proofs.ViewLaws.{views-sized}
+use Rattle.sampling.specs.SampleTable.{RulePuts}
+use Rattle.sampling.proofs.RuleLaws.{rule-puts}
+use Rattle.results.specs.Results.{ruleFrom}
+use Rattle.results.proofs.SetLaws.{set-held, set-room, set-four, set-ascending, set-some, set-labelled, label-small, label-used, rule-is}
+use Rattle.results.proofs.ResultLaws.{rule-value, scratch-long, scratch-room, made-stored, made-over}
+use Rattle.results.proofs.rules.put_rule.Statement.{statement}
+use Rattle.results.proofs.rules.put_rule.Tie as tie
+
+mul-load : tie.Need-mul-load
+mul-load c = search needs
+
+load-requires : tie.Need-load-requires
+load-requires c κs = set-room (c .before .before .before .before .before .pre .4 .rules .in-words) (c .before .before .before .before .before .args .i) (c .before .before .before .before .before .pre .3)
+
+set-label-requires : tie.Need-set-label-requires
+set-label-requires c κs =
+    let s = c .before .before .before .before .before .before .pre .4 .rules .in-words in
+    (views-sized (s .views), set-four s (c .before .before .before .before .before .before .args .i) (c .before .before .before .before .before .before .pre .3) _ (c .load .ensures))
+
+label-place-requires : tie.Need-label-place-requires
+label-place-requires c κs =
+    let s = c .before .before .before .before .before .before .before .pre .4 .rules .in-words in
+    let i = c .before .before .before .before .before .before .before .args .i in
+    let h = c .before .before .before .before .before .before .before .pre .3 in
+    label-small s i h _
+    (c .set-label .ensures _ _ (s .table) _ (s .views) (set-held s i h _ (c .before .load .ensures)) (set-ascending s i h) (set-some s i h))
+
+sub-set-content : tie.Need-sub-set-content
+sub-set-content c = search needs
+
+part-set-content-start : tie.Need-part-set-content-start
+part-set-content-start c = search needs
+
+part-set-content-end : tie.Need-part-set-content-end
+part-set-content-end c = search needs
+
+set-content-requires : tie.Need-set-content-requires
+set-content-requires c κs = search needs
+
+enum-told : tie.Need-enum-told
+enum-told c = search needs
+
+enum-known-end : tie.Need-enum-known-end
+enum-known-end c = search needs
+
+cast-scratch : tie.Need-cast-scratch
+cast-scratch c =
+    let s = c .before .before .before .before .before .before .before .before .before .before .before .before .before .before .before .pre .4 .rules .in-words in
+    let few = s .held .few in
+    let e = s .count-is in
+    let h = c .before .before .before .before .before .before .before .before .before .before .before .before .before .before .before .pre .3 in
+    omega arith
+
+slice-write-scratch : tie.Need-slice-write-scratch
+slice-write-scratch c = search needs
+
+cast-scratch-2 : tie.Need-cast-scratch-2
+cast-scratch-2 c =
+    let s = c .before .before .before .before .before .before .before .before .before .before .before .before .before .before .before .pre .4 .rules .in-words in
+    let i = c .before .before .before .before .before .before .before .before .before .before .before .before .before .before .before .args .i in
+    let h = c .before .before .before .before .before .before .before .before .before .before .before .before .before .before .before .pre .3 in
+    let small =
+    label-small s i h (c .before .before .before .before .before .before .before .before .set-label .result)
+    (c .before .before .before .before .before .before .before .before .set-label .ensures _ _ (s .table) _ (s .views) (set-held s i h _ (c .before .before .before .before .before .before .before .before .before .load .ensures)) (set-ascending s i h) (set-some s i h)) in
+    let few = c .before .before .before .before .before .before .before .label-place .ensures .1 in
+    omega arith
+
+slice-write-scratch-2 : tie.Need-slice-write-scratch-2
+slice-write-scratch-2 c =
+    let long = c .before .before .before .before .before .before .before .before .before .before .before .before .before .before .before .pre .2 in
+    let before = c .before .before .before .before .before .before .before .before .before .before .before .before .before .before .before .args .scratch .now in
+    scratch-long before (c .before .before .before .before .before .set-content .last .0) (drop (length before - 2) (drop 2 before)) (c .before .before .before .before .before .before .before .before .before .before .before .before .before .before .before .args .i) (omega arith)
+
+add-stop : tie.Need-add-stop
+add-stop c =
+    let q = c .before .before .before .before .before .before .before .before .before .before .before .before .before .before .before .pre .4 .rules in
+    let small = made-stored _ (ruleFrom q (c .before .before .before .before .before .before .before .before .before .before .before .before .before .before .before .args .i) .content) _ (c .before .before .before .before .before .set-content .ensures q) (c .before .end .given .1) .small in
+    omega arith
+
+sub-put-field : tie.Need-sub-put-field
+sub-put-field c = search needs
+
+part-put-field-start : tie.Need-part-put-field-start
+part-put-field-start c = search needs
+
+part-put-field-end : tie.Need-part-put-field-end
+part-put-field-end c =
+    let q = c .before .before .before .before .before .before .before .before .before .before .before .before .before .before .before .before .before .pre .4 .rules in
+    let long = c .before .before .before .before .before .before .before .before .before .before .before .before .before .before .before .before .before .pre .2 in
+    let before = c .before .before .before .before .before .before .before .before .before .before .before .before .before .before .before .before .before .args .scratch .now in
+    let made = made-stored _ (ruleFrom q (c .before .before .before .before .before .before .before .before .before .before .before .before .before .before .before .before .before .args .i) .content) _ (c .before .before .before .before .before .before .before .set-content .ensures q) (c .before .before .before .end .given .1) in
+    scratch-room before (c .before .before .before .before .before .before .before .set-content .last .0) (drop (length before - 2) (drop 2 before)) (c .before .before .before .before .before .before .before .before .before .before .before .before .before .before .before .before .before .args .i) (c .before .before .before .before .before .before .before .before .before .label-place .result) _ (omega arith)
+    (made .inside)
+
+put-field-requires : tie.Need-put-field-requires
+put-field-requires c κs = search needs
+
+same-length : tie.Need-same-length
+same-length c = search needs
+
+returns : tie.Need-returns
+returns c =
+    λ q.
+    inl (made-over _ (ruleFrom (q .rules) (c .before .before .before .before .before .before .before .before .before .before .before .before .before .before .args .i) .content) _ (c .before .before .before .before .set-content .ensures (q .rules)) (c .enum-told .given .1))
+
+same-length-2 : tie.Need-same-length-2
+same-length-2 c = search needs
+
+same-length-3 : tie.Need-same-length-3
+same-length-3 c = search needs
+
+returns-2 : tie.Need-returns-2
+returns-2 c =
+    λ q.
+    let s = q .rules .in-words in
+    let i = c .before .before .before .before .before .before .before .before .before .before .before .before .before .before .before .before .before .before .before .before .before .args .i in
+    let h = c .before .before .before .before .before .before .before .before .before .before .before .before .before .before .before .before .before .before .before .before .before .pre .3 in
+    let long = c .before .before .before .before .before .before .before .before .before .before .before .before .before .before .before .before .before .before .before .before .before .pre .2 in
+    let on = member (c .before .before .before .before .before .before .before .before .before .before .before .before .before .before .before .before .before .before .before .before .before .args .used .words) 0 in
+    let made = made-stored _ (ruleFrom (q .rules) i .content) _ (c .before .before .before .before .before .before .before .before .before .before .before .set-content .ensures (q .rules)) (c .before .before .before .before .before .before .before .end .given .1) in
+    let label : c .before .before .before .before .before .before .before .before .before .before .before .before .before .before .set-label .result ≡ _ =
+    c .before .before .before .before .before .before .before .before .before .before .before .before .before .before .set-label .ensures _ _ (s .table) _ (s .views) (set-held s i h _ (c .before .before .before .before .before .before .before .before .before .before .before .before .before .before .before .load .ensures)) (set-ascending s i h) (set-some s i h) in
+    let below = set-labelled s i h in
+    let placed =
+    c .before .before .before .before .before .before .before .before .before .before .before .before .before .label-place .ensures .0 (length (s .table .labels)) (omega arith) (label-used s i h on (c .before .before .before .before .before .before .before .before .before .before .before .before .before .before .set-label .result) (q .used-are) label)
+    ∙ ap (λ (l : ℕ). place eqb l (keep on (numbersBelow (length (s .table .labels))))) label in
+    subst (λ (rule : Rule). RulePuts (c .before .before .before .before .before .before .before .before .before .before .before .before .before .before .before .before .before .before .before .before .before .args .draft .now) (c .before .before .before .before .before .before .before .before .before .before .before .before .before .before .before .before .before .before .before .before .before .args .at) rule (c .before .before .put-field .last .0) (c .before .before .put-field .result))
+    (rule-is (s .table) (s .sets) (c .before .before .before .before .before .before .before .before .before .before .before .before .before .before .before .before .before .before .before .before .before .args .single) i on (c .before .before .before .before .before .before .before .before .before .before .before .before .before .label-place .result) (q .used-are) placed)
+    (rule-puts (c .before .before .before .before .before .before .before .before .before .before .before .before .before .before .before .before .before .before .before .before .before .args .draft .now) (c .before .before .put-field .last .0) (c .before .before .before .before .before .before .before .before .before .before .before .before .before .before .before .before .before .before .before .before .before .args .at) _
+    (record { type = i; label = c .before .before .before .before .before .before .before .before .before .before .before .before .before .label-place .result; content = ruleFrom (q .rules) i .content })
+    (c .before .before .put-field .result)
+    (rule-value (c .before .before .before .before .before .before .before .before .before .before .before .before .before .before .before .before .before .before .before .before .before .args .scratch .now) (c .before .before .before .before .before .before .before .before .before .before .before .set-content .last .0) _ i (c .before .before .before .before .before .before .before .before .before .before .before .before .before .label-place .result) _ (ruleFrom (q .rules) i .content) (omega arith) made)
+    (made .fits)
+    (c .before .before .put-field .ensures))
+
+pub put-rule-spec : {M : Type 1} → statement M
+put-rule-spec =
+    tie.close
+    (tie.spec
+    mul-load
+    load-requires
+    set-label-requires
+    label-place-requires
+    sub-set-content
+    part-set-content-start
+    part-set-content-end
+    set-content-requires
+    enum-told
+    enum-known-end
+    cast-scratch
+    slice-write-scratch
+    cast-scratch-2
+    slice-write-scratch-2
+    add-stop
+    sub-put-field
+    part-put-field-start
+    part-put-field-end
+    put-field-requires
+    same-length
+    returns
+    same-length-2
+    same-length-3
+    returns-2)

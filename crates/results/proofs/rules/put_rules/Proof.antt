@@ -1,0 +1,128 @@
+-- `put_rules` meets its contract. The loop's invariant: the rules before `i` are written, and none of their contents is too large.
+use Prim.Native.Nat.{ℕ, _-_, _≤_, _<_}
+use native.Mathlib.Omega.{arith}
+use mathlib.Core.Bool.{false}
+use mathlib.Core.Path.{_≡_, refl, subst}
+use lib.ListN.{length}
+use borrow.Author.Needs.{needs}
+use Rattle.grammar.specs.Lists.{joinedOf, numbersBelow}
+use Rattle.grammar.specs.Limits.{standard}
+use Rattle.grammar.specs.Size.{contentTooLarge}
+use Rattle.emitting.specs.Writing.{Put}
+use Rattle.sampling.specs.SampleTable.{ruleField}
+use Rattle.sampling.proofs.TypeLaws.{up-to}
+use Rattle.sampling.proofs.RuleLaws.{up-start, rules-stop, rules-more}
+use Rattle.results.specs.Results.{RulesWith, ruleFrom}
+use Rattle.results.proofs.rules.put_rules.Statement.{statement}
+use Rattle.results.proofs.rules.put_rules.Tie as tie
+
+abbrev Inv-loop : tie.InvT-loop
+Inv-loop draft₀ at scratch₀ old add v labels lists left words count single used end₀ i₀ draft scratch end i =
+    (i ≤ count)
+    × (end ≤ 32768)
+    × (length draft ≡ length draft₀)
+    × (length scratch ≡ length scratch₀)
+    × ((q : RulesWith old add v labels lists left words count single used)
+    → Put draft₀ at (joinedOf (ruleField (ruleFrom (q .rules))) (numbersBelow i)) draft end)
+    × ((q : RulesWith old add v labels lists left words count single used)
+    → (j : ℕ)
+    → j < i
+    → contentTooLarge standard (ruleFrom (q .rules) j .content) ≡ false)
+
+abbrev μ-loop : tie.MeasureT-loop
+μ-loop draft₀ at scratch₀ old add v labels lists left words count single used end₀ i₀ draft scratch end i = count - i
+
+loop-holds : tie.Need-loop-holds Inv-loop μ-loop
+loop-holds c =
+    let a = c .before .before .before .before .before .args in (
+      omega arith,
+      c .before .before .before .before .before .pre .0,
+      refl,
+      refl,
+      λ q. up-start (ruleField (ruleFrom (q .rules))) (a .draft .now) (a .at) (omega arith),
+      λ q j h. absurd (omega arith),
+    )
+
+put-rule-requires : tie.Need-put-rule-requires Inv-loop μ-loop
+put-rule-requires c κs =
+    let x = c .before .before .before .loop .inv .2 in
+    let y = c .before .before .before .loop .inv .3 in
+    (c .before .before .before .loop .inv .1, omega arith, omega arith, c .before .before .loop-test .taken, c .before .before .before .before .before .before .before .before .before .pre .3)
+
+enum-told : tie.Need-enum-told Inv-loop μ-loop
+enum-told c = search needs
+
+same-length : tie.Need-same-length Inv-loop μ-loop
+same-length c = search needs
+
+same-length-2 : tie.Need-same-length-2 Inv-loop μ-loop
+same-length-2 c = search needs
+
+returns : tie.Need-returns Inv-loop μ-loop
+returns c =
+    λ q.
+    rules-stop (ruleFrom (q .rules)) (c .before .before .before .before .before .before .before .before .before .before .loop .i) (c .before .before .before .before .before .before .before .before .before .before .loop .inv .4 q) (c .before .before .before .before .before .before .put-rule .last .0) (c .before .before .before .before .before .before .put-rule .result) (c .before .before .before .before .before .before .put-rule .ensures q) (c .enum-told .given .1)
+    (c .before .before .before .before .before .before .before .before .before .before .before .before .before .before .before .before .args .count)
+    (c .before .before .before .before .before .before .before .before .before .loop-test .taken)
+
+enum-known-more : tie.Need-enum-known-more Inv-loop μ-loop
+enum-known-more c = search needs
+
+add-i : tie.Need-add-i Inv-loop μ-loop
+add-i c =
+    let few = c .before .before .before .before .before .before .before .before .before .before .before .before .before .before .before .before .before .pre .3 .rules .in-words .held .few in
+    let e = c .before .before .before .before .before .before .before .before .before .before .before .before .before .before .before .before .before .pre .3 .rules .in-words .count-is in
+    omega arith
+
+loop-less : tie.Need-loop-less Inv-loop μ-loop
+loop-less c = omega arith
+
+loop-again : tie.Need-loop-again Inv-loop μ-loop
+loop-again c =
+    let p = c .before .before .before .before .before .before .before .before .before .before .before .before .before .before .before .before .before .pre .3 in (
+      omega arith,
+      rules-more (ruleFrom (p .rules)) (c .before .before .before .before .before .before .before .before .before .before .before .loop .i) (c .before .before .before .before .before .before .before .before .before .before .before .loop .inv .4 p) (c .before .before .before .before .before .before .before .put-rule .last .0) (c .before .before .before .before .before .before .before .put-rule .result) (c .before .before .before .before .before .before .before .put-rule .ensures p) (c .before .more .given .1) .1,
+      search needs,
+      search needs,
+      λ q. rules-more (ruleFrom (q .rules)) (c .before .before .before .before .before .before .before .before .before .before .before .loop .i) (c .before .before .before .before .before .before .before .before .before .before .before .loop .inv .4 q) (c .before .before .before .before .before .before .before .put-rule .last .0) (c .before .before .before .before .before .before .before .put-rule .result) (c .before .before .before .before .before .before .before .put-rule .ensures q) (c .before .more .given .1) .0,
+      λ q.
+          up-to (λ j. contentTooLarge standard (ruleFrom (q .rules) j .content) ≡ false) (c .before .before .before .before .before .before .before .before .before .before .before .loop .i) (c .before .before .before .before .before .before .before .before .before .before .before .loop .inv .5 q)
+          (rules-more (ruleFrom (q .rules)) (c .before .before .before .before .before .before .before .before .before .before .before .loop .i) (c .before .before .before .before .before .before .before .before .before .before .before .loop .inv .4 q) (c .before .before .before .before .before .before .before .put-rule .last .0) (c .before .before .before .before .before .before .before .put-rule .result) (c .before .before .before .before .before .before .before .put-rule .ensures q) (c .before .more .given .1) .2),
+    )
+
+same-length-3 : tie.Need-same-length-3 Inv-loop μ-loop
+same-length-3 c = search needs
+
+same-length-4 : tie.Need-same-length-4 Inv-loop μ-loop
+same-length-4 c = search needs
+
+returns-2 : tie.Need-returns-2 Inv-loop μ-loop
+returns-2 c =
+    λ q.
+    let a = c .before .before .before .before .before .before .before .args in
+    let l = c .before .loop in
+    let e : l .i ≡ a .count = omega arith in (
+      subst (λ (n : ℕ). Put (a .draft .now) (a .at) (joinedOf (ruleField (ruleFrom (q .rules))) (numbersBelow n)) (l .draft) (l .end)) e (l .inv .4 q),
+      l .inv .1,
+      λ j h. l .inv .5 q j (omega arith),
+    )
+
+pub put-rules-spec : {M : Type 1} → statement M
+put-rules-spec =
+    tie.close
+    (tie.spec
+    Inv-loop
+    μ-loop
+    loop-holds
+    put-rule-requires
+    enum-told
+    same-length
+    same-length-2
+    returns
+    enum-known-more
+    add-i
+    loop-less
+    loop-again
+    same-length-3
+    same-length-4
+    returns-2)

@@ -1,0 +1,65 @@
+-- `first_numbers` meets its contract. The loop's invariant: the set has the numbers before `t`.
+use Prim.Native.Nat.{ℕ, _-_, _≤_}
+use native.Mathlib.Omega.{arith}
+use mathlib.Core.Bool.{true}
+use mathlib.Core.List.{List}
+use mathlib.Core.Path.{_≡_, refl, _∙_, ap}
+use lib.ListN.{length, length-replicate}
+use borrow.Author.Needs.{needs}
+use Rattle.sets.specs.Sets.{member, nothing}
+use Rattle.sets.proofs.SetLaws.{member-zeros}
+use Rattle.pairs.specs.Rounds.{puts}
+use Rattle.pairs.proofs.PutsLaws.{puts-start, puts-step}
+use Rattle.results.proofs.start_types.first_numbers.Statement.{statement}
+use Rattle.results.proofs.start_types.first_numbers.Tie as tie
+
+abbrev Inv-loop : tie.InvT-loop
+Inv-loop n set₀ t₀ set t =
+    (t ≤ n) × (member (set .words) 0 ≡ puts (λ s. true) (λ s. s) nothing t) × (length (set .words) ≡ 4)
+
+abbrev μ-loop : tie.MeasureT-loop
+μ-loop n set₀ t₀ set t = n - t
+
+loop-holds : tie.Need-loop-holds Inv-loop μ-loop
+loop-holds c =
+    let zeros = c .empty .ensures in (
+      omega arith,
+      puts-start _ _ _ _ (ap (λ (w : List ℕ). member w 0) zeros ∙ member-zeros 4 0),
+      ap length zeros ∙ length-replicate {A = ℕ} 4 0,
+    )
+
+put-if-requires : tie.Need-put-if-requires Inv-loop μ-loop
+put-if-requires c κs =
+    let few = c .before .before .before .pre in
+    (omega arith, c .before .loop .inv .2)
+
+add-t : tie.Need-add-t Inv-loop μ-loop
+add-t c =
+    let few = c .before .before .before .before .pre in
+    omega arith
+
+loop-again : tie.Need-loop-again Inv-loop μ-loop
+loop-again c = (
+  omega arith,
+  puts-step _ _ _ (c .before .before .loop .t) _ _ _ _ (c .before .before .loop .inv .1) (c .put-if .ensures .0) refl refl,
+  c .put-if .ensures .1,
+)
+
+returns : tie.Need-returns Inv-loop μ-loop
+returns c =
+    let e : c .before .loop .t ≡ c .before .before .before .args .n = omega arith in
+    (c .before .loop .inv .1 ∙ ap (puts (λ s. true) (λ s. s) nothing) e, c .before .loop .inv .2)
+
+pub first-numbers-spec : {M : Type 1} → statement M
+first-numbers-spec =
+    tie.close
+    (tie.spec
+    Inv-loop
+    μ-loop
+    (λ c κs. search needs)
+    loop-holds
+    put-if-requires
+    add-t
+    (λ c. omega arith)
+    loop-again
+    returns)

@@ -1,0 +1,96 @@
+-- `start_numbers` meets its contract. The loop's invariant: the set has the numbers of the start pairs before `p`.
+use Prim.Native.Nat.{ℕ, _-_, _≤_}
+use native.Mathlib.Omega.{arith}
+use mathlib.Core.List.{List}
+use mathlib.Core.Path.{_≡_, refl, _∙_, ap}
+use lib.ListN.{length, getD, length-replicate}
+use borrow.Author.Needs.{needs}
+use Rattle.sets.specs.Sets.{member, nothing}
+use Rattle.sets.proofs.SetLaws.{member-zeros}
+use Rattle.pairs.specs.Rounds.{puts}
+use Rattle.pairs.proofs.PutsLaws.{puts-start, puts-step}
+use Rattle.results.proofs.start_types.start_numbers.Statement.{statement}
+use Rattle.results.proofs.start_types.start_numbers.Tie as tie
+
+abbrev Inv-loop : tie.InvT-loop
+Inv-loop starts labels of rules set₀ p₀ set p =
+    (p ≤ rules)
+    × (member (set .words) 0 ≡ puts (member (starts .words) 0) (λ q. getD of (getD labels q 0) 0) nothing p)
+    × (length (set .words) ≡ 4)
+
+abbrev μ-loop : tie.MeasureT-loop
+μ-loop starts labels of rules set₀ p₀ set p = rules - p
+
+loop-holds : tie.Need-loop-holds Inv-loop μ-loop
+loop-holds c =
+    let zeros = c .empty .ensures in (
+      omega arith,
+      puts-start _ _ _ _ (ap (λ (w : List ℕ). member w 0) zeros ∙ member-zeros 4 0),
+      ap length zeros ∙ length-replicate {A = ℕ} 4 0,
+    )
+
+mul-label : tie.Need-mul-label Inv-loop μ-loop
+mul-label c =
+    let h = c .before .before .before .before .before .pre .0 .few in
+    omega arith
+
+array-read-label : tie.Need-array-read-label Inv-loop μ-loop
+array-read-label c =
+    let h = c .before .before .before .before .before .pre .0 .few in
+    omega arith
+
+has-requires : tie.Need-has-requires Inv-loop μ-loop
+has-requires c κs =
+    let h = c .before .before .before .before .before .pre .0 .few in
+    omega arith
+
+array-read-wide : tie.Need-array-read-wide Inv-loop μ-loop
+array-read-wide c = c .before .before .before .before .before .before .pre .1 (c .before .before .loop .p) (c .before .loop-test .taken)
+
+put-if-requires : tie.Need-put-if-requires Inv-loop μ-loop
+put-if-requires c κs =
+    let args = c .before .before .before .before .before .before .before .args in
+    let small = c .before .before .before .before .before .before .before .pre .3 (getD (args .v .labels) (c .before .before .before .loop .p) 0) in
+    let e = c .wide .ensures in
+    (omega arith, c .before .before .before .loop .inv .2)
+
+add-p : tie.Need-add-p Inv-loop μ-loop
+add-p c =
+    let h = c .before .before .before .before .before .before .before .before .pre .0 .few in
+    omega arith
+
+loop-again : tie.Need-loop-again Inv-loop μ-loop
+loop-again c = (
+  omega arith,
+  puts-step _ _ _ (c .before .before .before .before .loop .p) _ _ _ _ (c .before .before .before .before .loop .inv .1) (c .put-if .ensures .0) (c .before .before .has .ensures)
+      (c .before .wide .ensures .0),
+  c .put-if .ensures .1,
+)
+
+returns : tie.Need-returns Inv-loop μ-loop
+returns c =
+    let args = c .before .before .before .before .before .args in
+    let e : c .before .loop .p ≡ args .v .rules = omega arith in (
+      c .before .loop .inv .1
+          ∙ ap (puts (member (args .starts .words) 0) (λ q. getD (args .numbers .of) (getD (args .v .labels) q 0) 0) nothing) e,
+      c .before .loop .inv .2,
+    )
+
+pub start-numbers-spec : {M : Type 1} → statement M
+start-numbers-spec =
+    tie.close
+    (tie.spec
+    Inv-loop
+    μ-loop
+    (λ c κs. search needs)
+    loop-holds
+    mul-label
+    array-read-label
+    has-requires
+    array-read-wide
+    (λ c κs. search needs)
+    put-if-requires
+    add-p
+    (λ c. omega arith)
+    loop-again
+    returns)

@@ -1,0 +1,54 @@
+-- `widen_single_type` meets its contract: too many start labels, or the start sets and those met.
+use native.Mathlib.Omega.{arith}
+use mathlib.Core.Path.{_∙_}
+use borrow.Author.Needs.{needs}
+use Rattle.pairs.proofs.ViewLaws.{views-sized}
+use Rattle.results.proofs.ReducedLaws as laws
+use Rattle.results.proofs.widen.widen_single_type.Statement.{statement}
+use Rattle.results.proofs.widen.widen_single_type.Tie as tie
+
+label-count-requires : tie.Need-label-count-requires
+label-count-requires c κs = laws.names-few (c .before .before .before .before .before .pre .0 .reduced)
+
+label-sets-requires : tie.Need-label-sets-requires
+label-sets-requires c κs =
+    let r = c .before .before .before .before .before .before .before .pre .0 .reduced in
+    let room = c .before .before .before .before .before .before .before .pre .1 in
+    (views-sized (r .seen .rules), record { few = omega arith; room = omega arith; four = r .starts-room })
+
+widen-from-starts-requires : tie.Need-widen-from-starts-requires
+widen-from-starts-requires c κs =
+    let q = c .before .before .before .before .before .before .before .before .before .before .before .before .before .before .before .pre .0 in
+    let r = q .reduced in
+    let n = c .before .before .before .before .before .before .before .before .before .label-count .ensures ∙ laws.label-count-is r in
+    let s = c .before .before .before .before .before .before .before .label-sets in
+    let (many, held) = laws.start-counted r _ (s .result) (s .ensures _ _ _ (r .seen .rules) n) _ (c .before .before .before .first .given .1) in
+    (record { first = q .first; second = q .second; reduced = r; held = held; many = many }, search needs, c .before .before .before .before .before .before .before .before .before .before .before .before .before .before .before .pre .2)
+
+returns : tie.Need-returns
+returns c g h r =
+    let n = c .before .before .before .before .before .before .label-count .ensures ∙ laws.label-count-is r in
+    let s = c .before .before .before .before .label-sets in
+    laws.start-over r _ (s .result) (s .ensures _ _ _ (r .seen .rules) n) (c .enum-told .given .1) _ _
+
+returns-2 : tie.Need-returns-2
+returns-2 c g h r =
+    let n = c .before .before .before .before .before .before .before .before .before .before .before .before .before .before .label-count .ensures ∙ laws.label-count-is r in
+    let s = c .before .before .before .before .before .before .before .before .before .before .before .before .label-sets in
+    let (many, held) = laws.start-counted r _ (s .result) (s .ensures _ _ _ (r .seen .rules) n) _ (c .before .before .before .before .before .before .before .before .first .given .1) in
+    c .before .before .before .before .widen-from-starts .ensures g h r held many
+
+pub widen-single-type-spec : {M : Type 1} → statement M
+widen-single-type-spec =
+    tie.close
+    (tie.spec
+    label-count-requires
+    label-sets-requires
+    (λ c. search needs)
+    (λ c. search needs)
+    widen-from-starts-requires
+    (λ c. search needs)
+    returns
+    (λ c. search needs)
+    (λ c. search needs)
+    returns-2)

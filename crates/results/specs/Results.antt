@@ -1,0 +1,102 @@
+-- What the table of a result is written from: the union of two tables, its fruitful pairs by type, the pairs left, and the sets of
+-- pairs that are the types of the result.
+use Prim.Native.Nat.{ℕ, _+_, _≤_, _<_}
+use mathlib.Core.Bool.{Bool, true, false}
+use mathlib.Core.List.{List, [], _∷_, _++_, List·Memᴰ}
+use mathlib.Core.Path.{_≡_}
+use lib.Dec.{eqb}
+use lib.ListN.{length, getD}
+use Rattle.grammar.specs.Lists.{any, keep, joinedOf, numbersBelow}
+use Rattle.grammar.specs.Names.{Name}
+use Rattle.grammar.specs.Table.{Rule, Table}
+use Rattle.grammar.specs.Fields.{fieldBytes}
+use Rattle.grammar.specs.SingleTypeForm.{TypeSet}
+use Rattle.theory.proofs.TableConditions.{Labelled}
+use Rattle.sets.specs.Sets.{member}
+use Rattle.sets.specs.declared.four.Set4.{Set4}
+use Rattle.pairs.specs.declared.labels.Names.{Names}
+use Rattle.pairs.specs.declared.lists.TypeLists.{TypeLists}
+use Rattle.pairs.specs.declared.union.United.{United}
+use Rattle.pairs.specs.declared.union.Union.{Union}
+use Rattle.pairs.specs.UnitedLabels.{NamesAt}
+use Rattle.pairs.specs.View.{Views}
+use Rattle.pairs.specs.TypeLists.{ListsOf}
+use Rattle.pairs.specs.PairNumbers.{fruitfulOf, isLeft}
+use Rattle.emitting.specs.Completing.{Regular}
+use Rattle.merging.specs.Merging.{Shallow}
+use Rattle.forms.specs.SetForms.{metWithin, setLabel, ruleBySet}
+use Rattle.forms.specs.SetWords.{SetsHeld}
+use Rattle.sampling.specs.SampleTable.{restBytes}
+
+-- the pairs that form the sets named in the content of a set: single-type those met in its contents, local all that are left
+abbrev pub pairsWithin : Table → Bool → TypeSet → ℕ → Bool
+pairsWithin u true = metWithin u
+pairsWithin u false = λ s. isLeft u
+
+-- the rule of a set, by its number
+abbrev pub resultRule : Table → List TypeSet → Bool → ℕ → Rule
+resultRule u sets single = ruleBySet u sets (pairsWithin u single)
+
+-- some set has the label
+abbrev pub isUsed : Table → List TypeSet → ℕ → Bool
+isUsed u sets l = any (λ s. eqb (setLabel u s) l) sets
+
+-- the labels of a union stand in the bytes of its two tables: the old names, then the addition's new ones
+pub record LabelsIn (old add : List ℕ) (olds news : Names) : Type 0 where
+  pub first : List Name
+  pub second : List Name
+  pub old-names : NamesAt old olds first
+  pub new-names : NamesAt add news second
+
+-- sets of pairs of a union stand in the words
+pub record SetsIn (old add : List ℕ) (v : United) (words : List ℕ) (count : ℕ) : Type 0 where
+  pub table : Table
+  pub sets : List TypeSet
+  pub views : Views old add v table
+  pub labelled : Labelled table
+  pub labels-few : length (table .labels) ≤ 128
+  pub held : SetsHeld words sets
+  pub count-is : count ≡ length sets
+  pub some : (s : TypeSet) → List·Memᴰ s sets → 0 < length s
+  pub pairs : (s : TypeSet) → List·Memᴰ s sets → (p : ℕ) → List·Memᴰ p s → p < length (table .rules)
+
+-- and what their contents are made from
+pub record RulesFrom (old add : List ℕ) (v : United) (labels : ℕ) (lists : TypeLists) (left : Set4) (words : List ℕ) (count : ℕ) (single : Bool)
+    : Type 0 where
+  pub in-words : SetsIn old add v words count
+  pub labels-are : labels ≡ length (in-words .table .labels)
+  pub lists-are : ListsOf (fruitfulOf (in-words .table)) lists
+  pub left-is : member (left .words) 0 ≡ isLeft (in-words .table)
+  pub left-room : length (left .words) ≡ 4
+  pub shallow : Shallow (in-words .table)
+  pub regular : (i : ℕ) → i < count → Regular (resultRule (in-words .table) (in-words .sets) single i .content)
+
+-- with the labels that are used
+pub record RulesWith (old add : List ℕ) (v : United) (labels : ℕ) (lists : TypeLists) (left : Set4) (words : List ℕ) (count : ℕ) (single : Bool)
+    (used : Set4) : Type 0 where
+  pub rules : RulesFrom old add v labels lists left words count single
+  pub used-are : member (used .words) 0 ≡ isUsed (rules .in-words .table) (rules .in-words .sets)
+
+-- the rule of a number
+abbrev pub ruleFrom : {old add : List ℕ} {v : United} {labels : ℕ} {lists : TypeLists} {left : Set4} {words : List ℕ} {count : ℕ} {single : Bool}
+    → RulesFrom old add v labels lists left words count single
+    → ℕ
+    → Rule
+ruleFrom {old} {add} {v} {labels} {lists} {left} {words} {count} {single} q = resultRule (q .in-words .table) (q .in-words .sets) single
+
+-- What a result is written from: its rules, and where the labels stand.
+pub record ResultFrom (old add : List ℕ) (union : Union) (lists : TypeLists) (left : Set4) (words : List ℕ) (count : ℕ) (single : Bool) : Type 0 where
+  pub rules : RulesFrom old add (union .rules) (union .«old_names» .count + union .«new_names» .count) lists left words count single
+  pub names : LabelsIn old add (union .«old_names») (union .«new_names»)
+  pub same : rules .in-words .table .labels ≡ names .first ++ names .second
+
+-- the bytes of some of the labels, and of some of the types as starts
+abbrev pub labelsBytes : List Name → (ℕ → Bool) → List ℕ
+labelsBytes names on = joinedOf (λ l. fieldBytes 0x10 (getD names l [])) (keep on (numbersBelow (length names)))
+
+abbrev pub startsBytes : (ℕ → Bool) → ℕ → List ℕ
+startsBytes on count = joinedOf (λ k. fieldBytes 0x11 (k ∷ [])) (keep on (numbersBelow count))
+
+-- the starts, the rules and the end
+abbrev pub bodyBytes : (ℕ → Bool) → (ℕ → Rule) → ℕ → List ℕ
+bodyBytes on rule count = startsBytes on count ++ restBytes rule count

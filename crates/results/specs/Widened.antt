@@ -1,0 +1,81 @@
+-- What widening one table by another answers.
+use Prim.Native.Nat.{ℕ, _≤_}
+use mathlib.Core.Bool.{true}
+use mathlib.Core.List.{List, _++_}
+use mathlib.Core.Path.{_≡_}
+use lib.ListN.{length, drop}
+use Rattle.grammar.specs.Limits.{standard}
+use Rattle.grammar.specs.Names.{asciiClasses}
+use Rattle.grammar.specs.Table.{Table}
+use Rattle.grammar.specs.Kinds as kinds
+use Rattle.grammar.specs.Outcome.{given, refused}
+use Rattle.grammar.specs.WriteTable.{tableBytes}
+use Rattle.grammar.specs.WithinLimits.{TableWithin}
+use Rattle.grammar.specs.Unite.{unite}
+use Rattle.sets.specs.Sets.{member}
+use Rattle.sets.specs.declared.four.Set4.{Set4}
+use Rattle.pairs.specs.declared.lists.TypeLists.{TypeLists}
+use Rattle.pairs.specs.declared.union.Union.{Union}
+use Rattle.pairs.specs.View.{UnionSeen}
+use Rattle.pairs.specs.PairNumbers.{fruitfulOf, isStart, isLeft}
+use Rattle.pairs.specs.TypeLists.{ListsOf}
+use Rattle.forms.specs.SetForms.{labelSets}
+use Rattle.forms.specs.SetWords.{SetsHeld}
+use Rattle.grammar.specs.Widen.{widenByTable}
+use Rattle.grammar.specs.declared.Refusal.the-variants.{ResultTooLarge, NoDocument as Nothing}
+use Rattle.results.specs.declared.widen.Kind.{Kind}
+use Rattle.results.specs.declared.widen.Kind.the-variants.{Local, SingleType}
+use Rattle.results.specs.declared.widen.Made.{Made}
+use Rattle.results.specs.declared.widen.Made.the-variants.{Length, NoDocument, TooLarge}
+use Rattle.emitting.specs.declared.writing.Drafted.{Drafted}
+use Rattle.emitting.specs.declared.writing.Drafted.the-variants.{Length as Upto, TooLarge as Over}
+
+-- the kind that is meant
+unfoldable pub kindOf : Kind → kinds.Kind
+kindOf Local = kinds.local
+kindOf SingleType = kinds.singleType
+
+-- the result's bytes stand at the front of the draft, and the rest of it is kept
+pub record ResultDrafted (kind : kinds.Kind) (g h : Table) (before after : List ℕ) (n : ℕ) : Type 0 where
+  pub result : Table
+  pub widened : widenByTable standard kind g h ≡ given result
+  pub size : n ≡ length (tableBytes result)
+  pub small : n ≤ 32768
+  pub bytes : after ≡ tableBytes result ++ drop n before
+
+unfoldable pub Widens : kinds.Kind → (g h : Table) → (before after : List ℕ) → Made → Type 0
+Widens kind g h before after (Length n) = ResultDrafted kind g h before after n
+Widens kind g h before after NoDocument = widenByTable standard kind g h ≡ refused Nothing
+Widens kind g h before after TooLarge = widenByTable standard kind g h ≡ refused ResultTooLarge
+
+-- what was drafted of a result
+unfoldable pub madeOf : Drafted → Made
+madeOf (Upto n) = Length n
+madeOf Over = TooLarge
+
+-- What is known of two tables once their union is reduced: its view, its fruitful pairs by type, the start pairs, of which there is
+-- one, and the pairs that are left.
+pub record UnionReduced (old add : List ℕ) (union : Union) (lists : TypeLists) (starts left : Set4) (g h : Table) : Type 0 where
+  pub first-within : TableWithin standard asciiClasses g
+  pub second-within : TableWithin standard asciiClasses h
+  pub seen : UnionSeen old add g h union
+  pub lists-are : ListsOf (fruitfulOf (unite standard g h)) lists
+  pub starts-are : member (starts .words) 0 ≡ isStart (unite standard g h)
+  pub starts-room : length (starts .words) ≡ 4
+  pub left-are : member (left .words) 0 ≡ isLeft (unite standard g h)
+  pub left-room : length (left .words) ≡ 4
+  pub some-start : (p : ℕ) × (isStart (unite standard g h) p ≡ true)
+
+-- it is known of some tables
+pub record SomeReduced (old add : List ℕ) (union : Union) (lists : TypeLists) (starts left : Set4) : Type 0 where
+  pub first : Table
+  pub second : Table
+  pub reduced : UnionReduced old add union lists starts left first second
+
+-- and the start sets stand in the words
+pub record SomeStarts (old add : List ℕ) (union : Union) (lists : TypeLists) (starts left : Set4) (words : List ℕ) (count : ℕ) : Type 0 where
+  pub first : Table
+  pub second : Table
+  pub reduced : UnionReduced old add union lists starts left first second
+  pub held : SetsHeld words (labelSets (unite standard first second) (isStart (unite standard first second)))
+  pub many : count ≡ length (labelSets (unite standard first second) (isStart (unite standard first second)))

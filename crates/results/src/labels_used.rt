@@ -1,0 +1,139 @@
+// The labels of a result: those that its sets have, in label order.
+use emitting::writing::Drafted;
+use emitting::writing::put_field;
+use forms::label_sets::set_label;
+use pairs::labels::Names;
+use pairs::union::United;
+use sets::four::Set4;
+use sets::words::load;
+ghost use Prim.Native.Nat.{ℕ, _+_, _≤_, _<_};
+ghost use mathlib.Core.Bool.{true, false};
+ghost use mathlib.Core.Logic.{_⊎_};
+ghost use mathlib.Core.List.{List, [], _++_};
+ghost use mathlib.Core.Path.{_≡_};
+ghost use lib.Dec.{eqb};
+ghost use lib.ListN.{length, getD};
+ghost use Rattle.grammar.specs.Lists.{keep, place, numbersBelow};
+ghost use Rattle.grammar.specs.Fields.{fieldBytes};
+ghost use Rattle.theory.proofs.Alternatives.{onlyIf};
+ghost use Rattle.sets.specs.Sets.{member};
+ghost use Rattle.emitting.specs.Writing.{Puts};
+ghost use Rattle.results.specs.Results.{isUsed, LabelsIn, SetsIn, labelsBytes};
+
+// The labels that the sets in the words have.
+pub fn labels_used(v: United, words: &[u32], count: usize) -> Set4
+    requires { ⌜ ((old : List ℕ) × (add : List ℕ) × SetsIn old add v (now words) count) ⌝ }
+    ensures { λ r. ⌜ ((old add : List ℕ) (q : SetsIn old add v (now (words .entry)) count) → member (r .words) 0 ≡ isUsed (q .table) (q .sets)) ⌝ }
+{
+    let mut used = Set4::empty();
+    let mut i: usize = 0;
+    while i < count {
+        let set = load(words, 4 * i);
+        let more = used.with(set_label(v, set));
+        used = more;
+        i += 1;
+    }
+    used
+}
+
+// A number, with one more if asked.
+fn one_more(n: usize, on: bool) -> usize
+    requires { ⌜ n < 128 ⌝ }
+    ensures { λ r. ⌜ ((on ≡ true) × (r ≡ n + 1)) ⊎ ((on ≡ false) × (r ≡ n)) ⌝ }
+{
+    if on {
+        return n + 1;
+    }
+    n
+}
+
+// The place of a label among those used: how many of them come before it.
+pub fn label_place(used: Set4, label: usize) -> usize
+    requires { ⌜ label < 128 ⌝ }
+    ensures { λ r. ⌜ ((n : ℕ) → label < n → member (used .words) 0 label ≡ true → r ≡ place eqb label (keep (member (used .words) 0) (numbersBelow n)))
+        × (r ≤ label) ⌝ }
+{
+    let mut place: usize = 0;
+    let mut l: usize = 0;
+    while l < label {
+        place = one_more(place, used.has(l));
+        l += 1;
+    }
+    place
+}
+
+// Writes a label of a union. Its name stands in the old table or in the addition.
+fn put_name(
+    draft: &mut [u8],
+    at: usize,
+    old: &[u8],
+    add: &[u8],
+    olds: Names,
+    news: Names,
+    label: usize,
+) -> Drafted
+    requires { ⌜ (at ≤ 32768) × (32768 ≤ length (now draft)) × (label < olds .count + news .count) × LabelsIn (now old) (now add) olds news ⌝ }
+    ensures { λ r. ⌜ ((q : LabelsIn (now (old .entry)) (now (add .entry)) olds news)
+        → Puts (now (draft .entry)) at (fieldBytes 0x10 (getD (q .first ++ q .second) label [])) (now (draft .exit)) r) ⌝ }
+{
+    if label < olds.count {
+        let from = olds.from[label];
+        let to = olds.to[label];
+        return put_field(draft, at, 0x10, &old[from..to]);
+    }
+    let l = label - olds.count;
+    let from = news.from[l];
+    let to = news.to[l];
+    put_field(draft, at, 0x10, &add[from..to])
+}
+
+// The same, if the label is used.
+fn put_label(
+    draft: &mut [u8],
+    at: usize,
+    old: &[u8],
+    add: &[u8],
+    olds: Names,
+    news: Names,
+    label: usize,
+    on: bool,
+) -> Drafted
+    requires { ⌜ (at ≤ 32768) × (32768 ≤ length (now draft)) × (label < olds .count + news .count) × LabelsIn (now old) (now add) olds news ⌝ }
+    ensures { λ r. ⌜ ((q : LabelsIn (now (old .entry)) (now (add .entry)) olds news)
+        → Puts (now (draft .entry)) at (onlyIf on (fieldBytes 0x10 (getD (q .first ++ q .second) label []))) (now (draft .exit)) r) ⌝ }
+{
+    if on {
+        return put_name(draft, at, old, add, olds, news, label);
+    }
+    Drafted::Length(at)
+}
+
+// Writes the labels that are used.
+pub fn put_labels(
+    draft: &mut [u8],
+    old: &[u8],
+    add: &[u8],
+    olds: Names,
+    news: Names,
+    used: Set4,
+) -> Drafted
+    requires { ⌜ (32768 ≤ length (now draft)) × LabelsIn (now old) (now add) olds news ⌝ }
+    ensures { λ r. ⌜ ((q : LabelsIn (now (old .entry)) (now (add .entry)) olds news)
+        → Puts (now (draft .entry)) 0 (labelsBytes (q .first ++ q .second) (member (used .words) 0)) (now (draft .exit)) r) ⌝ }
+{
+    let labels = olds.count + news.count;
+    let mut end: usize = 0;
+    let mut l: usize = 0;
+    while l < labels {
+        match put_label(draft, end, old, add, olds, news, l, used.has(l)) {
+            Drafted::TooLarge => {
+                return Drafted::TooLarge;
+            }
+            Drafted::Length(more) => {
+                end = more;
+            }
+        }
+        l += 1;
+    }
+    Drafted::Length(end)
+}

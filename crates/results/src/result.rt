@@ -1,0 +1,106 @@
+// The table of a result by sets of pairs, written from the draft's beginning.
+use crate::labels_used::labels_used;
+use crate::labels_used::put_labels;
+use crate::rules::put_rest;
+use crate::starts::put_starts;
+use emitting::writing::Drafted;
+use pairs::lists::TypeLists;
+use pairs::union::Union;
+use pairs::union::United;
+use sets::four::Set4;
+ghost use Prim.Native.Nat.{_≤_};
+ghost use lib.ListN.{length};
+ghost use Rattle.grammar.specs.Lists.{keep, numbersBelow};
+ghost use Rattle.grammar.specs.WriteTable.{tableBytes};
+ghost use Rattle.sets.specs.Sets.{member};
+ghost use Rattle.forms.specs.SetForms.{tableBySets};
+ghost use Rattle.sampling.specs.SampleTable.{TablePut};
+ghost use Rattle.results.specs.Results.{pairsWithin, RulesWith, ResultFrom, ruleFrom, bodyBytes};
+
+// Writes the starts, the rules and the end.
+fn put_body(
+    draft: &mut [u8],
+    at: usize,
+    scratch: &mut [u8],
+    old: &[u8],
+    add: &[u8],
+    v: United,
+    labels: usize,
+    lists: TypeLists,
+    left: Set4,
+    words: &[u32],
+    count: usize,
+    single: bool,
+    used: Set4,
+    starts: Set4,
+) -> Drafted
+    requires { ⌜ (at ≤ 32768) × (32768 ≤ length (now draft)) × (33860 ≤ length (now scratch))
+        × RulesWith (now old) (now add) v labels lists left (now words) count single used ⌝ }
+    ensures { λ r. ⌜ ((q : RulesWith (now (old .entry)) (now (add .entry)) v labels lists left (now (words .entry)) count single used)
+        → TablePut (now (draft .entry)) at (ruleFrom (q .rules)) count (bodyBytes (member (starts .words) 0) (ruleFrom (q .rules)) count) (now (draft .exit)) r) ⌝ }
+{
+    match put_starts(draft, at, starts, count) {
+        Drafted::TooLarge => Drafted::TooLarge,
+        Drafted::Length(end) => put_rest(
+            draft,
+            end,
+            scratch,
+            old,
+            add,
+            v,
+            labels,
+            lists,
+            left,
+            words,
+            count,
+            single,
+            used,
+        ),
+    }
+}
+
+// Writes the table of a result: the labels used, the starts, a rule for each set, the end.
+pub fn put_result(
+    draft: &mut [u8],
+    scratch: &mut [u8],
+    old: &[u8],
+    add: &[u8],
+    union: Union,
+    lists: TypeLists,
+    left: Set4,
+    words: &[u32],
+    count: usize,
+    starts: Set4,
+    single: bool,
+) -> Drafted
+    requires { ⌜ (32768 ≤ length (now draft)) × (33860 ≤ length (now scratch))
+        × ResultFrom (now old) (now add) union lists left (now words) count single ⌝ }
+    ensures { λ r. ⌜ ((q : ResultFrom (now (old .entry)) (now (add .entry)) union lists left (now (words .entry)) count single)
+        → TablePut (now (draft .entry)) 0 (ruleFrom (q .rules)) count
+        (tableBytes (tableBySets (q .rules .in-words .table) (q .rules .in-words .sets) (pairsWithin (q .rules .in-words .table) single)
+        (keep (member (starts .words) 0) (numbersBelow count)))) (now (draft .exit)) r) ⌝ }
+{
+    let v = union.rules;
+    let olds = union.old_names;
+    let news = union.new_names;
+    let used = labels_used(v, words, count);
+    match put_labels(draft, old, add, olds, news, used) {
+        Drafted::TooLarge => Drafted::TooLarge,
+        Drafted::Length(end) => put_body(
+            draft,
+            end,
+            scratch,
+            old,
+            add,
+            v,
+            olds.count + news.count,
+            lists,
+            left,
+            words,
+            count,
+            single,
+            used,
+            starts,
+        ),
+    }
+}

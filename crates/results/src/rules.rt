@@ -1,0 +1,217 @@
+// The rules of a result: one for each set of pairs, in the order of the sets.
+use crate::labels_used::label_place;
+use emitting::completing::ContentMade;
+use emitting::writing::Drafted;
+use emitting::writing::put_field;
+use forms::label_sets::label_numbers;
+use forms::label_sets::set_label;
+use forms::results::result_lists;
+use merging::contents::content_of_set;
+use pairs::lists::TypeLists;
+use pairs::union::United;
+use reducing::listing::types_listed;
+use reducing::meeting::met_set;
+use sets::four::Set4;
+use sets::words::load;
+ghost use Prim.Native.Nat.{_*_, _≤_, _<_};
+ghost use mathlib.Core.Path.{_≡_};
+ghost use lib.ListN.{length};
+ghost use Rattle.grammar.specs.Lists.{isIn};
+ghost use Rattle.grammar.specs.Table.{Table};
+ghost use Rattle.grammar.specs.SingleTypeForm.{TypeSet};
+ghost use Rattle.sets.specs.Sets.{member, wordsAt};
+ghost use Rattle.pairs.specs.View.{Views};
+ghost use Rattle.pairs.specs.TypeLists.{ListsOf};
+ghost use Rattle.pairs.specs.PairNumbers.{fruitfulOf, isLeft};
+ghost use Rattle.emitting.specs.Completing.{Made};
+ghost use Rattle.sampling.specs.SampleTable.{RulePuts, RulesPut, TablePut, restBytes};
+ghost use Rattle.results.specs.Results.{pairsWithin, RulesFrom, RulesWith, ruleFrom};
+
+// The pairs that form the sets named in the content of a set.
+fn pairs_within(
+    old: &[u8],
+    add: &[u8],
+    v: United,
+    lists: TypeLists,
+    left: Set4,
+    single: bool,
+    set: Set4,
+) -> Set4
+    requires { ⌜ ((u : Table) × Views (now old) (now add) v u × ListsOf (fruitfulOf u) lists) × (length (left .words) ≡ 4) × (length (set .words) ≡ 4) ⌝ }
+    ensures { λ r. ⌜ ((u : Table) (s : TypeSet) → Views (now (old .entry)) (now (add .entry)) v u → ListsOf (fruitfulOf u) lists
+        → member (left .words) 0 ≡ isLeft u → member (set .words) 0 ≡ (λ p. isIn p s) → member (r .words) 0 ≡ pairsWithin u single s)
+        × (length (r .words) ≡ 4) ⌝ }
+{
+    if single {
+        return met_set(old, add, v, lists, set);
+    }
+    left
+}
+
+// Makes the content of the set of a number at the front of the scratch bytes.
+fn set_content(
+    scratch: &mut [u8],
+    old: &[u8],
+    add: &[u8],
+    v: United,
+    labels: usize,
+    lists: TypeLists,
+    left: Set4,
+    words: &[u32],
+    count: usize,
+    single: bool,
+    i: usize,
+    set: Set4,
+) -> ContentMade
+    requires { ⌜ (33858 ≤ length (now scratch)) × (i < count) × (set .words ≡ wordsAt (now words) (4 * i) 4)
+        × RulesFrom (now old) (now add) v labels lists left (now words) count single ⌝ }
+    ensures { λ r. ⌜ ((q : RulesFrom (now (old .entry)) (now (add .entry)) v labels lists left (now (words .entry)) count single)
+        → Made (now (scratch .exit)) (ruleFrom q i .content) r) ⌝ }
+{
+    let within = pairs_within(old, add, v, lists, left, single, set);
+    let numbers = label_numbers(v, labels, within, words, count);
+    let results = result_lists(v, lists, left, numbers);
+    let types = types_listed(results);
+    content_of_set(old, add, v, set, types, results, scratch)
+}
+
+// Writes the rule of the set of a number.
+fn put_rule(
+    draft: &mut [u8],
+    at: usize,
+    scratch: &mut [u8],
+    old: &[u8],
+    add: &[u8],
+    v: United,
+    labels: usize,
+    lists: TypeLists,
+    left: Set4,
+    words: &[u32],
+    count: usize,
+    single: bool,
+    used: Set4,
+    i: usize,
+) -> Drafted
+    requires { ⌜ (at ≤ 32768) × (32768 ≤ length (now draft)) × (33860 ≤ length (now scratch)) × (i < count)
+        × RulesWith (now old) (now add) v labels lists left (now words) count single used ⌝ }
+    ensures { λ r. ⌜ ((q : RulesWith (now (old .entry)) (now (add .entry)) v labels lists left (now (words .entry)) count single used)
+        → RulePuts (now (draft .entry)) at (ruleFrom (q .rules) i) (now (draft .exit)) r) ⌝ }
+{
+    let set = load(words, 4 * i);
+    let label = label_place(used, set_label(v, set));
+    match set_content(
+        &mut scratch[2..],
+        old,
+        add,
+        v,
+        labels,
+        lists,
+        left,
+        words,
+        count,
+        single,
+        i,
+        set,
+    ) {
+        ContentMade::TooLarge => Drafted::TooLarge,
+        ContentMade::Upto { end } => {
+            scratch[0] = i as u8;
+            scratch[1] = label as u8;
+            let stop = end + 2;
+            put_field(draft, at, 0x12, &scratch[0..stop])
+        }
+    }
+}
+
+// Writes the rules.
+fn put_rules(
+    draft: &mut [u8],
+    at: usize,
+    scratch: &mut [u8],
+    old: &[u8],
+    add: &[u8],
+    v: United,
+    labels: usize,
+    lists: TypeLists,
+    left: Set4,
+    words: &[u32],
+    count: usize,
+    single: bool,
+    used: Set4,
+) -> Drafted
+    requires { ⌜ (at ≤ 32768) × (32768 ≤ length (now draft)) × (33860 ≤ length (now scratch))
+        × RulesWith (now old) (now add) v labels lists left (now words) count single used ⌝ }
+    ensures { λ r. ⌜ ((q : RulesWith (now (old .entry)) (now (add .entry)) v labels lists left (now (words .entry)) count single used)
+        → RulesPut (now (draft .entry)) at (ruleFrom (q .rules)) count (now (draft .exit)) r) ⌝ }
+{
+    let mut end = at;
+    let mut i: usize = 0;
+    while i < count {
+        match put_rule(
+            draft,
+            end,
+            scratch,
+            old,
+            add,
+            v,
+            labels,
+            lists,
+            left,
+            words,
+            count,
+            single,
+            used,
+            i,
+        ) {
+            Drafted::TooLarge => {
+                return Drafted::TooLarge;
+            }
+            Drafted::Length(more) => {
+                end = more;
+            }
+        }
+        i += 1;
+    }
+    Drafted::Length(end)
+}
+
+// Writes the rules and the end.
+pub fn put_rest(
+    draft: &mut [u8],
+    at: usize,
+    scratch: &mut [u8],
+    old: &[u8],
+    add: &[u8],
+    v: United,
+    labels: usize,
+    lists: TypeLists,
+    left: Set4,
+    words: &[u32],
+    count: usize,
+    single: bool,
+    used: Set4,
+) -> Drafted
+    requires { ⌜ (at ≤ 32768) × (32768 ≤ length (now draft)) × (33860 ≤ length (now scratch))
+        × RulesWith (now old) (now add) v labels lists left (now words) count single used ⌝ }
+    ensures { λ r. ⌜ ((q : RulesWith (now (old .entry)) (now (add .entry)) v labels lists left (now (words .entry)) count single used)
+        → TablePut (now (draft .entry)) at (ruleFrom (q .rules)) count (restBytes (ruleFrom (q .rules)) count) (now (draft .exit)) r) ⌝ }
+{
+    match put_rules(
+        draft,
+        at,
+        scratch,
+        old,
+        add,
+        v,
+        labels,
+        lists,
+        left,
+        words,
+        count,
+        single,
+        used,
+    ) {
+        Drafted::TooLarge => Drafted::TooLarge,
+        Drafted::Length(end) => put_field(draft, end, 0x1F, &scratch[0..0]),
+    }
+}

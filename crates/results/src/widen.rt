@@ -1,0 +1,208 @@
+// Widening a table that was read by another, to either kind: the union, its fruitful pairs, those that are left, the sets that are the
+// types of the result, and the result in a draft.
+use crate::result::put_result;
+use crate::start_types::first_numbers;
+use crate::start_types::start_numbers;
+use emitting::writing::Drafted;
+use forms::label_sets::label_numbers;
+use forms::label_sets::label_sets;
+use forms::set_words::Counted;
+use forms::worklist::more_sets;
+use pairs::fruitful::fruitful_pairs;
+use pairs::lists::TypeLists;
+use pairs::union::Union;
+use pairs::union::unite_tables;
+use reader::tables::TableIndex;
+use reducing::leaving::pairs_left;
+use reducing::leaving::start_pairs;
+use reducing::listing::fruitful_lists;
+use sets::four::Set4;
+ghost use mathlib.Core.Bool.{false, true};
+ghost use mathlib.Core.List.{List};
+ghost use mathlib.Core.Path.{_≡_};
+ghost use Prim.Native.Nat.{ℕ, _+_, _≤_};
+ghost use lib.ListN.{length};
+ghost use Rattle.grammar.specs.Limits.{standard};
+ghost use Rattle.grammar.specs.Table.{Table};
+ghost use Rattle.grammar.specs.Unite.{unite};
+ghost use Rattle.grammar.specs.Kinds.{local, singleType};
+ghost use Rattle.pairs.specs.View.{TableHeld, Held};
+ghost use Rattle.pairs.specs.PairNumbers.{isStart};
+ghost use Rattle.forms.specs.SetForms.{labelSets};
+ghost use Rattle.forms.specs.SetWords.{SetsHeld};
+ghost use Rattle.results.specs.Widened.{kindOf, madeOf, Widens, UnionReduced, SomeReduced, SomeStarts};
+
+pub enum Kind {
+    Local,
+    SingleType,
+}
+
+// How far a result is written; or no document is derived; or the result is too large.
+pub enum Made {
+    Length(usize),
+    NoDocument,
+    TooLarge,
+}
+
+// What was drafted of a result.
+fn told(drafted: Drafted) -> Made
+    ensures { λ r. ⌜ r ≡ madeOf drafted ⌝ }
+{
+    match drafted {
+        Drafted::Length(n) => Made::Length(n),
+        Drafted::TooLarge => Made::TooLarge,
+    }
+}
+
+// How many labels a union has.
+fn label_count(union: Union) -> usize
+    requires { ⌜ (union .«old_names» .count ≤ 64) × (union .«new_names» .count ≤ 64) ⌝ }
+    ensures { λ r. ⌜ r ≡ union .«old_names» .count + union .«new_names» .count ⌝ }
+{
+    let olds = union.old_names;
+    let news = union.new_names;
+    olds.count + news.count
+}
+
+// To local: one set a label, of the pairs left.
+fn widen_local(
+    old: &[u8],
+    add: &[u8],
+    union: Union,
+    lists: TypeLists,
+    starts: Set4,
+    left: Set4,
+    words: &mut [u32],
+    draft: &mut [u8],
+) -> Made
+    requires { ⌜ (SomeReduced (now old) (now add) union lists starts left) × (16384 ≤ length (now words)) × (32768 ≤ length (now draft)) ⌝ }
+    ensures { λ r. ⌜ ((g h : Table) → UnionReduced (now (old .entry)) (now (add .entry)) union lists starts left g h
+        → Widens local g h (now (draft .entry)) (now (draft .exit)) r) ⌝ }
+{
+    let v = union.rules;
+    let labels = label_count(union);
+    match label_sets(v, labels, left, words) {
+        Counted::TooMany => Made::TooLarge,
+        Counted::Count(count) => {
+            let numbers = label_numbers(v, labels, left, words, count);
+            let types = start_numbers(v, starts, numbers);
+            let mut scratch = [0u8; 33860];
+            told(put_result(
+                draft,
+                &mut scratch,
+                old,
+                add,
+                union,
+                lists,
+                left,
+                words,
+                count,
+                types,
+                false,
+            ))
+        }
+    }
+}
+
+// To single-type, once the start sets stand in the words: those met in them, and so on.
+fn widen_from_starts(
+    old: &[u8],
+    add: &[u8],
+    union: Union,
+    lists: TypeLists,
+    starts: Set4,
+    left: Set4,
+    words: &mut [u32],
+    first: usize,
+    draft: &mut [u8],
+) -> Made
+    requires { ⌜ (SomeStarts (now old) (now add) union lists starts left (now words) first) × (16384 ≤ length (now words)) × (32768 ≤ length (now draft)) ⌝ }
+    ensures { λ r. ⌜ ((g h : Table) → UnionReduced (now (old .entry)) (now (add .entry)) union lists starts left g h
+        → SetsHeld (now (words .entry)) (labelSets (unite standard g h) (isStart (unite standard g h)))
+        → first ≡ length (labelSets (unite standard g h) (isStart (unite standard g h)))
+        → Widens singleType g h (now (draft .entry)) (now (draft .exit)) r) ⌝ }
+{
+    let v = union.rules;
+    match more_sets(old, add, v, lists, words, first) {
+        Counted::TooMany => Made::TooLarge,
+        Counted::Count(count) => {
+            let types = first_numbers(first);
+            let mut scratch = [0u8; 33860];
+            told(put_result(
+                draft,
+                &mut scratch,
+                old,
+                add,
+                union,
+                lists,
+                left,
+                words,
+                count,
+                types,
+                true,
+            ))
+        }
+    }
+}
+
+// To single-type: the start sets, one a label, and the sets met.
+fn widen_single_type(
+    old: &[u8],
+    add: &[u8],
+    union: Union,
+    lists: TypeLists,
+    starts: Set4,
+    left: Set4,
+    words: &mut [u32],
+    draft: &mut [u8],
+) -> Made
+    requires { ⌜ (SomeReduced (now old) (now add) union lists starts left) × (16384 ≤ length (now words)) × (32768 ≤ length (now draft)) ⌝ }
+    ensures { λ r. ⌜ ((g h : Table) → UnionReduced (now (old .entry)) (now (add .entry)) union lists starts left g h
+        → Widens singleType g h (now (draft .entry)) (now (draft .exit)) r) ⌝ }
+{
+    let v = union.rules;
+    let labels = label_count(union);
+    match label_sets(v, labels, starts, words) {
+        Counted::TooMany => Made::TooLarge,
+        Counted::Count(first) => widen_from_starts(
+            old,
+            add,
+            union,
+            lists,
+            starts,
+            left,
+            words,
+            first,
+            draft,
+        ),
+    }
+}
+
+// The widening of one table by another, from the draft's beginning.
+pub fn widen_tables(
+    kind: Kind,
+    old: &[u8],
+    index: TableIndex,
+    add: &[u8],
+    addition: TableIndex,
+    words: &mut [u32],
+    draft: &mut [u8],
+) -> Made
+    requires { ⌜ (Held (now old) index) × (Held (now add) addition) × (16384 ≤ length (now words)) × (32768 ≤ length (now draft)) ⌝ }
+    ensures { λ r. ⌜ ((g h : Table) → TableHeld (now (old .entry)) index g → TableHeld (now (add .entry)) addition h
+        → Widens (kindOf kind) g h (now (draft .entry)) (now (draft .exit)) r) ⌝ }
+{
+    let union = unite_tables(old, index, add, addition);
+    let v = union.rules;
+    let known = fruitful_pairs(old, add, v);
+    let lists = fruitful_lists(v, known);
+    let starts = start_pairs(lists, index, addition);
+    if starts.is_empty() {
+        return Made::NoDocument;
+    }
+    let left = pairs_left(old, add, v, lists, starts);
+    match kind {
+        Kind::Local => widen_local(old, add, union, lists, starts, left, words, draft),
+        Kind::SingleType => widen_single_type(old, add, union, lists, starts, left, words, draft),
+    }
+}
