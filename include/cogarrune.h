@@ -28,7 +28,7 @@ extern "C" {
 #define COGARRUNE_WORK_WORDS 16384
 
 /* Stack that a thread should leave for a call (measured, with room to spare). */
-#define COGARRUNE_STACK_BYTES 262144
+#define COGARRUNE_STACK_BYTES 524288
 
 /* No input is longer, and no table written. An output of this many bytes is never too short. */
 #define COGARRUNE_MOST_BYTES 32768
