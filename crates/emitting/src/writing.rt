@@ -14,7 +14,7 @@ pub enum Drafted {
 }
 
 // The bytes at a place.
-fn copy(draft: &mut [u8], at: usize, value: &[u8])
+pub fn copy(draft: &mut [u8], at: usize, value: &[u8])
     requires { ⌜ at + length (now value) ≤ length (now draft) ⌝ }
     ensures { λ r. ⌜ now (draft .exit) ≡ paste (now (draft .entry)) at (now (value .entry)) (length (now (value .entry))) ⌝ }
 {

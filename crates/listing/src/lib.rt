@@ -1,0 +1,5 @@
+// The lister's text: a table as lines of ASCII, and the line of a refusal.
+pub mod contents;
+pub mod limits;
+pub mod lines;
+pub mod pieces;
