@@ -207,4 +207,5 @@ def main():
     widening(measure, args.instructions)
 
 
-main()
+if __name__ == "__main__":
+    main()

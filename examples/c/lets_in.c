@@ -1,0 +1,38 @@
+/* Does a table let in a document? lets_in TABLE DOCUMENT prints yes, no or refused N.
+ *
+ *     rt staticlib exports
+ *     cc -Iinclude -o lets_in examples/c/lets_in.c target/staticlib/libexports.a
+ *     ./lets_in examples/cards/old.tbl examples/cards/new.doc
+ */
+#include <stdio.h>
+
+#include "cogarrune.h"
+
+/* One byte more than an input may have, so that a longer file is refused and not cut. */
+static uint8_t table[COGARRUNE_MOST_BYTES + 1], document[COGARRUNE_MOST_BYTES + 1];
+static uint32_t work[COGARRUNE_WORK_WORDS];
+
+/* The bytes of a file; a file that cannot be read counts as no bytes. */
+static size_t read_file(const char *path, uint8_t *bytes) {
+    FILE *file = fopen(path, "rb");
+    if (file == NULL) return 0;
+    size_t length = fread(bytes, 1, COGARRUNE_MOST_BYTES + 1, file);
+    fclose(file);
+    return length;
+}
+
+int main(int count, char **arguments) {
+    if (count != 3) {
+        fprintf(stderr, "usage: lets_in TABLE DOCUMENT\n");
+        return 2;
+    }
+    size_t table_length = read_file(arguments[1], table);
+    size_t document_length = read_file(arguments[2], document);
+    uint64_t answer = cogarrune_lets_in(table, table_length, document, document_length, work, COGARRUNE_WORK_WORDS);
+    if (cogarrune_refusal_of(answer) != 0) {
+        printf("refused %u\n", cogarrune_refusal_of(answer));
+        return 2;
+    }
+    printf(cogarrune_value_of(answer) == 1 ? "yes\n" : "no\n");
+    return cogarrune_value_of(answer) == 1 ? 0 : 1;
+}

@@ -1,0 +1,65 @@
+//! Tables and documents in bytes.
+
+pub const NONE: &[u8] = &[0];
+pub const EMPTY: &[u8] = &[1];
+
+/// The table of the end field alone.
+pub const E: &[u8] = &[0x1F, 0, 0];
+
+fn field(tag: u8, value: &[u8]) -> Vec<u8> {
+    let mut bytes = vec![tag, (value.len() / 256) as u8, (value.len() % 256) as u8];
+    bytes.extend_from_slice(value);
+    bytes
+}
+
+pub fn t(number: u8) -> Vec<u8> {
+    vec![2, number]
+}
+
+fn listed(operator: u8, operands: &[&[u8]]) -> Vec<u8> {
+    let mut bytes = vec![operator, operands.len() as u8];
+    bytes.extend(operands.concat());
+    bytes
+}
+
+pub fn sequence(operands: &[&[u8]]) -> Vec<u8> {
+    listed(3, operands)
+}
+
+pub fn choice(operands: &[&[u8]]) -> Vec<u8> {
+    listed(4, operands)
+}
+
+/// A table with these starts and rules; labels are numbered as they first appear.
+pub fn table(starts: &[u8], rules: &[(u8, &str, &[u8])]) -> Vec<u8> {
+    let mut labels: Vec<&str> = Vec::new();
+    for (_, name, _) in rules {
+        if !labels.contains(name) {
+            labels.push(name);
+        }
+    }
+    let mut bytes = Vec::new();
+    for name in &labels {
+        bytes.extend(field(0x10, name.as_bytes()));
+    }
+    for start in starts {
+        bytes.extend(field(0x11, &[*start]));
+    }
+    for (number, name, content) in rules {
+        let label = labels.iter().position(|other| other == name).unwrap() as u8;
+        bytes.extend(field(0x12, &[&[*number, label], *content].concat()));
+    }
+    bytes.extend(E);
+    bytes
+}
+
+/// The fields of a node and its children.
+pub fn node(name: &str, children: &[Vec<u8>]) -> Vec<u8> {
+    let mut bytes = field(0x30, &[&[children.len() as u8], name.as_bytes()].concat());
+    bytes.extend(children.concat());
+    bytes
+}
+
+pub fn document(root: Vec<u8>) -> Vec<u8> {
+    [root, field(0x3F, &[])].concat()
+}

@@ -1,0 +1,116 @@
+//! The second validator's stored cases (crates/vectors), through this wrapper: the answers, the lent slices and the parts of names.
+
+use cogarrune::*;
+use std::fs;
+use std::path::{Path, PathBuf};
+
+/// The case file, read front to back. tests/second_validator/README.md describes it.
+struct Cases {
+    bytes: Vec<u8>,
+    at: usize,
+}
+
+impl Cases {
+    fn byte(&mut self) -> u8 {
+        self.at += 1;
+        self.bytes[self.at - 1]
+    }
+
+    fn number(&mut self) -> u32 {
+        (0..4).fold(0, |number, _| number << 8 | u32::from(self.byte()))
+    }
+
+    fn slice(&mut self) -> Vec<u8> {
+        let length = self.number() as usize;
+        self.at += length;
+        self.bytes[self.at - length..self.at].to_vec()
+    }
+}
+
+struct Case {
+    call: u8,
+    label: usize,
+    first: Vec<u8>,
+    second: Vec<u8>,
+    out: Vec<u8>,
+    work: Vec<u32>,
+}
+
+fn next_case(cases: &mut Cases) -> Option<Case> {
+    let call = cases.byte();
+    if call == 0 {
+        return None;
+    }
+    let (words, fill, out_length, label) = (cases.number(), cases.number(), cases.number(), cases.number());
+    let out = (0..out_length).map(|i| ((165 + 7 * i) % 256) as u8).collect();
+    let work = vec![fill; words as usize];
+    Some(Case {
+        call,
+        label: label as usize,
+        first: cases.slice(),
+        second: cases.slice(),
+        out,
+        work,
+    })
+}
+
+fn checksum(items: impl Iterator<Item = u32>) -> u32 {
+    items.fold(17, |sum: u32, item| sum.wrapping_mul(31).wrapping_add(item))
+}
+
+fn of_verdict(answer: Result<Verdict, Refusal>) -> Result<usize, Refusal> {
+    answer.map(|verdict| verdict.is_yes() as usize)
+}
+
+/// The value and the checksum of what was written, or of the part that came back.
+fn answered(case: &mut Case) -> (Result<usize, Refusal>, u32) {
+    let (first, second, out, work) = (&case.first, &case.second, &mut case.out, &mut case.work);
+    let value = match case.call {
+        1 => table_reads(first, work).map(|()| 1),
+        2 => document_reads(first, work).map(|()| 1),
+        3 => {
+            let name = label_name(first, case.label, work);
+            let sum = checksum(name.unwrap_or(&[]).iter().map(|byte| u32::from(*byte)));
+            let place = |name: &[u8]| (name.as_ptr() as usize - first.as_ptr() as usize) * 65_536 + name.len();
+            return (name.map(place), sum);
+        }
+        4 => of_verdict(lets_in(first, second, work)),
+        5 => of_verdict(is_local(first, work)),
+        6 => of_verdict(is_single_type(first, work)),
+        7 => sample(first, out, work).map(<[u8]>::len),
+        8 => widen_local_by_table(first, second, out, work).map(<[u8]>::len),
+        9 => widen_local_by_document(first, second, out, work).map(<[u8]>::len),
+        10 => widen_single_type_by_table(first, second, out, work).map(<[u8]>::len),
+        11 => widen_single_type_by_document(first, second, out, work).map(<[u8]>::len),
+        other => panic!("no call {other}"),
+    };
+    (value, checksum(out.iter().map(|byte| u32::from(*byte))))
+}
+
+fn line(case: &mut Case) -> String {
+    let (value, outsum) = answered(case);
+    let worksum = checksum(case.work.iter().copied());
+    let (refusal, value) = match value {
+        Ok(value) => (0, value),
+        Err(refusal) => (refusal.number(), 0),
+    };
+    format!("{} {} {} {} {}", case.call, refusal, value, outsum, worksum)
+}
+
+#[test]
+fn every_stored_case_has_its_line() {
+    let vectors: PathBuf = Path::new(env!("CARGO_MANIFEST_DIR")).join("../crates/vectors");
+    let mut cases = Cases {
+        bytes: fs::read(vectors.join("stdin")).unwrap(),
+        at: 0,
+    };
+    let expected = fs::read_to_string(vectors.join("stdout")).unwrap();
+    let mut lines = expected.lines();
+    let mut count = 0;
+    while let Some(mut case) = next_case(&mut cases) {
+        assert_eq!(line(&mut case), lines.next().unwrap(), "case {count}");
+        count += 1;
+    }
+    assert_eq!(lines.next(), None);
+    println!("{count} cases");
+}

@@ -1,0 +1,83 @@
+"""The static library of crate exports, called from Python (ctypes).
+
+    library = Library()                 builds the archive (`rt staticlib exports`) and loads it
+    library.calls                       the numbers of the calls that it has (tests/second_validator/README.md)
+    library.run(case)                   (refusal, value, output slice, working slice) of a case of generate.py
+    library.lets_in(table, document)    True or False
+"""
+
+import ctypes
+import os
+import subprocess
+import sys
+
+ROOT = os.path.dirname(os.path.dirname(os.path.abspath(__file__)))
+ARCHIVE = os.path.join(ROOT, 'target', 'staticlib', 'libexports.a')
+SHARED = os.path.join(ROOT, 'target', 'staticlib', 'libcogarrune.so')
+
+sys.dont_write_bytecode = True
+sys.path.insert(0, os.path.join(ROOT, 'tests', 'second_validator'))
+import generate  # noqa: E402
+import reference as ref  # noqa: E402
+
+
+def newest(folder):
+    """When a file below the folder was last changed."""
+    return max(os.path.getmtime(os.path.join(place, name)) for place, _, names in os.walk(folder) for name in names)
+
+
+def build_archive():
+    """The archive, from proved crates; made anew where a crate changed since."""
+    if os.path.exists(ARCHIVE) and newest(os.path.join(ROOT, 'crates')) < os.path.getmtime(ARCHIVE):
+        return
+    run = subprocess.run(['rt', 'staticlib', 'exports'], cwd=ROOT, stdout=subprocess.PIPE, stderr=subprocess.STDOUT)
+    if run.returncode != 0:
+        sys.exit(run.stdout.decode()[-2000:])
+
+
+def build_shared():
+    """A shared object of all of the archive."""
+    build_archive()
+    if not os.path.exists(SHARED) or os.path.getmtime(SHARED) < os.path.getmtime(ARCHIVE):
+        subprocess.run(['gcc', '-shared', '-o', SHARED, '-Wl,--whole-archive', ARCHIVE, '-Wl,--no-whole-archive'], check=True)
+
+
+def words(length, fill):
+    """A working slice of one word again and again; of length 1 at least, so that there is something to point to."""
+    made = (ctypes.c_uint32 * max(length, 1))()
+    if fill:
+        ctypes.memmove(made, fill.to_bytes(4, sys.byteorder) * length, 4 * length)
+    return made
+
+
+class Library:
+    def __init__(self):
+        build_shared()
+        self.library = ctypes.CDLL(SHARED)
+        self.functions = {}
+        for call, name in generate.CALL_NAMES.items():
+            if hasattr(self.library, 'cogarrune_' + name):
+                function = getattr(self.library, 'cogarrune_' + name)
+                function.restype = ctypes.c_uint64
+                self.functions[call] = function
+        self.calls = tuple(self.functions)
+
+    def run(self, case):
+        call = case.call
+        work = words(case.work_len, case.work_fill)
+        out = ctypes.create_string_buffer(generate.OUTPUT_FILL[:case.out_len], max(case.out_len, 1))
+        arguments = [case.first, ctypes.c_size_t(len(case.first))]
+        if call == generate.LETS_IN or call in generate.BY_TABLE + generate.BY_DOCUMENT:
+            arguments += [case.second, ctypes.c_size_t(len(case.second))]
+        if call == generate.LABEL_NAME:
+            arguments.append(ctypes.c_size_t(case.label))
+        if call in generate.WRITING:
+            arguments += [out, ctypes.c_size_t(case.out_len)]
+        answer = self.functions[call](*arguments, work, ctypes.c_size_t(case.work_len))
+        return answer >> 32, answer % 2**32, out.raw[:case.out_len], bytes(work)[:4 * case.work_len]
+
+    def lets_in(self, table, document):
+        refusal, value, _, _ = self.run(generate.Case(generate.LETS_IN, ref.WORK_WORDS, 0, 0, 0, table, document))
+        if refusal:
+            raise ref.Refused(refusal)
+        return value == 1

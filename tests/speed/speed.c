@@ -1,0 +1,143 @@
+/* Times of membership, side by side: the static library's lets_in and libxml2's validation of the same table as a RELAX NG schema and
+ * the same document as XML.
+ *
+ *     speed SECONDS FILE..
+ *
+ * Each FILE holds four parts, each a number of bytes in decimal, a line feed and the bytes: table, document, schema, XML. For each one
+ * line of numbers goes to standard output: answer of lets_in, answer of libxml2 (1 yes, 0 no), and seconds a call of
+ *     lets_in whole; reading the table; reading the document; the least call (the three bytes of an empty table);
+ *     libxml2's validation alone; parsing the schema; parsing the document.
+ * The seven are measured in turn, round after round, and the least of the rounds counts, so that load on the machine tells little. */
+#include <libxml/parser.h>
+#include <libxml/relaxng.h>
+#include <stdarg.h>
+#include <stdio.h>
+#include <stdlib.h>
+#include <time.h>
+
+#include "../../include/cogarrune.h"
+
+enum { TABLE, DOCUMENT, SCHEMA, XML, PARTS };
+enum { WHOLE, READ_TABLE, READ_DOCUMENT, LEAST, VALIDATE, PARSE_SCHEMA, PARSE_DOCUMENT, MEASURES };
+
+struct part {
+    unsigned char *bytes;
+    size_t length;
+};
+
+static struct part parts[PARTS];
+static uint32_t work[COGARRUNE_WORK_WORDS];
+static const uint8_t empty_table[] = {0x1F, 0, 0};
+static xmlRelaxNGPtr schema;
+static xmlRelaxNGValidCtxtPtr context;
+static xmlDocPtr document;
+static volatile uint64_t sink;
+
+static void quiet(void *data, const char *message, ...) { (void)data, (void)message; }
+static void silent(void *data, xmlErrorPtr error) { (void)data, (void)error; }
+
+static double now(void) {
+    struct timespec at;
+    clock_gettime(CLOCK_THREAD_CPUTIME_ID, &at);
+    return at.tv_sec + at.tv_nsec * 1e-9;
+}
+
+static struct part read_part(FILE *file) {
+    struct part part;
+    if (fscanf(file, "%zu", &part.length) != 1 || fgetc(file) != '\n') exit(2);
+    part.bytes = malloc(part.length + 1);
+    if (part.bytes == NULL || fread(part.bytes, 1, part.length, file) != part.length) exit(2);
+    return part;
+}
+
+static xmlRelaxNGPtr parse_schema(void) {
+    xmlRelaxNGParserCtxtPtr parser = xmlRelaxNGNewMemParserCtxt((const char *)parts[SCHEMA].bytes, (int)parts[SCHEMA].length);
+    xmlRelaxNGSetParserErrors(parser, quiet, quiet, NULL);
+    xmlRelaxNGPtr made = xmlRelaxNGParse(parser);
+    xmlRelaxNGFreeParserCtxt(parser);
+    return made;
+}
+
+static xmlDocPtr parse_document(void) {
+    return xmlReadMemory((const char *)parts[XML].bytes, (int)parts[XML].length, NULL, NULL, XML_PARSE_HUGE);
+}
+
+static void once(int measure) {
+    switch (measure) {
+    case WHOLE:
+        sink = cogarrune_lets_in(parts[TABLE].bytes, parts[TABLE].length, parts[DOCUMENT].bytes, parts[DOCUMENT].length, work,
+                                 COGARRUNE_WORK_WORDS);
+        break;
+    case READ_TABLE:
+        sink = cogarrune_table_reads(parts[TABLE].bytes, parts[TABLE].length, work, COGARRUNE_WORK_WORDS);
+        break;
+    case READ_DOCUMENT:
+        sink = cogarrune_document_reads(parts[DOCUMENT].bytes, parts[DOCUMENT].length, work, COGARRUNE_WORK_WORDS);
+        break;
+    case LEAST:
+        sink = cogarrune_table_reads(empty_table, sizeof empty_table, work, COGARRUNE_WORK_WORDS);
+        break;
+    case VALIDATE:
+        sink = (uint64_t)xmlRelaxNGValidateDoc(context, document);
+        break;
+    case PARSE_SCHEMA:
+        xmlRelaxNGFree(parse_schema());
+        break;
+    case PARSE_DOCUMENT:
+        xmlFreeDoc(parse_document());
+        break;
+    }
+}
+
+static double timed(int measure, long repeats) {
+    double begin = now();
+    for (long i = 0; i < repeats; i++) once(measure);
+    return (now() - begin) / repeats;
+}
+
+static void measure_file(double seconds) {
+    enum { ROUNDS = 8 };
+    double least[MEASURES];
+    long repeats[MEASURES];
+    for (int measure = 0; measure < MEASURES; measure++) {
+        least[measure] = timed(measure, 1);
+        repeats[measure] = (long)(seconds / ROUNDS / MEASURES / (least[measure] + 1e-9)) + 1;
+    }
+    for (int round = 0; round < ROUNDS; round++) {
+        for (int measure = 0; measure < MEASURES; measure++) {
+            double spent = timed(measure, repeats[measure]);
+            if (spent < least[measure]) least[measure] = spent;
+        }
+    }
+    once(WHOLE);
+    uint64_t ours = sink;
+    once(VALIDATE);
+    printf("%u %d", cogarrune_value_of(ours), sink == 0);
+    for (int measure = 0; measure < MEASURES; measure++) printf(" %.9f", least[measure]);
+    printf("\n");
+    fflush(stdout);
+}
+
+int main(int count, char **arguments) {
+    if (count < 3) return 2;
+    xmlInitParser();
+    xmlSetGenericErrorFunc(NULL, quiet);
+    for (int i = 2; i < count; i++) {
+        FILE *file = fopen(arguments[i], "rb");
+        if (file == NULL) return 2;
+        for (int part = 0; part < PARTS; part++) parts[part] = read_part(file);
+        fclose(file);
+        schema = parse_schema();
+        document = parse_document();
+        if (schema == NULL || document == NULL) return 3;
+        context = xmlRelaxNGNewValidCtxt(schema);
+        xmlRelaxNGSetValidErrors(context, quiet, quiet, NULL);
+        xmlRelaxNGSetValidStructuredErrors(context, silent, NULL);
+        measure_file(atof(arguments[1]));
+        xmlRelaxNGFreeValidCtxt(context);
+        xmlFreeDoc(document);
+        xmlRelaxNGFree(schema);
+        for (int part = 0; part < PARTS; part++) free(parts[part].bytes);
+    }
+    return 0;
+}
