@@ -1,14 +1,15 @@
 -- The public calls of widening, case by case: a table in a draft, and handed over; inputs that are refused or read; too few
 -- working words, or a call that was lent just the words that it needs; and that what is written is the least widening.
-use Prim.Native.Nat.{ℕ, _≤_, _<_}
+use Prim.Native.Nat.{ℕ, _+_, _≤_, _<_}
 use native.Mathlib.Omega.{arith}
 use mathlib.Core.List.{List, _++_}
 use mathlib.Core.Path.{_≡_, refl, sym, _∙_, ap, subst}
 use lib.ListN.{length, take, drop, replicate, length-append}
-use lib.Seq.{take-append-seam}
+use lib.Seq.{paste, take-append-seam}
 use lib.Dec.{ltb}
 use borrow.Author.Tests.{lt-ltb, le-ltb}
 use Rattle.grammar.specs.Limits.{standard}
+use Rattle.emitting.proofs.PutLaws.{put-paste}
 use Rattle.grammar.specs.Names.{asciiClasses}
 use Rattle.grammar.specs.Table.{Table}
 use Rattle.grammar.specs.Tree.{Tree}
@@ -182,6 +183,13 @@ module _ (o : Outcome Table) (draft out : List ℕ) (answer : Written) (i : InDr
             ∙ ap (λ (l : List ℕ). l ++ drop (length l) out) (ap (λ (k : ℕ). take k draft) (same ∙ size) ∙ i .bytes g p)
             ∙ sym (ap (λ (x : Outcome (List ℕ)). outAfter x out) f);
       }
+
+-- bytes copied to the front of the output
+pub copied : (out bytes left : List ℕ) → 0 + length bytes ≤ length out → left ≡ paste out 0 bytes (length bytes)
+    → left ≡ bytes ++ drop (length bytes) out
+copied out bytes left h e =
+    let z : 0 + length bytes ≡ length bytes = omega arith in
+    put-paste out 0 bytes left h e .is ∙ ap (λ (n : ℕ). bytes ++ drop n out) z
 
 -- a table that was read is held
 pub found-held : {s : List ℕ} {index : TableIndex} → TableFound s index → Held s index

@@ -1,6 +1,7 @@
 // The public calls. A call that is lent too few words changes none; otherwise the words that it needs are zero after it, and words
 // beyond them never change. A result is made in a draft, so that a refusal leaves the output as it came.
 use emitting::writing::Drafted;
+use emitting::writing::copy;
 use grammar::Reading;
 use grammar::Refusal;
 use grammar::Written;
@@ -13,28 +14,14 @@ use results::widen::Kind;
 use results::widen::Made;
 use results::widen::widen_tables;
 use sampling::sample::sample_table;
-ghost use mathlib.Core.Path.{_≡_};
 ghost use Prim.Native.Nat.{_≤_};
-ghost use mathlib.Core.List.{_++_};
-ghost use lib.ListN.{length, drop};
+ghost use lib.ListN.{length};
 ghost use Rattle.grammar.specs.Kinds.{local, singleType};
 ghost use Rattle.grammar.specs.Table.{Table};
 ghost use Rattle.grammar.specs.Outcome.{Outcome};
 ghost use Rattle.pairs.specs.View.{TableHeld, Held};
 ghost use Rattle.results.specs.Widened.{kindOf};
 ghost use Rattle.widening.specs.WideningCalls.{sampleOf, byTableOf, byDocumentOf, addedTo, sampledTo, InDraft, Fits, Delivers, Cleared, Sampled, WidenedByTable, WidenedByDocument};
-
-// The bytes at the front of the output.
-fn copy_out(out: &mut [u8], bytes: &[u8])
-    requires { ⌜ length (now bytes) ≤ length (now out) ⌝ }
-    ensures { λ r. ⌜ now (out .exit) ≡ now (bytes .entry) ++ drop (length (now (bytes .entry))) (now (out .entry)) ⌝ }
-{
-    let mut i: usize = 0;
-    while i < bytes.len() {
-        out[i] = bytes[i];
-        i += 1;
-    }
-}
 
 // Hands over what stands in the draft, if the output has room.
 fn deliver(draft: &[u8], made: Written, out: &mut [u8]) -> Written
@@ -47,7 +34,7 @@ fn deliver(draft: &[u8], made: Written, out: &mut [u8]) -> Written
             if out.len() < n {
                 return Written::Refused(Refusal::OutputTooShort);
             }
-            copy_out(out, &draft[0..n]);
+            copy(out, 0, &draft[0..n]);
             Written::Length(n)
         }
     }
