@@ -23,10 +23,10 @@ use Rattle.reader.proofs.DocumentTrees.{treeCount, enough-at}
 use Rattle.reader.proofs.DocumentAnswers.{nodes-count, node-held}
 use Rattle.reader.specs.DocumentNodes.{nodeAt, nodesIn}
 use Rattle.reader.specs.declared.documents.DocumentIndex.{DocumentIndex}
-use Rattle.validator.specs.TypeSets.{setAt, testsAt}
+use Rattle.walks.specs.TypeSets.{setAt, testsAt}
 use Rattle.validator.specs.KnownTable.{ruleFits, typesFor}
 use Rattle.validator.specs.KnownDocument.{KnownNodes}
-use Rattle.validator.proofs.WalkLaws.{tests-next, tests-none}
+use Rattle.walks.proofs.WalkLaws.{tests-next, tests-none}
 
 -- Sets that stand one after the other: the first, and those behind them.
 tests-take : (words : List ℕ) (k n at : ℕ) → k ≤ n → take k (testsAt words at n) ≡ testsAt words at k

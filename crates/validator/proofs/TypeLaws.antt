@@ -28,10 +28,10 @@ use Rattle.reader.specs.TableIndex.{part, labelFrom, labelTo, startType, ruleTy
 use Rattle.reader.specs.declared.tables.TableIndex.{TableIndex}
 use Rattle.reader.proofs.ExprLaws.{expr-of}
 use Rattle.reader.proofs.TableIndexLaws.{label-at, start-at, rule-at}
-use Rattle.validator.specs.TypeSets.{setAt}
-use Rattle.validator.specs.WalkAt.{runAt, ProperAt, WholeAt}
+use Rattle.walks.specs.TypeSets.{setAt}
+use Rattle.walks.specs.WalkAt.{runAt, ProperAt, WholeAt}
 use Rattle.validator.specs.KnownTable.{Known, ruleFits, typesFor, WithIf}
-use Rattle.validator.proofs.WalkLaws.{run-at}
+use Rattle.walks.proofs.WalkLaws.{run-at}
 
 -- Bytes that are a content's.
 module _ (s : List ℕ) (c : Content) (are : s ≡ contentBytes c) where

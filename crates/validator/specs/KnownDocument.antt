@@ -14,7 +14,7 @@ use Rattle.reader.specs.declared.documents.DocumentIndex.{DocumentIndex}
 use Rattle.reader.specs.declared.tables.TableIndex.{TableIndex}
 use Rattle.reader.proofs.DocumentTrees.{treeCount, Enough}
 use Rattle.validator.specs.KnownTable.{Known}
-use Rattle.validator.specs.TypeSets.{setAt}
+use Rattle.walks.specs.TypeSets.{setAt}
 
 -- the nodes are one whole tree
 pub record KnownNodes (d : List ℕ) (nodes : DocumentIndex) : Type 0 where

@@ -1,6 +1,3 @@
-pub mod RulesAt
-pub mod TypeSets
-pub mod WalkAt
 pub mod KnownTable
 pub mod KnownDocument
 pub mod ValidatorCalls

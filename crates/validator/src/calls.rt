@@ -1,11 +1,11 @@
 // The public calls. A call that is lent too few words changes none; otherwise the words that it needs are zero after it, and words
 // beyond them never change.
-use crate::kinds::local_table;
-use crate::kinds::single_type_table;
 use crate::membership::lets_in_read;
 use grammar::Reading;
 use grammar::Refusal;
 use grammar::Verdict;
+use kinds::kinds::local_table;
+use kinds::kinds::single_type_table;
 use reader::calls::clear;
 use reader::calls::clear_work;
 use reader::documents::read_document;

@@ -1,5 +1,3 @@
 // Membership and kind of tables and documents, over their readers.
 pub mod calls;
-pub mod kinds;
-pub mod matching;
 pub mod membership;

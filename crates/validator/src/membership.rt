@@ -2,7 +2,6 @@
 //
 // The nodes are gone through from the last to the first, with a stack of type sets in the lent words: a node takes the sets of its
 // children from the top, in order, and leaves its own.
-use crate::matching::matches;
 use reader::documents::DocumentIndex;
 use reader::names::same_name;
 use reader::numbers::wide;
@@ -10,6 +9,7 @@ use reader::tables::TableIndex;
 use sets::four::Set4;
 use sets::words::has;
 use sets::words::store;
+use walks::matching::matches;
 ghost use mathlib.Core.Bool.{_&&_};
 ghost use mathlib.Core.Path.{_≡_};
 ghost use Prim.Native.Nat.{_+_, _*_, _<_, _≤_};
@@ -23,10 +23,10 @@ ghost use Rattle.grammar.specs.ReadDocument.{treeOf};
 ghost use Rattle.grammar.specs.Table.{Table};
 ghost use Rattle.grammar.specs.Tree.{Tree};
 ghost use Rattle.reader.specs.DocumentNodes.{nodesIn};
-ghost use Rattle.validator.specs.TypeSets.{setAt, testsAt};
+ghost use Rattle.walks.specs.TypeSets.{setAt, testsAt};
 ghost use Rattle.validator.specs.KnownDocument.{KnownNodes, RootTypes};
 ghost use Rattle.validator.specs.KnownTable.{Known, SomeTable, WithIf, TypesAre};
-ghost use Rattle.validator.specs.WalkAt.{runAt, WholeAt, Room};
+ghost use Rattle.walks.specs.WalkAt.{runAt, WholeAt, Room};
 
 // Whether a rule with this label and this content fits a node of this name, whose children's sets stand from `top` on.
 fn rule_fits(

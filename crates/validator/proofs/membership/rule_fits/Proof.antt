@@ -2,8 +2,8 @@
 use mathlib.Core.Bool.{Bool, true, false, _&&_}
 use mathlib.Core.Path.{_≡_, sym, _∙_, ap}
 use borrow.Author.Needs.{needs}
-use Rattle.validator.specs.TypeSets.{testsAt}
-use Rattle.validator.specs.WalkAt.{runAt}
+use Rattle.walks.specs.TypeSets.{testsAt}
+use Rattle.walks.specs.WalkAt.{runAt}
 use Rattle.validator.proofs.membership.rule_fits.Statement.{statement}
 use Rattle.validator.proofs.membership.rule_fits.Tie as tie
 

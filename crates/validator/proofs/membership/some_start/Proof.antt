@@ -8,7 +8,7 @@ use borrow.Author.Needs.{needs}
 use Rattle.reader.specs.TableIndex.{startType}
 use Rattle.reader.proofs.LabelSearch.{start-passes, no-start-passes}
 use Rattle.sets.specs.Sets.{member}
-use Rattle.validator.specs.TypeSets.{setAt}
+use Rattle.walks.specs.TypeSets.{setAt}
 use Rattle.validator.proofs.TypeLaws.{start-small, set-has}
 use Rattle.validator.proofs.membership.some_start.Statement.{statement}
 use Rattle.validator.proofs.membership.some_start.Tie as tie

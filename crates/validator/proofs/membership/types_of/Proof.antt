@@ -12,9 +12,9 @@ use Rattle.reader.specs.TableIndex.{part, labelFrom, labelTo, ruleLabel, conten
 use Rattle.sets.specs.Sets.{member}
 use Rattle.sets.proofs.SetLaws.{member-zeros}
 use Rattle.theory.proofs.MarkedRun.{holds}
-use Rattle.validator.specs.TypeSets.{testsAt}
+use Rattle.walks.specs.TypeSets.{testsAt}
 use Rattle.validator.specs.KnownTable.{Known, SomeTable, typesFor}
-use Rattle.validator.specs.WalkAt.{runAt}
+use Rattle.walks.specs.WalkAt.{runAt}
 use Rattle.validator.proofs.TypeLaws as laws
 use Rattle.validator.proofs.membership.types_of.Statement.{statement}
 use Rattle.validator.proofs.membership.types_of.Tie as tie

@@ -1,0 +1,4 @@
+pub mod BelowLaws
+pub mod SeenTypes
+pub mod StandingTypes
+pub mod IndexedKinds

@@ -1,0 +1,2 @@
+// The kinds of a table that was read.
+pub mod kinds;

@@ -1,0 +1,2 @@
+pub mod TypeSets
+pub mod WalkAt

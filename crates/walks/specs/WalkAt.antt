@@ -1,0 +1,74 @@
+-- The walk of one child over the bytes of a content, and of all children: crates/theory/proofs/MarkedPass.antt has the walks by
+-- contents, here they go by the content that stands at a place.
+use Prim.Native.Nat.{ℕ, zero, suc, _+_, _≤_}
+use mathlib.Core.Bool.{Bool, true, false}
+use mathlib.Core.List.{List, [], _∷_}
+use mathlib.Core.Option.{none as nothing, some as just}
+use mathlib.Core.Path.{_≡_}
+use lib.ListN.{length, set}
+use Rattle.grammar.specs.Limits.{Limits}
+use Rattle.grammar.specs.Content.{Content, Contents}
+use Rattle.grammar.specs.ReadContent.{isProper, areProper}
+use Rattle.reader.specs.ExprAt.{_upTo_, exprAt, exprsAt}
+use Rattle.theory.proofs.MarkedPass.{Walked, number, walk, walkInTurn, walkEach, walks}
+use Rattle.theory.proofs.MarkedRun.{run}
+use Rattle.walks.specs.declared.matching.Passed.{Passed}
+
+-- nothing stands there
+abbrev pub noWalk : List ℕ → ℕ → Walked
+noWalk marks at = record { marks = marks; next = at; nullable = false; final = false }
+
+-- for the expression at a place
+unfoldable pub walkAt : List ℕ → ℕ → List ℕ → Bool → (ℕ → Bool) → Walked
+walkAt s at marks b has = elim (exprAt s at) [ nothing ↦ noWalk marks at | just e ↦ walk (e .content) at marks b has ]
+
+-- for so many operands of a sequence, one after the other
+unfoldable pub walkInTurnAt : List ℕ → ℕ → ℕ → List ℕ → Bool → (ℕ → Bool) → Bool → Bool → Walked
+walkInTurnAt s at n marks b has nullable final =
+    elim (exprsAt s at n) [ nothing ↦ noWalk marks at | just e ↦ walkInTurn (e .content) at marks b has nullable final ]
+
+-- for so many operands of a choice
+unfoldable pub walkEachAt : List ℕ → ℕ → ℕ → List ℕ → Bool → (ℕ → Bool) → Bool → Bool → Walked
+walkEachAt s at n marks b has nullable final =
+    elim (exprsAt s at n) [ nothing ↦ noWalk marks at | just e ↦ walkEach (e .content) at marks b has nullable final ]
+
+-- the children one after the other, over the whole content
+unfoldable pub walksAt : List ℕ → List ℕ → Bool → List (ℕ → Bool) → List ℕ
+walksAt s marks b children = elim (exprAt s 0) [ nothing ↦ marks | just e ↦ walks (e .content) marks b children ]
+
+-- whether the content matches the children
+unfoldable pub runAt : List ℕ → List (ℕ → Bool) → Bool
+runAt s children = elim (exprAt s 0) [ nothing ↦ false | just e ↦ run (e .content) children ]
+
+-- what the code's walk gives back, with the marks that it leaves
+abbrev pub walked : List ℕ → Passed → Walked
+walked marks p = record { marks = marks; next = p .next; nullable = p .nullable; final = p .ends }
+
+-- the first number of an expression tells its final
+abbrev pub ended : ℕ → Walked → Walked
+ended at p = record { marks = set (p .marks) at (number (p .final)); next = p .next; nullable = p .nullable; final = p .final }
+
+-- a proper expression stands at a place
+pub record ProperAt (lim : Limits) (s : List ℕ) (at : ℕ) : Type 0 where
+  pub content : Content
+  pub next : ℕ
+  pub stands : exprAt s at ≡ just (content upTo next)
+  pub proper : isProper lim content ≡ true
+
+-- the bytes are one proper expression
+pub record WholeAt (lim : Limits) (s : List ℕ) : Type 0 where
+  pub proper-at : ProperAt lim s 0
+  pub whole : proper-at .next ≡ length s
+
+-- so many, one after the other
+pub record ProperRowAt (lim : Limits) (s : List ℕ) (at n : ℕ) : Type 0 where
+  pub contents : Contents
+  pub next : ℕ
+  pub stands : exprsAt s at n ≡ just (contents upTo next)
+  pub proper : areProper lim contents ≡ true
+
+-- room for the walk: a mark for each byte, and the four words of a set at base
+pub record Room (s marks words : List ℕ) (base : ℕ) : Type 0 where
+  pub few : length s ≤ 1024
+  pub mark-each : length s ≤ length marks
+  pub four-words : base + 4 ≤ length words

@@ -1,0 +1,269 @@
+// Whether a content matches a row of children, each given by the set of types that derive it.
+//
+// One walk over the content for each child. The marks have one number for each byte of the content: at the first byte of an
+// expression 1 where the children so far can end that expression, else 0.
+use reader::numbers::wide;
+use sets::words::has;
+ghost use mathlib.Core.Bool.{_&&_, _||_, true, false};
+ghost use mathlib.Core.List.{_++_};
+ghost use mathlib.Core.Path.{_≡_};
+ghost use Prim.Native.Nat.{_+_, _*_, _<_, _≤_};
+ghost use lib.ListN.{length, set, getD, replicate, drop};
+ghost use Rattle.grammar.specs.Limits.{standard};
+ghost use Rattle.theory.proofs.MarkedPass.{number, isMarked};
+ghost use Rattle.walks.specs.TypeSets.{setAt, testsAt};
+ghost use Rattle.walks.specs.WalkAt.{walkAt, walkInTurnAt, walkEachAt, walksAt, runAt, walked, ended, WholeAt, ProperAt, ProperRowAt, Room};
+
+// What the walk over an expression gives back: the place after it, whether it matches no children at all, and whether the children so
+// far, the last one included, can end it.
+pub struct Passed {
+    pub next: usize,
+    pub nullable: bool,
+    pub ends: bool,
+}
+
+fn both(a: bool, b: bool) -> bool
+    ensures { λ r. ⌜ r ≡ (a && b) ⌝ }
+{
+    if a {
+        return b;
+    }
+    false
+}
+
+fn either(a: bool, b: bool) -> bool
+    ensures { λ r. ⌜ r ≡ (a || b) ⌝ }
+{
+    if a {
+        return true;
+    }
+    b
+}
+
+// Stores whether the children so far can end the expression at a place.
+fn mark(marks: &mut [u8], at: usize, ends: bool)
+    requires { ⌜ at < length (now marks) ⌝ }
+    ensures { λ r. ⌜ now (marks .exit) ≡ set (now (marks .entry)) at (number ends) ⌝ }
+{
+    if ends {
+        marks[at] = 1;
+        return;
+    }
+    marks[at] = 0;
+}
+
+// Whether the child, if it may come here, has the type.
+fn allowed(incoming: bool, words: &[u32], base: usize, k: usize) -> bool
+    requires { ⌜ (k < 64) × (base + 4 ≤ length (now words)) ⌝ }
+    ensures { λ r. ⌜ r ≡ (incoming && setAt (now (words .entry)) base k) ⌝ }
+{
+    if incoming {
+        return has(words, base, k);
+    }
+    false
+}
+
+// The same answer, with its end stored at the expression's first byte.
+fn sealed(marks: &mut [u8], at: usize, part: Passed) -> Passed
+    requires { ⌜ at < length (now marks) ⌝ }
+    ensures { λ r. ⌜ walked (now (marks .exit)) r ≡ ended at (walked (now (marks .entry)) part) ⌝ }
+{
+    mark(marks, at, part.ends);
+    part
+}
+
+// An expression that also matches no children.
+fn or_none(part: Passed) -> Passed
+    ensures { λ r. ⌜ r ≡ record { next = part .next; nullable = true; ends = part .ends } ⌝ }
+{
+    Passed {
+        next: part.next,
+        nullable: true,
+        ends: part.ends,
+    }
+}
+
+// One child's walk over a type.
+fn typed(
+    content: &[u8],
+    at: usize,
+    marks: &mut [u8],
+    incoming: bool,
+    words: &[u32],
+    base: usize,
+) -> Passed
+    requires { ⌜ (at + 1 < length (now content)) × (getD (now content) (at + 1) 0 < 64) × (Room (now content) (now marks) (now words) base) ⌝ }
+    ensures { λ r. ⌜ walked (now (marks .exit)) r ≡ ended at (record {
+      marks = now (marks .entry);
+      next = at + 2;
+      nullable = false;
+      final = incoming && setAt (now (words .entry)) base (getD (now (content .entry)) (at + 1) 0);
+    }) ⌝ }
+{
+    let k = wide(content[at + 1]);
+    let part = Passed {
+        next: at + 2,
+        nullable: false,
+        ends: allowed(incoming, words, base, k),
+    };
+    sealed(marks, at, part)
+}
+
+// One child's walk over the expression at a place; `incoming` where the child may begin it.
+pub fn pass(
+    content: &[u8],
+    at: usize,
+    marks: &mut [u8],
+    incoming: bool,
+    words: &[u32],
+    base: usize,
+) -> Passed
+    requires { ⌜ (ProperAt standard (now content) at) × (Room (now content) (now marks) (now words) base) ⌝ }
+    ensures { λ r. ⌜ walked (now (marks .exit)) r
+        ≡ walkAt (now (content .entry)) at (now (marks .entry)) incoming (setAt (now (words .entry)) base) ⌝ }
+{
+    let operator = wide(content[at]);
+    match operator {
+        0 => Passed {
+            next: at + 1,
+            nullable: false,
+            ends: false,
+        },
+        1 => Passed {
+            next: at + 1,
+            nullable: true,
+            ends: false,
+        },
+        2 => typed(content, at, marks, incoming, words, base),
+        3 => {
+            let none_yet = Passed {
+                next: at + 2,
+                nullable: true,
+                ends: false,
+            };
+            let count = wide(content[at + 1]);
+            let all = in_turn(content, count, none_yet, marks, incoming, words, base);
+            sealed(marks, at, all)
+        }
+        4 => {
+            let none_yet = Passed {
+                next: at + 2,
+                nullable: false,
+                ends: false,
+            };
+            let count = wide(content[at + 1]);
+            let one = each(content, count, none_yet, marks, incoming, words, base);
+            sealed(marks, at, one)
+        }
+        5 => {
+            let begins = either(incoming, marks[at + 1] == 1);
+            let part = pass(content, at + 1, marks, begins, words, base);
+            sealed(marks, at, or_none(part))
+        }
+        6 => {
+            let begins = either(incoming, marks[at + 1] == 1);
+            let part = pass(content, at + 1, marks, begins, words, base);
+            sealed(marks, at, part)
+        }
+        _ => {
+            let part = pass(content, at + 1, marks, incoming, words, base);
+            sealed(marks, at, or_none(part))
+        }
+    }
+}
+
+// The same over so many operands of a sequence, after those gone through so far.
+fn in_turn(
+    content: &[u8],
+    count: usize,
+    earlier: Passed,
+    marks: &mut [u8],
+    incoming: bool,
+    words: &[u32],
+    base: usize,
+) -> Passed
+    requires { ⌜ (ProperRowAt standard (now content) (earlier .next) count) × (Room (now content) (now marks) (now words) base) ⌝ }
+    ensures { λ r. ⌜ walked (now (marks .exit)) r
+        ≡ walkInTurnAt (now (content .entry)) (earlier .next) count (now (marks .entry)) incoming (setAt (now (words .entry)) base)
+        (earlier .nullable) (earlier .ends) ⌝ }
+{
+    if count == 0 {
+        return earlier;
+    }
+    let at = earlier.next;
+    let went_on = marks[at] == 1;
+    let first = pass(content, at, marks, incoming, words, base);
+    let more = Passed {
+        next: first.next,
+        nullable: both(earlier.nullable, first.nullable),
+        ends: either(both(earlier.ends, first.nullable), first.ends),
+    };
+    let begins = either(both(incoming, first.nullable), went_on);
+    in_turn(content, count - 1, more, marks, begins, words, base)
+}
+
+// The same over so many operands of a choice.
+fn each(
+    content: &[u8],
+    count: usize,
+    earlier: Passed,
+    marks: &mut [u8],
+    incoming: bool,
+    words: &[u32],
+    base: usize,
+) -> Passed
+    requires { ⌜ (ProperRowAt standard (now content) (earlier .next) count) × (Room (now content) (now marks) (now words) base) ⌝ }
+    ensures { λ r. ⌜ walked (now (marks .exit)) r
+        ≡ walkEachAt (now (content .entry)) (earlier .next) count (now (marks .entry)) incoming (setAt (now (words .entry)) base)
+        (earlier .nullable) (earlier .ends) ⌝ }
+{
+    if count == 0 {
+        return earlier;
+    }
+    let at = earlier.next;
+    let first = pass(content, at, marks, incoming, words, base);
+    let more = Passed {
+        next: first.next,
+        nullable: either(earlier.nullable, first.nullable),
+        ends: either(earlier.ends, first.ends),
+    };
+    each(content, count - 1, more, marks, incoming, words, base)
+}
+
+// Nothing is marked in the first places.
+fn clear(marks: &mut [u8], places: usize)
+    requires { ⌜ places ≤ length (now marks) ⌝ }
+    ensures { λ r. ⌜ now (marks .exit) ≡ replicate places 0 ++ drop places (now (marks .entry)) ⌝ }
+{
+    let mut i: usize = 0;
+    while i < places {
+        marks[i] = 0;
+        i += 1;
+    }
+}
+
+// The children's walks over the content, one after the other: whether the last one can end it.
+fn walked_through(content: &[u8], marks: &mut [u8], words: &[u32], top: usize, count: usize) -> bool
+    requires { ⌜ (WholeAt standard (now content)) × (0 < count) × (Room (now content) (now marks) (now words) top) × (top + 4 * count ≤ length (now words)) ⌝ }
+    ensures { λ r. ⌜ r ≡ isMarked (walksAt (now (content .entry)) (now (marks .entry)) true (testsAt (now (words .entry)) top count)) 0 ⌝ }
+{
+    let mut i: usize = 0;
+    while i < count {
+        pass(content, 0, marks, i == 0, words, top + 4 * i);
+        i += 1;
+    }
+    marks[0] == 1
+}
+
+// Whether the content matches so many children, whose sets stand in the words from `top` on, four words a set.
+pub fn matches(content: &[u8], marks: &mut [u8], words: &[u32], top: usize, count: usize) -> bool
+    requires { ⌜ (WholeAt standard (now content)) × (Room (now content) (now marks) (now words) 0) × (top + 4 * count ≤ length (now words)) ⌝ }
+    ensures { λ r. ⌜ r ≡ runAt (now (content .entry)) (testsAt (now (words .entry)) top count) ⌝ }
+{
+    clear(marks, content.len());
+    if count == 0 {
+        let none = pass(content, 0, marks, false, words, 0);
+        return none.nullable;
+    }
+    walked_through(content, marks, words, top, count)
+}
