@@ -1,16 +1,16 @@
 -- The laws of the walks over the bytes of a content, by which the code goes: what they are operator by operator (`walk-none`, ..,
 -- `walk-optional`) and operand by operand (`in-turn-none`, `in-turn-next`, `each-none`, `each-next`), and where the parts stand that
--- the walk goes on with (`proper-operand`, `proper-operands`, `proper-first`, `in-turn-rest`). Then child by child (`walks-next`), and
+-- the walk goes on with (`operand-of`, `operands-of`, `proper-first`, `rest-proper`). Then child by child (`walks-next`), and
 -- that the children's walks tell whether the content matches (`no-children`, `some-children`).
 use Prim.Native.Nat.{ℕ, zero, suc, _+_, _*_, _-_, _≤_, _<_}
 use native.Mathlib.Omega.{arith}
 use mathlib.Core.Bool.{Bool, true, false, _&&_, _||_}
 use mathlib.Core.List.{List, [], _∷_, _++_}
 use mathlib.Core.Logic.{_⊎_, inl, inr}
-use mathlib.Core.Option.{none as nothing, some as just}
+use mathlib.Core.Option.{some as just}
 use mathlib.Core.Path.{_≡_, refl, sym, _∙_, ap, subst}
 use lib.Dec.{eqb, leb, ltb}
-use lib.ListN.{length, getD, getElem?, set, drop, replicate, length-append}
+use lib.ListN.{length, getD, getElem?, replicate, length-append}
 use borrow.Author.Tests.{ltb-true, ltb-false, ne-eqb}
 use Rattle.grammar.specs.Limits.{Limits}
 use Rattle.grammar.specs.Content.{
@@ -32,7 +32,7 @@ use Rattle.grammar.specs.ReadContent.{contentBytes, operandBytes, operators, co
 use Rattle.theory.proofs.BoolLaws.{and-left, and-right, passes-or-fails}
 use Rattle.theory.proofs.Marked.{nullable}
 use Rattle.theory.proofs.MarkedRun.{run}
-use Rattle.theory.proofs.MarkedPass.{Walked, walk, walkInTurn, walkEach, walks, isMarked, number, noMarks, walk-nullable, walks-run}
+use Rattle.theory.proofs.MarkedPass.{Walked, walk, walkInTurn, walkEach, walks, isMarked, noMarks, walk-nullable, walks-run}
 use Rattle.reader.specs.ExprAt.{_upTo_, exprAt, exprsAt}
 use Rattle.reader.proofs.ExprLaws.{
   expr-forward,
@@ -305,24 +305,26 @@ module _ (lim : Limits) (s : List ℕ) (at : ℕ) (stands : ProperAt lim s at) w
         ∙ sym (ap (λ (q : Walked). orNone (ended at q)) (walk-at s (at + 1) marks b has (p .0) (stands .next) (p .1)))
 
 -- Operand by operand.
-module _ (lim : Limits) (s : List ℕ) (at : ℕ) (n f : Bool) (marks : List ℕ) (b : Bool) (has : ℕ → Bool) where
-  pub in-turn-none : ProperRowAt lim s at 0
-      → walkInTurnAt s at 0 marks b has n f ≡ record { marks = marks; next = at; nullable = n; final = f }
-  unfolding walk
-  in-turn-none row =
-      let p = exprs-end s at (row .contents) (row .next) (row .stands) in
-      in-turn-at s at marks b has 0 (row .contents) (row .next) n f (row .stands)
-      ∙ ap (λ (cs : Contents). walkInTurn cs at marks b has n f) (p .0)
+module _ (lim : Limits) (s : List ℕ) (at count : ℕ) (row : ProperRowAt lim s at count) (over : count ≤ 0) where
+  row-over : row .contents ≡ []ᶜ
+  row-over =
+      let at-end : 0 ≡ count = omega arith in
+      exprs-end s at (row .contents) (row .next) (ap (exprsAt s at) at-end ∙ row .stands) .0
 
-  pub each-none : ProperRowAt lim s at 0
-      → walkEachAt s at 0 marks b has n f ≡ record { marks = marks; next = at; nullable = n; final = f }
-  unfolding walk
-  each-none row =
-      let p = exprs-end s at (row .contents) (row .next) (row .stands) in
-      each-at s at marks b has 0 (row .contents) (row .next) n f (row .stands)
-      ∙ ap (λ (cs : Contents). walkEach cs at marks b has n f) (p .0)
+  module _ (n f : Bool) (marks : List ℕ) (b : Bool) (has : ℕ → Bool) where
+    pub in-turn-none : walkInTurnAt s at count marks b has n f ≡ record { marks = marks; next = at; nullable = n; final = f }
+    unfolding walk
+    in-turn-none =
+        in-turn-at s at marks b has count (row .contents) (row .next) n f (row .stands)
+        ∙ ap (λ (cs : Contents). walkInTurn cs at marks b has n f) row-over
 
-module _ (lim : Limits) (s : List ℕ) (at count : ℕ) (row : ProperRowAt lim s at count) (some : count ≡ 0 → ⊥) where
+    pub each-none : walkEachAt s at count marks b has n f ≡ record { marks = marks; next = at; nullable = n; final = f }
+    unfolding walk
+    each-none =
+        each-at s at marks b has count (row .contents) (row .next) n f (row .stands)
+        ∙ ap (λ (cs : Contents). walkEach cs at marks b has n f) row-over
+
+module _ (lim : Limits) (s : List ℕ) (at count : ℕ) (row : ProperRowAt lim s at count) (some : 0 < count) where
   row-count : suc (count - 1) ≡ count
   row-count = omega arith
 
@@ -396,7 +398,7 @@ module _ (lim : Limits) (s : List ℕ) (at count : ℕ) (row : ProperRowAt lim s
           ∙ sym (each-at s (p .next) (p .marks) b has (count - 1) (row-first .others)
           (row .next) (n || p .nullable) (f || p .final) others-stand)
 
-    -- A round as the code goes: p is what the first operand gave, q what the others give.
+    -- A round as the code goes: p is what the first operand gave.
     module _ (marks′ : List ℕ) (p : Passed) (first : walked marks′ p ≡ walkAt s at marks b has) where
       pub rest-proper : ProperRowAt lim s (p .next) (count - 1)
       rest-proper = subst (λ (w : Walked). ProperRowAt lim s (w .next) (count - 1)) (sym first) proper-others
@@ -404,23 +406,20 @@ module _ (lim : Limits) (s : List ℕ) (at count : ℕ) (row : ProperRowAt lim s
       pub rest-forward : (at < p .next) × (p .next ≤ length s)
       rest-forward = subst (λ (w : Walked). (at < w .next) × (w .next ≤ length s)) (sym first) first-forward
 
-      pub in-turn-goes : (n f : Bool) (b′ n′ f′ : Bool) → b′ ≡ ((b && p .nullable) || isMarked marks at) → n′ ≡ (n && p .nullable)
-          → f′ ≡ ((f && p .nullable) || p .ends) → (q : Walked) → q ≡ walkInTurnAt s (p .next) (count - 1) marks′ b′ has n′ f′
-          → q ≡ walkInTurnAt s at count marks b has n f
-      in-turn-goes n f b′ n′ f′ eb en ef q h =
-          h
-          ∙ (λ i. walkInTurnAt s (p .next) (count - 1) marks′ (eb i) has (en i) (ef i))
+      pub in-turn-goes : (n f b′ n′ f′ : Bool) → b′ ≡ ((b && p .nullable) || isMarked marks at) → n′ ≡ (n && p .nullable)
+          → f′ ≡ ((f && p .nullable) || p .ends)
+          → walkInTurnAt s (p .next) (count - 1) marks′ b′ has n′ f′ ≡ walkInTurnAt s at count marks b has n f
+      in-turn-goes n f b′ n′ f′ eb en ef =
+          (λ i. walkInTurnAt s (p .next) (count - 1) marks′ (eb i) has (en i) (ef i))
           ∙ ap (λ (w : Walked).
           walkInTurnAt s (w .next) (count - 1) (w .marks) ((b && w .nullable) || isMarked marks at) has (n && w .nullable)
           ((f && w .nullable) || w .final)) first
           ∙ sym (in-turn-next n f)
 
-      pub each-goes : (n f : Bool) (n′ f′ : Bool) → n′ ≡ (n || p .nullable) → f′ ≡ (f || p .ends)
-          → (q : Walked) → q ≡ walkEachAt s (p .next) (count - 1) marks′ b has n′ f′
-          → q ≡ walkEachAt s at count marks b has n f
-      each-goes n f n′ f′ en ef q h =
-          h
-          ∙ (λ i. walkEachAt s (p .next) (count - 1) marks′ b has (en i) (ef i))
+      pub each-goes : (n f n′ f′ : Bool) → n′ ≡ (n || p .nullable) → f′ ≡ (f || p .ends)
+          → walkEachAt s (p .next) (count - 1) marks′ b has n′ f′ ≡ walkEachAt s at count marks b has n f
+      each-goes n f n′ f′ en ef =
+          (λ i. walkEachAt s (p .next) (count - 1) marks′ b has (en i) (ef i))
           ∙ ap (λ (w : Walked).
           walkEachAt s (w .next) (count - 1) (w .marks) b has (n || w .nullable) (f || w .final)) first
           ∙ sym (each-next n f)

@@ -136,23 +136,13 @@ pub fn pass(
         },
         2 => typed(content, at, marks, incoming, words, base),
         3 => {
-            let none_yet = Passed {
-                next: at + 2,
-                nullable: true,
-                ends: false,
-            };
             let count = wide(content[at + 1]);
-            let all = in_turn(content, count, none_yet, marks, incoming, words, base);
+            let all = in_turn(content, count, at + 2, marks, incoming, words, base);
             sealed(marks, at, all)
         }
         4 => {
-            let none_yet = Passed {
-                next: at + 2,
-                nullable: false,
-                ends: false,
-            };
             let count = wide(content[at + 1]);
-            let one = each(content, count, none_yet, marks, incoming, words, base);
+            let one = each(content, count, at + 2, marks, incoming, words, base);
             sealed(marks, at, one)
         }
         5 => {
@@ -172,62 +162,90 @@ pub fn pass(
     }
 }
 
-// The same over so many operands of a sequence, after those gone through so far.
+// The same over an operand. Most operands are types, and need no call of `pass`.
+fn operand(
+    content: &[u8],
+    at: usize,
+    marks: &mut [u8],
+    incoming: bool,
+    words: &[u32],
+    base: usize,
+) -> Passed
+    requires { ⌜ (ProperAt standard (now content) at) × (Room (now content) (now marks) (now words) base) ⌝ }
+    ensures { λ r. ⌜ walked (now (marks .exit)) r
+        ≡ walkAt (now (content .entry)) at (now (marks .entry)) incoming (setAt (now (words .entry)) base) ⌝ }
+{
+    if content[at] == 2 {
+        return typed(content, at, marks, incoming, words, base);
+    }
+    pass(content, at, marks, incoming, words, base)
+}
+
+// The same over so many operands of a sequence, from a place on; `begun` where the child may begin the first.
 fn in_turn(
     content: &[u8],
     count: usize,
-    earlier: Passed,
+    from: usize,
     marks: &mut [u8],
-    incoming: bool,
+    begun: bool,
     words: &[u32],
     base: usize,
 ) -> Passed
-    requires { ⌜ (ProperRowAt standard (now content) (earlier .next) count) × (Room (now content) (now marks) (now words) base) ⌝ }
+    requires { ⌜ (ProperRowAt standard (now content) from count) × (Room (now content) (now marks) (now words) base) ⌝ }
     ensures { λ r. ⌜ walked (now (marks .exit)) r
-        ≡ walkInTurnAt (now (content .entry)) (earlier .next) count (now (marks .entry)) incoming (setAt (now (words .entry)) base)
-        (earlier .nullable) (earlier .ends) ⌝ }
+        ≡ walkInTurnAt (now (content .entry)) from count (now (marks .entry)) begun (setAt (now (words .entry)) base) true false ⌝ }
 {
-    if count == 0 {
-        return earlier;
+    let mut left = count;
+    let mut at = from;
+    let mut nullable = true;
+    let mut ends = false;
+    let mut incoming = begun;
+    while 0 < left {
+        let went_on = marks[at] == 1;
+        let first = operand(content, at, marks, incoming, words, base);
+        at = first.next;
+        nullable = both(nullable, first.nullable);
+        ends = either(both(ends, first.nullable), first.ends);
+        incoming = either(both(incoming, first.nullable), went_on);
+        left -= 1;
     }
-    let at = earlier.next;
-    let went_on = marks[at] == 1;
-    let first = pass(content, at, marks, incoming, words, base);
-    let more = Passed {
-        next: first.next,
-        nullable: both(earlier.nullable, first.nullable),
-        ends: either(both(earlier.ends, first.nullable), first.ends),
-    };
-    let begins = either(both(incoming, first.nullable), went_on);
-    in_turn(content, count - 1, more, marks, begins, words, base)
+    Passed {
+        next: at,
+        nullable: nullable,
+        ends: ends,
+    }
 }
 
-// The same over so many operands of a choice.
+// The same over so many operands of a choice, from a place on.
 fn each(
     content: &[u8],
     count: usize,
-    earlier: Passed,
+    from: usize,
     marks: &mut [u8],
     incoming: bool,
     words: &[u32],
     base: usize,
 ) -> Passed
-    requires { ⌜ (ProperRowAt standard (now content) (earlier .next) count) × (Room (now content) (now marks) (now words) base) ⌝ }
+    requires { ⌜ (ProperRowAt standard (now content) from count) × (Room (now content) (now marks) (now words) base) ⌝ }
     ensures { λ r. ⌜ walked (now (marks .exit)) r
-        ≡ walkEachAt (now (content .entry)) (earlier .next) count (now (marks .entry)) incoming (setAt (now (words .entry)) base)
-        (earlier .nullable) (earlier .ends) ⌝ }
+        ≡ walkEachAt (now (content .entry)) from count (now (marks .entry)) incoming (setAt (now (words .entry)) base) false false ⌝ }
 {
-    if count == 0 {
-        return earlier;
+    let mut left = count;
+    let mut at = from;
+    let mut nullable = false;
+    let mut ends = false;
+    while 0 < left {
+        let first = operand(content, at, marks, incoming, words, base);
+        at = first.next;
+        nullable = either(nullable, first.nullable);
+        ends = either(ends, first.ends);
+        left -= 1;
     }
-    let at = earlier.next;
-    let first = pass(content, at, marks, incoming, words, base);
-    let more = Passed {
-        next: first.next,
-        nullable: either(earlier.nullable, first.nullable),
-        ends: either(earlier.ends, first.ends),
-    };
-    each(content, count - 1, more, marks, incoming, words, base)
+    Passed {
+        next: at,
+        nullable: nullable,
+        ends: ends,
+    }
 }
 
 // Nothing is marked in the first places.

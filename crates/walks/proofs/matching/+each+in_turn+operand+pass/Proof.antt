@@ -1,11 +1,11 @@
--- `pass`, `in_turn` and `each` meet their contracts. The measure of an expression is twice the bytes from its place on, that of operands one
--- more: every call goes on past a byte, but the one for the first operand. Each return is a law of WalkLaws.
+-- `pass`, `operand`, `in_turn` and `each` meet their contracts. The measure of an expression is three times the bytes from its place on,
+-- that of an operand one more, that of operands two more: a call stays at its place only where that goes down, else it goes on past a
+-- byte. Each loop keeps that the walk over the operands left is the walk over all. Each return is a law of WalkLaws.
 use Prim.Native.Nat.{ℕ, _+_, _-_, _*_, _≤_, _<_}
 use native.Mathlib.Omega.{arith}
-use mathlib.Core.Bool.{Bool, true, false, _&&_, _||_}
-use mathlib.Core.List.{List}
+use mathlib.Core.Bool.{Bool, true, false, _||_}
 use mathlib.Core.Path.{_≡_, refl, sym, _∙_, ap, subst}
-use lib.ListN.{length, getD}
+use lib.ListN.{length}
 use borrow.Author.Needs.{needs}
 use borrow.Fn.Kinds.{In}
 use borrow.Fn.PlainCycle.{Measures, is, falls, and}
@@ -13,34 +13,40 @@ use Rattle.grammar.specs.Limits.{standard}
 use Rattle.theory.proofs.MarkedPass.{Walked, isMarked}
 use Rattle.walks.specs.TypeSets.{setAt}
 use Rattle.walks.specs.declared.matching.Passed.{Passed}
-use Rattle.walks.specs.WalkAt.{ProperAt, ProperRowAt, Room, walkAt, walkInTurnAt, walkEachAt, walked, ended}
+use Rattle.walks.specs.WalkAt.{ProperRowAt, walkAt, walkInTurnAt, walkEachAt, walked, ended}
 use Rattle.walks.proofs.WalkLaws as laws
 use Rattle.walks.proofs.matching.each.Reads as each
 use Rattle.walks.proofs.matching.each.Kinds as each-kinds
-use Rattle.walks.proofs.matching.+each+in_turn+pass.Lts-each as each-lts
+use Rattle.walks.proofs.matching.+each+in_turn+operand+pass.Lts-each as each-lts
 use Rattle.walks.proofs.matching.in_turn.Reads as in-turn
 use Rattle.walks.proofs.matching.in_turn.Kinds as in-turn-kinds
-use Rattle.walks.proofs.matching.+each+in_turn+pass.Lts-in_turn as in-turn-lts
+use Rattle.walks.proofs.matching.+each+in_turn+operand+pass.Lts-in_turn as in-turn-lts
+use Rattle.walks.proofs.matching.operand.Reads as operand
+use Rattle.walks.proofs.matching.operand.Kinds as operand-kinds
+use Rattle.walks.proofs.matching.+each+in_turn+operand+pass.Lts-operand as operand-lts
 use Rattle.walks.proofs.matching.pass.Reads as pass
 use Rattle.walks.proofs.matching.pass.Kinds as pass-kinds
-use Rattle.walks.proofs.matching.+each+in_turn+pass.Lts-pass as pass-lts
+use Rattle.walks.proofs.matching.+each+in_turn+operand+pass.Lts-pass as pass-lts
 use Rattle.reader.proofs.numbers.wide.Reads as wide-reads
 use Rattle.walks.proofs.matching.both.Reads as both-reads
 use Rattle.walks.proofs.matching.either.Reads as either-reads
 use Rattle.walks.proofs.matching.or_none.Reads as or-none-reads
 use Rattle.walks.proofs.matching.sealed.Reads as sealed-reads
 use Rattle.walks.proofs.matching.typed.Reads as typed-reads
-use Rattle.walks.proofs.matching.+each+in_turn+pass.{statement}
-use Rattle.walks.proofs.matching.+each+in_turn+pass.Tie.{close}
+use Rattle.walks.proofs.matching.+each+in_turn+operand+pass.{statement}
+use Rattle.walks.proofs.matching.+each+in_turn+operand+pass.Tie.{close}
 
 abbrev μ-each : Measures 3 each-kinds.ps ℕ
-μ-each κs a = 2 * (length (a .0 .now) - a .1 .1 .0 .next) + 1
+μ-each κs a = 3 * (length (a .0 .now) - a .1 .1 .0) + 2
 
 abbrev μ-in-turn : Measures 3 in-turn-kinds.ps ℕ
-μ-in-turn κs a = 2 * (length (a .0 .now) - a .1 .1 .0 .next) + 1
+μ-in-turn κs a = 3 * (length (a .0 .now) - a .1 .1 .0) + 2
+
+abbrev μ-operand : Measures 3 operand-kinds.ps ℕ
+μ-operand κs a = 3 * (length (a .0 .now) - a .1 .0) + 1
 
 abbrev μ-pass : Measures 3 pass-kinds.ps ℕ
-μ-pass κs a = 2 * (length (a .0 .now) - a .1 .0)
+μ-pass κs a = 3 * (length (a .0 .now) - a .1 .0)
 
 abbrev each-at : ℕ → In 3 each-kinds.ps
 each-at t = and 3 each-kinds.ps (is 3 each-kinds.ps μ-each t) each.Pre
@@ -54,6 +60,12 @@ in-turn-at t = and 3 in-turn-kinds.ps (is 3 in-turn-kinds.ps μ-in-turn t) in-tu
 abbrev in-turn-below : ℕ → In 3 in-turn-kinds.ps
 in-turn-below t = and 3 in-turn-kinds.ps (falls 3 in-turn-kinds.ps _<_ μ-in-turn t) in-turn.Pre
 
+abbrev operand-at : ℕ → In 3 operand-kinds.ps
+operand-at t = and 3 operand-kinds.ps (is 3 operand-kinds.ps μ-operand t) operand.Pre
+
+abbrev operand-below : ℕ → In 3 operand-kinds.ps
+operand-below t = and 3 operand-kinds.ps (falls 3 operand-kinds.ps _<_ μ-operand t) operand.Pre
+
 abbrev pass-at : ℕ → In 3 pass-kinds.ps
 pass-at t = and 3 pass-kinds.ps (is 3 pass-kinds.ps μ-pass t) pass.Pre
 
@@ -61,146 +73,169 @@ abbrev pass-below : ℕ → In 3 pass-kinds.ps
 pass-below t = and 3 pass-kinds.ps (falls 3 pass-kinds.ps _<_ μ-pass t) pass.Pre
 
 abbrev each-calls : ℕ → each-lts.Claims
-each-calls t = (pass-below t, pass.Post, either-reads.Asked, either-reads.Learnt, each-below t, each.Post)
+each-calls t = (operand-below t, operand.Post, either-reads.Asked, either-reads.Learnt)
 
 abbrev in-turn-calls : ℕ → in-turn-lts.Claims
-in-turn-calls t = (pass-below t, pass.Post, both-reads.Asked, both-reads.Learnt, either-reads.Asked, either-reads.Learnt, in-turn-below t, in-turn.Post)
+in-turn-calls t = (operand-below t, operand.Post, both-reads.Asked, both-reads.Learnt, either-reads.Asked, either-reads.Learnt)
+
+abbrev operand-calls : ℕ → operand-lts.Claims
+operand-calls t = (typed-reads.Asked, typed-reads.Learnt, pass-below t, pass.Post)
 
 abbrev pass-calls : ℕ → pass-lts.Claims
 pass-calls t = (wide-reads.Asked, wide-reads.Learnt, typed-reads.Asked, typed-reads.Learnt, in-turn-below t, in-turn.Post, sealed-reads.Asked, sealed-reads.Learnt, each-below t, each.Post, either-reads.Asked, either-reads.Learnt, pass-below t, pass.Post, or-none-reads.Asked, or-none-reads.Learnt)
 
-each-returns : (t : ℕ) → each-lts.Need-returns (each-calls t) (each-at t) each.Post
-each-returns t c =
-    let start = c .before .before .before .before in
-    let s = start .args .content .now in
-    let e = start .args .earlier in
-    let has = setAt (start .args .words .now) (start .args .base) in
-    let marks = start .args .marks .now in
-    let b = start .args .incoming in
-    let none = c .if1 .taken in
-    sym (ap (λ (n : ℕ). walkEachAt s (e .next) n marks b has (e .nullable) (e .ends)) none
-    ∙ laws.each-none standard s (e .next) (e .nullable) (e .ends) marks b has
-    (subst (λ (n : ℕ). ProperRowAt standard s (e .next) n) none (start .pre .1 .0)))
+abbrev each-Inv-loop : each-lts.InvT-loop
+each-Inv-loop content count from marks₀ incoming words base left₀ at₀ nullable₀ ends₀ marks left at nullable ends =
+    (from ≤ at)
+    × (length marks ≡ length marks₀)
+    × (ProperRowAt standard content at left)
+    × (walkEachAt content at left marks incoming (setAt words base) nullable ends
+    ≡ walkEachAt content from count marks₀ incoming (setAt words base) false false)
 
-each-pass-requires : (t : ℕ) → each-lts.Need-pass-requires (each-calls t) (each-at t) each.Post
-each-pass-requires t c κs =
-    let start = c .before .before .before .before .before in
-    let s = start .args .content .now in
-    let e = start .args .earlier in
-    let first = laws.proper-first standard s (e .next) (start .args .count) (start .pre .1 .0) (c .before .if1 .left) in
-    (omega arith, (first, start .pre .1 .1))
+abbrev each-μ-loop : each-lts.MeasureT-loop
+each-μ-loop content count from marks₀ incoming words base left₀ at₀ nullable₀ ends₀ marks left at nullable ends = left
 
-each-each-requires : (t : ℕ) → each-lts.Need-each-requires (each-calls t) (each-at t) each.Post
-each-each-requires t c κs =
-    let start = c .before .before .before .before .before .before .before .before .before .before .before in
+abbrev in-turn-Inv-loop : in-turn-lts.InvT-loop
+in-turn-Inv-loop content count from marks₀ begun words base left₀ at₀ nullable₀ ends₀ incoming₀ marks left at nullable ends incoming =
+    (from ≤ at)
+    × (length marks ≡ length marks₀)
+    × (ProperRowAt standard content at left)
+    × (walkInTurnAt content at left marks incoming (setAt words base) nullable ends
+    ≡ walkInTurnAt content from count marks₀ begun (setAt words base) true false)
+
+abbrev in-turn-μ-loop : in-turn-lts.MeasureT-loop
+in-turn-μ-loop content count from marks₀ begun words base left₀ at₀ nullable₀ ends₀ incoming₀ marks left at nullable ends incoming = left
+
+each-loop-holds : (t : ℕ) → each-lts.Need-loop-holds (each-calls t) (each-at t) each.Post each-Inv-loop each-μ-loop
+each-loop-holds t c = (omega arith, refl, c .before .before .before .pre .1 .0, refl)
+
+each-operand-requires : (t : ℕ) → each-lts.Need-operand-requires (each-calls t) (each-at t) each.Post each-Inv-loop each-μ-loop
+each-operand-requires t c κs =
+    let start = c .before .before .before .before .before .before in
+    let now = c .before .before .loop in
     let s = start .args .content .now in
-    let e = start .args .earlier in
-    let has = setAt (start .args .words .now) (start .args .base) in
-    let marks = start .args .marks .now in
-    let b = start .args .incoming in
-    let row = start .pre .1 .0 in
-    let some = c .before .before .before .before .before .before .before .if1 .left in
-    let marks2 = c .before .before .before .before .before .pass .last .1 .1 .0 in
-    let p = c .before .before .before .before .before .pass .result in
-    let first = c .before .before .before .before .before .pass .ensures in
+    let first = laws.proper-first standard s (now .at) (now .left) (now .inv .2) (c .before .loop-test .taken) in
     let room = start .pre .1 .1 in
-    let kept = c .before .before .before .before .before .pass .kept in
-    let go = laws.rest-forward standard s (e .next) (start .args .count) row some marks b has marks2 p first in
-    let inside = laws.byte-inside standard s (e .next) (laws.proper-first standard s (e .next) (start .args .count) row some) in
-    (omega arith, (laws.rest-proper standard s (e .next) (start .args .count) row some marks b has marks2 p first, record { few = room .few; mark-each = omega arith; four-words = room .four-words }))
+    (omega arith, (first, record { few = room .few; mark-each = omega arith; four-words = room .four-words }))
 
-each-returns-2 : (t : ℕ) → each-lts.Need-returns-2 (each-calls t) (each-at t) each.Post
-each-returns-2 t c =
-    let start = c .before .before .before .before .before .before .before .before .before .before .before .before .before .before in
+each-loop-again : (t : ℕ) → each-lts.Need-loop-again (each-calls t) (each-at t) each.Post each-Inv-loop each-μ-loop
+each-loop-again t c =
+    let start = c .before .before .before .before .before .before .before .before .before .before .before in
+    let now = c .before .before .before .before .before .before .before .loop in
     let s = start .args .content .now in
-    let e = start .args .earlier in
     let has = setAt (start .args .words .now) (start .args .base) in
-    let marks = start .args .marks .now in
     let b = start .args .incoming in
-    let row = start .pre .1 .0 in
-    let some = c .before .before .before .before .before .before .before .before .before .before .if1 .left in
-    let marks2 = c .before .before .before .before .before .before .before .before .pass .last .1 .1 .0 in
-    let p = c .before .before .before .before .before .before .before .before .pass .result in
-    let first = c .before .before .before .before .before .before .before .before .pass .ensures in
-    laws.each-goes standard s (e .next) (start .args .count) row some marks b has marks2 p first (e .nullable) (e .ends)
-    (c .before .before .before .before .before .either .result) (c .before .before .before .before .either2 .result) (c .before .before .before .before .before .either .ensures) (c .before .before .before .before .either2 .ensures) _ (c .before .before .each .ensures)
+    let row = now .inv .2 in
+    let some = c .before .before .before .before .before .before .loop-test .taken in
+    let marks2 = c .before .before .before .before .operand .last .1 .1 .0 in
+    let p = c .before .before .before .before .operand .result in
+    let first = c .before .before .before .before .operand .ensures in
+    let go = laws.rest-forward standard s (now .at) (now .left) row some (now .marks) b has marks2 p first in (
+      omega arith,
+      c .before .before .before .before .operand .kept .1 .1 .0 ∙ now .inv .1,
+      laws.rest-proper standard s (now .at) (now .left) row some (now .marks) b has marks2 p first,
+      laws.each-goes standard s (now .at) (now .left) row some (now .marks) b has marks2 p first (now .nullable) (now .ends)
+          (c .before .either .result) (c .either2 .result) (c .before .either .ensures) (c .either2 .ensures) ∙ now .inv .3,
+    )
 
-in-turn-returns : (t : ℕ) → in-turn-lts.Need-returns (in-turn-calls t) (in-turn-at t) in-turn.Post
-in-turn-returns t c =
-    let start = c .before .before .before .before in
-    let s = start .args .content .now in
-    let e = start .args .earlier in
-    let has = setAt (start .args .words .now) (start .args .base) in
-    let marks = start .args .marks .now in
-    let b = start .args .incoming in
-    let none = c .if1 .taken in
-    sym (ap (λ (n : ℕ). walkInTurnAt s (e .next) n marks b has (e .nullable) (e .ends)) none
-    ∙ laws.in-turn-none standard s (e .next) (e .nullable) (e .ends) marks b has
-    (subst (λ (n : ℕ). ProperRowAt standard s (e .next) n) none (start .pre .1 .0)))
-
-in-turn-slice-read-went-on : (t : ℕ) → in-turn-lts.Need-slice-read-went-on (in-turn-calls t) (in-turn-at t) in-turn.Post
-in-turn-slice-read-went-on t c =
+each-returns : (t : ℕ) → each-lts.Need-returns (each-calls t) (each-at t) each.Post each-Inv-loop each-μ-loop
+each-returns t c =
     let start = c .before .before .before .before .before in
+    let now = c .before .loop in
     let s = start .args .content .now in
-    let e = start .args .earlier in
-    let inside = laws.byte-inside standard s (e .next) (laws.proper-first standard s (e .next) (start .args .count) (start .pre .1 .0) (c .before .if1 .left)) in
+    let has = setAt (start .args .words .now) (start .args .base) in
+    sym (laws.each-none standard s (now .at) (now .left) (now .inv .2) (c .loop-test .left) (now .nullable) (now .ends) (now .marks) (start .args .incoming) has)
+    ∙ now .inv .3
+
+in-turn-loop-holds : (t : ℕ) → in-turn-lts.Need-loop-holds (in-turn-calls t) (in-turn-at t) in-turn.Post in-turn-Inv-loop in-turn-μ-loop
+in-turn-loop-holds t c = (omega arith, refl, c .before .before .before .pre .1 .0, refl)
+
+in-turn-slice-read-went-on : (t : ℕ) → in-turn-lts.Need-slice-read-went-on (in-turn-calls t) (in-turn-at t) in-turn.Post in-turn-Inv-loop in-turn-μ-loop
+in-turn-slice-read-went-on t c =
+    let start = c .before .before .before .before .before .before in
+    let now = c .before .before .loop in
+    let s = start .args .content .now in
+    let first = laws.proper-first standard s (now .at) (now .left) (now .inv .2) (c .before .loop-test .taken) in
+    let inside = laws.byte-inside standard s (now .at) first in
     let room = start .pre .1 .1 in
     omega arith
 
-in-turn-pass-requires : (t : ℕ) → in-turn-lts.Need-pass-requires (in-turn-calls t) (in-turn-at t) in-turn.Post
-in-turn-pass-requires t c κs =
+in-turn-operand-requires : (t : ℕ) → in-turn-lts.Need-operand-requires (in-turn-calls t) (in-turn-at t) in-turn.Post in-turn-Inv-loop in-turn-μ-loop
+in-turn-operand-requires t c κs =
+    let start = c .before .before .before .before .before .before .before in
+    let now = c .before .before .before .loop in
+    let s = start .args .content .now in
+    let first = laws.proper-first standard s (now .at) (now .left) (now .inv .2) (c .before .before .loop-test .taken) in
+    let room = start .pre .1 .1 in
+    (omega arith, (first, record { few = room .few; mark-each = omega arith; four-words = room .four-words }))
+
+in-turn-loop-again : (t : ℕ) → in-turn-lts.Need-loop-again (in-turn-calls t) (in-turn-at t) in-turn.Post in-turn-Inv-loop in-turn-μ-loop
+unfolding isMarked
+in-turn-loop-again t c =
+    let start = c .before .before .before .before .before .before .before .before .before .before .before .before .before .before .before in
+    let now = c .before .before .before .before .before .before .before .before .before .before .before .loop in
+    let s = start .args .content .now in
+    let has = setAt (start .args .words .now) (start .args .base) in
+    let b = now .incoming in
+    let row = now .inv .2 in
+    let some = c .before .before .before .before .before .before .before .before .before .before .loop-test .taken in
+    let marks2 = c .before .before .before .before .before .before .before .operand .last .1 .1 .0 in
+    let p = c .before .before .before .before .before .before .before .operand .result in
+    let first = c .before .before .before .before .before .before .before .operand .ensures in
+    let go = laws.rest-forward standard s (now .at) (now .left) row some (now .marks) b has marks2 p first in (
+      omega arith,
+      c .before .before .before .before .before .before .before .operand .kept .1 .1 .0 ∙ now .inv .1,
+      laws.rest-proper standard s (now .at) (now .left) row some (now .marks) b has marks2 p first,
+      laws.in-turn-goes standard s (now .at) (now .left) row some (now .marks) b has marks2 p first (now .nullable) (now .ends)
+          (c .either2 .result) (c .before .before .before .before .both .result) (c .before .before .either .result)
+          (c .either2 .ensures ∙ ap (λ (x : Bool). x || isMarked (now .marks) (now .at)) (c .before .both3 .ensures)) (c .before .before .before .before .both .ensures)
+          (c .before .before .either .ensures ∙ ap (λ (x : Bool). x || p .ends) (c .before .before .before .both2 .ensures)) ∙ now .inv .3,
+    )
+
+in-turn-returns : (t : ℕ) → in-turn-lts.Need-returns (in-turn-calls t) (in-turn-at t) in-turn.Post in-turn-Inv-loop in-turn-μ-loop
+in-turn-returns t c =
+    let start = c .before .before .before .before .before in
+    let now = c .before .loop in
+    let s = start .args .content .now in
+    let has = setAt (start .args .words .now) (start .args .base) in
+    sym (laws.in-turn-none standard s (now .at) (now .left) (now .inv .2) (c .loop-test .left) (now .nullable) (now .ends) (now .marks) (now .incoming) has)
+    ∙ now .inv .3
+
+operand-shared-slice-read-if1 : (t : ℕ) → operand-lts.Need-shared-slice-read-if1 (operand-calls t) (operand-at t) operand.Post
+operand-shared-slice-read-if1 t c = omega (arith, laws.byte-inside standard _ _ (c .before .before .before .before .pre .1 .0))
+
+operand-typed-requires : (t : ℕ) → operand-lts.Need-typed-requires (operand-calls t) (operand-at t) operand.Post
+unfolding standard
+operand-typed-requires t c κs =
     let start = c .before .before .before .before .before .before in
     let s = start .args .content .now in
-    let e = start .args .earlier in
-    let first = laws.proper-first standard s (e .next) (start .args .count) (start .pre .1 .0) (c .before .before .if1 .left) in
-    (omega arith, (first, start .pre .1 .1))
+    let at = start .args .at in
+    let stands = start .pre .1 .0 in
+    let is-type = c .before .if1 .taken in
+    (laws.number-inside standard s at stands is-type, laws.type-small standard s at stands is-type, start .pre .1 .1)
 
-in-turn-in-turn-requires : (t : ℕ) → in-turn-lts.Need-in-turn-requires (in-turn-calls t) (in-turn-at t) in-turn.Post
-in-turn-in-turn-requires t c κs =
-    let start = c .before .before .before .before .before .before .before .before .before .before .before .before .before .before .before in
+operand-returns : (t : ℕ) → operand-lts.Need-returns (operand-calls t) (operand-at t) operand.Post
+operand-returns t c =
+    let start = c .before .before .before .before .before .before .before .before .before in
     let s = start .args .content .now in
-    let e = start .args .earlier in
     let has = setAt (start .args .words .now) (start .args .base) in
-    let marks = start .args .marks .now in
-    let b = start .args .incoming in
-    let row = start .pre .1 .0 in
-    let some = c .before .before .before .before .before .before .before .before .before .before .before .if1 .left in
-    let marks2 = c .before .before .before .before .before .before .before .before .pass .last .1 .1 .0 in
-    let p = c .before .before .before .before .before .before .before .before .pass .result in
-    let first = c .before .before .before .before .before .before .before .before .pass .ensures in
-    let room = start .pre .1 .1 in
-    let kept = c .before .before .before .before .before .before .before .before .pass .kept in
-    let go = laws.rest-forward standard s (e .next) (start .args .count) row some marks b has marks2 p first in
-    let inside = laws.byte-inside standard s (e .next) (laws.proper-first standard s (e .next) (start .args .count) row some) in
-    (omega arith, (laws.rest-proper standard s (e .next) (start .args .count) row some marks b has marks2 p first, record { few = room .few; mark-each = omega arith; four-words = room .four-words }))
+    c .before .before .typed .ensures
+    ∙ sym (laws.walk-type standard s (start .args .at) (start .pre .1 .0) (start .args .marks .now) (start .args .incoming) has (c .before .before .before .before .if1 .taken))
 
-in-turn-returns-2 : (t : ℕ) → in-turn-lts.Need-returns-2 (in-turn-calls t) (in-turn-at t) in-turn.Post
-unfolding isMarked
-in-turn-returns-2 t c =
-    let start = c .before .before .before .before .before .before .before .before .before .before .before .before .before .before .before .before .before .before in
-    let s = start .args .content .now in
-    let e = start .args .earlier in
-    let has = setAt (start .args .words .now) (start .args .base) in
-    let marks = start .args .marks .now in
-    let b = start .args .incoming in
-    let row = start .pre .1 .0 in
-    let some = c .before .before .before .before .before .before .before .before .before .before .before .before .before .before .if1 .left in
-    let marks2 = c .before .before .before .before .before .before .before .before .before .before .before .pass .last .1 .1 .0 in
-    let p = c .before .before .before .before .before .before .before .before .before .before .before .pass .result in
-    let first = c .before .before .before .before .before .before .before .before .before .before .before .pass .ensures in
-    laws.in-turn-goes standard s (e .next) (start .args .count) row some marks b has marks2 p first (e .nullable) (e .ends)
-    (c .before .before .before .before .either2 .result) (c .before .before .before .before .before .before .before .before .both .result) (c .before .before .before .before .before .before .either .result)
-    (c .before .before .before .before .either2 .ensures ∙ ap (λ (x : Bool). x || isMarked marks (e .next)) (c .before .before .before .before .before .both3 .ensures)) (c .before .before .before .before .before .before .before .before .both .ensures)
-    (c .before .before .before .before .before .before .either .ensures ∙ ap (λ (x : Bool). x || p .ends) (c .before .before .before .before .before .before .before .both2 .ensures)) _ (c .before .before .in-turn .ensures)
+operand-pass-requires : (t : ℕ) → operand-lts.Need-pass-requires (operand-calls t) (operand-at t) operand.Post
+operand-pass-requires t c κs = (omega arith, c .before .before .before .before .before .before .pre .1)
+
+operand-returns-2 : (t : ℕ) → operand-lts.Need-returns-2 (operand-calls t) (operand-at t) operand.Post
+operand-returns-2 t c = c .before .before .pass .ensures
 
 pass-shared-slice-read-wide : (t : ℕ) → pass-lts.Need-shared-slice-read-wide (pass-calls t) (pass-at t) pass.Post
 pass-shared-slice-read-wide t c = omega (arith, laws.byte-inside standard _ _ (c .before .before .before .before .pre .1 .0))
 
-pass-add-t22 : (t : ℕ) → pass-lts.Need-add-t22 (pass-calls t) (pass-at t) pass.Post
-pass-add-t22 t c = omega (arith, laws.byte-inside standard _ _ (c .before .before .before .before .before .before .pre .1 .0))
+pass-add-t20 : (t : ℕ) → pass-lts.Need-add-t20 (pass-calls t) (pass-at t) pass.Post
+pass-add-t20 t c = omega (arith, laws.byte-inside standard _ _ (c .before .before .before .before .before .before .pre .1 .0))
 
-pass-add-t23 : (t : ℕ) → pass-lts.Need-add-t23 (pass-calls t) (pass-at t) pass.Post
-pass-add-t23 t c = omega (arith, laws.byte-inside standard _ _ (c .before .before .before .before .before .before .pre .1 .0))
+pass-add-t21 : (t : ℕ) → pass-lts.Need-add-t21 (pass-calls t) (pass-at t) pass.Post
+pass-add-t21 t c = omega (arith, laws.byte-inside standard _ _ (c .before .before .before .before .before .before .pre .1 .0))
 
 pass-typed-requires : (t : ℕ) → pass-lts.Need-typed-requires (pass-calls t) (pass-at t) pass.Post
 unfolding standard
@@ -217,9 +252,6 @@ pass-typed-requires t c κs =
 pass-add-wide : (t : ℕ) → pass-lts.Need-add-wide (pass-calls t) (pass-at t) pass.Post
 pass-add-wide t c = omega (arith, laws.byte-inside standard _ _ (c .before .before .before .before .before .before .pre .1 .0))
 
-pass-add-wide-2 : (t : ℕ) → pass-lts.Need-add-wide-2 (pass-calls t) (pass-at t) pass.Post
-pass-add-wide-2 t c = omega (arith, laws.byte-inside standard _ _ (c .before .before .before .before .before .before .pre .1 .0))
-
 pass-shared-slice-read-wide-2 : (t : ℕ) → pass-lts.Need-shared-slice-read-wide-2 (pass-calls t) (pass-at t) pass.Post
 pass-shared-slice-read-wide-2 t c =
     let start = c .before .before .before .before .before .before .before in
@@ -231,6 +263,9 @@ pass-shared-slice-read-wide-2 t c =
     let byte = sym (c .before .before .wide .ensures .0) in
     let more = laws.sequence-inside standard s at stands (byte ∙ c .before .match .keys4) in
     omega arith
+
+pass-add-in-turn : (t : ℕ) → pass-lts.Need-add-in-turn (pass-calls t) (pass-at t) pass.Post
+pass-add-in-turn t c = omega (arith, laws.byte-inside standard _ _ (c .before .before .before .before .before .before .before .before .pre .1 .0))
 
 pass-in-turn-requires : (t : ℕ) → pass-lts.Need-in-turn-requires (pass-calls t) (pass-at t) pass.Post
 pass-in-turn-requires t c κs =
@@ -248,11 +283,8 @@ pass-in-turn-requires t c κs =
 pass-sealed-requires : (t : ℕ) → pass-lts.Need-sealed-requires (pass-calls t) (pass-at t) pass.Post
 pass-sealed-requires t c κs = omega (arith, laws.byte-inside standard _ _ (c .before .before .before .before .before .before .before .before .before .before .before .before .before .pre .1 .0))
 
-pass-add-wide-3 : (t : ℕ) → pass-lts.Need-add-wide-3 (pass-calls t) (pass-at t) pass.Post
-pass-add-wide-3 t c = omega (arith, laws.byte-inside standard _ _ (c .before .before .before .before .before .before .pre .1 .0))
-
-pass-add-wide-4 : (t : ℕ) → pass-lts.Need-add-wide-4 (pass-calls t) (pass-at t) pass.Post
-pass-add-wide-4 t c = omega (arith, laws.byte-inside standard _ _ (c .before .before .before .before .before .before .pre .1 .0))
+pass-add-wide-2 : (t : ℕ) → pass-lts.Need-add-wide-2 (pass-calls t) (pass-at t) pass.Post
+pass-add-wide-2 t c = omega (arith, laws.byte-inside standard _ _ (c .before .before .before .before .before .before .pre .1 .0))
 
 pass-shared-slice-read-wide-3 : (t : ℕ) → pass-lts.Need-shared-slice-read-wide-3 (pass-calls t) (pass-at t) pass.Post
 pass-shared-slice-read-wide-3 t c =
@@ -265,6 +297,9 @@ pass-shared-slice-read-wide-3 t c =
     let byte = sym (c .before .before .wide .ensures .0) in
     let more = laws.choice-inside standard s at stands (byte ∙ c .before .match .keys5) in
     omega arith
+
+pass-add-each : (t : ℕ) → pass-lts.Need-add-each (pass-calls t) (pass-at t) pass.Post
+pass-add-each t c = omega (arith, laws.byte-inside standard _ _ (c .before .before .before .before .before .before .before .before .pre .1 .0))
 
 pass-each-requires : (t : ℕ) → pass-lts.Need-each-requires (pass-calls t) (pass-at t) pass.Post
 pass-each-requires t c κs =
@@ -491,53 +526,67 @@ pass-returns-8 t c =
     ∙ ap (λ (w : Walked). ended at (laws.orNone w)) (c .before .before .before .before .before .before .before .pass3 .ensures)
     ∙ sym (laws.walk-optional standard s at stands marks b has op)
 
-pub +each+in-turn+pass-spec : {M : Type 1} → statement M
-+each+in-turn+pass-spec = close μ-each μ-in-turn μ-pass (λ t. each-lts.spec (each-calls t)
+pub +each+in-turn+operand+pass-spec : {M : Type 1} → statement M
++each+in-turn+operand+pass-spec = close μ-each μ-in-turn μ-operand μ-pass (λ t. each-lts.spec (each-calls t)
     (each-at t)
     each.Post
-    (each-returns t)
-    (each-pass-requires t)
+    each-Inv-loop
+    each-μ-loop
+    (each-loop-holds t)
+    (each-operand-requires t)
     (λ c κs. search needs)
     (λ c κs. search needs)
     (λ c. search needs)
-    (each-each-requires t)
     (λ c. search needs)
-    (each-returns-2 t)
-    )
+    (each-loop-again t)
+    (λ c. search needs)
+    (each-returns t))
     (λ t. in-turn-lts.spec (in-turn-calls t)
     (in-turn-at t)
     in-turn.Post
-    (in-turn-returns t)
+    in-turn-Inv-loop
+    in-turn-μ-loop
+    (in-turn-loop-holds t)
     (in-turn-slice-read-went-on t)
-    (in-turn-pass-requires t)
+    (in-turn-operand-requires t)
     (λ c κs. search needs)
     (λ c κs. search needs)
     (λ c κs. search needs)
     (λ c κs. search needs)
     (λ c κs. search needs)
     (λ c. search needs)
-    (in-turn-in-turn-requires t)
     (λ c. search needs)
-    (in-turn-returns-2 t)
-    )
-    (λ t. pass-lts.spec (pass-calls t)
+    (in-turn-loop-again t)
+    (λ c. search needs)
+    (in-turn-returns t))
+    (λ t. operand-lts.spec (operand-calls t)
+    (operand-at t)
+    operand.Post
+    (operand-shared-slice-read-if1 t)
+    (operand-typed-requires t)
+    (λ c. search needs)
+    (operand-returns t)
+    (operand-pass-requires t)
+    (λ c. search needs)
+    (operand-returns-2 t))
+    λ t. pass-lts.spec (pass-calls t)
     (pass-at t)
     pass.Post
     (pass-shared-slice-read-wide t)
     (λ c κs. search needs)
-    (pass-add-t22 t)
-    (pass-add-t23 t)
+    (pass-add-t20 t)
+    (pass-add-t21 t)
     (pass-typed-requires t)
     (pass-add-wide t)
-    (pass-add-wide-2 t)
     (pass-shared-slice-read-wide-2 t)
     (λ c κs. search needs)
+    (pass-add-in-turn t)
     (pass-in-turn-requires t)
     (pass-sealed-requires t)
-    (pass-add-wide-3 t)
-    (pass-add-wide-4 t)
+    (pass-add-wide-2 t)
     (pass-shared-slice-read-wide-3 t)
     (λ c κs. search needs)
+    (pass-add-each t)
     (pass-each-requires t)
     (pass-sealed-requires-2 t)
     (pass-add-either t)
@@ -571,4 +620,3 @@ pub +each+in-turn+pass-spec : {M : Type 1} → statement M
     (pass-returns-7 t)
     (λ c. search needs)
     (pass-returns-8 t)
-    )
