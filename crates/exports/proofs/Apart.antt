@@ -1,6 +1,7 @@
 -- An answer settles both of its parts: no value reaches 2^32, so quotient and remainder give the refusal and the value back.
 --   refusal-told, value-told : for any value below 2^32
---   reading-below, verdict-below : the values of the calls that read and decide; NameLaws has name-below
+--   reading-below, verdict-below : the values of the calls that read and decide
+-- Of a name's value NameLaws has name-below; of a length written, Lengths has sample-below, by-table-below and by-document-below.
 use Prim.Native.Nat.{ℕ, _/_, _%_, _<_}
 use native.Mathlib.Omega.{arith}
 use mathlib.Core.Path.{_≡_}

@@ -1,4 +1,5 @@
 -- What the exported calls say: an answer as one number, and the lent slices as they are left.
+-- proofs/Apart.antt, with Lengths and NameLaws beside it, shows that refusal and value can be told apart in every answer of all eleven calls.
 use Prim.Native.Nat.{ℕ, _+_, _*_}
 use mathlib.Core.List.{List}
 use mathlib.Core.Path.{_≡_}
