@@ -4,7 +4,6 @@ ghost use Prim.Native.Nat.{_≤_, _<_};
 ghost use lib.ListN.{length, drop};
 ghost use lib.Seq.{slice};
 ghost use Rattle.grammar.specs.Limits.{standard};
-ghost use Rattle.grammar.specs.Names.{asciiClasses};
 ghost use Rattle.grammar.specs.Fields.{fieldsOf};
 ghost use Rattle.grammar.specs.ReadDocument.{nothingRead};
 ghost use Rattle.reader.specs.DocumentNodes.{firstNodes, outcomeOf, Indexed, NodesFound, DocumentReads};

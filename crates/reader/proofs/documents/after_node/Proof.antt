@@ -1,6 +1,5 @@
 -- `documents::after_node` meets its contract: the innermost level has one node less to come, and the children are a level of their own.
 use Prim.Native.Nat.{_-_}
-use native.Mathlib.Omega.{arith}
 use mathlib.Core.Path.{_∙_}
 use lib.ListN.{getD}
 use borrow.Author.Needs.{needs}
