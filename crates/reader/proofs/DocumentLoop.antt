@@ -14,7 +14,6 @@ use Rattle.grammar.specs.Fields.{fieldsOf}
 use Rattle.grammar.specs.Outcome.{Outcome}
 use Rattle.grammar.specs.ReadDocument.{Node, Opened, nothingRead, withNode}
 use Rattle.grammar.specs.declared.Reading.{Reading}
-use Rattle.reader.specs.declared.documents.Levels.{Levels}
 use Rattle.reader.specs.declared.documents.Step.{Step}
 use Rattle.reader.specs.declared.documents.Step.the-variants.{Node as NodeHere, Stop}
 use Rattle.reader.specs.DocumentNodes.{nodeAt, firstNodes, Indexed, outcomeOf}
@@ -60,16 +59,16 @@ module _ (s names sizes children : List ℕ) where
 stored-at : (l : List ℕ) (n i v : ℕ) → i ≡ n → n < length l → getD (set l n v) i 0 ≡ v
 stored-at l n i v e h = ap (λ (j : ℕ). getD (set l n v) j 0) e ∙ getD-set-same l n v 0 h
 
-pub record SoFar (s names sizes children : List ℕ) (nodes at : ℕ) (levels : Levels) : Type 0 where
+pub record SoFar (s names sizes children : List ℕ) (nodes at : ℕ) (coming : List ℕ) (depth : ℕ) : Type 0 where
   pub reached : at ≤ length s
-  pub names-room : length names ≡ 1024
-  pub sizes-room : length sizes ≡ 1024
-  pub children-room : length children ≡ 1024
+  pub names-room : 1024 ≤ length names
+  pub sizes-room : 1024 ≤ length sizes
+  pub children-room : 1024 ≤ length children
   pub indexed : Indexed s names sizes children nodes
-  pub levels-open : Open (levels .coming) (levels .depth)
+  pub levels-open : Open coming depth
   pub goes-on : restOf nothingRead (fieldsOf s)
       ≡ restOf
-      (record { nodes = firstNodes s names sizes children nodes; toCome = openLevels (levels .coming) (levels .depth) })
+      (record { nodes = firstNodes s names sizes children nodes; toCome = openLevels coming depth })
       (fieldsOf (drop at s))
 
 -- what a step says, once it is known to be a node
@@ -78,8 +77,8 @@ pub says-node : (s : List ℕ) (at nodes depth : ℕ) (whole : Opened → Outcom
 says-node s at nodes depth whole st e says = subst (λ (x : Step). StepSays s at nodes depth whole x) e says
 
 module _ (s names sizes children : List ℕ) where
-  pub so-far-none : (coming : List ℕ) → length names ≡ 1024 → length sizes ≡ 1024 → length children ≡ 1024 → getD coming 0 0 ≡ 1
-      → SoFar s names sizes children 0 0 (record { coming = coming; depth = 1 })
+  pub so-far-none : (coming : List ℕ) → 1024 ≤ length names → 1024 ≤ length sizes → 1024 ≤ length children → getD coming 0 0 ≡ 1
+      → SoFar s names sizes children 0 0 coming 1
   unfolding firstNodes openLevels
   so-far-none coming p q r e =
       record {
@@ -88,7 +87,7 @@ module _ (s names sizes children : List ℕ) where
         sizes-room = q;
         children-room = r;
         indexed = record { few = omega arith; within = λ i h. absurd (omega arith); counts = λ i h. absurd (omega arith) };
-        levels-open = record { deep = omega arith; innermost = innermost };
+        levels-open = record { innermost = innermost };
         goes-on = ap (λ (k : ℕ). restOf (record { nodes = []; toCome = k ∷ [] }) (fieldsOf s)) (sym e);
       }
     where
@@ -96,22 +95,22 @@ module _ (s names sizes children : List ℕ) where
       innermost zero h = omega arith
       innermost (suc d) h = absurd (omega arith)
 
-  module _ (nodes at : ℕ) (levels : Levels) (far : SoFar s names sizes children nodes at levels) where
+  module _ (nodes at : ℕ) (coming : List ℕ) (depth : ℕ) (far : SoFar s names sizes children nodes at coming depth) where
     abbrev opened : Opened
-    opened = record { nodes = firstNodes s names sizes children nodes; toCome = openLevels (levels .coming) (levels .depth) }
+    opened = record { nodes = firstNodes s names sizes children nodes; toCome = openLevels coming depth }
 
-    sized : Sized opened nodes (levels .depth)
-    sized = record { read = nodes-length s names sizes children nodes; open-levels = levels-length (levels .coming) (levels .depth) }
+    sized : Sized opened nodes depth
+    sized = record { read = nodes-length s names sizes children nodes; open-levels = levels-length coming depth }
 
     pub so-far-stop : (st : Step) {answer : Reading} → st ≡ Stop answer
-        → StepSays s at nodes (levels .depth) (λ o. restOf o (fieldsOf (drop at s))) st
+        → StepSays s at nodes depth (λ o. restOf o (fieldsOf (drop at s))) st
         → restOf nothingRead (fieldsOf s) ≡ outcomeOf answer (firstNodes s names sizes children nodes)
     so-far-stop st {answer} e says =
         far .goes-on
-        ∙ subst (λ (x : Step). StepSays s at nodes (levels .depth) (λ o. restOf o (fieldsOf (drop at s))) x) e says opened sized
+        ∙ subst (λ (x : Step). StepSays s at nodes depth (λ o. restOf o (fieldsOf (drop at s))) x) e says opened sized
 
-    module _ (from to k : ℕ) (step : NodeStep s at nodes (levels .depth) (λ o. restOf o (fieldsOf (drop at s))) from to k)
-        (more : Levels) (after : After levels k more) where
+    module _ (from to k : ℕ) (step : NodeStep s at nodes depth (λ o. restOf o (fieldsOf (drop at s))) from to k)
+        (coming′ : List ℕ) (depth′ : ℕ) (after : After coming depth k coming′ depth′) where
       indexed-more : Indexed s (set names nodes from) (set sizes nodes (to - from)) (set children nodes k) (nodes + 1)
       indexed-more =
           let room = step .room in
@@ -144,15 +143,15 @@ module _ (s names sizes children : List ℕ) where
               let a = stored-at children nodes i k (omega arith) (omega (arith, far .children-room)) in
               omega (arith, step .few)
 
-      pub so-far-next : SoFar s (set names nodes from) (set sizes nodes (to - from)) (set children nodes k) (nodes + 1) to more
+      pub so-far-next : SoFar s (set names nodes from) (set sizes nodes (to - from)) (set children nodes k) (nodes + 1) to coming′ depth′
       unfolding withNode
       so-far-next =
           let room = step .room in
           record {
             reached = step .within;
-            names-room = length-set names nodes from ∙ far .names-room;
-            sizes-room = length-set sizes nodes (to - from) ∙ far .sizes-room;
-            children-room = length-set children nodes k ∙ far .children-room;
+            names-room = simp length-set (far .names-room);
+            sizes-room = simp length-set (far .sizes-room);
+            children-room = simp length-set (far .children-room);
             indexed = indexed-more;
             levels-open = after .stays;
             goes-on =

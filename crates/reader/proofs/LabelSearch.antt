@@ -1,36 +1,116 @@
--- Searching the labels and the starts of an index is searching those of its table.
-use Prim.Native.Nat.{ℕ, _<_}
+-- Searching names by where they stand (`found-here`, `found-nowhere`), and the labels and starts of an index.
+use Prim.Native.Nat.{ℕ, zero, suc, _<_, _≤_}
 use native.Mathlib.Omega.{arith}
 use mathlib.Core.Bool.{Bool, true, false}
-use mathlib.Core.List.{List}
-use mathlib.Core.Path.{_≡_, sym, _∙_, ap}
-use Rattle.grammar.specs.Lists.{any}
-use Rattle.grammar.specs.Names.{Name}
+use mathlib.Core.List.{List, [], _∷_}
+use mathlib.Core.Option.{some as just}
+use mathlib.Core.Path.{_≡_, refl, sym, _∙_, ap}
+use lib.Dec.{ltb}
+use lib.ListN.{length, getD, getElem?}
+use borrow.Author.Tests.{ltb-true, ltb-false}
+use Rattle.grammar.specs.Lists.{any, place}
+use Rattle.grammar.specs.Names.{Name, sameName}
 use Rattle.grammar.specs.Table.{Table}
 use Rattle.theory.proofs.BoolLaws.{false-of, not-both}
-use Rattle.theory.proofs.ListLaws.{any-found, any-of, mem-at, at-mem, at-below}
+use Rattle.theory.proofs.ListLaws.{any-found, any-of, mem-at, at-mem, at-below, below-at, just-eq}
 use Rattle.reader.specs.declared.tables.TableIndex.{TableIndex}
-use Rattle.reader.specs.TableIndex.{labelFrom, labelTo, startType, part, Indexes}
-use Rattle.reader.proofs.TableIndexLaws.{label-at, start-at}
+use Rattle.reader.specs.TableIndex.{startType, part, Stands, Indexes}
+use Rattle.reader.specs.NamePlaces.{NamesAt}
+use Rattle.reader.proofs.TableIndexLaws.{start-at}
+
+-- places
+module _ {A : Type 0} (same : A → A → Bool) (x : A) where
+  place-first : (xs : List A) (i : ℕ) {y : A} → getElem? xs i ≡ just y → same x y ≡ true
+      → ((j : ℕ) (z : A) → j < i → getElem? xs j ≡ just z → same x z ≡ false)
+      → place same x xs ≡ i
+  unfolding place
+  place-first [] i e t h = let z : _≡_ {A = ℕ} 0 1 = cc in absurd (omega arith)
+  place-first (y ∷ ys) zero e t h = rw (ap (same x) (sym (just-eq e)) ∙ t, place)
+  place-first (y ∷ ys) (suc i) e t h =
+      let f = h zero y (omega arith) refl in
+      rw (f, place) (ap suc (place-first ys i e t (λ j z k p. h (suc j) z (omega arith) p)))
+
+  place-nowhere : (xs : List A) → ((j : ℕ) (z : A) → getElem? xs j ≡ just z → same x z ≡ false) → place same x xs ≡ length xs
+  unfolding place
+  place-nowhere [] h = refl
+  place-nowhere (y ∷ ys) h =
+      let f = h zero y refl in
+      rw (f, place) (ap suc (place-nowhere ys (λ j z p. h (suc j) z p)))
+
+  pub place-some : (xs : List A) → place same x xs < length xs → any (same x) xs ≡ true
+  unfolding place any
+  place-some [] h = absurd (omega arith)
+  place-some (y ∷ ys) h = go (same x y) refl (place-some ys)
+    where
+      go : (b : Bool) → same x y ≡ b → (place same x ys < length ys → any (same x) ys ≡ true) → any (same x) (y ∷ ys) ≡ true
+      go true e ih = rw (e, any)
+      go false e ih =
+          let p : place same x (y ∷ ys) ≡ suc (place same x ys) = rw (e, place) in
+          rw (e, any) (ih (omega arith))
+
+  pub place-none : (xs : List A) → length xs ≤ place same x xs → any (same x) xs ≡ false
+  unfolding place any
+  place-none [] h = refl
+  place-none (y ∷ ys) h = go (same x y) refl (place-none ys)
+    where
+      go : (b : Bool) → same x y ≡ b → (length ys ≤ place same x ys → any (same x) ys ≡ false) → any (same x) (y ∷ ys) ≡ false
+      go true e ih = let p : place same x (y ∷ ys) ≡ 0 = rw (e, place) in absurd (omega arith)
+      go false e ih =
+          let p : place same x (y ∷ ys) ≡ suc (place same x ys) = rw (e, place) in
+          rw (e, any) (ih (omega arith))
+
+-- names by where they stand
+module _ {s from to : List ℕ} {count : ℕ} {list : List Name} (x : NamesAt s from to count list) where
+  pub name-at : (i : ℕ) → i < count → (n : Name) × (getElem? list i ≡ just n) × Stands s (getD from i 0) (getD to i 0) n
+  name-at i h =
+      let p = below-at list i (omega (arith, x .count)) in
+      (p .0, p .1, x .name i (p .0) (p .1))
+
+  module _ (name : Name) where
+    pub found-here : (i : ℕ) → i < count
+        → ((j : ℕ) → j < i → sameName name (part s (getD from j 0) (getD to j 0)) ≡ false)
+        → sameName name (part s (getD from i 0) (getD to i 0)) ≡ true
+        → i ≡ place sameName name list
+    found-here i h before e =
+        let p = name-at i h in
+        sym
+        (place-first sameName name list i (p .1) (ap (sameName name) (sym (p .2 .bytes-are)) ∙ e)
+        (λ j z k q. ap (sameName name) (sym (x .name j z q .bytes-are)) ∙ before j k))
+
+    pub found-nowhere : ((j : ℕ) → j < count → sameName name (part s (getD from j 0) (getD to j 0)) ≡ false)
+        → count ≡ place sameName name list
+    found-nowhere before =
+        x .count
+        ∙ sym
+        (place-nowhere sameName name list
+        (λ j z q.
+        let b = at-below list j q in
+        ap (sameName name) (sym (x .name j z q .bytes-are)) ∙ before j (omega (arith, x .count))))
+
+    -- a name is among the others if its place is below their number
+    pub found-among : (p : ℕ) → p ≡ place sameName name list → ltb p count ≡ any (sameName name) list
+    found-among p e = go (ltb p count) refl
+      where
+        go : (b : Bool) → ltb p count ≡ b → b ≡ any (sameName name) list
+        go true t =
+            let h = ltb-true p count t in
+            let n = x .count in
+            sym (place-some sameName name list (omega arith))
+        go false t =
+            let h = ltb-false p count t in
+            let n = x .count in
+            sym (place-none sameName name list (omega arith))
 
 module _ {s : List ℕ} {index : TableIndex} {g : Table} (x : Indexes s index g) where
-  module _ (test : Name → Bool) where
-    pub label-passes : (i : ℕ) → i < index .labels → test (part s (labelFrom index i) (labelTo index i)) ≡ true → any test (g .labels) ≡ true
-    label-passes i h e =
-        let p = label-at x i h in
-        any-of test (at-mem (g .labels) i (p .1)) (ap test (sym (p .2 .bytes-are)) ∙ e)
-
-    pub no-label-passes : ((i : ℕ) → i < index .labels → test (part s (labelFrom index i) (labelTo index i)) ≡ false)
-        → any test (g .labels) ≡ false
-    no-label-passes h =
-        false-of
-        (any test (g .labels))
-        (λ e.
-        let r = any-found test (g .labels) e in
-        let p = mem-at (r .1) in
-        let b = at-below (g .labels) (p .0) (p .1) in
-        let w = x .label (p .0) (r .0) (p .1) in
-        not-both (r .2) (ap test (sym (w .bytes-are)) ∙ h (p .0) (omega (arith, x .labels))))
+  -- the names of the labels
+  pub index-names : NamesAt s (index .«label_from») (index .«label_to») (index .labels) (g .labels)
+  index-names =
+      record {
+        count = x .labels;
+        name = x .label;
+        from-room = let room = x .rooms .label-from in let few = x .few-labels in omega arith;
+        to-room = let room = x .rooms .label-to in let few = x .few-labels in omega arith;
+      }
 
   module _ (test : ℕ → Bool) where
     pub start-passes : (i : ℕ) → i < index .starts → test (startType index i) ≡ true → any test (g .starts) ≡ true

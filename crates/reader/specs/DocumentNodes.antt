@@ -11,6 +11,7 @@ use Rattle.grammar.specs.declared.Reading.{Reading}
 use Rattle.grammar.specs.declared.Reading.the-variants.{Readable, Refused as Unreadable}
 use Rattle.reader.specs.declared.documents.DocumentIndex.{DocumentIndex}
 use Rattle.reader.specs.declared.documents.DocumentRead.{DocumentRead}
+use Rattle.reader.specs.declared.documents.NodesRead.{NodesRead}
 
 -- the node at a place: its name is the part of the input that the arrays say, its child count the array's
 abbrev pub nodeAt : (s names sizes children : List ℕ) → ℕ → Node
@@ -37,7 +38,12 @@ pub record Indexed (s names sizes children : List ℕ) (nodes : ℕ) : Type 0 wh
   pub within : (i : ℕ) → i < nodes → getD names i 0 + getD sizes i 0 ≤ length s
   pub counts : (i : ℕ) → i < nodes → getD children i 0 ≤ 200
 
--- what was read is the document's answer, and its nodes if it reads
-pub record DocumentReads (s : List ℕ) (r : DocumentRead) : Type 0 where
-  pub outcome : readNodes standard asciiClasses s ≡ outcomeOf (r .answer) (nodesIn s (r .index))
-  pub indexed : Indexed s (r .index .names) (r .index .sizes) (r .index .children) (r .index .nodes)
+-- what was read into the arrays is the document's answer, and its nodes if it reads
+pub record NodesFound (s names sizes children : List ℕ) (r : NodesRead) : Type 0 where
+  pub outcome : readNodes standard asciiClasses s ≡ outcomeOf (r .answer) (firstNodes s names sizes children (r .nodes))
+  pub indexed : Indexed s names sizes children (r .nodes)
+
+-- the same of an index
+abbrev pub DocumentReads : List ℕ → DocumentRead → Type 0
+DocumentReads s r =
+    NodesFound s (r .index .names) (r .index .sizes) (r .index .children) (record { answer = r .answer; nodes = r .index .nodes })

@@ -15,7 +15,6 @@ use Rattle.grammar.specs.declared.Reading.{Reading}
 use Rattle.grammar.specs.declared.Reading.the-variants.{Readable, Refused as Unreadable}
 use Rattle.reader.specs.declared.documents.Step.{Step}
 use Rattle.reader.specs.declared.documents.Step.the-variants.{Node as NodeHere, Stop}
-use Rattle.reader.specs.declared.documents.Levels.{Levels}
 use Rattle.reader.specs.DocumentNodes.{outcomeOf}
 
 -- what an end field says: the size of its value, how many levels are open, how many bytes are left after it
@@ -69,18 +68,16 @@ unfoldable pub openLevels : List ℕ → ℕ → List ℕ
 openLevels coming zero = []
 openLevels coming (suc d) = getD coming d 0 ∷ openLevels coming d
 
--- some levels are open, and on the innermost a node is to come
+-- if levels are open, a node is to come on the innermost
 pub record Open (coming : List ℕ) (depth : ℕ) : Type 0 where
-  pub deep : depth ≤ 65
   pub innermost : (d : ℕ) → depth ≡ suc d → 0 < getD coming d 0
 
 -- the levels left open when those with none to come are closed
 pub record Closed (coming : List ℕ) (depth left : ℕ) : Type 0 where
-  pub less : left ≤ depth
-  pub innermost : (d : ℕ) → left ≡ suc d → 0 < getD coming d 0
+  pub stays : Open coming left
   pub levels : openLevels coming left ≡ closed (openLevels coming depth)
 
 -- the levels after a node with so many children
-pub record After (levels : Levels) (children : ℕ) (r : Levels) : Type 0 where
-  pub stays : Open (r .coming) (r .depth)
-  pub levels-are : openLevels (r .coming) (r .depth) ≡ afterNode children (openLevels (levels .coming) (levels .depth))
+pub record After (coming : List ℕ) (depth children : ℕ) (coming′ : List ℕ) (depth′ : ℕ) : Type 0 where
+  pub stays : Open coming′ depth′
+  pub levels-are : openLevels coming′ depth′ ≡ afterNode children (openLevels coming depth)

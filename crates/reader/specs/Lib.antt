@@ -4,4 +4,5 @@ pub mod Extents
 pub mod DocumentNodes
 pub mod DocumentSteps
 pub mod TableIndex
+pub mod NamePlaces
 pub mod ReaderCalls

@@ -4,10 +4,9 @@ ghost use Prim.Native.Nat.{_≤_, _<_};
 ghost use lib.ListN.{length, drop};
 ghost use lib.Seq.{slice};
 ghost use Rattle.grammar.specs.Limits.{standard};
-ghost use Rattle.grammar.specs.Names.{asciiClasses};
 ghost use Rattle.grammar.specs.Fields.{fieldsOf};
 ghost use Rattle.grammar.specs.ReadDocument.{nothingRead};
-ghost use Rattle.reader.specs.DocumentNodes.{Indexed, DocumentReads, nodesIn, outcomeOf};
+ghost use Rattle.reader.specs.DocumentNodes.{firstNodes, outcomeOf, Indexed, NodesFound, DocumentReads};
 ghost use Rattle.reader.specs.DocumentSteps.{endAnswer, badCounts, restOf, restWith, StepSays, Open, Closed, After};
 use crate::fields::FieldAt;
 use crate::fields::field_at;
@@ -24,12 +23,6 @@ use grammar::Refusal;
 const NODE_TAG: u8 = 0x30;
 
 const END_TAG: u8 = 0x3F;
-
-// For each open level, outermost first, how many nodes are still to come there.
-struct Levels {
-    pub coming: [usize; 65],
-    pub depth: usize,
-}
 
 // What the next field says.
 enum Step {
@@ -51,6 +44,12 @@ pub struct DocumentIndex {
 pub struct DocumentRead {
     pub answer: Reading,
     pub index: DocumentIndex,
+}
+
+// Whether a document reads, and how many nodes it has.
+pub struct NodesRead {
+    pub answer: Reading,
+    pub nodes: usize,
 }
 
 // What an end field says, with a value of `size` bytes, while `depth` levels are open, and `left` bytes after it.
@@ -145,42 +144,36 @@ fn closed_depth(coming: &[usize], depth: usize) -> usize
     0
 }
 
-// The open levels after a node with so many children on the innermost.
-fn after_node(levels: Levels, children: usize) -> Levels
-    requires { ⌜ (0 < levels .depth) × (levels .depth ≤ 64) × Open (levels .coming) (levels .depth) ⌝ }
-    ensures { λ r. ⌜ After levels children r ⌝ }
+// The open levels after a node with so many children on the innermost: how many there are. For each level, outermost first, `coming`
+// has how many nodes are still to come there.
+fn after_node(coming: &mut [usize], depth: usize, children: usize) -> usize
+    requires { ⌜ (0 < depth) × (depth < length (now coming)) × Open (now coming) depth ⌝ }
+    ensures { λ r. ⌜ After (now (coming .entry)) depth children (now (coming .exit)) r ⌝ }
 {
-    let mut coming = levels.coming;
-    let depth = levels.depth;
     let top = depth - 1;
     let left = coming[top] - 1;
     coming[top] = left;
     coming[depth] = children;
-    let d = closed_depth(&coming, depth + 1);
-    Levels {
-        coming: coming,
-        depth: d,
-    }
+    closed_depth(coming, depth + 1)
 }
 
 // The fields of a document, front to back.
-fn read_fields(s: &[u8]) -> DocumentRead
-    ensures answer { λ r. ⌜ restOf nothingRead (fieldsOf (now (s .entry))) ≡ outcomeOf (r .answer) (nodesIn (now (s .entry)) (r .index)) ⌝ }
-    ensures index { λ r. ⌜ Indexed (now (s .entry)) (r .index .names) (r .index .sizes) (r .index .children) (r .index .nodes) ⌝ }
+fn read_fields(
+    s: &[u8],
+    names: &mut [usize],
+    sizes: &mut [usize],
+    children: &mut [usize],
+) -> NodesRead
+    requires { ⌜ (1024 ≤ length (now names)) × (1024 ≤ length (now sizes)) × (1024 ≤ length (now children)) ⌝ }
+    ensures answer { λ r. ⌜ restOf nothingRead (fieldsOf (now (s .entry))) ≡ outcomeOf (r .answer) (firstNodes (now (s .entry)) (now (names .exit)) (now (sizes .exit)) (now (children .exit)) (r .nodes)) ⌝ }
+    ensures index { λ r. ⌜ Indexed (now (s .entry)) (now (names .exit)) (now (sizes .exit)) (now (children .exit)) (r .nodes) ⌝ }
 {
-    let mut names = [0usize; 1024];
-    let mut sizes = [0usize; 1024];
-    let mut children = [0usize; 1024];
     let mut nodes: usize = 0;
     let mut at: usize = 0;
     let mut coming = [0usize; 65];
     coming[0] = 1;
-    let mut levels = Levels {
-        coming: coming,
-        depth: 1,
-    };
+    let mut depth: usize = 1;
     loop {
-        let depth = levels.depth;
         match step_at(s, at, nodes, depth) {
             Step::Node(from, to, count) => {
                 names[nodes] = from;
@@ -188,38 +181,54 @@ fn read_fields(s: &[u8]) -> DocumentRead
                 children[nodes] = count;
                 nodes += 1;
                 at = to;
-                let more = after_node(levels, count);
-                levels = more;
+                let more = after_node(&mut coming, depth, count);
+                depth = more;
             }
             Step::Stop(answer) => {
-                return DocumentRead {
+                return NodesRead {
                     answer: answer,
-                    index: DocumentIndex {
-                        names: names,
-                        sizes: sizes,
-                        children: children,
-                        nodes: nodes,
-                    },
+                    nodes: nodes,
                 };
             }
         }
     }
 }
 
+// The nodes of a document, into lent arrays.
+pub fn read_nodes(
+    s: &[u8],
+    names: &mut [usize],
+    sizes: &mut [usize],
+    children: &mut [usize],
+) -> NodesRead
+    requires { ⌜ (1024 ≤ length (now names)) × (1024 ≤ length (now sizes)) × (1024 ≤ length (now children)) ⌝ }
+    ensures { λ r. ⌜ NodesFound (now (s .entry)) (now (names .exit)) (now (sizes .exit)) (now (children .exit)) r ⌝ }
+{
+    if INPUT < s.len() {
+        return NodesRead {
+            answer: Reading::Refused(Refusal::InputTooLong),
+            nodes: 0,
+        };
+    }
+    read_fields(s, names, sizes, children)
+}
+
 // The nodes of a document.
 pub fn read_document(s: &[u8]) -> DocumentRead
     ensures { λ r. ⌜ DocumentReads (now (s .entry)) r ⌝ }
 {
-    if INPUT < s.len() {
-        return DocumentRead {
-            answer: Reading::Refused(Refusal::InputTooLong),
-            index: DocumentIndex {
-                names: [0; 1024],
-                sizes: [0; 1024],
-                children: [0; 1024],
-                nodes: 0,
-            },
-        };
+    let mut names = [0usize; 1024];
+    let mut sizes = [0usize; 1024];
+    let mut children = [0usize; 1024];
+    let read = read_nodes(s, &mut names, &mut sizes, &mut children);
+    let answer = read.answer;
+    DocumentRead {
+        answer: answer,
+        index: DocumentIndex {
+            names: names,
+            sizes: sizes,
+            children: children,
+            nodes: read.nodes,
+        },
     }
-    read_fields(s)
 }

@@ -1,10 +1,12 @@
 // Labels of a table: names of 1 to 63 bytes, before all starts and rules.
+ghost use mathlib.Core.List.{List};
 ghost use mathlib.Core.Path.{_≡_};
-ghost use Rattle.grammar.specs.Lists.{any};
-ghost use Rattle.grammar.specs.Names.{asciiClasses, sameName};
+ghost use Rattle.grammar.specs.Lists.{any, place};
+ghost use Rattle.grammar.specs.Names.{Name, asciiClasses, sameName};
 ghost use Rattle.grammar.specs.Limits.{standard};
 ghost use Rattle.grammar.specs.Table.{Table};
 ghost use Rattle.grammar.specs.ReadTable.{readLabel};
+ghost use Rattle.reader.specs.NamePlaces.{NamesAt, NamesStand};
 ghost use Rattle.reader.specs.TableIndex.{part, ValueAt, Indexes, AnswersFor, ReadsFor};
 use crate::limits::LABELS;
 use crate::limits::NAME;
@@ -15,6 +17,23 @@ use crate::tables::TableRead;
 use grammar::Reading;
 use grammar::Refusal;
 
+// The place of a name among names that stand in bytes; their number where it is not there.
+pub fn name_place(name: &[u8], s: &[u8], from: &[usize], to: &[usize], count: usize) -> usize
+    requires { ⌜ NamesStand (now s) (now from) (now to) count ⌝ }
+    ensures { λ r. ⌜ ((list : List Name) → NamesAt (now (s .entry)) (now (from .entry)) (now (to .entry)) count list → r ≡ place sameName (now (name .entry)) list) ⌝ }
+{
+    let mut i: usize = 0;
+    while i < count {
+        let f = from[i];
+        let t = to[i];
+        if same_name(name, &s[f..t]) {
+            return i;
+        }
+        i += 1;
+    }
+    count
+}
+
 // An earlier label has this name.
 fn repeated_label(s: &[u8], from: usize, to: usize, index: TableIndex) -> bool
     requires { ⌜ ValueAt (now s) from to index ⌝ }
@@ -23,16 +42,7 @@ fn repeated_label(s: &[u8], from: usize, to: usize, index: TableIndex) -> bool
     let label_from = index.label_from;
     let label_to = index.label_to;
     let labels = index.labels;
-    let mut i: usize = 0;
-    while i < labels {
-        let f = label_from[i];
-        let t = label_to[i];
-        if same_name(&s[from..to], &s[f..t]) {
-            return true;
-        }
-        i += 1;
-    }
-    false
+    name_place(&s[from..to], s, &label_from, &label_to, labels) < labels
 }
 
 // Why a label is turned back, if it is.

@@ -19,8 +19,7 @@ returns c =
     let coming = c .before .before .before .before .args .coming .now in
     let d = c .before .before .before .loop .d in
     record {
-      less = c .before .before .before .loop .inv .0;
-      innermost = some-to-come coming d (c .if1 .taken);
+      stays = record { innermost = some-to-come coming d (c .if1 .taken) };
       levels = sym (stays-open coming d (omega arith) (c .if1 .taken)) ∙ c .before .before .before .loop .inv .1;
     }
 
@@ -34,8 +33,7 @@ returns-2 c =
     let coming = c .before .before .args .coming .now in
     let p : c .before .loop .d ≡ 0 = omega arith in
     record {
-      less = omega arith;
-      innermost = λ k e. absurd (omega arith);
+      stays = record { innermost = λ k e. absurd (omega arith) };
       levels = sym (none-open coming) ∙ ap (λ d. closed (openLevels coming d)) (sym p) ∙ c .before .loop .inv .1;
     }
 

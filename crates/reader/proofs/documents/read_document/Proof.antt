@@ -1,27 +1,14 @@
--- `documents::read_document` meets its contract: the input's length comes first, then its fields.
-use native.Mathlib.Omega.{arith}
-use mathlib.Core.Path.{_∙_}
-use Rattle.grammar.specs.Limits.{standard}
-use Rattle.grammar.specs.Names.{asciiClasses}
-use Rattle.reader.proofs.DocumentFields.{reads-long, reads-short}
+-- `documents::read_document` meets its contract: the nodes are read into arrays of its own.
+use borrow.Author.Needs.{needs}
 use Rattle.reader.proofs.documents.read_document.Statement.{statement}
 use Rattle.reader.proofs.documents.read_document.Tie as tie
 
-returns : tie.Need-returns
-unfolding standard
-returns c =
-    record {
-      outcome = reads-long standard asciiClasses (c .before .before .args .s .now) (c .if1 .taken);
-      indexed = record { few = omega arith; within = λ i h. absurd (omega arith); counts = λ i h. absurd (omega arith) };
-    }
-
-returns-2 : tie.Need-returns-2
-unfolding standard
-returns-2 c =
-    record {
-      outcome = reads-short standard asciiClasses (c .before .before .before .args .s .now) (c .before .if1 .left) ∙ c .read-fields .ensures .0;
-      indexed = c .read-fields .ensures .1;
-    }
-
 pub read-document-spec : {M : Type 1} → statement M
-read-document-spec = tie.close (tie.spec returns (λ c κs. tt) returns-2)
+read-document-spec =
+    tie.close
+    (tie.spec
+    (λ c. search needs)
+    (λ c. search needs)
+    (λ c. search needs)
+    (λ c κs. search needs)
+    (λ c. c .before .before .before .read-nodes .ensures))

@@ -1,8 +1,8 @@
 -- `documents::read_fields` meets its contract. The loop's invariant is `SoFar`; the measure is what is left of the input.
 use Prim.Native.Nat.{_-_}
 use native.Mathlib.Omega.{arith}
-use mathlib.Core.Path.{refl}
-use lib.ListN.{length, drop}
+use mathlib.Core.Path.{_≡_, refl, sym, _∙_}
+use lib.ListN.{length, drop, length-set}
 use borrow.Author.Needs.{needs}
 use Rattle.grammar.specs.Fields.{fieldsOf}
 use Rattle.reader.specs.DocumentSteps.{restOf, NodeStep}
@@ -11,45 +11,67 @@ use Rattle.reader.proofs.documents.read_fields.Statement.{statement}
 use Rattle.reader.proofs.documents.read_fields.Tie as tie
 
 abbrev Inv-loop : tie.InvT-loop
-Inv-loop s names₀ sizes₀ children₀ nodes₀ at₀ levels₀ names sizes children nodes at levels =
-    SoFar s names sizes children nodes at levels
+Inv-loop s names₀ sizes₀ children₀ nodes₀ at₀ coming₀ depth₀ names sizes children nodes at coming depth =
+    SoFar s names sizes children nodes at coming depth
+    × (length coming ≡ 65)
+    × (length names ≡ length names₀)
+    × (length sizes ≡ length sizes₀)
+    × (length children ≡ length children₀)
 
 abbrev μ-loop : tie.MeasureT-loop
-μ-loop s names₀ sizes₀ children₀ nodes₀ at₀ levels₀ names sizes children nodes at levels = length s - at
+μ-loop s names₀ sizes₀ children₀ nodes₀ at₀ coming₀ depth₀ names sizes children nodes at coming depth = length s - at
 
 -- in the arm of a node
 step : (c : tie.After-known-told Inv-loop μ-loop)
     → NodeStep
-    (c .before .before .before .before .before .before .args .s .now)
+    (c .before .before .before .before .before .before .before .before .before .args .s .now)
     (c .before .before .before .before .loop .at)
     (c .before .before .before .before .loop .nodes)
-    (c .before .before .before .before .loop .levels .depth)
-    (λ o. restOf o (fieldsOf (drop (c .before .before .before .before .loop .at) (c .before .before .before .before .before .before .args .s .now))))
+    (c .before .before .before .before .loop .depth)
+    (λ o. restOf o (fieldsOf (drop (c .before .before .before .before .loop .at) (c .before .before .before .before .before .before .before .before .before .args .s .now))))
     (c .before .from .given .0 .0)
     (c .before .from .given .0 .1 .0)
     (c .before .from .given .0 .1 .1 .0)
 step c =
-    let s = c .before .before .before .before .before .before .args .s .now in
+    let s = c .before .before .before .before .before .before .before .before .before .args .s .now in
     let loop = c .before .before .before .before .loop in
     says-node
     s
     (loop .at)
     (loop .nodes)
-    (loop .levels .depth)
+    (loop .depth)
     (λ o. restOf o (fieldsOf (drop (loop .at) s)))
     (c .before .before .before .step-at .result)
     (c .before .from .given .1)
     (c .before .before .before .step-at .ensures)
 
 loop-holds : tie.Need-loop-holds Inv-loop μ-loop
-loop-holds c = so-far-none (c .before .args .s .now) _ _ _ _ refl refl refl refl
+loop-holds c =
+    let p = c .before .before .before .before .pre in
+    (so-far-none (c .before .before .before .before .args .s .now) _ _ _ _ (p .0) (p .1) (p .2) refl, refl, refl, refl, refl)
+
+slice-write-names : tie.Need-slice-write-names Inv-loop μ-loop
+slice-write-names c = let r = step c .room in let room = c .before .before .before .before .loop .inv .0 .names-room in omega arith
+
+slice-write-sizes : tie.Need-slice-write-sizes Inv-loop μ-loop
+slice-write-sizes c = let r = step c .room in let room = c .before .before .before .before .loop .inv .0 .sizes-room in omega arith
+
+slice-write-children : tie.Need-slice-write-children Inv-loop μ-loop
+slice-write-children c = let r = step c .room in let room = c .before .before .before .before .loop .inv .0 .children-room in omega arith
+
+slice-aggregate-after-node : tie.Need-slice-aggregate-after-node Inv-loop μ-loop
+slice-aggregate-after-node c = sym (c .before .before .before .before .before .loop .inv .1)
 
 after-node-requires : tie.Need-after-node-requires Inv-loop μ-loop
-after-node-requires c κs = (step c .some-level, step c .level, c .before .before .before .before .loop .inv .levels-open)
+after-node-requires c κs =
+    let n = step (c .before) in
+    let level = n .level in
+    let room = c .before .before .before .before .before .loop .inv .1 in
+    (n .some-level, omega arith, c .before .before .before .before .before .loop .inv .0 .levels-open)
 
 loop-less : tie.Need-loop-less Inv-loop μ-loop
 loop-less c =
-    let n = step (c .before) in
+    let n = step (c .before .before .before) in
     let forward = n .forward in
     let order = n .order in
     let within = n .within in
@@ -57,28 +79,34 @@ loop-less c =
 
 loop-again : tie.Need-loop-again Inv-loop μ-loop
 loop-again c =
-    let s = c .before .before .before .before .before .before .before .args .s .now in
-    let l = c .before .before .before .before .before .loop in
-    let g = c .before .before .from .given .0 in
-    so-far-next
-    s
-    (l .names)
-    (l .sizes)
-    (l .children)
-    (l .nodes)
-    (l .at)
-    (l .levels)
-    (l .inv)
-    (g .0)
-    (g .1 .0)
-    (g .1 .1 .0)
-    (step (c .before))
-    (c .after-node .result)
-    (c .after-node .ensures)
+    let l = c .before .before .before .before .before .before .before .loop in
+    let g = c .before .before .before .before .from .given .0 in (
+      so-far-next
+          (c .before .before .before .before .before .before .before .before .before .before .before .before .args .s .now)
+          (l .names)
+          (l .sizes)
+          (l .children)
+          (l .nodes)
+          (l .at)
+          (l .coming)
+          (l .depth)
+          (l .inv .0)
+          (g .0)
+          (g .1 .0)
+          (g .1 .1 .0)
+          (step (c .before .before .before))
+          _
+          _
+          (c .before .after-node .ensures),
+      c .before .after-node .kept .0 ∙ l .inv .1,
+      simp length-set (l .inv .2),
+      simp length-set (l .inv .3),
+      simp length-set (l .inv .4),
+    )
 
 returns : tie.Need-returns Inv-loop μ-loop
 returns c =
-    let s = c .before .before .before .before .before .before .args .s .now in
+    let s = c .before .before .before .before .before .before .before .before .before .args .s .now in
     let l = c .before .before .before .before .loop in (
       so-far-stop
           s
@@ -87,12 +115,13 @@ returns c =
           (l .children)
           (l .nodes)
           (l .at)
-          (l .levels)
-          (l .inv)
+          (l .coming)
+          (l .depth)
+          (l .inv .0)
           (c .before .before .before .step-at .result)
           (c .before .answer .given .1)
           (c .before .before .before .step-at .ensures),
-      l .inv .indexed,
+      l .inv .0 .indexed,
     )
 
 pub read-fields-spec : {M : Type 1} → statement M
@@ -106,15 +135,19 @@ read-fields-spec =
     (λ c κs. tt)
     (λ c. search needs)
     (λ c. let r = step c .room in omega arith)
-    (λ c. step c .room)
+    slice-write-names
     (λ c. step c .order)
     (λ c. let r = step c .room in omega arith)
-    (λ c. step c .room)
+    slice-write-sizes
     (λ c. let r = step c .room in omega arith)
-    (λ c. step c .room)
+    slice-write-children
     (λ c. let r = step c .room in omega arith)
+    slice-aggregate-after-node
     after-node-requires
     loop-less
     loop-again
     (λ c. search needs)
+    (λ c. c .before .before .before .before .loop .inv .2)
+    (λ c. c .before .before .before .before .loop .inv .3)
+    (λ c. c .before .before .before .before .loop .inv .4)
     returns)
