@@ -10,7 +10,6 @@ use mathlib.Core.Option.{some as just}
 use mathlib.Core.Path.{_≡_, refl, sym, _∙_, ap, ap₂, subst}
 use lib.ListN.{length, getD, getElem?, take, set, length-set}
 use lib.Seq.{take-set-le, getD-set-same, getD-take}
-use borrow.Author.Tests.{ltb-true}
 use Rattle.grammar.specs.Lists.{joinedOf}
 use Rattle.grammar.specs.Limits.{standard}
 use Rattle.grammar.specs.Content.{
@@ -31,11 +30,11 @@ use Rattle.grammar.specs.Content.{
   operands,
   choiceOf,
 }
-use Rattle.grammar.specs.ReadContent.{operators, isProper}
+use Rattle.grammar.specs.ReadContent.{operators}
 use Rattle.theory.proofs.Alternatives.{alts, altsOfEach, written, hasAlts, allHaveAlts, someLeft, sequence-has, sequence-has-not}
 use Rattle.theory.proofs.Gathering.{gathered, gathered-nothing, gather-more, written-gathered}
 use Rattle.reader.specs.ExprAt.{_upTo_, placed, exprAt, exprsAt}
-use Rattle.reader.proofs.ExprLaws.{expr-kept, expr-forward, expr-written, exprs-none, exprs-more, alone-was, numbered-more, numbered-was, operator-none, operator-empty, operator-type, operator-sequence}
+use Rattle.reader.proofs.ExprLaws.{expr-kept, expr-forward, expr-written, exprs-none, exprs-more, alone-was, numbered-was, operator-none, operator-empty, operator-type, operator-sequence}
 use Rattle.emitting.specs.declared.drafts.Gathering.{Gathering}
 use Rattle.emitting.specs.declared.drafts.Gathering.the-variants as gathering
 use Rattle.emitting.specs.declared.emitter.Emitted.{Emitted}
@@ -648,10 +647,6 @@ module _ {s : List ℕ} {at : ℕ} {types from results d : List ℕ} {base count
   abbrev pub source-room : Room d base count end limit
   source-room = record { kept = q .kept; fits = q .fits; room = source-spare }
 
-  pub type-inside : getD s at 0 ≡ 2 → at + 1 < length s
-  type-inside e =
-      numbered-more s at (q .there .content) (q .there .next) (q .there .stands) type (ap (getElem? operators) e ∙ operator-type)
-
   module _ (res : ℕ → List ℕ) where
     abbrev sourceGives : List Content
     sourceGives = alts res (q .there .content)
@@ -698,21 +693,18 @@ module _ {s : List ℕ} {at : ℕ} {types from results d : List ℕ} {base count
           (gathered (q .kept .list) (joinedOf (λ xs. xs) (altsOfEach res (cs .operands .contents)))) o
           → GathersSeen d d' base end limit (q .there .next) seen from results (gathered (q .kept .list) sourceGives) o
       unfolding alts
-      choice-gives d' o g = gathers-seen-as (q .kept .list) (joinedOf (λ xs. xs) (altsOfEach res (cs .operands .contents))) sourceGives (cs .ends) (ap (alts res) (cs .is)) g
+      choice-gives d' o g =
+          gathers-seen-as (q .kept .list) (joinedOf (λ xs. xs) (altsOfEach res (cs .operands .contents))) sourceGives (cs .ends)
+          (ap (alts res) (cs .is))
+          g
 
-  module _ (e : getD s at 0 ≡ 2) (k : ℕ) (is : k ≡ getD s (at + 1) 0) where
-    type-is : (type k ≡ q .there .content) × (at + 2 ≡ q .there .next)
-    type-is =
-        let w = numbered-was s at (q .there .content) (q .there .next) (q .there .stands) type (ap (getElem? operators) e ∙ operator-type) in
-        (ap type is ∙ w .0, w .1)
-
-    pub type-below : k < 64
-    unfolding isProper standard
-    type-below = ltb-true k 64 (ap (isProper standard) (type-is .0) ∙ q .there .proper)
-
-    pub type-gives : (d' : List ℕ) (o : Gathering) {seen : List ℕ}
-        → GathersSeen d d' base end limit (at + 2) seen from results (gathered (q .kept .list) (map type (listOf from results k))) o
-        → GathersSeen d d' base end limit (q .there .next) seen from results
-        (gathered (q .kept .list) (alts (listOf from results) (q .there .content))) o
-    unfolding alts
-    type-gives d' o g = gathers-seen-as (q .kept .list) (map type (listOf from results k)) (alts (listOf from results) (q .there .content)) (type-is .1) (ap (alts (listOf from results)) (type-is .0)) g
+  pub type-gives : getD s at 0 ≡ 2 → (k : ℕ) → k ≡ getD s (at + 1) 0 → (d' : List ℕ) (o : Gathering) {seen : List ℕ}
+      → GathersSeen d d' base end limit (at + 2) seen from results (gathered (q .kept .list) (map type (listOf from results k))) o
+      → GathersSeen d d' base end limit (q .there .next) seen from results
+      (gathered (q .kept .list) (alts (listOf from results) (q .there .content))) o
+  unfolding alts
+  type-gives e k is d' o g =
+      let w = numbered-was s at (q .there .content) (q .there .next) (q .there .stands) type (ap (getElem? operators) e ∙ operator-type) in
+      gathers-seen-as (q .kept .list) (map type (listOf from results k)) (alts (listOf from results) (q .there .content)) (w .1)
+      (ap (alts (listOf from results)) (ap type is ∙ w .0))
+      g

@@ -2,7 +2,7 @@
 --   seen-nothing, seen-more  none at first; more operands change nothing
 --   seen-again, seen-put     gathering the result types of one again changes nothing; one more, once its result types are gathered
 --   gathers-seen-as          an answer in other words
-use Prim.Native.Nat.{ℕ, _+_, _/_, _≤_, _<_}
+use Prim.Native.Nat.{ℕ, _<_}
 use native.Mathlib.Omega.{arith}
 use mathlib.Core.Bool.{true}
 use mathlib.Core.List.{
@@ -88,13 +88,16 @@ module _ {from results : List ℕ} where
             there =
                 λ j e r m.
                 ⊎-elim
-                (λ t. gathered-has ds typeGives (Memᴰ·append-right ds (Memᴰ·map type (subst (λ (i : ℕ). List·Memᴰ r (listOf from results i)) (eqb-true j k t) m))))
+                (λ t.
+                let n = subst (λ (i : ℕ). List·Memᴰ r (listOf from results i)) (eqb-true j k t) m in
+                gathered-has ds typeGives (Memᴰ·append-right ds (Memᴰ·map type n)))
                 (λ t. seen-more typeGives .there j t r m)
-                (or-cases (eqb j k) (member seen 0 j) (sym (ap (λ (l : List ℕ). member l 0 j) put ∙ ap (λ p. p j) (member-put seen 0 k (omega arith))) ∙ e));
+                (or-cases (eqb j k) (member seen 0 j)
+                (sym (ap (λ (l : List ℕ). member l 0 j) put ∙ ap (λ p. p j) (member-put seen 0 k (omega arith))) ∙ e));
           }
 
-  pub gathers-seen-as : {d d' : List ℕ} {base old limit n next : ℕ} {seen : List ℕ} {r : Gathering} (ds xs ys : List Content) → n ≡ next
-      → xs ≡ ys
+  pub gathers-seen-as : {d d' : List ℕ} {base old limit n next : ℕ} {seen : List ℕ} {r : Gathering} (ds xs ys : List Content)
+      → n ≡ next → xs ≡ ys
       → GathersSeen d d' base old limit n seen from results (gathered ds xs) r
       → GathersSeen d d' base old limit next seen from results (gathered ds ys) r
   gathers-seen-as {d} {d'} {base} {old} {limit} {n} {next} {seen} {r} ds xs ys e f g =

@@ -13,7 +13,7 @@ use Rattle.grammar.specs.ReadContent.{operators}
 use Rattle.reader.proofs.ExprLaws.{operator-sequence, operator-choice}
 use Rattle.pairs.specs.Walks.{listOf}
 use Rattle.emitting.specs.Emitting.{Source}
-use Rattle.pairs.proofs.ContentAtLaws.{content-inside, count-there}
+use Rattle.pairs.proofs.ContentAtLaws.{content-inside, type-there, count-there}
 use Rattle.emitting.proofs.SourceLaws.{CountedThere, counted-of, single-of, content-found, row-found}
 use Rattle.emitting.proofs.EmitLaws.{
   no-sources,
@@ -45,12 +45,10 @@ use Rattle.emitting.proofs.EmitLaws.{
   around-newest,
   around-settled,
   source-room,
-  type-inside,
   none-gives,
   empty-gives,
   choice-sources,
   choice-gives,
-  type-below,
   type-gives,
 }
 use Rattle.emitting.proofs.SeenLaws.{seen-nothing, seen-more}
@@ -343,19 +341,22 @@ gather-add-wide t c =
     omega arith
 
 gather-shared-slice-read-wide-2 : (t : ℕ) → gather-lts.Need-shared-slice-read-wide-2 (gather-calls t) (gather-at t) gather.Post
-gather-shared-slice-read-wide-2 t c = type-inside (c .before .before .before .before .before .before .before .before .before .before .pre .1 .0) (sym (c .before .before .wide .ensures .0) ∙ c .before .match .keys3)
+gather-shared-slice-read-wide-2 t c = type-there standard _ _ (c .before .before .before .before .before .before .before .before .before .before .pre .1 .0 .there) (sym (c .before .before .wide .ensures .0) ∙ c .before .match .keys3) .0
 
 gather-add-gather-type : (t : ℕ) → gather-lts.Need-add-gather-type (gather-calls t) (gather-at t) gather.Post
 gather-add-gather-type t c =
     let b = sym (c .before .before .before .before .wide .ensures .0) ∙ c .before .before .before .match .keys3 in
-    let i = type-inside (c .before .before .before .before .before .before .before .before .before .before .before .before .pre .1 .0) b in
+    let i = type-there standard _ _ (c .before .before .before .before .before .before .before .before .before .before .before .before .pre .1 .0 .there) b in
     omega arith
 
 gather-gather-type-requires : (t : ℕ) → gather-lts.Need-gather-type-requires (gather-calls t) (gather-at t) gather.Post
+unfolding standard
 gather-gather-type-requires t c κs =
     let q = c .before .before .before .before .before .before .before .before .before .before .before .before .before .pre .1 .0 in
     let b = sym (c .before .before .before .before .before .wide .ensures .0) ∙ c .before .before .before .before .match .keys3 in
-    (type-below q b _ (c .before .before .wide2 .ensures .0), (source-room q, c .before .before .before .before .before .before .before .before .before .before .before .before .before .pre .1 .1))
+    let k = c .before .before .wide2 .ensures .0 in
+    let i = type-there standard _ _ (q .there) b in
+    (omega arith, (source-room q, c .before .before .before .before .before .before .before .before .before .before .before .before .before .pre .1 .1))
 
 gather-gather-sequence-requires : (t : ℕ) → gather-lts.Need-gather-sequence-requires (gather-calls t) (gather-at t) gather.Post
 gather-gather-sequence-requires t c κs =
