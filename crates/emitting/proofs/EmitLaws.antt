@@ -5,7 +5,7 @@
 use Prim.Native.Nat.{ℕ, zero, suc, _+_, _-_, _*_, _≤_, _<_}
 use native.Mathlib.Omega.{arith}
 use mathlib.Core.Bool.{true, false}
-use mathlib.Core.List.{List, [], _∷_, map}
+use mathlib.Core.List.{List, [], _∷_, _++_, map}
 use mathlib.Core.Option.{some as just}
 use mathlib.Core.Path.{_≡_, refl, sym, _∙_, ap, ap₂, subst}
 use lib.ListN.{length, getD, getElem?, take, set, length-set}
@@ -32,16 +32,16 @@ use Rattle.grammar.specs.Content.{
 }
 use Rattle.grammar.specs.ReadContent.{operators}
 use Rattle.theory.proofs.Alternatives.{alts, altsOfEach, written, hasAlts, allHaveAlts, someLeft, sequence-has, sequence-has-not}
-use Rattle.theory.proofs.Gathering.{gathered, gathered-nothing, written-gathered}
+use Rattle.theory.proofs.Gathering.{gathered, gathered-nothing, gather-more, written-gathered}
 use Rattle.reader.specs.ExprAt.{_upTo_, placed, exprAt, exprsAt}
-use Rattle.reader.proofs.ExprLaws.{expr-kept, expr-forward, expr-written, exprs-none, exprs-more, alone-was, numbered-more, numbered-was, operator-none, operator-empty, operator-type, operator-sequence}
+use Rattle.reader.proofs.ExprLaws.{expr-kept, expr-forward, expr-written, exprs-none, exprs-more, alone-was, numbered-was, operator-none, operator-empty, operator-type, operator-sequence}
 use Rattle.emitting.specs.declared.drafts.Gathering.{Gathering}
 use Rattle.emitting.specs.declared.drafts.Gathering.the-variants as gathering
 use Rattle.emitting.specs.declared.emitter.Emitted.{Emitted}
 use Rattle.emitting.specs.declared.emitter.Emitted.the-variants as emitted
 use Rattle.emitting.specs.Drafts.{Row, Kept, Newest, Unfit, TooWide, Added, Gathers, Finished}
 use Rattle.pairs.specs.Walks.{listOf}
-use Rattle.emitting.specs.Emitting.{Room, Source, Sources, Operands, Laid, Emits}
+use Rattle.emitting.specs.Emitting.{Room, Source, Sources, Seen, GathersSeen, Operands, Laid, Emits}
 use Rattle.emitting.proofs.RowLaws.{exprs-uncons, exprs-none-left}
 use Rattle.emitting.proofs.FinishLaws.{
   single-stands,
@@ -60,7 +60,8 @@ use Rattle.emitting.proofs.WideLaws.{
   wide-sequence,
   wide-single,
 }
-use Rattle.emitting.proofs.GatherLaws.{newest-of, keeps-before, gathers-from, gathers-as, nothing-added, typesFrom, first-wide, then-others, told-large, told-upto, large-told}
+use Rattle.emitting.proofs.GatherLaws.{newest-of, keeps-before, gathers-from, gathers-as, nothing-added, first-wide, then-others, told-large, told-upto, large-told}
+use Rattle.emitting.proofs.SeenLaws.{seen-more, gathers-seen-as}
 use Rattle.emitting.proofs.SourceLaws.{
   FirstThere,
   first-of,
@@ -106,19 +107,31 @@ module _ {s : List ℕ} {at n : ℕ} {types from results d : List ℕ} {base cou
     abbrev firstGives : List Content
     firstGives = alts res (first .first .content)
 
-    module _ (d' : List ℕ) (r : Gathering)
-        (g : Gathers d d' base end limit (first .first .next) (gathered (q .kept .list) firstGives) r) where
+    abbrev othersGive : List Content
+    othersGive = joinedOf (λ xs. xs) (altsOfEach res (first .others .contents))
+
+    both-give : rowGives ≡ firstGives ++ othersGive
+    both-give = each-first res (q .there .contents) (first .first .content) (first .others .contents) (first .both)
+
+    both-gathered : gathered (gathered (q .kept .list) firstGives) othersGive ≡ gathered (q .kept .list) rowGives
+    both-gathered = gather-more (q .kept .list) firstGives othersGive ∙ ap (gathered (q .kept .list)) (sym both-give)
+
+    module _ (d' : List ℕ) (r : Gathering) {seen : List ℕ}
+        (g : GathersSeen d d' base end limit (first .first .next) seen from results (gathered (q .kept .list) firstGives) r) where
       pub row-wide : r ≡ gathering.TooLarge
-          → Gathers d d' base end limit (q .there .next) (gathered (q .kept .list) rowGives) gathering.TooLarge
+          → GathersSeen d d' base end limit (q .there .next) seen from results (gathered (q .kept .list) rowGives) gathering.TooLarge
       row-wide e =
-          large-told d d' base end limit (q .there .next) (gathered (q .kept .list) rowGives)
-          (first-wide (limit - base) (q .kept .list) firstGives (joinedOf (λ xs. xs) (altsOfEach res (first .others .contents))) rowGives
-          (each-first res (q .there .contents) (first .first .content) (first .others .contents) (first .both))
-          (told-large d d' base end limit (first .first .next) (gathered (q .kept .list) firstGives) r e g))
+          record {
+            gathers =
+                large-told d d' base end limit (q .there .next) (gathered (q .kept .list) rowGives)
+                (first-wide (limit - base) (q .kept .list) firstGives othersGive rowGives both-give
+                (told-large d d' base end limit (first .first .next) (gathered (q .kept .list) firstGives) r e (g .gathers)));
+            known = subst (Seen seen from results) both-gathered (seen-more (g .known) othersGive);
+          }
 
       module _ {next more last : ℕ} (e : r ≡ gathering.Upto next more last) (l : length d' ≡ length d) where
         pub told : (next ≡ first .first .next) × Added d d' base end (gathered (q .kept .list) firstGives) limit more last
-        told = told-upto d d' base end limit (first .first .next) (gathered (q .kept .list) firstGives) r next more last e g
+        told = told-upto d d' base end limit (first .first .next) (gathered (q .kept .list) firstGives) r next more last e (g .gathers)
 
         pub others-room : limit + 1026 * deepest (first .others .contents) ≤ length d'
         others-room =
@@ -140,20 +153,20 @@ module _ {s : List ℕ} {at n : ℕ} {types from results d : List ℕ} {base cou
         pub goes-on : at < next
         goes-on = subst (λ (k : ℕ). at < k) (sym (told .0)) (first .forward)
 
-        pub row-then : (d'' : List ℕ) (o : Gathering)
-            → Gathers d' d'' base last limit (first .others .next)
-            (gathered (gathered (q .kept .list) firstGives) (joinedOf (λ xs. xs) (altsOfEach res (first .others .contents)))) o
-            → Gathers d d'' base end limit (q .there .next) (gathered (q .kept .list) rowGives) o
-        row-then d'' o f =
-            subst (λ (k : ℕ). Gathers d d'' base end limit k (gathered (q .kept .list) rowGives) o) (first .ends)
-            (then-others d d' d'' base end last limit (first .others .next) (q .kept .list) firstGives
-            (joinedOf (λ xs. xs) (altsOfEach res (first .others .contents)))
-            rowGives
-            o
-            (each-first res (q .there .contents) (first .first .content) (first .others .contents) (first .both))
-            (told .1 .grows)
-            (told .1 .keeps)
-            f)
+        pub row-then : (d'' : List ℕ) (o : Gathering) {seen' : List ℕ}
+            → GathersSeen d' d'' base last limit (first .others .next) seen' from results
+            (gathered (gathered (q .kept .list) firstGives) othersGive) o
+            → GathersSeen d d'' base end limit (q .there .next) seen' from results (gathered (q .kept .list) rowGives) o
+        row-then d'' o {seen'} f =
+            record {
+              gathers =
+                  subst (λ (k : ℕ). Gathers d d'' base end limit k (gathered (q .kept .list) rowGives) o) (first .ends)
+                  (then-others d d' d'' base end last limit (first .others .next) (q .kept .list) firstGives othersGive rowGives o both-give
+                  (told .1 .grows)
+                  (told .1 .keeps)
+                  (f .gathers));
+              known = subst (Seen seen' from results) both-gathered (f .known);
+            }
 
 -- what an answer says, once it is known which it is
 pub emits-large : (d d' : List ℕ) (start place n next : ℕ) (cs : Contents) (r : Emitted) → r ≡ emitted.TooLarge
@@ -634,10 +647,6 @@ module _ {s : List ℕ} {at : ℕ} {types from results d : List ℕ} {base count
   abbrev pub source-room : Room d base count end limit
   source-room = record { kept = q .kept; fits = q .fits; room = source-spare }
 
-  pub type-inside : getD s at 0 ≡ 2 → at + 1 < length s
-  type-inside e =
-      numbered-more s at (q .there .content) (q .there .next) (q .there .stands) type (ap (getElem? operators) e ∙ operator-type)
-
   module _ (res : ℕ → List ℕ) where
     abbrev sourceGives : List Content
     sourceGives = alts res (q .there .content)
@@ -679,32 +688,23 @@ module _ {s : List ℕ} {at : ℕ} {types from results d : List ℕ} {base count
             room = choice-room;
           }
 
-      pub choice-gives : (d' : List ℕ) (o : Gathering)
-          → Gathers d d' base end limit (cs .operands .next)
+      pub choice-gives : (d' : List ℕ) (o : Gathering) {seen : List ℕ}
+          → GathersSeen d d' base end limit (cs .operands .next) seen from results
           (gathered (q .kept .list) (joinedOf (λ xs. xs) (altsOfEach res (cs .operands .contents)))) o
-          → Gathers d d' base end limit (q .there .next) (gathered (q .kept .list) sourceGives) o
+          → GathersSeen d d' base end limit (q .there .next) seen from results (gathered (q .kept .list) sourceGives) o
       unfolding alts
       choice-gives d' o g =
-          gathers-as d d' base end limit (cs .operands .next) (q .there .next) (q .kept .list)
-          (joinedOf (λ xs. xs) (altsOfEach res (cs .operands .contents)))
-          sourceGives
-          o
-          (cs .ends)
+          gathers-seen-as (q .kept .list) (joinedOf (λ xs. xs) (altsOfEach res (cs .operands .contents))) sourceGives (cs .ends)
           (ap (alts res) (cs .is))
           g
 
-  pub type-gives : getD s at 0 ≡ 2 → (k i stop : ℕ) → k ≡ getD s (at + 1) 0 → i ≡ getD from k 0 → stop ≡ getD from (k + 1) 0
-      → (d' : List ℕ) (o : Gathering)
-      → Gathers d d' base end limit (at + 2) (gathered (q .kept .list) (typesFrom results i stop)) o
-      → Gathers d d' base end limit (q .there .next) (gathered (q .kept .list) (alts (listOf from results) (q .there .content))) o
-  unfolding alts listOf
-  type-gives e k i stop a b c d' o g =
+  pub type-gives : getD s at 0 ≡ 2 → (k : ℕ) → k ≡ getD s (at + 1) 0 → (d' : List ℕ) (o : Gathering) {seen : List ℕ}
+      → GathersSeen d d' base end limit (at + 2) seen from results (gathered (q .kept .list) (map type (listOf from results k))) o
+      → GathersSeen d d' base end limit (q .there .next) seen from results
+      (gathered (q .kept .list) (alts (listOf from results) (q .there .content))) o
+  unfolding alts
+  type-gives e k is d' o g =
       let w = numbered-was s at (q .there .content) (q .there .next) (q .there .stands) type (ap (getElem? operators) e ∙ operator-type) in
-      gathers-as d d' base end limit (at + 2) (q .there .next) (q .kept .list) (typesFrom results i stop)
-      (alts (listOf from results) (q .there .content))
-      o
-      (w .1)
-      (ap₂ (typesFrom results) b c
-      ∙ ap (λ (j : ℕ). map type (listOf from results j)) a
-      ∙ ap (alts (listOf from results)) (w .0))
+      gathers-seen-as (q .kept .list) (map type (listOf from results k)) (alts (listOf from results) (q .there .content)) (w .1)
+      (ap (alts (listOf from results)) (ap type is ∙ w .0))
       g

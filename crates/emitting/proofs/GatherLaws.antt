@@ -1,19 +1,21 @@
 -- Gathering step by step:
 --   kept-row  operands stand where their bytes are kept; newest-of : and one more expression after them
 --   gathers-from, gathers-then : a gathering from a draft that keeps the operands' bytes; one gathering after another
---   nothing-added, types-first : no alternatives; of some result types the first and the others
+--   nothing-new, nothing-added : alternatives that are all there; no alternatives
+--   types-of, types-first : the result types of a source type; of some result types the first and the others
 use Prim.Native.Nat.{ℕ, suc, _+_, _-_, _≤_, _<_}
 use native.Mathlib.Omega.{arith}
 use native.Mathlib.Numerals.{add-one}
 use mathlib.Core.List.{List, [], _∷_, _++_, map}
 use mathlib.Core.Option.{some as just}
-use mathlib.Core.Path.{_≡_, refl, sym, _∙_, ap, subst}
+use mathlib.Core.Path.{_≡_, refl, sym, _∙_, ap, ap₂, subst}
 use lib.ListN.{length, getD, take, drop, drop-of-length-le}
 use lib.Seq.{take-take, take-nil, drop-cons}
 use Rattle.grammar.specs.Content.{Content, type, operands}
 use Rattle.theory.proofs.Gathering.{gathered, gather-nothing, gather-more}
 use Rattle.reader.specs.ExprAt.{_upTo_, exprAt}
 use Rattle.reader.proofs.ExprLaws.{exprs-kept}
+use Rattle.pairs.specs.Walks.{listOf}
 use Rattle.emitting.specs.declared.drafts.Gathering.{Gathering}
 use Rattle.emitting.specs.declared.drafts.Gathering.the-variants.{TooLarge, Upto}
 use Rattle.emitting.specs.Drafts.{Row, Kept, Newest, TooWide, Added, Gathers}
@@ -67,23 +69,33 @@ gathers-then d d' d'' base old middle limit next ds (Upto n count end) h e g =
       },
     )
 
+pub nothing-new : (d : List ℕ) (base count end limit n next : ℕ) (k : Kept d base count end) (xs : List Content) → n ≡ next
+    → end ≤ limit → gathered (k .list) xs ≡ k .list → Gathers d d base end limit next (gathered (k .list) xs) (Upto n count end)
+unfolding Gathers
+nothing-new d base count end limit n next k xs same-next h same = (
+  same-next,
+  record {
+    row = subst (λ (l : List Content). Row d base count l end) (sym same) (k .row);
+    fits = h;
+    grows = omega arith;
+    keeps = refl;
+  },
+)
+
 pub nothing-added : (d : List ℕ) (base count end limit n next : ℕ) (k : Kept d base count end) (xs : List Content) → n ≡ next
     → end ≤ limit → xs ≡ [] → Gathers d d base end limit next (gathered (k .list) xs) (Upto n count end)
-unfolding Gathers
 nothing-added d base count end limit n next k xs same-next h e =
-    let same = ap (gathered (k .list)) e ∙ gather-nothing (k .list) (k .row .apart) in (
-      same-next,
-      record {
-        row = subst (λ (l : List Content). Row d base count l end) (sym same) (k .row);
-        fits = h;
-        grows = omega arith;
-        keeps = refl;
-      },
-    )
+    nothing-new d base count end limit n next k xs same-next h
+    (ap (gathered (k .list)) e ∙ gather-nothing (k .list) (k .row .apart))
 
 -- result types from a place up to another
 abbrev pub typesFrom : List ℕ → ℕ → ℕ → List Content
 typesFrom results i stop = map type (take (stop - i) (drop i results))
+
+pub types-of : (from results : List ℕ) (k i stop : ℕ) → i ≡ getD from k 0 → stop ≡ getD from (k + 1) 0
+    → typesFrom results i stop ≡ map type (listOf from results k)
+unfolding listOf
+types-of from results k i stop e f = ap₂ (typesFrom results) e f
 
 pub types-none : (results : List ℕ) (i stop : ℕ) → stop ≤ i → typesFrom results i stop ≡ []
 types-none results i stop h =

@@ -1,17 +1,19 @@
 -- What the emitter is given and what it answers.
 use Prim.Native.Nat.{ℕ, _+_, _-_, _*_, _≤_, _<_}
-use mathlib.Core.List.{List}
+use mathlib.Core.Bool.{true}
+use mathlib.Core.List.{List, List·Memᴰ}
 use mathlib.Core.Option.{some as just}
 use mathlib.Core.Path.{_≡_}
 use lib.ListN.{length, take}
 use Rattle.grammar.specs.Limits.{standard}
-use Rattle.grammar.specs.Content.{Contents, nesting, deepest}
+use Rattle.grammar.specs.Content.{Content, type, Contents, nesting, deepest}
 use Rattle.theory.proofs.Alternatives.{someLeft}
 use Rattle.sets.specs.Sets.{member}
 use Rattle.reader.specs.ExprAt.{_upTo_, exprsAt}
 use Rattle.pairs.specs.ContentAt.{ContentAt, ContentsAt}
 use Rattle.pairs.specs.Walks.{listOf}
-use Rattle.emitting.specs.Drafts.{Kept, Unfit}
+use Rattle.emitting.specs.Drafts.{Kept, Unfit, Gathers}
+use Rattle.emitting.specs.declared.drafts.Gathering.{Gathering}
 use Rattle.emitting.specs.declared.emitter.Emitted.{Emitted}
 use Rattle.emitting.specs.declared.emitter.Emitted.the-variants.{TooLarge, Upto}
 
@@ -44,6 +46,17 @@ pub record Sources (content : List ℕ) (at n : ℕ) (types from results draft :
   pub fits : end ≤ limit
   pub small : limit ≤ base + 1024
   pub room : limit + 1026 * deepest (there .contents) ≤ length draft
+
+-- a set of source types whose result types are all among the operands kept
+pub record Seen (seen from results : List ℕ) (ds : List Content) : Type 0 where
+  pub words : 2 ≤ length seen
+  pub there : (k : ℕ) → member seen 0 k ≡ true → (r : ℕ) → List·Memᴰ r (listOf from results k) → List·Memᴰ (type r) ds
+
+-- the answer of a gathering, with the source types seen by then
+pub record GathersSeen (before after : List ℕ) (base old limit next : ℕ) (seen from results : List ℕ) (ds : List Content)
+    (r : Gathering) : Type 0 where
+  pub gathers : Gathers before after base old limit next ds r
+  pub known : Seen seen from results ds
 
 -- source contents that are to be written as operands from a place on, of an expression whose bytes begin at `start`
 pub record Operands (content : List ℕ) (at n : ℕ) (types from results draft : List ℕ) (start place : ℕ) : Type 0 where

@@ -9,7 +9,9 @@ use pairs::productive::content_has;
 use pairs::productive::row_has;
 use reader::limits::CONTENT;
 use reader::numbers::wide;
-ghost use Prim.Native.Nat.{_+_, _-_, _≤_};
+use sets::words::has;
+use sets::words::put;
+ghost use Prim.Native.Nat.{_+_, _-_, _≤_, _<_};
 ghost use mathlib.Core.List.{List, [], _∷_, map};
 ghost use mathlib.Core.Path.{_≡_};
 ghost use lib.ListN.{length, take, drop, getD};
@@ -19,7 +21,7 @@ ghost use Rattle.theory.proofs.Alternatives.{alts, altsOfEach, written};
 ghost use Rattle.theory.proofs.Gathering.{gathered};
 ghost use Rattle.emitting.specs.Drafts.{Gathers};
 ghost use Rattle.pairs.specs.Walks.{listOf};
-ghost use Rattle.emitting.specs.Emitting.{Room, Source, Sources, Operands, Emits};
+ghost use Rattle.emitting.specs.Emitting.{Room, Source, Sources, Seen, GathersSeen, Operands, Emits};
 
 // Where the operands of an expression end in the draft, and where the source goes on; or they do not fit.
 pub enum Emitted {
@@ -87,6 +89,36 @@ fn gather_types(
             end: last,
         } => gather_types(results, i + 1, stop, draft, base, more, last, limit, next),
     }
+}
+
+// The result types of a source type as alternatives; those of a type in `seen` are there already.
+fn gather_type(
+    k: usize,
+    from: &[u8],
+    results: &[u8],
+    draft: &mut [u8],
+    base: usize,
+    count: usize,
+    end: usize,
+    limit: usize,
+    next: usize,
+    seen: &mut [u32],
+) -> Gathering
+    requires { ⌜ (k < 64)
+        × ((q : Room (now draft) base count end limit) × Seen (now seen) (now from) (now results) (q .kept .list)) ⌝ }
+    ensures { λ r. ⌜ ((q : Room (now (draft .entry)) base count end limit)
+        → Seen (now (seen .entry)) (now (from .entry)) (now (results .entry)) (q .kept .list)
+        → GathersSeen (now (draft .entry)) (now (draft .exit)) base end limit next
+        (now (seen .exit)) (now (from .entry)) (now (results .entry))
+        (gathered (q .kept .list) (map type (listOf (now (from .entry)) (now (results .entry)) k))) r) ⌝ }
+{
+    if has(seen, 0, k) {
+        return Gathering::Upto { next, count, end };
+    }
+    put(seen, 0, k);
+    let i = byte_or_zero(from, k);
+    let stop = byte_or_zero(from, k + 1);
+    gather_types(results, i, stop, draft, base, count, end, limit, next)
 }
 
 // The alternatives that a sequence gives: one, or none if an operand has none.
@@ -201,7 +233,8 @@ fn gather_around(
     gather_empty(draft, base, count, end, limit, asked.next)
 }
 
-// Adds to the operands in the draft the alternatives that the source content at a place gives.
+// Adds to the operands in the draft the alternatives that the source content at a place gives. The result types of each source type
+// in `seen` are among the operands.
 pub fn gather(
     content: &[u8],
     at: usize,
@@ -213,11 +246,15 @@ pub fn gather(
     count: usize,
     end: usize,
     limit: usize,
+    seen: &mut [u32],
 ) -> Gathering
-    requires { ⌜ Source (now content) at (now types) (now from) (now results) (now draft) base count end limit ⌝ }
+    requires { ⌜ ((q : Source (now content) at (now types) (now from) (now results) (now draft) base count end limit)
+        × Seen (now seen) (now from) (now results) (q .kept .list)) ⌝ }
     ensures { λ r. ⌜ ((q : Source (now (content .entry)) at (now (types .entry)) (now (from .entry)) (now (results .entry))
         (now (draft .entry)) base count end limit)
-        → Gathers (now (draft .entry)) (now (draft .exit)) base end limit (q .there .next)
+        → Seen (now (seen .entry)) (now (from .entry)) (now (results .entry)) (q .kept .list)
+        → GathersSeen (now (draft .entry)) (now (draft .exit)) base end limit (q .there .next)
+        (now (seen .exit)) (now (from .entry)) (now (results .entry))
         (gathered (q .kept .list) (alts (listOf (now (from .entry)) (now (results .entry))) (q .there .content))) r) ⌝ }
 {
     let operator = wide(content[at]);
@@ -230,9 +267,18 @@ pub fn gather(
         1 => gather_empty(draft, base, count, end, limit, at + 1),
         2 => {
             let k = wide(content[at + 1]);
-            let i = byte_or_zero(from, k);
-            let stop = byte_or_zero(from, k + 1);
-            gather_types(results, i, stop, draft, base, count, end, limit, at + 2)
+            gather_type(
+                k,
+                from,
+                results,
+                draft,
+                base,
+                count,
+                end,
+                limit,
+                at + 2,
+                seen,
+            )
         }
         3 => gather_sequence(
             content,
@@ -260,6 +306,7 @@ pub fn gather(
                 count,
                 end,
                 limit,
+                seen,
             )
         }
         _ => gather_around(
@@ -290,11 +337,15 @@ pub fn gather_row(
     count: usize,
     end: usize,
     limit: usize,
+    seen: &mut [u32],
 ) -> Gathering
-    requires { ⌜ Sources (now content) at n (now types) (now from) (now results) (now draft) base count end limit ⌝ }
+    requires { ⌜ ((q : Sources (now content) at n (now types) (now from) (now results) (now draft) base count end limit)
+        × Seen (now seen) (now from) (now results) (q .kept .list)) ⌝ }
     ensures { λ r. ⌜ ((q : Sources (now (content .entry)) at n (now (types .entry)) (now (from .entry)) (now (results .entry))
         (now (draft .entry)) base count end limit)
-        → Gathers (now (draft .entry)) (now (draft .exit)) base end limit (q .there .next)
+        → Seen (now (seen .entry)) (now (from .entry)) (now (results .entry)) (q .kept .list)
+        → GathersSeen (now (draft .entry)) (now (draft .exit)) base end limit (q .there .next)
+        (now (seen .exit)) (now (from .entry)) (now (results .entry))
         (gathered (q .kept .list)
         (joinedOf (λ xs. xs) (altsOfEach (listOf (now (from .entry)) (now (results .entry))) (q .there .contents)))) r) ⌝ }
 {
@@ -316,6 +367,7 @@ pub fn gather_row(
         count,
         end,
         limit,
+        seen,
     ) {
         Gathering::TooLarge => Gathering::TooLarge,
         Gathering::Upto {
@@ -334,6 +386,7 @@ pub fn gather_row(
             more,
             last,
             limit,
+            seen,
         ),
     }
 }
@@ -362,6 +415,7 @@ fn emit_row(
             end: place,
         };
     }
+    let mut seen = [0u32; 2];
     match gather(
         content,
         at,
@@ -373,6 +427,7 @@ fn emit_row(
         0,
         place + 2,
         start + HEADED,
+        &mut seen,
     ) {
         Gathering::TooLarge => Emitted::TooLarge,
         Gathering::Upto { next, count, end } => {

@@ -38,6 +38,7 @@ fn gather_content(
 {
     let from = lists.from;
     let numbers = lists.numbers;
+    let mut seen = [0u32; 2];
     gather(
         content,
         0,
@@ -49,6 +50,7 @@ fn gather_content(
         count,
         end,
         HEADED,
+        &mut seen,
     )
 }
 

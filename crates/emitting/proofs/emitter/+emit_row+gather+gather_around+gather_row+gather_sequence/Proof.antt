@@ -4,7 +4,7 @@
 use Prim.Native.Nat.{_+_, _-_, _*_}
 use native.Mathlib.Omega.{arith}
 use mathlib.Core.List.{List}
-use mathlib.Core.Path.{_≡_, sym, _∙_, ap}
+use mathlib.Core.Path.{_≡_, refl, sym, _∙_, ap}
 use lib.ListN.{length, getD, getElem?, length-set}
 use borrow.Author.Needs.{needs}
 use Rattle.grammar.specs.Limits.{standard}
@@ -13,7 +13,7 @@ use Rattle.grammar.specs.ReadContent.{operators}
 use Rattle.reader.proofs.ExprLaws.{operator-sequence, operator-choice}
 use Rattle.pairs.specs.Walks.{listOf}
 use Rattle.emitting.specs.Emitting.{Source}
-use Rattle.pairs.proofs.ContentAtLaws.{content-inside, count-there}
+use Rattle.pairs.proofs.ContentAtLaws.{content-inside, type-there, count-there}
 use Rattle.emitting.proofs.SourceLaws.{CountedThere, counted-of, single-of, content-found, row-found}
 use Rattle.emitting.proofs.EmitLaws.{
   no-sources,
@@ -45,13 +45,13 @@ use Rattle.emitting.proofs.EmitLaws.{
   around-newest,
   around-settled,
   source-room,
-  type-inside,
   none-gives,
   empty-gives,
   choice-sources,
   choice-gives,
   type-gives,
 }
+use Rattle.emitting.proofs.SeenLaws.{seen-nothing, seen-more}
 use Prim.Native.Nat.{ℕ, _<_}
 use borrow.Fn.Kinds.{In}
 use borrow.Fn.PlainCycle.{Measures, is, falls, and}
@@ -73,9 +73,8 @@ use Rattle.emitting.proofs.emitter.+emit_row+gather+gather_around+gathe
 use Rattle.reader.proofs.numbers.wide.Reads as wide-reads
 use Rattle.emitting.proofs.drafts.finish.Reads as finish-reads
 use Rattle.emitting.proofs.drafts.settle.Reads as settle-reads
-use Rattle.emitting.proofs.emitter.byte_or_zero.Reads as byte-or-zero-reads
 use Rattle.emitting.proofs.emitter.gather_empty.Reads as gather-empty-reads
-use Rattle.emitting.proofs.emitter.gather_types.Reads as gather-types-reads
+use Rattle.emitting.proofs.emitter.gather_type.Reads as gather-type-reads
 use Rattle.pairs.proofs.productive.content_has.Reads as content-has-reads
 use Rattle.pairs.proofs.productive.row_has.Reads as row-has-reads
 use Rattle.emitting.proofs.emitter.+emit_row+gather+gather_around+gather_row+gather_sequence.{
@@ -88,13 +87,13 @@ use Rattle.emitting.proofs.emitter.+emit_row+gather+gather_around+gathe
 abbrev μ-emit-row : Measures 5 emit-row-kinds.ps ℕ
 μ-emit-row κs a = 4 * (length (a .0 .now) - a .1 .0) + 2
 
-abbrev μ-gather : Measures 5 gather-kinds.ps ℕ
+abbrev μ-gather : Measures 6 gather-kinds.ps ℕ
 μ-gather κs a = 4 * (length (a .0 .now) - a .1 .0) + 1
 
 abbrev μ-gather-around : Measures 5 gather-around-kinds.ps ℕ
 μ-gather-around κs a = 4 * (length (a .0 .now) - a .1 .0)
 
-abbrev μ-gather-row : Measures 5 gather-row-kinds.ps ℕ
+abbrev μ-gather-row : Measures 6 gather-row-kinds.ps ℕ
 μ-gather-row κs a = 4 * (length (a .0 .now) - a .1 .0) + 2
 
 abbrev μ-gather-sequence : Measures 5 gather-sequence-kinds.ps ℕ
@@ -107,11 +106,11 @@ abbrev emit-row-below : ℕ → In 5 emit-row-kinds.ps
 emit-row-below t =
     and 5 emit-row-kinds.ps (falls 5 emit-row-kinds.ps _<_ μ-emit-row t) emit-row.Pre
 
-abbrev gather-at : ℕ → In 5 gather-kinds.ps
-gather-at t = and 5 gather-kinds.ps (is 5 gather-kinds.ps μ-gather t) gather.Pre
+abbrev gather-at : ℕ → In 6 gather-kinds.ps
+gather-at t = and 6 gather-kinds.ps (is 6 gather-kinds.ps μ-gather t) gather.Pre
 
-abbrev gather-below : ℕ → In 5 gather-kinds.ps
-gather-below t = and 5 gather-kinds.ps (falls 5 gather-kinds.ps _<_ μ-gather t) gather.Pre
+abbrev gather-below : ℕ → In 6 gather-kinds.ps
+gather-below t = and 6 gather-kinds.ps (falls 6 gather-kinds.ps _<_ μ-gather t) gather.Pre
 
 abbrev gather-around-at : ℕ → In 5 gather-around-kinds.ps
 gather-around-at t =
@@ -125,13 +124,13 @@ gather-around-below t =
     (falls 5 gather-around-kinds.ps _<_ μ-gather-around t)
     gather-around.Pre
 
-abbrev gather-row-at : ℕ → In 5 gather-row-kinds.ps
+abbrev gather-row-at : ℕ → In 6 gather-row-kinds.ps
 gather-row-at t =
-    and 5 gather-row-kinds.ps (is 5 gather-row-kinds.ps μ-gather-row t) gather-row.Pre
+    and 6 gather-row-kinds.ps (is 6 gather-row-kinds.ps μ-gather-row t) gather-row.Pre
 
-abbrev gather-row-below : ℕ → In 5 gather-row-kinds.ps
+abbrev gather-row-below : ℕ → In 6 gather-row-kinds.ps
 gather-row-below t =
-    and 5 gather-row-kinds.ps (falls 5 gather-row-kinds.ps _<_ μ-gather-row t) gather-row.Pre
+    and 6 gather-row-kinds.ps (falls 6 gather-row-kinds.ps _<_ μ-gather-row t) gather-row.Pre
 
 abbrev gather-sequence-at : ℕ → In 5 gather-sequence-kinds.ps
 gather-sequence-at t =
@@ -165,10 +164,8 @@ gather-calls t = (
   wide-reads.Learnt,
   gather-empty-reads.Asked,
   gather-empty-reads.Learnt,
-  byte-or-zero-reads.Asked,
-  byte-or-zero-reads.Learnt,
-  gather-types-reads.Asked,
-  gather-types-reads.Learnt,
+  gather-type-reads.Asked,
+  gather-type-reads.Learnt,
   gather-sequence-below t,
   gather-sequence.Post,
   gather-row-below t,
@@ -237,59 +234,59 @@ emit-row-add-gather-3 t c =
 
 emit-row-gather-requires : (t : ℕ) → emit-row-lts.Need-gather-requires (emit-row-calls t) (emit-row-at t) emit-row.Post
 emit-row-gather-requires t c κs =
-    let a = c .before .before .before .before .before .before .before .args in
+    let a = c .before .before .before .before .before .before .before .before .args in
     let res = listOf (a .from .now) (a .results .now) in
-    let some = c .before .if1 .left in
-    let m = c .before .before .before .before .before .before .before .pre .0 in
-    let q = c .before .before .before .before .before .before .before .pre .1 in
-    (omega arith, first-operand q res some)
+    let some = c .before .before .if1 .left in
+    let m = c .before .before .before .before .before .before .before .before .pre .0 in
+    let q = c .before .before .before .before .before .before .before .before .pre .1 in
+    (omega arith, (first-operand q res some, seen-nothing _))
 
 emit-row-finish-requires : (t : ℕ) → emit-row-lts.Need-finish-requires (emit-row-calls t) (emit-row-at t) emit-row.Post
 emit-row-finish-requires t c κs =
-    let a = c .before .before .before .before .before .before .before .before .before .before .before .before .before .before .args in
+    let a = c .before .before .before .before .before .before .before .before .before .before .before .before .before .before .before .before .args in
     let res = listOf (a .from .now) (a .results .now) in
-    let some = c .before .before .before .before .before .before .before .before .if1 .left in
-    let q = c .before .before .before .before .before .before .before .before .before .before .before .before .before .before .pre .1 in
-    let g = c .before .before .before .before .before .before .gather .ensures (first-operand q res some) in
-    operand-kept q res some _ _ g (c .before .before .next .given .1) (c .before .before .before .before .before .before .gather .kept .1 .1 .1 .1 .1 .0)
+    let some = c .before .before .before .before .before .before .before .before .before .before .if1 .left in
+    let q = c .before .before .before .before .before .before .before .before .before .before .before .before .before .before .before .before .pre .1 in
+    let g = c .before .before .before .before .before .before .before .gather .ensures (first-operand q res some) (seen-nothing _) .gathers in
+    operand-kept q res some _ _ g (c .before .before .next .given .1) (c .before .before .before .before .before .before .before .gather .kept .1 .1 .1 .1 .1 .0)
 
 emit-row-add-if2 : (t : ℕ) → emit-row-lts.Need-add-if2 (emit-row-calls t) (emit-row-at t) emit-row.Post
 emit-row-add-if2 t c =
-    let q = c .before .before .before .before .before .before .before .before .before .before .before .before .before .before .before .before .before .pre .1 in
-    omega arith
+    let q = c .before .before .before .before .before .before .before .before .before .before .before .before .before .before .before .before .before .before .before .pre .1 in
+    omega (arith, c .before .before .before .before .before .before .before .before .before .before .before .before .before .before .before .before .before .before .before .good .1 .1 .1 .1 .1 .1 .0)
 
 emit-row-same-length : (t : ℕ) → emit-row-lts.Need-same-length (emit-row-calls t) (emit-row-at t) emit-row.Post
 emit-row-same-length t c =
-    c .before .before .before .finish .kept .0 ∙ c .before .before .before .before .before .before .before .before .before .before .gather .kept .1 .1 .1 .1 .1 .0
+    c .before .before .before .finish .kept .0 ∙ c .before .before .before .before .before .before .before .before .before .before .before .gather .kept .1 .1 .1 .1 .1 .0
 
 emit-row-returns-2 : (t : ℕ) → emit-row-lts.Need-returns-2 (emit-row-calls t) (emit-row-at t) emit-row.Post
 emit-row-returns-2 t c =
-    let a = c .before .before .before .before .before .before .before .before .before .before .before .before .before .before .before .before .before .before .args in
+    let a = c .before .before .before .before .before .before .before .before .before .before .before .before .before .before .before .before .before .before .before .before .args in
     let res = listOf (a .from .now) (a .results .now) in
-    let some = c .before .before .before .before .before .before .before .before .before .before .before .before .if1 .left in
+    let some = c .before .before .before .before .before .before .before .before .before .before .before .before .before .before .if1 .left in
     let e = c .before .before .before .before .before .before .next .given .1 in
-    let l = c .before .before .before .before .before .before .before .before .before .before .gather .kept .1 .1 .1 .1 .1 .0 in
+    let l = c .before .before .before .before .before .before .before .before .before .before .before .gather .kept .1 .1 .1 .1 .1 .0 in
     λ q.
-    let g = c .before .before .before .before .before .before .before .before .before .before .gather .ensures (first-operand q res some) in
+    let g = c .before .before .before .before .before .before .before .before .before .before .before .gather .ensures (first-operand q res some) (seen-nothing _) .gathers in
     let f = c .before .before .before .finish .ensures (operand-kept q res some _ _ g e l) in
     operand-long q res some _ _ g e l f (c .before .before .before .finish .kept .0) (c .if2 .taken)
 
 emit-row-sub-emit-row : (t : ℕ) → emit-row-lts.Need-sub-emit-row (emit-row-calls t) (emit-row-at t) emit-row.Post
 emit-row-sub-emit-row t c =
-    let some = c .before .before .before .before .before .before .before .before .before .before .before .before .if1 .left in
+    let some = c .before .before .before .before .before .before .before .before .before .before .before .before .before .before .if1 .left in
     omega arith
 
 emit-row-emit-row-requires : (t : ℕ) → emit-row-lts.Need-emit-row-requires (emit-row-calls t) (emit-row-at t) emit-row.Post
 emit-row-emit-row-requires t c κs =
-    let a = c .before .before .before .before .before .before .before .before .before .before .before .before .before .before .before .before .before .before .before .args in
+    let a = c .before .before .before .before .before .before .before .before .before .before .before .before .before .before .before .before .before .before .before .before .before .args in
     let res = listOf (a .from .now) (a .results .now) in
-    let some = c .before .before .before .before .before .before .before .before .before .before .before .before .before .if1 .left in
+    let some = c .before .before .before .before .before .before .before .before .before .before .before .before .before .before .before .if1 .left in
     let e = c .before .before .before .before .before .before .before .next .given .1 in
-    let l = c .before .before .before .before .before .before .before .before .before .before .before .gather .kept .1 .1 .1 .1 .1 .0 in
+    let l = c .before .before .before .before .before .before .before .before .before .before .before .before .gather .kept .1 .1 .1 .1 .1 .0 in
     let l' = c .before .before .before .before .finish .kept .0 in
-    let m = c .before .before .before .before .before .before .before .before .before .before .before .before .before .before .before .before .before .before .before .pre .0 in
-    let q = c .before .before .before .before .before .before .before .before .before .before .before .before .before .before .before .before .before .before .before .pre .1 in
-    let g = c .before .before .before .before .before .before .before .before .before .before .before .gather .ensures (first-operand q res some) in
+    let m = c .before .before .before .before .before .before .before .before .before .before .before .before .before .before .before .before .before .before .before .before .before .pre .0 in
+    let q = c .before .before .before .before .before .before .before .before .before .before .before .before .before .before .before .before .before .before .before .before .before .pre .1 in
+    let g = c .before .before .before .before .before .before .before .before .before .before .before .before .gather .ensures (first-operand q res some) (seen-nothing _) .gathers in
     let f = c .before .before .before .before .finish .ensures (operand-kept q res some _ _ g e l) in
     let on = goes-on' q res some _ _ g e l in
     let others = other-operands q res some _ _ g e l f l' (c .before .if2 .left) in
@@ -298,101 +295,107 @@ emit-row-emit-row-requires t c κs =
 
 emit-row-returns-3 : (t : ℕ) → emit-row-lts.Need-returns-3 (emit-row-calls t) (emit-row-at t) emit-row.Post
 emit-row-returns-3 t c =
-    let a = c .before .before .before .before .before .before .before .before .before .before .before .before .args in
+    let a = c .before .before .before .before .before .before .before .before .before .before .before .before .before .before .args in
     let res = listOf (a .from .now) (a .results .now) in
-    let some = c .before .before .before .before .before .before .if1 .left in
-    λ q. operand-wide q res some _ _ (c .before .before .before .before .gather .ensures (first-operand q res some)) (c .enum-told .given .1)
+    let some = c .before .before .before .before .before .before .before .before .if1 .left in
+    λ q. operand-wide q res some _ _ (c .before .before .before .before .before .gather .ensures (first-operand q res some) (seen-nothing _) .gathers) (c .enum-told .given .1)
 
 emit-row-same-length-3 : (t : ℕ) → emit-row-lts.Need-same-length-3 (emit-row-calls t) (emit-row-at t) emit-row.Post
 emit-row-same-length-3 t c =
-    c .before .before .emit-row .kept .1 .1 .1 .1 .1 .1 .0 ∙ c .before .before .before .before .before .before .before .finish .kept .0 ∙ c .before .before .before .before .before .before .before .before .before .before .before .before .before .before .gather .kept .1 .1 .1 .1 .1 .0
+    c .before .before .emit-row .kept .1 .1 .1 .1 .1 .1 .0 ∙ c .before .before .before .before .before .before .before .finish .kept .0 ∙ c .before .before .before .before .before .before .before .before .before .before .before .before .before .before .before .gather .kept .1 .1 .1 .1 .1 .0
 
 emit-row-returns-4 : (t : ℕ) → emit-row-lts.Need-returns-4 (emit-row-calls t) (emit-row-at t) emit-row.Post
 emit-row-returns-4 t c =
-    let a = c .before .before .before .before .before .before .before .before .before .before .before .before .before .before .before .before .before .before .before .before .before .before .args in
+    let a = c .before .before .before .before .before .before .before .before .before .before .before .before .before .before .before .before .before .before .before .before .before .before .before .before .args in
     let res = listOf (a .from .now) (a .results .now) in
-    let some = c .before .before .before .before .before .before .before .before .before .before .before .before .before .before .before .before .if1 .left in
+    let some = c .before .before .before .before .before .before .before .before .before .before .before .before .before .before .before .before .before .before .if1 .left in
     let e = c .before .before .before .before .before .before .before .before .before .before .next .given .1 in
-    let l = c .before .before .before .before .before .before .before .before .before .before .before .before .before .before .gather .kept .1 .1 .1 .1 .1 .0 in
+    let l = c .before .before .before .before .before .before .before .before .before .before .before .before .before .before .before .gather .kept .1 .1 .1 .1 .1 .0 in
     let l' = c .before .before .before .before .before .before .before .finish .kept .0 in
     λ q.
-    let g = c .before .before .before .before .before .before .before .before .before .before .before .before .before .before .gather .ensures (first-operand q res some) in
+    let g = c .before .before .before .before .before .before .before .before .before .before .before .before .before .before .before .gather .ensures (first-operand q res some) (seen-nothing _) .gathers in
     let f = c .before .before .before .before .before .before .before .finish .ensures (operand-kept q res some _ _ g e l) in
     row-on q res some _ _ g e l f l' (c .before .before .before .before .if2 .left) _ _ (c .before .before .emit-row .ensures (other-operands q res some _ _ g e l f l' (c .before .before .before .before .if2 .left)))
 
 gather-shared-slice-read-wide : (t : ℕ) → gather-lts.Need-shared-slice-read-wide (gather-calls t) (gather-at t) gather.Post
 gather-shared-slice-read-wide t c =
-    let q = c .before .before .before .before .before .before .pre .1 in
+    let q = c .before .before .before .before .before .before .before .pre .1 .0 in
     content-inside standard _ _ (q .there) .0
 
-gather-add-t19 : (t : ℕ) → gather-lts.Need-add-t19 (gather-calls t) (gather-at t) gather.Post
-gather-add-t19 t c =
-    let q = c .before .before .before .before .before .before .before .before .pre .1 in
+gather-add-t18 : (t : ℕ) → gather-lts.Need-add-t18 (gather-calls t) (gather-at t) gather.Post
+gather-add-t18 t c =
+    let q = c .before .before .before .before .before .before .before .before .before .pre .1 .0 in
     let i = content-inside standard _ _ (q .there) in
     omega arith
 
 gather-add-gather-empty : (t : ℕ) → gather-lts.Need-add-gather-empty (gather-calls t) (gather-at t) gather.Post
 gather-add-gather-empty t c =
-    let q = c .before .before .before .before .before .before .before .before .before .pre .1 in
+    let q = c .before .before .before .before .before .before .before .before .before .before .pre .1 .0 in
     let i = content-inside standard _ _ (q .there) in
     omega arith
 
 gather-add-wide : (t : ℕ) → gather-lts.Need-add-wide (gather-calls t) (gather-at t) gather.Post
 gather-add-wide t c =
-    let q = c .before .before .before .before .before .before .before .before .pre .1 in
+    let q = c .before .before .before .before .before .before .before .before .before .pre .1 .0 in
     let i = content-inside standard _ _ (q .there) in
     omega arith
 
 gather-shared-slice-read-wide-2 : (t : ℕ) → gather-lts.Need-shared-slice-read-wide-2 (gather-calls t) (gather-at t) gather.Post
-gather-shared-slice-read-wide-2 t c = type-inside (c .before .before .before .before .before .before .before .before .before .pre .1) (sym (c .before .before .wide .ensures .0) ∙ c .before .match .keys3)
+gather-shared-slice-read-wide-2 t c = type-there standard _ _ (c .before .before .before .before .before .before .before .before .before .before .pre .1 .0 .there) (sym (c .before .before .wide .ensures .0) ∙ c .before .match .keys3) .0
 
-gather-add-gather-types : (t : ℕ) → gather-lts.Need-add-gather-types (gather-calls t) (gather-at t) gather.Post
-gather-add-gather-types t c =
-    let b = sym (c .before .before .before .before .before .before .wide .ensures .0) ∙ c .before .before .before .before .before .match .keys3 in
-    let i = type-inside (c .before .before .before .before .before .before .before .before .before .before .before .before .before .pre .1) b in
+gather-add-gather-type : (t : ℕ) → gather-lts.Need-add-gather-type (gather-calls t) (gather-at t) gather.Post
+gather-add-gather-type t c =
+    let b = sym (c .before .before .before .before .wide .ensures .0) ∙ c .before .before .before .match .keys3 in
+    let i = type-there standard _ _ (c .before .before .before .before .before .before .before .before .before .before .before .before .pre .1 .0 .there) b in
     omega arith
 
-gather-gather-types-requires : (t : ℕ) → gather-lts.Need-gather-types-requires (gather-calls t) (gather-at t) gather.Post
-gather-gather-types-requires t c κs = source-room (c .before .before .before .before .before .before .before .before .before .before .before .before .before .pre .1)
+gather-gather-type-requires : (t : ℕ) → gather-lts.Need-gather-type-requires (gather-calls t) (gather-at t) gather.Post
+unfolding standard
+gather-gather-type-requires t c κs =
+    let q = c .before .before .before .before .before .before .before .before .before .before .before .before .before .pre .1 .0 in
+    let b = sym (c .before .before .before .before .before .wide .ensures .0) ∙ c .before .before .before .before .match .keys3 in
+    let k = c .before .before .wide2 .ensures .0 in
+    let i = type-there standard _ _ (q .there) b in
+    (omega arith, (source-room q, c .before .before .before .before .before .before .before .before .before .before .before .before .before .pre .1 .1))
 
 gather-gather-sequence-requires : (t : ℕ) → gather-lts.Need-gather-sequence-requires (gather-calls t) (gather-at t) gather.Post
 gather-gather-sequence-requires t c κs =
-    let m = c .before .before .before .before .before .before .before .before .before .pre .0 in
+    let m = c .before .before .before .before .before .before .before .before .before .before .pre .0 in
     let b = sym (c .before .before .wide .ensures .0) ∙ c .before .match .keys4 in
-    (omega arith, (b, c .before .before .before .before .before .before .before .before .before .pre .1))
+    (omega arith, (b, c .before .before .before .before .before .before .before .before .before .before .pre .1 .0))
 
 gather-add-wide-2 : (t : ℕ) → gather-lts.Need-add-wide-2 (gather-calls t) (gather-at t) gather.Post
 gather-add-wide-2 t c =
-    let q = c .before .before .before .before .before .before .before .before .pre .1 in
+    let q = c .before .before .before .before .before .before .before .before .before .pre .1 .0 in
     let i = content-inside standard _ _ (q .there) in
     omega arith
 
 gather-shared-slice-read-wide-3 : (t : ℕ) → gather-lts.Need-shared-slice-read-wide-3 (gather-calls t) (gather-at t) gather.Post
 gather-shared-slice-read-wide-3 t c =
-    let q = c .before .before .before .before .before .before .before .before .before .pre .1 in
+    let q = c .before .before .before .before .before .before .before .before .before .before .pre .1 .0 in
     let b = sym (c .before .before .wide .ensures .0) ∙ c .before .match .keys5 in
     count-there standard _ _ (q .there) (omega arith) (omega arith)
 
 gather-add-gather-row : (t : ℕ) → gather-lts.Need-add-gather-row (gather-calls t) (gather-at t) gather.Post
 gather-add-gather-row t c =
-    let q = c .before .before .before .before .before .before .before .before .before .before .pre .1 in
+    let q = c .before .before .before .before .before .before .before .before .before .before .before .pre .1 .0 in
     let b = sym (c .before .before .before .wide .ensures .0) ∙ c .before .before .match .keys5 in
     let i = count-there standard _ _ (q .there) (omega arith) (omega arith) in
     omega arith
 
 gather-gather-row-requires : (t : ℕ) → gather-lts.Need-gather-row-requires (gather-calls t) (gather-at t) gather.Post
 gather-gather-row-requires t c κs =
-    let a = c .before .before .before .before .before .before .before .before .before .before .before .args in
+    let a = c .before .before .before .before .before .before .before .before .before .before .before .before .before .args in
     let res = listOf (a .from .now) (a .results .now) in
-    let m = c .before .before .before .before .before .before .before .before .before .before .before .pre .0 in
-    let q = c .before .before .before .before .before .before .before .before .before .before .before .pre .1 in
-    let b = sym (c .before .before .before .before .wide .ensures .0) ∙ c .before .before .before .match .keys5 in
+    let m = c .before .before .before .before .before .before .before .before .before .before .before .before .before .pre .0 in
+    let q = c .before .before .before .before .before .before .before .before .before .before .before .before .before .pre .1 .0 in
+    let b = sym (c .before .before .before .before .before .wide .ensures .0) ∙ c .before .before .before .before .match .keys5 in
     let i = count-there standard _ _ (q .there) (omega arith) (omega arith) in
-    (omega arith, choice-sources q res (choices-of q b (c .before .wide3 .ensures .0)))
+    (omega arith, (choice-sources q res (choices-of q b (c .before .before .wide3 .ensures .0)), c .before .before .before .before .before .before .before .before .before .before .before .before .before .pre .1 .1))
 
 gather-gather-around-requires : (t : ℕ) → gather-lts.Need-gather-around-requires (gather-calls t) (gather-at t) gather.Post
 gather-gather-around-requires t c κs =
-    let m = c .before .before .before .before .before .before .before .before .before .pre .0 in
+    let m = c .before .before .before .before .before .before .before .before .before .before .pre .0 in
     let w = c .before .before .wide .ensures .0 in
     let r = c .before .match .rest in
     let n4 = r .1 in
@@ -400,33 +403,37 @@ gather-gather-around-requires t c κs =
     let n2 = r .0 .0 .1 in
     let n1 = r .0 .0 .0 .1 in
     let n0 = r .0 .0 .0 .0 .1 in
-    (omega arith, (omega arith, c .before .before .before .before .before .before .before .before .before .pre .1))
+    (omega arith, (omega arith, c .before .before .before .before .before .before .before .before .before .before .pre .1 .0))
 
 gather-returns : (t : ℕ) → gather-lts.Need-returns (gather-calls t) (gather-at t) gather.Post
 gather-returns t c =
     let b = sym (c .before .wide .ensures .0) ∙ c .match .keys1 in
-    λ q. none-gives q _ b
+    λ q s. record { gathers = none-gives q _ b; known = seen-more s _ }
 
 gather-returns-2 : (t : ℕ) → gather-lts.Need-returns-2 (gather-calls t) (gather-at t) gather.Post
 gather-returns-2 t c =
     let b = sym (c .before .before .before .before .before .wide .ensures .0) ∙ c .before .before .before .before .match .keys2 in
-    λ q. empty-gives q _ b _ _ (c .before .before .gather-empty .ensures (source-room q))
+    λ q s. record { gathers = empty-gives q _ b _ _ (c .before .before .gather-empty .ensures (source-room q)); known = seen-more s _ }
 
 gather-returns-3 : (t : ℕ) → gather-lts.Need-returns-3 (gather-calls t) (gather-at t) gather.Post
 gather-returns-3 t c =
-    let b = sym (c .before .before .before .before .before .before .before .before .before .wide .ensures .0) ∙ c .before .before .before .before .before .before .before .before .match .keys3 in
-    λ q.
-    type-gives q b _ _ _ (c .before .before .before .before .before .before .wide2 .ensures .0) (c .before .before .before .before .before .byte-or-zero .ensures) (c .before .before .before .before .byte-or-zero2 .ensures) _ _
-    (c .before .before .gather-types .ensures (source-room q))
+    let b = sym (c .before .before .before .before .before .before .before .before .before .before .wide .ensures .0) ∙ c .before .before .before .before .before .before .before .before .before .match .keys3 in
+    λ q s. type-gives q b _ (c .before .before .before .before .before .before .before .wide2 .ensures .0) _ _ (c .before .before .before .before .gather-type .ensures (source-room q) s)
+
+gather-returns-4 : (t : ℕ) → gather-lts.Need-returns-4 (gather-calls t) (gather-at t) gather.Post
+gather-returns-4 t c = λ q s. record { gathers = c .before .before .gather-sequence .ensures q; known = seen-more s _ }
 
 gather-returns-5 : (t : ℕ) → gather-lts.Need-returns-5 (gather-calls t) (gather-at t) gather.Post
 gather-returns-5 t c =
-    let a = c .before .before .before .before .before .before .before .before .before .before .before .before .before .before .args in
+    let a = c .before .before .before .before .before .before .before .before .before .before .before .before .before .before .before .before .before .before .args in
     let res = listOf (a .from .now) (a .results .now) in
-    let b = sym (c .before .before .before .before .before .before .before .wide .ensures .0) ∙ c .before .before .before .before .before .before .match .keys5 in
-    λ q.
-    let cs = choices-of q b (c .before .before .before .before .wide3 .ensures .0) in
-    choice-gives q res cs _ _ (c .before .before .gather-row .ensures (choice-sources q res cs))
+    let b = sym (c .before .before .before .before .before .before .before .before .before .before .wide .ensures .0) ∙ c .before .before .before .before .before .before .before .before .before .match .keys5 in
+    λ q s.
+    let cs = choices-of q b (c .before .before .before .before .before .before .before .wide3 .ensures .0) in
+    choice-gives q res cs _ _ (c .before .before .before .before .gather-row .ensures (choice-sources q res cs) s)
+
+gather-returns-6 : (t : ℕ) → gather-lts.Need-returns-6 (gather-calls t) (gather-at t) gather.Post
+gather-returns-6 t c = λ q s. record { gathers = c .before .before .gather-around .ensures q; known = seen-more s _ }
 
 gather-around-shared-slice-read-operator :
     (t : ℕ) → gather-around-lts.Need-shared-slice-read-operator (
@@ -564,54 +571,56 @@ gather-around-returns-4 t c =
 
 gather-row-gather-requires : (t : ℕ) → gather-row-lts.Need-gather-requires (gather-row-calls t) (gather-row-at t) gather-row.Post
 gather-row-gather-requires t c κs =
-    let a = c .before .before .before .before .before .before .before .args in
+    let a = c .before .before .before .before .before .before .before .before .before .args in
     let res = listOf (a .from .now) (a .results .now) in
-    let some = c .before .if1 .left in
-    let m = c .before .before .before .before .before .before .before .pre .0 in
-    let q = c .before .before .before .before .before .before .before .pre .1 in
-    (omega arith, first-source q res some)
+    let some = c .before .before .if1 .left in
+    let m = c .before .before .before .before .before .before .before .before .before .pre .0 in
+    let q = c .before .before .before .before .before .before .before .before .before .pre .1 .0 in
+    (omega arith, (first-source q res some, c .before .before .before .before .before .before .before .before .before .pre .1 .1))
 
 gather-row-sub-gather-row : (t : ℕ) → gather-row-lts.Need-sub-gather-row (gather-row-calls t) (gather-row-at t) gather-row.Post
 gather-row-sub-gather-row t c =
-    let some = c .before .before .before .before .before .before .before .if1 .left in
+    let some = c .before .before .before .before .before .before .before .before .before .before .if1 .left in
     omega arith
 
 gather-row-gather-row-requires : (t : ℕ) → gather-row-lts.Need-gather-row-requires (gather-row-calls t) (gather-row-at t) gather-row.Post
 gather-row-gather-row-requires t c κs =
-    let a = c .before .before .before .before .before .before .before .before .before .before .before .before .before .before .args in
+    let a = c .before .before .before .before .before .before .before .before .before .before .before .before .before .before .before .before .before .before .before .args in
     let res = listOf (a .from .now) (a .results .now) in
-    let some = c .before .before .before .before .before .before .before .before .if1 .left in
-    let e = c .before .before .next .given .1 in
-    let l = c .before .before .before .before .before .before .gather .kept .1 .1 .1 .1 .1 .0 in
-    let m = c .before .before .before .before .before .before .before .before .before .before .before .before .before .before .pre .0 in
-    let q = c .before .before .before .before .before .before .before .before .before .before .before .before .before .before .pre .1 in
-    let g = c .before .before .before .before .before .before .gather .ensures (first-source q res some) in
+    let some = c .before .before .before .before .before .before .before .before .before .before .before .before .if1 .left in
+    let e = c .before .before .before .next .given .1 in
+    let l = c .before .before .before .before .before .before .before .before .before .gather .kept .1 .1 .1 .1 .1 .0 in
+    let m = c .before .before .before .before .before .before .before .before .before .before .before .before .before .before .before .before .before .before .before .pre .0 in
+    let q = c .before .before .before .before .before .before .before .before .before .before .before .before .before .before .before .before .before .before .before .pre .1 .0 in
+    let g = c .before .before .before .before .before .before .before .before .before .gather .ensures (first-source q res some) (c .before .before .before .before .before .before .before .before .before .before .before .before .before .before .before .before .before .before .before .pre .1 .1) in
     let on = goes-on q res some _ _ g e l in
     let others = other-sources q res some _ _ g e l in
     let i = others .there .inside in
-    (omega arith, others)
+    (omega arith, (others, g .known))
 
 gather-row-returns-2 : (t : ℕ) → gather-row-lts.Need-returns-2 (gather-row-calls t) (gather-row-at t) gather-row.Post
 gather-row-returns-2 t c =
-    let a = c .before .before .before .before .before .before .before .before .before .before .before .before .args in
+    let a = c .before .before .before .before .before .before .before .before .before .before .before .before .before .before .before .before .args in
     let res = listOf (a .from .now) (a .results .now) in
-    let some = c .before .before .before .before .before .before .if1 .left in
-    λ q. row-wide q res some _ _ (c .before .before .before .before .gather .ensures (first-source q res some)) (c .enum-told .given .1)
+    let some = c .before .before .before .before .before .before .before .before .before .if1 .left in
+    λ q s. row-wide q res some _ _ (c .before .before .before .before .before .before .gather .ensures (first-source q res some) s) (c .enum-told .given .1)
 
-gather-row-same-length-2 : (t : ℕ) → gather-row-lts.Need-same-length-2 (gather-row-calls t) (gather-row-at t) gather-row.Post
-gather-row-same-length-2 t c =
-    c .before .before .gather-row .kept .1 .1 .1 .1 .1 .1 .0 ∙ c .before .before .before .before .before .before .before .before .before .gather .kept .1 .1 .1 .1 .1 .0
+gather-row-same-length-3 : (t : ℕ) → gather-row-lts.Need-same-length-3 (gather-row-calls t) (gather-row-at t) gather-row.Post
+gather-row-same-length-3 t c = c .before .before .before .before .gather-row .kept .1 .1 .1 .1 .1 .1 .0 ∙ c .before .before .before .before .before .before .before .before .before .before .before .before .before .before .gather .kept .1 .1 .1 .1 .1 .0
+
+gather-row-same-length-4 : (t : ℕ) → gather-row-lts.Need-same-length-4 (gather-row-calls t) (gather-row-at t) gather-row.Post
+gather-row-same-length-4 t c = c .before .before .before .before .gather-row .kept .1 .1 .1 .1 .1 .1 .1 .1 .1 .1 .1 .0 ∙ c .before .before .before .before .before .before .before .before .before .before .before .before .before .before .gather .kept .1 .1 .1 .1 .1 .1 .1 .1 .1 .1 .0
 
 gather-row-returns-3 : (t : ℕ) → gather-row-lts.Need-returns-3 (gather-row-calls t) (gather-row-at t) gather-row.Post
 gather-row-returns-3 t c =
-    let a = c .before .before .before .before .before .before .before .before .before .before .before .before .before .before .before .before .before .args in
+    let a = c .before .before .before .before .before .before .before .before .before .before .before .before .before .before .before .before .before .before .before .before .before .before .before .before .args in
     let res = listOf (a .from .now) (a .results .now) in
-    let some = c .before .before .before .before .before .before .before .before .before .before .before .if1 .left in
-    let e = c .before .before .before .before .before .next .given .1 in
-    let l = c .before .before .before .before .before .before .before .before .before .gather .kept .1 .1 .1 .1 .1 .0 in
-    λ q.
-    let g = c .before .before .before .before .before .before .before .before .before .gather .ensures (first-source q res some) in
-    row-then q res some _ _ g e l _ _ (c .before .before .gather-row .ensures (other-sources q res some _ _ g e l))
+    let some = c .before .before .before .before .before .before .before .before .before .before .before .before .before .before .before .before .before .if1 .left in
+    let e = c .before .before .before .before .before .before .before .before .next .given .1 in
+    let l = c .before .before .before .before .before .before .before .before .before .before .before .before .before .before .gather .kept .1 .1 .1 .1 .1 .0 in
+    λ q s.
+    let g = c .before .before .before .before .before .before .before .before .before .before .before .before .before .before .gather .ensures (first-source q res some) s in
+    row-then q res some _ _ g e l _ _ (c .before .before .before .before .gather-row .ensures (other-sources q res some _ _ g e l) (g .known))
 
 gather-sequence-add-wide : (t : ℕ) → gather-sequence-lts.Need-add-wide (gather-sequence-calls t) (gather-sequence-at t) gather-sequence.Post
 gather-sequence-add-wide t c =
@@ -794,6 +803,7 @@ pub +emit-row+gather+gather-around+gather-row+gather-sequence-spec : {M : Type 1
     (emit-row-add-gather t)
     (emit-row-add-gather-2 t)
     (emit-row-add-gather-3 t)
+    (λ c. refl)
     (emit-row-gather-requires t)
     (λ c. search needs)
     (λ c. search needs)
@@ -803,7 +813,7 @@ pub +emit-row+gather+gather-around+gather-row+gather-sequence-spec : {M : Type 1
     (emit-row-returns-2 t)
     (emit-row-sub-emit-row t)
     (emit-row-emit-row-requires t)
-    (λ c. c .before .before .before .before .gather .kept .1 .1 .1 .1 .1 .0)
+    (λ c. c .before .before .before .before .before .gather .kept .1 .1 .1 .1 .1 .0)
     (emit-row-returns-3 t)
     (emit-row-same-length-3 t)
     (emit-row-returns-4 t))
@@ -812,17 +822,14 @@ pub +emit-row+gather+gather-around+gather-row+gather-sequence-spec : {M : Type 1
     gather.Post
     (gather-shared-slice-read-wide t)
     (λ c κs. search needs)
-    (gather-add-t19 t)
+    (gather-add-t18 t)
     (gather-add-gather-empty t)
-    (λ c κs. source-room (c .before .before .before .before .before .before .before .before .before .pre .1))
+    (λ c κs. source-room (c .before .before .before .before .before .before .before .before .before .before .pre .1 .0))
     (gather-add-wide t)
     (gather-shared-slice-read-wide-2 t)
     (λ c κs. search needs)
-    (λ c κs. search needs)
-    (λ c. omega arith)
-    (λ c κs. search needs)
-    (gather-add-gather-types t)
-    (gather-gather-types-requires t)
+    (gather-add-gather-type t)
+    (gather-gather-type-requires t)
     (gather-gather-sequence-requires t)
     (gather-add-wide-2 t)
     (gather-shared-slice-read-wide-3 t)
@@ -833,14 +840,16 @@ pub +emit-row+gather+gather-around+gather-row+gather-sequence-spec : {M : Type 1
     (gather-returns t)
     (λ c. c .before .before .gather-empty .kept .0)
     (gather-returns-2 t)
-    (λ c. c .before .before .gather-types .kept .1 .1 .1 .0)
+    (λ c. c .before .before .before .before .gather-type .kept .1 .1 .1 .0)
+    (λ c. c .before .before .before .before .gather-type .kept .1 .1 .1 .1 .1 .1 .1 .1 .1 .0)
     (gather-returns-3 t)
     (λ c. c .before .before .gather-sequence .kept .1 .1 .1 .1 .1 .0)
-    (λ c. λ q. c .before .before .gather-sequence .ensures q)
-    (λ c. c .before .before .gather-row .kept .1 .1 .1 .1 .1 .1 .0)
+    (gather-returns-4 t)
+    (λ c. c .before .before .before .before .gather-row .kept .1 .1 .1 .1 .1 .1 .0)
+    (λ c. c .before .before .before .before .gather-row .kept .1 .1 .1 .1 .1 .1 .1 .1 .1 .1 .1 .0)
     (gather-returns-5 t)
     (λ c. c .before .before .gather-around .kept .1 .1 .1 .1 .1 .0)
-    (λ c. λ q. c .before .before .gather-around .ensures q))
+    (gather-returns-6 t))
     (λ t. gather-around-lts.spec (gather-around-calls t)
     (gather-around-at t)
     gather-around.Post
@@ -866,15 +875,17 @@ pub +emit-row+gather+gather-around+gather-row+gather-sequence-spec : {M : Type 1
     (gather-below t, gather.Post, gather-row-below t, gather-row.Post)
     (gather-row-at t)
     gather-row.Post
-    (λ c. λ q. no-sources q _ (c .if1 .taken))
+    (λ c. λ q s. record { gathers = no-sources q _ (c .if1 .taken); known = seen-more s _ })
     (gather-row-gather-requires t)
     (λ c. search needs)
     (λ c. search needs)
     (gather-row-sub-gather-row t)
     (gather-row-gather-row-requires t)
-    (λ c. c .before .before .before .before .gather .kept .1 .1 .1 .1 .1 .0)
+    (λ c. c .before .before .before .before .before .before .gather .kept .1 .1 .1 .1 .1 .0)
+    (λ c. c .before .before .before .before .before .before .gather .kept .1 .1 .1 .1 .1 .1 .1 .1 .1 .1 .0)
     (gather-row-returns-2 t)
-    (gather-row-same-length-2 t)
+    (gather-row-same-length-3 t)
+    (gather-row-same-length-4 t)
     (gather-row-returns-3 t))
     λ t. gather-sequence-lts.spec (gather-sequence-calls t)
     (gather-sequence-at t)
