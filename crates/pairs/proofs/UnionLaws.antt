@@ -21,7 +21,8 @@ use Rattle.grammar.specs.KindTests.{samePair}
 use Rattle.grammar.specs.ReadContent.{contentBytes, isProper}
 use Rattle.grammar.specs.Unite.{shifted, unitedLabels, added, unite}
 use Rattle.grammar.specs.Normalise.{pairOf}
-use Rattle.theory.proofs.ListLaws.{at-else, any-of, at-mem, at-below, below-at, place-found}
+use Rattle.theory.proofs.ListLaws.{at-else, any-of, at-mem, at-below, below-at}
+use Rattle.theory.proofs.PlaceLaws.{place-found}
 use Rattle.theory.proofs.NormaliseDocuments.{pair-refl}
 use Rattle.reader.specs.declared.tables.TableIndex.{TableIndex}
 use Rattle.reader.specs.ExprAt.{_upTo_, exprAt}
