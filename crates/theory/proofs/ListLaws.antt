@@ -7,8 +7,8 @@
 --     joined-from, joined-mem, joined-append, joined-on       lists of lists, joined
 --     map-on, map-at, at-map                                  images
 --     related-map, related-at, related-mem                    lists related element by element
--- Of numbers: in-mem, mem-in, in-append, same-numbers, and AllIn (all of one list are in another); numbers-below, numbers-joined,
--- numbers-next, numbers-end, listed-from, one-place.
+-- Of numbers: in-mem, mem-in, in-append, taken-mem, set-all, set-up-to, same-numbers, and AllIn (all of one list are in another);
+-- numbers-below, numbers-joined, numbers-next, numbers-end, listed-from, one-place.
 use Prim.Native.Nat.{ℕ, zero, suc, _+_, _≤_, _<_}
 use native.Mathlib.Omega.{arith}
 use native.Mathlib.Numerals.{add-one}
@@ -37,7 +37,9 @@ use mathlib.Core.Logic.{_↔_, _⊎_, inl, inr, ⊎-elim}
 use mathlib.Core.Option.{Option, none as nothing, some as just}
 use mathlib.Core.Path.{_≡_, refl, sym, _∙_, ap, ap₂, subst}
 use lib.Dec.{eqb}
-use lib.ListN.{length, getElem?, getD, take}
+use lib.ListN.{length, getElem?, getD, set, take, replicate}
+use lib.Seq.{getD-set-same, getD-set-other}
+use borrow.Author.Count.{below-more}
 use borrow.Author.Tests.{eqb-true, eqb-false, eq-eqb, not-true}
 use Rattle.grammar.specs.Lists.{
   any,
@@ -324,6 +326,27 @@ taken-mem [] i n h k = absurd (omega arith)
 taken-mem (x ∷ l) i zero h k = absurd (omega arith)
 taken-mem (x ∷ l) zero (suc n) h k = List·Memᴰ·head refl
 taken-mem (x ∷ l) (suc i) (suc n) h k = List·Memᴰ·tail (taken-mem l i n (omega arith) (omega arith))
+
+pub zeros-at : (n i : ℕ) → _≡_ {A = ℕ} (getD (replicate n 0) i 0) 0
+zeros-at zero i = refl
+zeros-at (suc n) zero = refl
+zeros-at (suc n) (suc i) = zeros-at n i
+
+-- one number set anew, in a list of which all numbers have a property, and in one of which those so far have one
+module _ (l : List ℕ) (i v : ℕ) (h : i < length l) where
+  pub set-all : (P : ℕ → Type 0) → ((j : ℕ) → P (getD l j 0)) → P v → (j : ℕ) → P (getD (set l i v) j 0)
+  set-all P old new j =
+      ⊎-elim
+      (λ e. subst (λ (k : ℕ). P (getD (set l i v) k 0)) (sym (eqb-true j i e)) (subst P (sym (getD-set-same l i v 0 h)) new))
+      (λ e. subst P (sym (getD-set-other l i j v 0 (eqb-false j i e))) (old j))
+      (passes-or-fails (eqb j i))
+
+  pub set-up-to : (P : ℕ → ℕ → Type 0) → ((j : ℕ) → j < i → P j (getD l j 0)) → P i v → (j : ℕ) → j < i + 1
+      → P j (getD (set l i v) j 0)
+  set-up-to P old new =
+      below-more (λ j. P j (getD (set l i v) j 0)) i
+      (λ j k. subst (P j) (sym (getD-set-other l i j v 0 (omega arith))) (old j k))
+      (subst (P i) (sym (getD-set-same l i v 0 h)) new)
 
 -- all numbers of one list are in another
 abbrev pub AllIn : List ℕ → List ℕ → Type 0

@@ -1,9 +1,11 @@
 -- The place of an element, over a test of whether two are the same:
---     place-yes, place-no, place-front            in a list with one element more, and in joined lists
---     place-most, place-some, place-none, place-past   it is below the length just where some element is the same, and else the length
---     place-found, place-of                       what stands there
---     place-same, same-place                      elements that are the same have one place
---     place-image                                 the place of an image
+--     place-yes, place-no              in a list with one element more at the front
+--     place-front, place-end           in joined lists
+--     place-most, place-some, place-none, place-past
+--                                      it is below the length where some element is the same, and else the length
+--     place-found, place-of            what stands there
+--     place-same, same-place           elements that are the same have one place
+--     place-image                      the place of an image
 use Prim.Native.Nat.{ℕ, zero, suc, _≤_, _<_}
 use native.Mathlib.Omega.{arith}
 use mathlib.Core.Bool.{Bool, true, false, false≢true}
@@ -70,6 +72,17 @@ module _ {A : Type 0} where
             → place same x (z ∷ zs ++ ys) ≡ place same x (z ∷ zs)
         go true q ih = rw (q, place)
         go false q ih = rw (q, place) (ap suc (ih (rw q at e)))
+
+    -- its own place, where it is added at the end
+    pub place-end : same x x ≡ true → (xs : List A) → place same x (xs ++ (x ∷ [])) ≡ place same x xs
+    unfolding place
+    place-end r [] = rw (r, place)
+    place-end r (y ∷ ys) = go (same x y) refl (place-end r ys)
+      where
+        go : (b : Bool) → same x y ≡ b → place same x (ys ++ (x ∷ [])) ≡ place same x ys
+            → place same x (y ∷ ys ++ (x ∷ [])) ≡ place same x (y ∷ ys)
+        go true e ih = rw (e, place)
+        go false e ih = rw (e, place) (ap suc ih)
 
   -- the place of an element that is found
   pub place-found : (same : A → A → Bool) (x : A) (xs : List A) → any (same x) xs ≡ true
