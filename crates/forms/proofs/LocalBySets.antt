@@ -28,11 +28,11 @@ use Rattle.theory.proofs.ListLaws.{
   at-map,
   just-eq,
   one-place,
-  place-of,
   eqb-decides,
   in-mem,
   numbers-below,
 }
+use Rattle.theory.proofs.PlaceLaws.{place-of}
 use Rattle.theory.proofs.Alternatives.{alts, written, resultsOf}
 use Rattle.theory.proofs.EmittedRule.{pairContents, pairsStanding, local-content}
 use Rattle.theory.proofs.UsedLabelsDocuments.{used-differ}

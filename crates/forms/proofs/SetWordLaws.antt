@@ -19,7 +19,8 @@ use Rattle.grammar.specs.Lists.{any, keep, distinct, place, isIn, sameNumbers, 
 use Rattle.grammar.specs.ReadTable.{isEmpty}
 use Rattle.grammar.specs.SingleTypeForm.{TypeSet}
 use Rattle.theory.proofs.BoolLaws.{false-of}
-use Rattle.theory.proofs.ListLaws.{at-below, below-at, at-joined, at-mem, just-eq, place-found, same-numbers, same-numbers-refl, numbers-decide, keep-yes}
+use Rattle.theory.proofs.ListLaws.{at-below, below-at, at-joined, at-mem, just-eq, same-numbers, same-numbers-refl, numbers-decide, keep-yes}
+use Rattle.theory.proofs.PlaceLaws.{place-found}
 use Rattle.theory.proofs.DistinctLaws.{one-more-new, one-more-old}
 use Rattle.sets.specs.Sets.{member, storeAt, Empties}
 use Rattle.sets.proofs.SetLaws.{words-store, store-before, length-store}

@@ -33,12 +33,12 @@ use Rattle.theory.proofs.ListLaws.{
   at-else,
   at-or-else,
   past-end,
-  place-found,
   joined-from,
   in-mem,
   mem-in,
   numbers-below,
 }
+use Rattle.theory.proofs.PlaceLaws.{place-found}
 use Rattle.theory.proofs.DistinctLaws.{keep-within}
 use Rattle.theory.proofs.KindTests.{same-pair-sym}
 use Rattle.theory.proofs.NormaliseDocuments.{pair-refl, pair-same, same-pair, pairs-of}

@@ -24,7 +24,8 @@ use Rattle.grammar.specs.KindTests.{samePair}
 use Rattle.grammar.specs.Unite.{shifted}
 use Rattle.grammar.specs.Normalise.{pairOf}
 use Rattle.theory.proofs.BoolLaws.{and-left, and-right, same-test}
-use Rattle.theory.proofs.ListLaws.{kept, keep-mem, joined-from, joined-mem, numbers-below, at-mem, mem-at, at-below, at-else, at-or-else, any-of, place-found, in-mem, mem-in, distinct-was, distinct-mem, eqb-decides}
+use Rattle.theory.proofs.ListLaws.{kept, keep-mem, joined-from, joined-mem, numbers-below, at-mem, mem-at, at-below, at-else, at-or-else, any-of, in-mem, mem-in, distinct-was, distinct-mem, eqb-decides}
+use Rattle.theory.proofs.PlaceLaws.{place-found}
 use Rattle.theory.proofs.NormaliseDocuments.{pair-refl}
 use Rattle.theory.proofs.Alternatives.{hasAlts, allHaveAlts, oneHasAlts, someLeft, onlyIf, pairsMet, pairsMetAll, pairs-renamed}
 use Rattle.theory.proofs.EmittedContent.{joined-map, joined-twice}

@@ -72,7 +72,7 @@ use Rattle.theory.proofs.NoTwo.{no-two-append, no-two-keep, no-two-map,
 -- the worklist
 module _ (g : Table) where
   -- of the sets met in a set, those not yet found
-  abbrev newSets : List TypeSet → TypeSet → List TypeSet
+  abbrev pub newSets : List TypeSet → TypeSet → List TypeSet
   newSets sets s = keep (λ t. not (any (sameNumbers t) sets)) (setsMet g s)
 
   found-or-new : (sets : List TypeSet) (s : TypeSet) {t : TypeSet} → List·Memᴰ t (setsMet g s)
@@ -92,7 +92,7 @@ module _ (g : Table) where
   unfolding moreSets
   more-end n next sets e = rw (e, moreSets)
 
-  more-next : (n next : ℕ) (sets : List TypeSet) {s : TypeSet} → getElem? sets next ≡ just s
+  pub more-next : (n next : ℕ) (sets : List TypeSet) {s : TypeSet} → getElem? sets next ≡ just s
       → moreSets g (suc n) next sets ≡ moreSets g n (suc next) (sets ++ newSets sets s)
   unfolding moreSets
   more-next n next sets e = rw (e, moreSets)
