@@ -24,7 +24,7 @@ use Rattle.grammar.specs.KindTests.{samePair}
 use Rattle.grammar.specs.Unite.{shifted}
 use Rattle.grammar.specs.Normalise.{pairOf}
 use Rattle.theory.proofs.BoolLaws.{and-left, and-right, same-test}
-use Rattle.theory.proofs.ListLaws.{kept, keep-mem, joined-from, joined-mem, numbers-below, at-mem, mem-at, at-below, at-else, at-or-else, any-of, in-mem, mem-in, distinct-was, distinct-mem, eqb-decides}
+use Rattle.theory.proofs.ListLaws.{kept, keep-mem, joined-from, joined-mem, numbers-below, at-mem, mem-at, at-below, at-else, at-or-else, any-of, in-mem, mem-in, taken-mem, distinct-was, distinct-mem, eqb-decides}
 use Rattle.theory.proofs.PlaceLaws.{place-found}
 use Rattle.theory.proofs.NormaliseDocuments.{pair-refl}
 use Rattle.theory.proofs.Alternatives.{hasAlts, allHaveAlts, oneHasAlts, someLeft, onlyIf, pairsMet, pairsMetAll, pairs-renamed}
@@ -40,7 +40,7 @@ use Rattle.pairs.specs.Rounds.{contentOf}
 use Rattle.pairs.specs.PairNumbers.{ruleAt, fruitfulOf, contentsOfPair, contentsIn, metIn}
 use Rattle.pairs.proofs.ViewLaws.{content-is, seen}
 use Rattle.pairs.proofs.MetLaws.{finds-adds, finds-once}
-use Rattle.pairs.proofs.OnceLaws.{part-more, taken-mem, adds-none, adds-join, adds-same}
+use Rattle.pairs.proofs.OnceLaws.{part-more, adds-none, adds-join, adds-same}
 use Rattle.reducing.specs.declared.meeting.Met.{Met}
 use Rattle.reducing.specs.PairsListed.{PartBelow}
 use Rattle.reducing.specs.PairsMet.{MetHeld, ContentMet, metInRule, metInPair, Meets}
