@@ -106,7 +106,7 @@ def many_sets(count):
 
 
 def equal_operands(count):
-    """The slowest found: types of one label in many sets, whose contents name, after many other operands, a type of many labels as
+    """Types of one label in many sets, whose contents name, after many other operands, a type of many labels as
     often as they can. Each time each of its labels is looked for among the operands kept."""
     others = [list(marks) + [1] for n in (1, 2, 3, 4, 5) for marks in itertools.product([5, 6, 7], repeat=n)][:170]
     named = lambda k: [[2, 0]] + [[2, i] for i in range(k + 1, count)]

@@ -1,6 +1,7 @@
--- The types of a node, rule by rule: what the code asks of a rule is what the table says of it (`rule-fits-is`), and a set that has the
--- types of the first rules has, with the next rule's if it fits, those of one rule more (`types-step`).
-use Prim.Native.Nat.{ℕ, zero, suc, _+_, _-_, _*_, _/_, _≤_, _<_}
+-- The types of a node, rule by rule. A rule is named as the node exactly if its label is the place of the node's name (`named-by-place`), so
+-- what the code asks of a rule is what the table says of it (`asked-is`, `not-asked`). A set that has the types of the first rules has, with
+-- the next rule's if it fits, those of one rule more (`types-step`).
+use Prim.Native.Nat.{ℕ, zero, suc, _+_, _/_, _≤_, _<_}
 use native.Mathlib.Omega.{arith}
 use native.Mathlib.Numerals.{add-one}
 use mathlib.Core.Bool.{Bool, true, false, _&&_, _||_, or-comm, or-false, or-assoc}
@@ -8,9 +9,11 @@ use mathlib.Core.List.{List, [], _∷_, _++_, map, append-nil}
 use mathlib.Core.Option.{none as nothing, some as just}
 use mathlib.Core.Path.{_≡_, refl, sym, _∙_, ap, ap₂, subst, fun-ext}
 use lib.Dec.{eqb}
-use lib.ListN.{length, getElem?, take, drop}
-use lib.Seq.{take-all}
-use Rattle.grammar.specs.Lists.{any, keep, isIn}
+use lib.ListN.{length, getD, set, getElem?, take}
+use lib.Seq.{take-all, getD-set-same, getD-set-other}
+use borrow.Author.Count.{below-more}
+use borrow.Author.Tests.{eqb-true, eq-eqb, ne-eqb}
+use Rattle.grammar.specs.Lists.{any, keep, isIn, allDistinct, place}
 use Rattle.grammar.specs.Limits.{Limits, standard}
 use Rattle.grammar.specs.Names.{Name, sameName}
 use Rattle.grammar.specs.Content.{Content}
@@ -21,15 +24,18 @@ use Rattle.grammar.specs.WithinLimits.{RuleWithin}
 use Rattle.sets.specs.Sets as sets
 use Rattle.sets.specs.Sets.{member, putAt, add}
 use Rattle.sets.proofs.SetLaws.{member-put, length-put, member-words}
-use Rattle.theory.proofs.ListLaws.{at-mem, keep-yes, keep-no}
+use Rattle.theory.proofs.BoolLaws.{same-test}
+use Rattle.theory.proofs.ListLaws.{any-of, at-mem, below-at, differ-at, just-eq, keep-yes, keep-no, place-found}
+use Rattle.theory.proofs.NameLaws.{name-sym, name-trans}
 use Rattle.theory.proofs.MarkedRun.{run, holds}
 use Rattle.reader.specs.ExprAt.{_upTo_, exprAt}
-use Rattle.reader.specs.TableIndex.{part, labelFrom, labelTo, startType, ruleType, ruleLabel, contentFrom, contentTo, RuleAt, Stands, Inside}
+use Rattle.reader.specs.TableIndex.{part, startType, ruleType, ruleLabel, contentFrom, contentTo, RuleAt, Stands}
 use Rattle.reader.specs.declared.tables.TableIndex.{TableIndex}
 use Rattle.reader.proofs.ExprLaws.{expr-of}
-use Rattle.reader.proofs.TableIndexLaws.{label-at, start-at, rule-at}
+use Rattle.reader.proofs.LabelSearch.{place-some}
+use Rattle.reader.proofs.TableIndexLaws.{start-at, rule-at}
 use Rattle.walks.specs.TypeSets.{setAt}
-use Rattle.walks.specs.WalkAt.{runAt, ProperAt, WholeAt}
+use Rattle.walks.specs.WalkAt.{runAt, WholeAt}
 use Rattle.validator.specs.KnownTable.{Known, ruleFits, typesFor, WithIf}
 use Rattle.walks.proofs.WalkLaws.{run-at}
 
@@ -48,6 +54,28 @@ module _ (s : List ℕ) (c : Content) (are : s ≡ contentBytes c) where
   pub content-run : (tests : List (ℕ → Bool)) → runAt s tests ≡ run c tests
   content-run tests = run-at s c (0 + length (contentBytes c)) tests content-stands
 
+-- where labels differ, a name has just the label at its place
+named-by-place : (g : Table) → allDistinct sameName (g .labels) ≡ true → (l : ℕ) (n : Name) → l < length (g .labels)
+    → isNamed g l n ≡ eqb l (place sameName n (g .labels))
+unfolding isNamed
+named-by-place g differ l n below =
+    let (m, at) = below-at (g .labels) l below in
+    let named : isNamed g l n ≡ sameName m n = rw (at, isNamed) in
+    named
+    ∙ same-test (sameName m n) (eqb l (place sameName n (g .labels))) (
+      λ e.
+          let (y, there, same) =
+          place-found sameName n (g .labels) (any-of (sameName n) (at-mem (g .labels) l at) (name-sym m n e)) in
+          eq-eqb l (place sameName n (g .labels))
+          (differ-at sameName name-sym (g .labels) l (place sameName n (g .labels)) m y differ at there (name-trans m n y e same)),
+      λ e.
+          let p = eqb-true l (place sameName n (g .labels)) e in
+          let (y, there, same) =
+          place-found sameName n (g .labels) (place-some sameName n (g .labels) (subst (λ (k : ℕ). k < length (g .labels)) p below)) in
+          name-sym n m (subst (λ (z : Name). sameName n z ≡ true)
+          (just-eq (sym at ∙ subst (λ (k : ℕ). getElem? (g .labels) k ≡ just y) (sym p) there)) same),
+    )
+
 -- A rule of a table that is known.
 module _ {s : List ℕ} {index : TableIndex} {g : Table} (known : Known s index g) (i : ℕ) (below : i < index .rules) where
   pub known-rule : (r : Rule) × (getElem? (g .rules) i ≡ just r) × RuleAt s index i r
@@ -60,17 +88,6 @@ module _ {s : List ℕ} {index : TableIndex} {g : Table} (known : Known s index 
   unfolding standard
   rule-type-small = let h = rule-within .type in let e = known-rule .2 .type in omega arith
 
-  pub rule-label-small : ruleLabel index i < index .labels
-  rule-label-small =
-      let h = rule-within .label in
-      let e = known-rule .2 .label in
-      let l = known .indexes .labels in
-      omega arith
-
-  pub rule-label-at : (n : Name) × (getElem? (g .labels) (ruleLabel index i) ≡ just n)
-      × Stands s (labelFrom index (ruleLabel index i)) (labelTo index (ruleLabel index i)) n
-  rule-label-at = label-at (known .indexes) (ruleLabel index i) rule-label-small
-
   pub rule-content : Stands s (contentFrom index i) (contentTo index i) (contentBytes (known-rule .0 .content))
   rule-content = known-rule .2 .content
 
@@ -81,39 +98,36 @@ module _ {s : List ℕ} {index : TableIndex} {g : Table} (known : Known s index 
   unfolding standard
   rule-size = let h = rule-within .content .size in let e = ap length (rule-content .bytes-are) in omega arith
 
-  label-named : (n : Name)
-      → sameName (part s (labelFrom index (ruleLabel index i)) (labelTo index (ruleLabel index i))) n ≡ isNamed g (known-rule .0 .label) n
-  unfolding isNamed
-  label-named n =
-      let named : getElem? (g .labels) (known-rule .0 .label) ≡ just (rule-label-at .0) =
-      ap (getElem? (g .labels)) (sym (known-rule .2 .label)) ∙ rule-label-at .1 in
-      ap (λ (m : Name). sameName m n) (rule-label-at .2 .bytes-are) ∙ sym (rw (named, isNamed))
+  rule-named : (n : Name) → isNamed g (known-rule .0 .label) n ≡ eqb (ruleLabel index i) (place sameName n (g .labels))
+  rule-named n =
+      named-by-place g (known .within .labels-differ) (known-rule .0 .label) n (rule-within .label)
+      ∙ ap (λ (l : ℕ). eqb l (place sameName n (g .labels))) (sym (known-rule .2 .label))
 
-  pub rule-fits-is : (n : Name) (tests : List (ℕ → Bool))
-      → (sameName (part s (labelFrom index (ruleLabel index i)) (labelTo index (ruleLabel index i))) n
-      && runAt (part s (contentFrom index i) (contentTo index i)) tests)
-      ≡ ruleFits g n tests (known-rule .0)
-  unfolding ruleFits
-  rule-fits-is n tests =
-      ap₂ _&&_ (label-named n) (content-run _ (known-rule .0 .content) (rule-content .bytes-are) tests)
+  -- at a node whose name has this label, the rule's content is asked if the rule has the label too
+  module _ (n : Name) (tests : List (ℕ → Bool)) (label : ℕ) (e : label ≡ place sameName n (g .labels)) where
+    rule-fits-is : ruleFits g n tests (known-rule .0)
+        ≡ (eqb (ruleLabel index i) label && runAt (part s (contentFrom index i) (contentTo index i)) tests)
+    unfolding ruleFits
+    rule-fits-is =
+        ap₂ _&&_ (rule-named n ∙ ap (eqb (ruleLabel index i)) (sym e))
+        (sym (content-run _ (known-rule .0 .content) (rule-content .bytes-are) tests))
 
-  -- the same, where the label's number was read before
-  module _ (label : ℕ) (e : label ≡ ruleLabel index i) where
-    pub label-small : label < 64
-    label-small = let h = rule-label-small in let f = known .indexes .few-labels in omega arith
+    pub asked-is : ruleLabel index i ≡ label
+        → runAt (part s (contentFrom index i) (contentTo index i)) tests ≡ ruleFits g n tests (known-rule .0)
+    asked-is h =
+        sym (rule-fits-is ∙ ap (λ (b : Bool). b && runAt (part s (contentFrom index i) (contentTo index i)) tests) (eq-eqb (ruleLabel index i) label h))
 
-    pub label-inside : Inside s (labelFrom index label) (labelTo index label)
-    label-inside = subst (λ (l : ℕ). Inside s (labelFrom index l) (labelTo index l)) (sym e) (rule-label-at .2 .inside)
+    pub not-asked : (ruleLabel index i ≡ label → ⊥) → false ≡ ruleFits g n tests (known-rule .0)
+    not-asked h =
+        sym (rule-fits-is ∙ ap (λ (b : Bool). b && runAt (part s (contentFrom index i) (contentTo index i)) tests) (ne-eqb (ruleLabel index i) label h))
 
-    pub asked-is : (n : Name) (tests : List (ℕ → Bool))
-        → (sameName (part s (labelFrom index label) (labelTo index label)) n
-        && runAt (part s (contentFrom index i) (contentTo index i)) tests)
-        ≡ ruleFits g n tests (known-rule .0)
-    asked-is n tests =
-        ap (λ (l : ℕ).
-        sameName (part s (labelFrom index l) (labelTo index l)) n && runAt (part s (contentFrom index i) (contentTo index i)) tests)
-        e
-        ∙ rule-fits-is n tests
+-- flags that are right for the first numbers, and one more
+pub flags-more : (flags : List Bool) (i : ℕ) (flag : Bool) (right : ℕ → Bool) → i < length flags
+    → ((k : ℕ) → k < i → getD flags k false ≡ right k) → flag ≡ right i → (k : ℕ) → k < i + 1 → getD (set flags i flag) k false ≡ right k
+flags-more flags i flag right inside so e =
+    below-more (λ k. getD (set flags i flag) k false ≡ right k) i
+    (λ k h. getD-set-other flags i k flag false (λ q. omega arith) ∙ so k h)
+    (getD-set-same flags i flag false inside ∙ e)
 
 -- Rules one after the other.
 take-more : {A : Type 0} (xs : List A) (i : ℕ) (x : A) → getElem? xs i ≡ just x → take (i + 1) xs ≡ take i xs ++ (x ∷ [])

@@ -16,6 +16,16 @@ use Rattle.reader.proofs.DocumentTrees.{treeCount, Enough}
 use Rattle.validator.specs.KnownTable.{Known}
 use Rattle.walks.specs.TypeSets.{setAt}
 
+-- the index of so many nodes in arrays
+abbrev pub indexOf : (names sizes children : List ℕ) → ℕ → DocumentIndex
+indexOf names sizes children nodes = record { names = names; sizes = sizes; children = children; nodes = nodes }
+
+-- arrays with room for as many nodes as a document may have
+pub record NodeRoom (names sizes children : List ℕ) : Type 0 where
+  pub for-names : 1024 ≤ length names
+  pub for-sizes : 1024 ≤ length sizes
+  pub for-children : 1024 ≤ length children
+
 -- the nodes are one whole tree
 pub record KnownNodes (d : List ℕ) (nodes : DocumentIndex) : Type 0 where
   pub indexed : Indexed d (nodes .names) (nodes .sizes) (nodes .children) (nodes .nodes)

@@ -1,19 +1,20 @@
 -- A table that was read, known by where its labels, starts and rules stand; and what it says of a node whose children are known.
-use Prim.Native.Nat.{ℕ}
+use Prim.Native.Nat.{ℕ, _≤_, _<_}
 use mathlib.Core.Bool.{Bool, true, false, _&&_}
-use mathlib.Core.List.{List, map}
+use mathlib.Core.List.{List, [], map}
 use mathlib.Core.Path.{_≡_}
-use lib.ListN.{length}
-use Rattle.grammar.specs.Lists.{keep}
+use lib.ListN.{length, getD}
+use Rattle.grammar.specs.Lists.{keep, place}
 use Rattle.grammar.specs.Limits.{standard}
-use Rattle.grammar.specs.Names.{Name, asciiClasses}
+use Rattle.grammar.specs.Names.{Name, asciiClasses, sameName}
 use Rattle.grammar.specs.Table.{Rule, Table}
 use Rattle.grammar.specs.Membership.{isNamed}
 use Rattle.grammar.specs.WithinLimits.{TableWithin}
 use Rattle.sets.specs.Sets.{member, add}
 use Rattle.theory.proofs.MarkedRun.{run, holds}
-use Rattle.reader.specs.TableIndex.{Indexes}
+use Rattle.reader.specs.TableIndex.{part, Indexes}
 use Rattle.reader.specs.declared.tables.TableIndex.{TableIndex}
+use Rattle.walks.specs.WalkAt.{runAt}
 
 pub record Known (s : List ℕ) (index : TableIndex) (g : Table) : Type 0 where
   pub indexes : Indexes s index g
@@ -23,6 +24,38 @@ pub record Known (s : List ℕ) (index : TableIndex) (g : Table) : Type 0 where
 pub record SomeTable (s : List ℕ) (index : TableIndex) : Type 0 where
   pub table : Table
   pub known : Known s index table
+
+-- for each rule, whether its content matches no children
+pub record NullableAre (s from to : List ℕ) (rules : ℕ) (nullable : List Bool) : Type 0 where
+  pub each : (i : ℕ) → i < rules → getD nullable i false ≡ runAt (part s (getD from i 0) (getD to i 0)) []
+  pub room : rules ≤ length nullable
+
+-- an index, with these arrays for its rules
+abbrev pub withRules : TableIndex → (ruleTypes ruleLabels from to : List ℕ) → ℕ → TableIndex
+withRules index ruleTypes ruleLabels from to rules =
+    record {
+      «label_from» = index .«label_from»;
+      «label_to» = index .«label_to»;
+      labels = index .labels;
+      «start_type» = index .«start_type»;
+      starts = index .starts;
+      «rule_type» = ruleTypes;
+      «rule_label» = ruleLabels;
+      «content_from» = from;
+      «content_to» = to;
+      rules = rules;
+    }
+
+-- the arrays are those of the rules of a table that is known, and tell which contents match no children
+pub record RulesAt (s ruleTypes ruleLabels from to : List ℕ) (nullable : List Bool) (rules : ℕ) (g : Table) : Type 0 where
+  pub index : TableIndex
+  pub known : Known s (withRules index ruleTypes ruleLabels from to rules) g
+  pub nullables : NullableAre s from to rules nullable
+
+-- of some table
+pub record SomeRules (s ruleTypes ruleLabels from to : List ℕ) (nullable : List Bool) (rules : ℕ) : Type 0 where
+  pub table : Table
+  pub at : RulesAt s ruleTypes ruleLabels from to nullable rules table
 
 -- the rule fits a node of this name, with children that are given by tests of types
 unfoldable pub ruleFits : Table → Name → List (ℕ → Bool) → Rule → Bool
@@ -39,7 +72,9 @@ pub record WithIf (old : List ℕ) (flag : Bool) (k : ℕ) (new : List ℕ) : Ty
   pub members : member new 0 ≡ elim flag as (λ f. ℕ → Bool) [ true ↦ add k (member old 0) | false ↦ member old 0 ]
   pub size : length new ≡ 4
 
--- a set of four words has the types of the rules that fit, whatever table is known
-pub record TypesAre (s : List ℕ) (index : TableIndex) (n : Name) (tests : List (ℕ → Bool)) (set : List ℕ) : Type 0 where
-  pub types : (g : Table) → Known s index g → member set 0 ≡ holds (typesFor g n tests (g .rules))
+-- a set of four words has the types of the rules that fit a node, the place of whose name among the labels is `label`, whatever table the rules
+-- are of
+pub record TypesAre (s ruleTypes ruleLabels from to : List ℕ) (nullable : List Bool) (rules label : ℕ) (tests : List (ℕ → Bool)) (set : List ℕ) : Type 0 where
+  pub types : (g : Table) → RulesAt s ruleTypes ruleLabels from to nullable rules g → (n : Name) → label ≡ place sameName n (g .labels)
+      → member set 0 ≡ holds (typesFor g n tests (g .rules))
   pub size : length set ≡ 4

@@ -8,7 +8,7 @@ use kinds::kinds::local_table;
 use kinds::kinds::single_type_table;
 use reader::calls::clear;
 use reader::calls::clear_work;
-use reader::documents::read_document;
+use reader::documents::read_nodes;
 use reader::limits::WORDS;
 use reader::tables::read_table;
 ghost use mathlib.Core.Path.{_≡_};
@@ -42,14 +42,26 @@ fn read_and_decide(table: &[u8], document: &[u8], words: &mut [u32]) -> Verdict
     if let Reading::Refused(r) = readable {
         return Verdict::Refused(r);
     }
-    let found = read_document(document);
+    let mut names = [0usize; 1024];
+    let mut sizes = [0usize; 1024];
+    let mut children = [0usize; 1024];
+    let found = read_nodes(document, &mut names, &mut sizes, &mut children);
     let complete = found.answer;
     if let Reading::Refused(r) = complete {
         return Verdict::Refused(r);
     }
     let index = known.index;
-    let nodes = found.index;
-    yes_or_no(lets_in_read(table, index, document, nodes, words))
+    let nodes = found.nodes;
+    yes_or_no(lets_in_read(
+        table,
+        index,
+        document,
+        &names,
+        &sizes,
+        &children,
+        nodes,
+        words,
+    ))
 }
 
 // The same, and the words are zero after it.

@@ -2,20 +2,18 @@
 //
 // The nodes are gone through from the last to the first, with a stack of type sets in the lent words: a node takes the sets of its
 // children from the top, in order, and leaves its own.
-use reader::documents::DocumentIndex;
-use reader::names::same_name;
+use reader::labels::name_place;
 use reader::numbers::wide;
 use reader::tables::TableIndex;
 use sets::four::Set4;
 use sets::words::has;
 use sets::words::store;
 use walks::matching::matches;
-ghost use mathlib.Core.Bool.{_&&_};
+ghost use mathlib.Core.List.{[]};
 ghost use mathlib.Core.Path.{_≡_};
 ghost use Prim.Native.Nat.{_+_, _*_, _<_, _≤_};
 ghost use lib.ListN.{length};
 ghost use Rattle.grammar.specs.Limits.{standard};
-ghost use Rattle.grammar.specs.Names.{sameName};
 ghost use Rattle.grammar.specs.Lists.{any};
 ghost use Rattle.grammar.specs.Membership.{letsIn};
 ghost use Rattle.grammar.specs.Outcome.{given};
@@ -24,27 +22,42 @@ ghost use Rattle.grammar.specs.Table.{Table};
 ghost use Rattle.grammar.specs.Tree.{Tree};
 ghost use Rattle.reader.specs.DocumentNodes.{nodesIn};
 ghost use Rattle.walks.specs.TypeSets.{setAt, testsAt};
-ghost use Rattle.validator.specs.KnownDocument.{KnownNodes, RootTypes};
-ghost use Rattle.validator.specs.KnownTable.{Known, SomeTable, WithIf, TypesAre};
+ghost use Rattle.validator.specs.KnownDocument.{indexOf, NodeRoom, KnownNodes, RootTypes};
+ghost use Rattle.validator.specs.KnownTable.{Known, SomeTable, NullableAre, SomeRules, WithIf, TypesAre};
 ghost use Rattle.walks.specs.WalkAt.{runAt, WholeAt, Room};
 
-// Whether a rule with this label and this content fits a node of this name, whose children's sets stand from `top` on.
-fn rule_fits(
-    label: &[u8],
+// Whether the content of each rule matches no children.
+fn nullable_contents(table: &[u8], index: TableIndex, marks: &mut [u8], words: &[u32]) -> [bool; 64]
+    requires { ⌜ (SomeTable (now table) index) × (1024 ≤ length (now marks)) × (4 ≤ length (now words)) ⌝ }
+    ensures { λ r. ⌜ NullableAre (now (table .entry)) (index .«content_from») (index .«content_to») (index .rules) r ⌝ }
+{
+    let mut nullable = [false; 64];
+    let mut rule: usize = 0;
+    while rule < index.rules {
+        let from = index.content_from[rule];
+        let to = index.content_to[rule];
+        nullable[rule] = matches(&table[from..to], marks, words, 0, 0);
+        rule += 1;
+    }
+    nullable
+}
+
+// Whether a content matches the children whose sets stand from `top` on; `nullable` says whether it matches none.
+fn content_fits(
     content: &[u8],
-    name: &[u8],
+    nullable: bool,
     marks: &mut [u8],
     words: &[u32],
     top: usize,
     count: usize,
 ) -> bool
-    requires { ⌜ (WholeAt standard (now content)) × (Room (now content) (now marks) (now words) 0) × (top + 4 * count ≤ length (now words)) ⌝ }
-    ensures { λ r. ⌜ r ≡ (sameName (now (label .entry)) (now (name .entry)) && runAt (now (content .entry)) (testsAt (now (words .entry)) top count)) ⌝ }
+    requires { ⌜ (WholeAt standard (now content)) × (Room (now content) (now marks) (now words) 0) × (top + 4 * count ≤ length (now words)) × (nullable ≡ runAt (now content) []) ⌝ }
+    ensures { λ r. ⌜ r ≡ runAt (now (content .entry)) (testsAt (now (words .entry)) top count) ⌝ }
 {
-    if same_name(label, name) {
-        return matches(content, marks, words, top, count);
+    if count == 0 {
+        return nullable;
     }
-    false
+    matches(content, marks, words, top, count)
 }
 
 // The set, with one more type if the rule fits.
@@ -58,38 +71,36 @@ fn with_if(types: Set4, fits: bool, k: usize) -> Set4
     types
 }
 
-// The types of the rules that fit a node of this name, whose children's sets stand from `top` on.
+// The types of the rules of a label that fit a node whose children's sets stand from `top` on.
 fn types_of(
     table: &[u8],
-    index: TableIndex,
-    name: &[u8],
+    rule_type: &[u8],
+    rule_label: &[u8],
+    content_from: &[usize],
+    content_to: &[usize],
+    nullable: &[bool],
+    rules: usize,
+    label: usize,
     marks: &mut [u8],
     words: &[u32],
     top: usize,
     count: usize,
 ) -> Set4
-    requires { ⌜ (SomeTable (now table) index) × (1024 ≤ length (now marks)) × (4 ≤ length (now words)) × (top + 4 * count ≤ length (now words)) ⌝ }
-    ensures { λ r. ⌜ TypesAre (now (table .entry)) index (now (name .entry)) (testsAt (now (words .entry)) top count) (r .words) ⌝ }
+    requires { ⌜ (SomeRules (now table) (now «rule_type») (now «rule_label») (now «content_from») (now «content_to») (now nullable) rules)
+        × (1024 ≤ length (now marks)) × (4 ≤ length (now words)) × (top + 4 * count ≤ length (now words)) ⌝ }
+    ensures { λ r. ⌜ TypesAre (now (table .entry)) (now («rule_type» .entry)) (now («rule_label» .entry)) (now («content_from» .entry)) (now («content_to» .entry))
+        (now (nullable .entry)) rules label (testsAt (now (words .entry)) top count) (r .words) ⌝ }
 {
     let mut types = Set4::empty();
     let mut i: usize = 0;
-    while i < index.rules {
-        let label = wide(index.rule_label[i]);
-        let label_from = index.label_from[label];
-        let label_to = index.label_to[label];
-        let from = index.content_from[i];
-        let to = index.content_to[i];
-        let fits = rule_fits(
-            &table[label_from..label_to],
-            &table[from..to],
-            name,
-            marks,
-            words,
-            top,
-            count,
-        );
-        let more = with_if(types, fits, wide(index.rule_type[i]));
-        types = more;
+    while i < rules {
+        if wide(rule_label[i]) == label {
+            let from = content_from[i];
+            let to = content_to[i];
+            let fits = content_fits(&table[from..to], nullable[i], marks, words, top, count);
+            let more = with_if(types, fits, wide(rule_type[i]));
+            types = more;
+        }
         i += 1;
     }
     types
@@ -100,21 +111,49 @@ fn root_types(
     table: &[u8],
     index: TableIndex,
     document: &[u8],
-    nodes: DocumentIndex,
+    names: &[usize],
+    sizes: &[usize],
+    children: &[usize],
+    nodes: usize,
     marks: &mut [u8],
     words: &mut [u32],
 ) -> usize
-    requires { ⌜ (SomeTable (now table) index) × (KnownNodes (now document) nodes) × (1024 ≤ length (now marks)) × (4096 ≤ length (now words)) ⌝ }
-    ensures { λ r. ⌜ RootTypes (now (table .entry)) index (now (document .entry)) nodes (now (words .exit)) r ⌝ }
+    requires { ⌜ (SomeTable (now table) index) × (KnownNodes (now document) (indexOf (now names) (now sizes) (now children) nodes))
+        × (NodeRoom (now names) (now sizes) (now children)) × (1024 ≤ length (now marks)) × (4096 ≤ length (now words)) ⌝ }
+    ensures { λ r. ⌜ RootTypes (now (table .entry)) index (now (document .entry))
+        (indexOf (now (names .entry)) (now (sizes .entry)) (now (children .entry)) nodes) (now (words .exit)) r ⌝ }
 {
-    let mut i = nodes.nodes;
-    let mut top = 4 * nodes.nodes;
+    let nullable = nullable_contents(table, index, marks, words);
+    let label_from = index.label_from;
+    let label_to = index.label_to;
+    let rule_type = index.rule_type;
+    let rule_label = index.rule_label;
+    let content_from = index.content_from;
+    let content_to = index.content_to;
+    let labels = index.labels;
+    let rules = index.rules;
+    let mut i = nodes;
+    let mut top = 4 * nodes;
     while 0 < i {
         let at = i - 1;
-        let from = nodes.names[at];
-        let to = from + nodes.sizes[at];
-        let count = nodes.children[at];
-        let types = types_of(table, index, &document[from..to], marks, words, top, count);
+        let from = names[at];
+        let to = from + sizes[at];
+        let count = children[at];
+        let label = name_place(&document[from..to], table, &label_from, &label_to, labels);
+        let types = types_of(
+            table,
+            &rule_type,
+            &rule_label,
+            &content_from,
+            &content_to,
+            &nullable,
+            rules,
+            label,
+            marks,
+            words,
+            top,
+            count,
+        );
         top = top + 4 * count - 4;
         store(words, top, types);
         i = at;
@@ -142,14 +181,29 @@ pub fn lets_in_read(
     table: &[u8],
     index: TableIndex,
     document: &[u8],
-    nodes: DocumentIndex,
+    names: &[usize],
+    sizes: &[usize],
+    children: &[usize],
+    nodes: usize,
     words: &mut [u32],
 ) -> bool
-    requires { ⌜ (SomeTable (now table) index) × (KnownNodes (now document) nodes) × (4096 ≤ length (now words)) ⌝ }
-    ensures { λ r. ⌜ ((g : Table) → Known (now (table .entry)) index g → (t : Tree) → treeOf (nodesIn (now (document .entry)) nodes) ≡ given t
+    requires { ⌜ (SomeTable (now table) index) × (KnownNodes (now document) (indexOf (now names) (now sizes) (now children) nodes))
+        × (NodeRoom (now names) (now sizes) (now children)) × (4096 ≤ length (now words)) ⌝ }
+    ensures { λ r. ⌜ ((g : Table) → Known (now (table .entry)) index g → (t : Tree)
+        → treeOf (nodesIn (now (document .entry)) (indexOf (now (names .entry)) (now (sizes .entry)) (now (children .entry)) nodes)) ≡ given t
         → r ≡ letsIn g t) ⌝ }
 {
     let mut marks = [0u8; 1024];
-    let at = root_types(table, index, document, nodes, &mut marks, words);
+    let at = root_types(
+        table,
+        index,
+        document,
+        names,
+        sizes,
+        children,
+        nodes,
+        &mut marks,
+        words,
+    );
     some_start(table, index, words, at)
 }

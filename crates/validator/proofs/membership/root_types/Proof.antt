@@ -7,22 +7,28 @@ use lib.ListN.{length, getD, take, drop}
 use borrow.Author.Needs.{needs}
 use Rattle.grammar.specs.Table.{Table}
 use Rattle.reader.specs.DocumentNodes.{nodesIn}
+use Rattle.reader.specs.NamePlaces.{NamesAt}
+use Rattle.reader.proofs.LabelSearch.{index-names}
 use Rattle.reader.proofs.DocumentTrees.{treeCount}
-use Rattle.validator.specs.KnownTable.{Known}
+use Rattle.validator.specs.KnownDocument.{indexOf}
+use Rattle.validator.specs.KnownTable.{RulesAt}
 use Rattle.validator.proofs.StackLaws as laws
 use Rattle.validator.proofs.membership.root_types.Statement.{statement}
 use Rattle.validator.proofs.membership.root_types.Tie as tie
 
 abbrev Inv-loop : tie.InvT-loop
-Inv-loop table index document marks₀ words₀ nodes i₀ top₀ marks words i top =
-    (i ≤ nodes .nodes)
+Inv-loop table document names sizes children nodes marks₀ words₀ nullable label-from label-to rule-type rule-label content-from content-to labels rules i₀ top₀ marks words i top =
+    (i ≤ nodes)
     × (length marks ≡ length marks₀)
     × (length words ≡ length words₀)
-    × (top + 4 * treeCount (drop i (nodesIn document nodes)) ≡ 4 * nodes .nodes)
-    × ((g : Table) → Known table index g → laws.Stacked g (drop i (nodesIn document nodes)) words top)
+    × (top + 4 * treeCount (drop i (nodesIn document (indexOf names sizes children nodes))) ≡ 4 * nodes)
+    × ((g : Table) → NamesAt table label-from label-to labels (g .labels)
+    → RulesAt table rule-type rule-label content-from content-to nullable rules g
+    → laws.Stacked g (drop i (nodesIn document (indexOf names sizes children nodes))) words top)
 
 abbrev μ-loop : tie.MeasureT-loop
-μ-loop table index document marks₀ words₀ nodes i₀ top₀ marks words i top = i
+μ-loop table document names sizes children nodes marks₀ words₀ nullable label-from label-to rule-type rule-label content-from content-to labels rules i₀ top₀ marks words i top =
+    i
 
 -- the node before a place, and its name
 inside : (i n : ℕ) → i ≤ n → 0 < i → i - 1 < n
@@ -33,105 +39,159 @@ same-size d from size =
     let e : from + size - from ≡ size = omega arith in
     ap (λ (n : ℕ). take n (drop from d)) e
 
+nullable-contents-requires : tie.Need-nullable-contents-requires Inv-loop μ-loop
+nullable-contents-requires c κs =
+    let pre = c .before .before .before .before .before .before .before .before .before .pre in
+    (pre .0, pre .3, omega arith)
+
 mul-top : tie.Need-mul-top Inv-loop μ-loop
 mul-top c =
-    omega (arith, c .before .before .before .before .pre .1 .indexed .few)
+    omega (arith, c .before .before .before .before .before .before .before .before .before .before .before .before .before .before .before .before .before .before .pre .1 .indexed .few)
 
 loop-holds : tie.Need-loop-holds Inv-loop μ-loop
 loop-holds c =
-    let d = c .before .before .before .before .args .document .now in
-    let nodes = c .before .before .before .before .args .t4 in
-    let known = c .before .before .before .before .pre .1 in
+    let a = c .before .before .before .before .before .before .before .before .before .before .before .before .before .before .before .before .before .before .args in
+    let d = a .document .now in
+    let nodes = indexOf (a .names .now) (a .sizes .now) (a .children .now) (a .nodes) in
+    let known = c .before .before .before .before .before .before .before .before .before .before .before .before .before .before .before .before .before .before .pre .1 in
     let few = known .indexed .few in
-    let none = laws.none-count d nodes in
-    (omega arith, refl, refl, omega arith, λ g k. laws.none-stacked d nodes g (c .before .before .before .before .args .words .now) (4 * nodes .nodes))
+    let none = laws.none-count d nodes in (
+      omega arith,
+      refl,
+      refl,
+      omega arith,
+      λ g named rules. laws.none-stacked d nodes g (a .words .now) (4 * a .nodes),
+    )
 
 mul-from : tie.Need-mul-from Inv-loop μ-loop
 mul-from c =
-    let few = c .before .before .before .before .before .before .pre .1 .indexed .few in
+    let few = c .before .before .before .before .before .before .before .before .before .before .before .before .before .before .before .before .before .before .before .before .pre .1 .indexed .few in
     let inv = c .before .loop .inv .0 in
     let some = c .loop-test .taken in
     omega arith
 
-element-copy-out-from : tie.Need-element-copy-out-from Inv-loop μ-loop
-element-copy-out-from c =
-    let few = c .before .before .before .before .before .before .pre .1 .indexed .few in
-    let inv = c .before .loop .inv .0 in
-    let some = c .loop-test .taken in
+shared-slice-read-from : tie.Need-shared-slice-read-from Inv-loop μ-loop
+shared-slice-read-from c =
+    let few = c .before .before .before .before .before .before .before .before .before .before .before .before .before .before .before .before .before .before .before .before .before .pre .1 .indexed .few in
+    let room = c .before .before .before .before .before .before .before .before .before .before .before .before .before .before .before .before .before .before .before .before .before .pre .2 .for-names in
+    let inv = c .before .before .loop .inv .0 in
+    let some = c .before .loop-test .taken in
     omega arith
 
 mul-to : tie.Need-mul-to Inv-loop μ-loop
 mul-to c =
-    let few = c .before .before .before .before .before .before .before .pre .1 .indexed .few in
+    let few = c .before .before .before .before .before .before .before .before .before .before .before .before .before .before .before .before .before .before .before .before .before .pre .1 .indexed .few in
     let inv = c .before .before .loop .inv .0 in
     let some = c .before .loop-test .taken in
     omega arith
 
-element-copy-out-to : tie.Need-element-copy-out-to Inv-loop μ-loop
-element-copy-out-to c =
-    let few = c .before .before .before .before .before .before .before .pre .1 .indexed .few in
-    let inv = c .before .before .loop .inv .0 in
-    let some = c .before .loop-test .taken in
-    omega arith
-
-mul-count : tie.Need-mul-count Inv-loop μ-loop
-mul-count c =
-    let few = c .before .before .before .before .before .before .before .before .pre .1 .indexed .few in
-    let inv = c .before .before .before .loop .inv .0 in
-    let some = c .before .before .loop-test .taken in
-    omega arith
-
-element-copy-out-count : tie.Need-element-copy-out-count Inv-loop μ-loop
-element-copy-out-count c =
-    let few = c .before .before .before .before .before .before .before .before .pre .1 .indexed .few in
+shared-slice-read-to : tie.Need-shared-slice-read-to Inv-loop μ-loop
+shared-slice-read-to c =
+    let few = c .before .before .before .before .before .before .before .before .before .before .before .before .before .before .before .before .before .before .before .before .before .before .pre .1 .indexed .few in
+    let room = c .before .before .before .before .before .before .before .before .before .before .before .before .before .before .before .before .before .before .before .before .before .before .pre .2 .for-sizes in
     let inv = c .before .before .before .loop .inv .0 in
     let some = c .before .before .loop-test .taken in
     omega arith
 
 add-to : tie.Need-add-to Inv-loop μ-loop
 add-to c =
-    let within = c .before .before .before .before .before .before .before .before .pre .1 .indexed .within (c .before .before .before .loop .i - 1) (inside (c .before .before .before .loop .i) _ (c .before .before .before .loop .inv .0) (c .before .before .loop-test .taken)) in
+    let within = c .before .before .before .before .before .before .before .before .before .before .before .before .before .before .before .before .before .before .before .before .before .before .pre .1 .indexed .within (c .before .before .before .loop .i - 1) (inside (c .before .before .before .loop .i) _ (c .before .before .before .loop .inv .0) (c .before .before .loop-test .taken)) in
     omega arith
 
-sub-types-of : tie.Need-sub-types-of Inv-loop μ-loop
-sub-types-of c =
-    let within = c .before .before .before .before .before .before .before .before .before .pre .1 .indexed .within (c .before .before .before .before .loop .i - 1) (inside (c .before .before .before .before .loop .i) _ (c .before .before .before .before .loop .inv .0) (c .before .before .before .loop-test .taken)) in
+mul-count : tie.Need-mul-count Inv-loop μ-loop
+mul-count c =
+    let few = c .before .before .before .before .before .before .before .before .before .before .before .before .before .before .before .before .before .before .before .before .before .before .pre .1 .indexed .few in
+    let inv = c .before .before .before .loop .inv .0 in
+    let some = c .before .before .loop-test .taken in
     omega arith
 
-part-types-of-start : tie.Need-part-types-of-start Inv-loop μ-loop
-part-types-of-start c =
-    let within = c .before .before .before .before .before .before .before .before .before .pre .1 .indexed .within (c .before .before .before .before .loop .i - 1) (inside (c .before .before .before .before .loop .i) _ (c .before .before .before .before .loop .inv .0) (c .before .before .before .loop-test .taken)) in
+shared-slice-read-count : tie.Need-shared-slice-read-count Inv-loop μ-loop
+shared-slice-read-count c =
+    let few = c .before .before .before .before .before .before .before .before .before .before .before .before .before .before .before .before .before .before .before .before .before .before .before .pre .1 .indexed .few in
+    let room = c .before .before .before .before .before .before .before .before .before .before .before .before .before .before .before .before .before .before .before .before .before .before .before .pre .2 .for-children in
+    let inv = c .before .before .before .before .loop .inv .0 in
+    let some = c .before .before .before .loop-test .taken in
     omega arith
 
-part-types-of-end : tie.Need-part-types-of-end Inv-loop μ-loop
-part-types-of-end c =
-    let within = c .before .before .before .before .before .before .before .before .before .pre .1 .indexed .within (c .before .before .before .before .loop .i - 1) (inside (c .before .before .before .before .loop .i) _ (c .before .before .before .before .loop .inv .0) (c .before .before .before .loop-test .taken)) in
+sub-name-place : tie.Need-sub-name-place Inv-loop μ-loop
+sub-name-place c =
+    let within = c .before .before .before .before .before .before .before .before .before .before .before .before .before .before .before .before .before .before .before .before .before .before .before .pre .1 .indexed .within (c .before .before .before .before .loop .i - 1) (inside (c .before .before .before .before .loop .i) _ (c .before .before .before .before .loop .inv .0) (c .before .before .before .loop-test .taken)) in
     omega arith
+
+part-name-place-start : tie.Need-part-name-place-start Inv-loop μ-loop
+part-name-place-start c =
+    let within = c .before .before .before .before .before .before .before .before .before .before .before .before .before .before .before .before .before .before .before .before .before .before .before .pre .1 .indexed .within (c .before .before .before .before .loop .i - 1) (inside (c .before .before .before .before .loop .i) _ (c .before .before .before .before .loop .inv .0) (c .before .before .before .loop-test .taken)) in
+    omega arith
+
+part-name-place-end : tie.Need-part-name-place-end Inv-loop μ-loop
+part-name-place-end c =
+    let within = c .before .before .before .before .before .before .before .before .before .before .before .before .before .before .before .before .before .before .before .before .before .before .before .pre .1 .indexed .within (c .before .before .before .before .loop .i - 1) (inside (c .before .before .before .before .loop .i) _ (c .before .before .before .before .loop .inv .0) (c .before .before .before .loop-test .taken)) in
+    omega arith
+
+slice-aggregate-name-place : tie.Need-slice-aggregate-name-place Inv-loop μ-loop
+slice-aggregate-name-place c =
+    sym (c .before .before .before .before .before .before .before .before .before .before .before .before .before .before .before .before .before .before .before .before .before .before .before .before .before .pre .0 .known .indexes .rooms .label-from)
+
+slice-aggregate-name-place-2 : tie.Need-slice-aggregate-name-place-2 Inv-loop μ-loop
+slice-aggregate-name-place-2 c =
+    sym (c .before .before .before .before .before .before .before .before .before .before .before .before .before .before .before .before .before .before .before .before .before .before .before .before .before .before .pre .0 .known .indexes .rooms .label-to)
+
+slice-aggregate-types-of : tie.Need-slice-aggregate-types-of Inv-loop μ-loop
+slice-aggregate-types-of c =
+    sym (c .before .before .before .before .before .before .before .before .before .before .before .before .before .before .before .before .before .before .before .before .before .before .before .before .before .before .before .before .pre .0 .known .indexes .rooms .rule-type)
+
+slice-aggregate-types-of-2 : tie.Need-slice-aggregate-types-of-2 Inv-loop μ-loop
+slice-aggregate-types-of-2 c =
+    sym (c .before .before .before .before .before .before .before .before .before .before .before .before .before .before .before .before .before .before .before .before .before .before .before .before .before .before .before .before .before .pre .0 .known .indexes .rooms .rule-label)
+
+slice-aggregate-types-of-3 : tie.Need-slice-aggregate-types-of-3 Inv-loop μ-loop
+slice-aggregate-types-of-3 c =
+    sym (c .before .before .before .before .before .before .before .before .before .before .before .before .before .before .before .before .before .before .before .before .before .before .before .before .before .before .before .before .before .before .pre .0 .known .indexes .rooms .content-from)
+
+slice-aggregate-types-of-4 : tie.Need-slice-aggregate-types-of-4 Inv-loop μ-loop
+slice-aggregate-types-of-4 c =
+    sym (c .before .before .before .before .before .before .before .before .before .before .before .before .before .before .before .before .before .before .before .before .before .before .before .before .before .before .before .before .before .before .before .pre .0 .known .indexes .rooms .content-to)
+
+name-place-requires : tie.Need-name-place-requires Inv-loop μ-loop
+name-place-requires c κs =
+    let table = c .before .before .before .before .before .before .before .before .before .before .before .before .before .before .before .before .before .before .before .before .before .before .before .before .before .before .pre .0 in
+    record { list = table .table .labels; at = index-names (table .known .indexes) }
 
 types-of-requires : tie.Need-types-of-requires Inv-loop μ-loop
 types-of-requires c κs =
-    let d = c .before .before .before .before .before .before .before .before .before .before .before .before .args .document .now in
-    let nodes = c .before .before .before .before .before .before .before .before .before .before .before .before .args .t4 in
-    let known = c .before .before .before .before .before .before .before .before .before .before .before .before .pre .1 in
+    let a = c .before .before .before .before .before .before .before .before .before .before .before .before .before .before .before .before .before .before .before .before .before .before .before .before .before .before .before .before .before .before .before .before .before .before .args in
+    let d = a .document .now in
+    let nodes = indexOf (a .names .now) (a .sizes .now) (a .children .now) (a .nodes) in
+    let known = c .before .before .before .before .before .before .before .before .before .before .before .before .before .before .before .before .before .before .before .before .before .before .before .before .before .before .before .before .before .before .before .before .before .before .pre .1 in
     let few = known .indexed .few in
-    let i = c .before .before .before .before .before .before .before .loop .i in
-    let inv = c .before .before .before .before .before .before .before .loop .inv in
-    let some = c .before .before .before .before .before .before .loop-test .taken in
+    let i = c .before .before .before .before .before .before .before .before .before .before .before .before .before .before .before .loop .i in
+    let inv = c .before .before .before .before .before .before .before .before .before .before .before .before .before .before .before .loop .inv in
+    let some = c .before .before .before .before .before .before .before .before .before .before .before .before .before .before .loop-test .taken in
     let before : i - 1 + 1 ≡ i = omega arith in
     let enough = laws.round-enough d nodes known i (i - 1) before (inv .0) in
     let trees = laws.round-few d nodes known i (i - 1) before (inv .0) in
-    let room = c .before .before .before .before .before .before .before .before .before .before .before .before .pre .3 in
-    (c .before .before .before .before .before .before .before .before .before .before .before .before .pre .0, omega arith, omega arith, omega arith)
+    let room = c .before .before .before .before .before .before .before .before .before .before .before .before .before .before .before .before .before .before .before .before .before .before .before .before .before .before .before .before .before .before .before .before .before .before .pre .4 in
+    let marks = c .before .before .before .before .before .before .before .before .before .before .before .before .before .before .before .before .before .before .before .before .before .before .before .before .before .before .before .before .before .before .before .before .before .before .pre .3 in
+    let table = c .before .before .before .before .before .before .before .before .before .before .before .before .before .before .before .before .before .before .before .before .before .before .before .before .before .before .before .before .before .before .before .before .before .before .pre .0 in (
+      record {
+        table = table .table;
+        at = record { index = a .index; known = table .known; nullables = c .before .before .before .before .before .before .before .before .before .before .before .before .before .before .before .before .before .before .before .before .before .before .before .before .nullable-contents .ensures };
+      },
+      omega arith,
+      omega arith,
+      omega arith,
+    )
 
 mul-top-2 : tie.Need-mul-top-2 Inv-loop μ-loop
 mul-top-2 c =
-    let d = c .before .before .before .before .before .before .before .before .before .before .before .before .before .before .before .args .document .now in
-    let nodes = c .before .before .before .before .before .before .before .before .before .before .before .before .before .before .before .args .t4 in
-    let known = c .before .before .before .before .before .before .before .before .before .before .before .before .before .before .before .pre .1 in
+    let a = c .before .before .before .before .before .before .before .before .before .before .before .before .before .before .before .before .before .before .before .before .before .before .before .before .before .before .before .before .before .before .before .before .before .before .before .before .before .args in
+    let d = a .document .now in
+    let nodes = indexOf (a .names .now) (a .sizes .now) (a .children .now) (a .nodes) in
+    let known = c .before .before .before .before .before .before .before .before .before .before .before .before .before .before .before .before .before .before .before .before .before .before .before .before .before .before .before .before .before .before .before .before .before .before .before .before .before .pre .1 in
     let few = known .indexed .few in
-    let i = c .before .before .before .before .before .before .before .before .before .before .loop .i in
-    let inv = c .before .before .before .before .before .before .before .before .before .before .loop .inv in
-    let some = c .before .before .before .before .before .before .before .before .before .loop-test .taken in
+    let i = c .before .before .before .before .before .before .before .before .before .before .before .before .before .before .before .before .before .before .loop .i in
+    let inv = c .before .before .before .before .before .before .before .before .before .before .before .before .before .before .before .before .before .before .loop .inv in
+    let some = c .before .before .before .before .before .before .before .before .before .before .before .before .before .before .before .before .before .loop-test .taken in
     let before : i - 1 + 1 ≡ i = omega arith in
     let enough = laws.round-enough d nodes known i (i - 1) before (inv .0) in
     let trees = laws.round-few d nodes known i (i - 1) before (inv .0) in
@@ -139,13 +199,14 @@ mul-top-2 c =
 
 add-top : tie.Need-add-top Inv-loop μ-loop
 add-top c =
-    let d = c .before .before .before .before .before .before .before .before .before .before .before .before .before .before .before .args .document .now in
-    let nodes = c .before .before .before .before .before .before .before .before .before .before .before .before .before .before .before .args .t4 in
-    let known = c .before .before .before .before .before .before .before .before .before .before .before .before .before .before .before .pre .1 in
+    let a = c .before .before .before .before .before .before .before .before .before .before .before .before .before .before .before .before .before .before .before .before .before .before .before .before .before .before .before .before .before .before .before .before .before .before .before .before .before .args in
+    let d = a .document .now in
+    let nodes = indexOf (a .names .now) (a .sizes .now) (a .children .now) (a .nodes) in
+    let known = c .before .before .before .before .before .before .before .before .before .before .before .before .before .before .before .before .before .before .before .before .before .before .before .before .before .before .before .before .before .before .before .before .before .before .before .before .before .pre .1 in
     let few = known .indexed .few in
-    let i = c .before .before .before .before .before .before .before .before .before .before .loop .i in
-    let inv = c .before .before .before .before .before .before .before .before .before .before .loop .inv in
-    let some = c .before .before .before .before .before .before .before .before .before .loop-test .taken in
+    let i = c .before .before .before .before .before .before .before .before .before .before .before .before .before .before .before .before .before .before .loop .i in
+    let inv = c .before .before .before .before .before .before .before .before .before .before .before .before .before .before .before .before .before .before .loop .inv in
+    let some = c .before .before .before .before .before .before .before .before .before .before .before .before .before .before .before .before .before .loop-test .taken in
     let before : i - 1 + 1 ≡ i = omega arith in
     let enough = laws.round-enough d nodes known i (i - 1) before (inv .0) in
     let trees = laws.round-few d nodes known i (i - 1) before (inv .0) in
@@ -153,13 +214,14 @@ add-top c =
 
 sub-top : tie.Need-sub-top Inv-loop μ-loop
 sub-top c =
-    let d = c .before .before .before .before .before .before .before .before .before .before .before .before .before .before .before .args .document .now in
-    let nodes = c .before .before .before .before .before .before .before .before .before .before .before .before .before .before .before .args .t4 in
-    let known = c .before .before .before .before .before .before .before .before .before .before .before .before .before .before .before .pre .1 in
+    let a = c .before .before .before .before .before .before .before .before .before .before .before .before .before .before .before .before .before .before .before .before .before .before .before .before .before .before .before .before .before .before .before .before .before .before .before .before .before .args in
+    let d = a .document .now in
+    let nodes = indexOf (a .names .now) (a .sizes .now) (a .children .now) (a .nodes) in
+    let known = c .before .before .before .before .before .before .before .before .before .before .before .before .before .before .before .before .before .before .before .before .before .before .before .before .before .before .before .before .before .before .before .before .before .before .before .before .before .pre .1 in
     let few = known .indexed .few in
-    let i = c .before .before .before .before .before .before .before .before .before .before .loop .i in
-    let inv = c .before .before .before .before .before .before .before .before .before .before .loop .inv in
-    let some = c .before .before .before .before .before .before .before .before .before .loop-test .taken in
+    let i = c .before .before .before .before .before .before .before .before .before .before .before .before .before .before .before .before .before .before .loop .i in
+    let inv = c .before .before .before .before .before .before .before .before .before .before .before .before .before .before .before .before .before .before .loop .inv in
+    let some = c .before .before .before .before .before .before .before .before .before .before .before .before .before .before .before .before .before .loop-test .taken in
     let before : i - 1 + 1 ≡ i = omega arith in
     let enough = laws.round-enough d nodes known i (i - 1) before (inv .0) in
     let trees = laws.round-few d nodes known i (i - 1) before (inv .0) in
@@ -167,76 +229,85 @@ sub-top c =
 
 store-requires : tie.Need-store-requires Inv-loop μ-loop
 store-requires c κs =
-    let d = c .before .before .before .before .before .before .before .before .before .before .before .before .before .before .before .before .args .document .now in
-    let nodes = c .before .before .before .before .before .before .before .before .before .before .before .before .before .before .before .before .args .t4 in
-    let known = c .before .before .before .before .before .before .before .before .before .before .before .before .before .before .before .before .pre .1 in
+    let a = c .before .before .before .before .before .before .before .before .before .before .before .before .before .before .before .before .before .before .before .before .before .before .before .before .before .before .before .before .before .before .before .before .before .before .before .before .before .before .args in
+    let d = a .document .now in
+    let nodes = indexOf (a .names .now) (a .sizes .now) (a .children .now) (a .nodes) in
+    let known = c .before .before .before .before .before .before .before .before .before .before .before .before .before .before .before .before .before .before .before .before .before .before .before .before .before .before .before .before .before .before .before .before .before .before .before .before .before .before .pre .1 in
     let few = known .indexed .few in
-    let i = c .before .before .before .before .before .before .before .before .before .before .before .loop .i in
-    let inv = c .before .before .before .before .before .before .before .before .before .before .before .loop .inv in
-    let some = c .before .before .before .before .before .before .before .before .before .before .loop-test .taken in
+    let i = c .before .before .before .before .before .before .before .before .before .before .before .before .before .before .before .before .before .before .before .loop .i in
+    let inv = c .before .before .before .before .before .before .before .before .before .before .before .before .before .before .before .before .before .before .before .loop .inv in
+    let some = c .before .before .before .before .before .before .before .before .before .before .before .before .before .before .before .before .before .before .loop-test .taken in
     let before : i - 1 + 1 ≡ i = omega arith in
     let enough = laws.round-enough d nodes known i (i - 1) before (inv .0) in
     let trees = laws.round-few d nodes known i (i - 1) before (inv .0) in
-    let room = c .before .before .before .before .before .before .before .before .before .before .before .before .before .before .before .before .pre .3 in
+    let room = c .before .before .before .before .before .before .before .before .before .before .before .before .before .before .before .before .before .before .before .before .before .before .before .before .before .before .before .before .before .before .before .before .before .before .before .before .before .before .pre .4 in
     omega arith
 
 loop-less : tie.Need-loop-less Inv-loop μ-loop
 loop-less c =
-    let some = c .before .before .before .before .before .before .before .before .before .before .before .before .before .loop-test .taken in
+    let some = c .before .before .before .before .before .before .before .before .before .before .before .before .before .before .before .before .before .before .before .before .before .loop-test .taken in
     omega arith
 
 loop-again : tie.Need-loop-again Inv-loop μ-loop
 loop-again c =
-    let d = c .before .before .before .before .before .before .before .before .before .before .before .before .before .before .before .before .before .before .before .args .document .now in
-    let nodes = c .before .before .before .before .before .before .before .before .before .before .before .before .before .before .before .before .before .before .before .args .t4 in
-    let known = c .before .before .before .before .before .before .before .before .before .before .before .before .before .before .before .before .before .before .before .pre .1 in
+    let a = c .before .before .before .before .before .before .before .before .before .before .before .before .before .before .before .before .before .before .before .before .before .before .before .before .before .before .before .before .before .before .before .before .before .before .before .before .before .before .before .before .before .args in
+    let d = a .document .now in
+    let nodes = indexOf (a .names .now) (a .sizes .now) (a .children .now) (a .nodes) in
+    let known = c .before .before .before .before .before .before .before .before .before .before .before .before .before .before .before .before .before .before .before .before .before .before .before .before .before .before .before .before .before .before .before .before .before .before .before .before .before .before .before .before .before .pre .1 in
     let few = known .indexed .few in
-    let i = c .before .before .before .before .before .before .before .before .before .before .before .before .before .before .loop .i in
-    let inv = c .before .before .before .before .before .before .before .before .before .before .before .before .before .before .loop .inv in
-    let some = c .before .before .before .before .before .before .before .before .before .before .before .before .before .loop-test .taken in
+    let i = c .before .before .before .before .before .before .before .before .before .before .before .before .before .before .before .before .before .before .before .before .before .before .loop .i in
+    let inv = c .before .before .before .before .before .before .before .before .before .before .before .before .before .before .before .before .before .before .before .before .before .before .loop .inv in
+    let some = c .before .before .before .before .before .before .before .before .before .before .before .before .before .before .before .before .before .before .before .before .before .loop-test .taken in
     let before : i - 1 + 1 ≡ i = omega arith in
     let enough = laws.round-enough d nodes known i (i - 1) before (inv .0) in
     let trees = laws.round-few d nodes known i (i - 1) before (inv .0) in
-    let room = c .before .before .before .before .before .before .before .before .before .before .before .before .before .before .before .before .before .before .before .pre .3 in
+    let room = c .before .before .before .before .before .before .before .before .before .before .before .before .before .before .before .before .before .before .before .before .before .before .before .before .before .before .before .before .before .before .before .before .before .before .before .before .before .before .before .before .before .pre .4 in
     let count = laws.round-count d nodes known i (i - 1) before (inv .0) in
-    let place : c .before .before .before .before .before .before .before .before .before .before .before .before .before .before .loop .top + 4 * getD (nodes .children) (i - 1) 0 - 4 + 4 ≡ c .before .before .before .before .before .before .before .before .before .before .before .before .before .before .loop .top + 4 * getD (nodes .children) (i - 1) 0 =
-    omega arith in (
+    let top = c .before .before .before .before .before .before .before .before .before .before .before .before .before .before .before .before .before .before .before .before .before .before .loop .top in
+    let place : top + 4 * getD (nodes .children) (i - 1) 0 - 4 + 4 ≡ top + 4 * getD (nodes .children) (i - 1) 0 = omega arith in
+    let from = getD (nodes .names) (i - 1) 0 in
+    let size = getD (nodes .sizes) (i - 1) 0 in (
       omega arith,
-      c .before .before .before .before .before .before .types-of .kept .1 .1 .1 .0 ∙ inv .1,
+      c .before .before .before .before .before .before .types-of .kept .1 .1 .1 .1 .1 .1 .1 .1 .0 ∙ inv .1,
       c .before .before .store .kept .0 ∙ inv .2,
       omega arith,
-      λ g k.
-          laws.round-stacked d nodes known i (i - 1) before (inv .0) g (c .before .before .before .before .before .before .before .before .before .before .before .before .before .before .loop .words) (c .before .before .store .last .0) (c .before .before .before .before .before .before .types-of .result .words)
-          (take (getD (nodes .names) (i - 1) 0 + getD (nodes .sizes) (i - 1) 0 - getD (nodes .names) (i - 1) 0)
-          (drop (getD (nodes .names) (i - 1) 0) d))
-          (c .before .before .before .before .before .before .before .before .before .before .before .before .before .before .loop .top)
-          (c .before .before .before .before .before .before .before .before .before .before .before .before .before .before .loop .top + 4 * getD (nodes .children) (i - 1) 0 - 4)
-          (same-size d (getD (nodes .names) (i - 1) 0) (getD (nodes .sizes) (i - 1) 0))
-          (inv .4 g k)
+      λ g named rules.
+          laws.round-stacked d nodes known i (i - 1) before (inv .0) g (c .before .before .before .before .before .before .before .before .before .before .before .before .before .before .before .before .before .before .before .before .before .before .loop .words) (c .before .before .store .last .0) (c .before .before .before .before .before .before .types-of .result .words)
+          (take (from + size - from) (drop from d))
+          top
+          (top + 4 * getD (nodes .children) (i - 1) 0 - 4)
+          (same-size d from size)
+          (inv .4 g named rules)
           place
           (c .before .before .before .before .before .before .types-of .ensures .size)
           (omega arith)
-          (c .before .before .before .before .before .before .types-of .ensures .types g k)
+          (c .before .before .before .before .before .before .types-of .ensures .types g rules (take (from + size - from) (drop from d)) (c .before .before .before .before .before .before .before .before .before .before .before .before .before .before .name-place .ensures (g .labels) named))
           (c .before .before .store .ensures),
     )
 
+same-length : tie.Need-same-length Inv-loop μ-loop
+same-length c =
+    c .before .loop .inv .1 ∙ c .before .before .before .before .before .before .before .before .before .before .nullable-contents .kept .1 .1 .0
+
 returns : tie.Need-returns Inv-loop μ-loop
 returns c =
-    let d = c .before .before .before .before .before .before .args .document .now in
-    let nodes = c .before .before .before .before .before .before .args .t4 in
-    let known = c .before .before .before .before .before .before .pre .1 in
+    let a = c .before .before .before .before .before .before .before .before .before .before .before .before .before .before .before .before .before .before .before .before .args in
+    let d = a .document .now in
+    let nodes = indexOf (a .names .now) (a .sizes .now) (a .children .now) (a .nodes) in
+    let known = c .before .before .before .before .before .before .before .before .before .before .before .before .before .before .before .before .before .before .before .before .pre .1 in
     let few = known .indexed .few in
     let inv = c .before .loop .inv in
     let last : c .before .loop .i ≡ 0 = omega arith in
     let one = known .one-tree in
-    let whole = subst (λ (n : ℕ). c .before .loop .top + 4 * treeCount (drop n (nodesIn d nodes)) ≡ 4 * nodes .nodes) last (inv .3) in
-    let room = c .before .before .before .before .before .before .pre .3 in
+    let whole = subst (λ (n : ℕ). c .before .loop .top + 4 * treeCount (drop n (nodesIn d nodes)) ≡ 4 * a .nodes) last (inv .3) in
+    let room = c .before .before .before .before .before .before .before .before .before .before .before .before .before .before .before .before .before .before .before .before .pre .4 in
     record {
       inside = omega arith;
       types =
           λ g k t e.
           laws.stack-root g (nodesIn d nodes) (c .before .loop .words) (c .before .loop .top) one
-          (subst (λ (n : ℕ). laws.Stacked g (drop n (nodesIn d nodes)) (c .before .loop .words) (c .before .loop .top)) last (inv .4 g k))
+          (subst (λ (n : ℕ). laws.Stacked g (drop n (nodesIn d nodes)) (c .before .loop .words) (c .before .loop .top)) last
+          (inv .4 g (index-names (k .indexes)) (record { index = a .index; known = k; nullables = c .before .before .before .before .before .before .before .before .before .before .nullable-contents .ensures })))
           t
           e;
     }
@@ -247,19 +318,28 @@ root-types-spec =
     (tie.spec
     Inv-loop
     μ-loop
+    nullable-contents-requires
     mul-top
     loop-holds
     (λ c. omega arith)
     mul-from
-    element-copy-out-from
+    shared-slice-read-from
     mul-to
-    element-copy-out-to
+    shared-slice-read-to
     add-to
     mul-count
-    element-copy-out-count
-    sub-types-of
-    part-types-of-start
-    part-types-of-end
+    shared-slice-read-count
+    sub-name-place
+    part-name-place-start
+    part-name-place-end
+    slice-aggregate-name-place
+    slice-aggregate-name-place-2
+    name-place-requires
+    slice-aggregate-types-of
+    slice-aggregate-types-of-2
+    slice-aggregate-types-of-3
+    slice-aggregate-types-of-4
+    (λ c. search needs)
     types-of-requires
     mul-top-2
     add-top
@@ -267,6 +347,6 @@ root-types-spec =
     store-requires
     loop-less
     loop-again
-    (λ c. c .before .loop .inv .1)
+    same-length
     (λ c. c .before .loop .inv .2)
     returns)
