@@ -21,8 +21,8 @@ use Rattle.grammar.specs.Table.{Rule, Table}
 use Rattle.grammar.specs.Kinds.{NoneCompete}
 use Rattle.grammar.specs.KindTests.{sameLabel, samePair, isLocal, noneCompete, isSingleType}
 use Rattle.theory.proofs.BoolLaws.{and-left, and-right, and-intro, false-of, not-both, passes-or-fails, same-test}
-use Rattle.theory.proofs.ListLaws.{differ-at, all-differ, mem-at, at-mem, at-below, below-at, in-mem, mem-in, eqb-sym, all-of, all-at}
-use Rattle.theory.proofs.KindTests.{none-compete}
+use Rattle.theory.proofs.ListLaws.{differ-at, all-differ, mem-at, at-mem, at-below, below-at, in-mem, mem-in, all-of, all-at}
+use Rattle.theory.proofs.KindTests.{none-compete, same-label-sym, same-pair-sym}
 use Rattle.sets.specs.Sets.{member}
 use Rattle.reader.specs.declared.tables.TableIndex.{TableIndex}
 use Rattle.reader.specs.TableIndex.{ruleType, ruleLabel, Indexes}
@@ -72,21 +72,6 @@ module _ {A : Type 0} (same : A → A → Bool) (same-sym : (x y : A) → same x
           (λ u. let a = ltb-false j i t in let b = ltb-false i j u in omega arith)
           (passes-or-fails (ltb i j)))
           (passes-or-fails (ltb j i))
-
-same-label-sym : (r s : Rule) → sameLabel r s ≡ true → sameLabel s r ≡ true
-unfolding sameLabel
-same-label-sym r s e = eqb-sym (r .label) (s .label) e
-
-same-pair-sym : (r s : Rule) → samePair r s ≡ true → samePair s r ≡ true
-unfolding samePair
-same-pair-sym r s e =
-    let t = eqb (r .type) (s .type) in
-    let l = eqb (r .label) (s .label) in
-    and-intro
-    (eqb (s .type) (r .type))
-    (eqb (s .label) (r .label))
-    (eqb-sym (r .type) (s .type) (and-left t l e))
-    (eqb-sym (r .label) (s .label) (and-right t l e))
 
 module _ {s : List ℕ} {index : TableIndex} {g : Table} (x : Indexes s index g) where
   counted : (test : ℕ → Bool) → anyBelow test (length (g .rules)) ≡ anyBelow test (index .rules)

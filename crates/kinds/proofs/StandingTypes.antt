@@ -8,7 +8,7 @@
 use Prim.Native.Nat.{ℕ, suc, _+_, _/_, _≤_, _<_}
 use native.Mathlib.Omega.{arith}
 use native.Mathlib.Numerals.{add-one, add-two}
-use mathlib.Core.Bool.{Bool, true, false, _||_}
+use mathlib.Core.Bool.{Bool, _||_, or-false as or-nothing}
 use mathlib.Core.List.{List, [], _∷_, _++_, append-assoc, append-nil}
 use mathlib.Core.Logic.{_⊎_, inl, inr, ⊎-elim}
 use mathlib.Core.Path.{_≡_, refl, sym, _∙_, ap, subst}
@@ -18,6 +18,7 @@ use lib.Seq.{drop-cons}
 use Rattle.grammar.specs.Content.{Content, none, empty, type, sequence, choice, anyNumber, oneOrMore, optional, Contents, []ᶜ, _∷ᶜ_, count, typesIn, typesInAll}
 use Rattle.grammar.specs.Lists.{isIn}
 use Rattle.grammar.specs.ReadContent.{contentBytes, operandBytes}
+use Rattle.theory.proofs.BoolLaws.{or-turn}
 use Rattle.sets.specs.Sets.{member, putAt, nothing}
 use Rattle.sets.proofs.SetLaws.{member-put}
 use Rattle.kinds.specs.RulesAt.{Holds}
@@ -109,16 +110,12 @@ left-start seen c bytes fresh e =
     }
 
 -- a type more is seen
-swap : (a b c : Bool) → ((a || b) || c) ≡ (b || (a || c))
-swap true true c = refl
-swap true false c = refl
-swap false b c = refl
-
 seen-more : (seen : List ℕ) (k : ℕ) (others : List ℕ) → 0 + k / 32 < length seen → (j : ℕ)
     → (member (putAt seen 0 k) 0 j || isIn j others) ≡ (member seen 0 j || isIn j (k ∷ others))
 unfolding isIn
 seen-more seen k others h j =
-    ap (λ (b : Bool). b || isIn j others) (ap (λ (p : ℕ → Bool). p j) (member-put seen 0 k h)) ∙ swap (eqb j k) (member seen 0 j) (isIn j others)
+    ap (λ (b : Bool). b || isIn j others) (ap (λ (p : ℕ → Bool). p j) (member-put seen 0 k h))
+    ∙ sym (or-turn (member seen 0 j) (eqb j k) (isIn j others))
 
 module _ (bytes seen types : List ℕ) (at : ℕ) (left : Left bytes seen types at) where
   next : at < length bytes → After (getD bytes at 0) (drop (suc at) bytes) (left .others)
@@ -193,13 +190,9 @@ module _ (bytes seen types : List ℕ) (at : ℕ) (left : Left bytes seen types 
   unfolding typesIn contentBytes isIn
   left-end h k = go (left .standing .contents) (sym (drop-of-length-le bytes h) ∙ left .standing .bytes-are) (left .standing .types-are)
     where
-      none-or : (a : Bool) → a ≡ (a || false)
-      none-or true = refl
-      none-or false = refl
-
       go : (cs : Contents) → [] ≡ operandBytes cs → left .others ≡ typesInAll cs → member seen 0 k ≡ isIn k types
       go []ᶜ e t =
-          none-or (member seen 0 k) ∙ ap (λ (l : List ℕ). member seen 0 k || isIn k l) (sym t) ∙ left .together k
+          sym (or-nothing (member seen 0 k)) ∙ ap (λ (l : List ℕ). member seen 0 k || isIn k l) (sym t) ∙ left .together k
       go (c ∷ᶜ cs) e t = absurd (no-bytes c e)
         where
           no-bytes : (c : Content) → [] ≡ contentBytes c ++ operandBytes cs → ⊥

@@ -4,9 +4,9 @@ use native.Mathlib.Omega.{arith}
 use mathlib.Core.Bool.{Bool, true, false, not, _&&_, _||_}
 use mathlib.Core.List.{List, [], _∷_, _++_, append-nil, append-assoc, List·Memᴰ, List·Memᴰ·append-cases}
 use mathlib.Core.Logic.{⊎-elim}
-use mathlib.Core.Option.{Option, some as just}
+use mathlib.Core.Option.{some as just}
 use mathlib.Core.Path.{_≡_, refl, sym, _∙_, ap, ap₂, subst}
-use lib.ListN.{length, getD, getElem?, take, drop, length-take, length-drop}
+use lib.ListN.{length, getD, getElem?, take, drop, length-drop}
 use lib.Seq.{length-take-le}
 use lib.Dec.{eqb, ltb}
 use borrow.Author.Tests.{lt-ltb, le-ltb}
@@ -15,9 +15,10 @@ use Rattle.grammar.specs.Lists.{distinct}
 use Rattle.grammar.specs.ReadTable.{isEmpty}
 use Rattle.grammar.specs.Content.{Content, none, empty, type, sequence, choice, anyNumber, oneOrMore, optional, Contents, []ᶜ, _∷ᶜ_}
 use Rattle.grammar.specs.ReadContent.{operators}
+use Rattle.theory.proofs.ListLaws.{eqb-decides}
 use Rattle.theory.proofs.Alternatives.{hasAlts, allHaveAlts, oneHasAlts, someLeft, onlyIf, pairsMet, pairsMetAll}
 use Rattle.theory.proofs.DistinctLaws.{distinct-left}
-use Rattle.reader.specs.ExprAt.{Placed, _upTo_, placed, exprAt, exprsAt}
+use Rattle.reader.specs.ExprAt.{_upTo_, placed, exprAt, exprsAt}
 use Rattle.reader.proofs.ExprLaws.{
   placed-from,
   expr-alone,
@@ -37,11 +38,11 @@ use Rattle.reader.proofs.ExprLaws.{
 }
 use Rattle.pairs.specs.declared.met.MetOne.{MetOne}
 use Rattle.pairs.specs.declared.met.MetRow.{MetRow}
-use Rattle.pairs.specs.ContentAt.{ContentAt, ContentsAt}
+use Rattle.pairs.specs.ContentAt.{ContentsAt}
 use Rattle.pairs.specs.Walks.{listOf, Listed, Once, Adds, metAt, metRowAt, MetAsks, MetRowAsks, MetFinds, MetRowFinds}
 use Rattle.pairs.proofs.ContentAtLaws.{placed-of, content-inside, type-there, count-there, operands-there, first-there, others-there}
 use Rattle.pairs.proofs.ProductiveLaws.{placed-through}
-use Rattle.pairs.proofs.OnceLaws.{eqb-decides, adds-once, front-kept, part-below}
+use Rattle.pairs.proofs.OnceLaws.{adds-once, front-kept, part-below}
 
 module _ (left : ℕ → List ℕ) (numbers s : List ℕ) (at : ℕ) where
   -- of a content, and of contents

@@ -10,37 +10,19 @@ use native.Mathlib.Omega.{arith}
 use native.Mathlib.Numerals.{add-one}
 use mathlib.Core.Bool.{Bool, true, false, not, _||_}
 use mathlib.Core.List.{List, [], _∷_, _++_, append-nil, append-assoc, List·Memᴰ, List·Memᴰ·head, List·Memᴰ·tail, List·Memᴰ·append-cases}
-use mathlib.Core.Logic.{_↔_, ⊎-elim}
+use mathlib.Core.Logic.{⊎-elim}
 use mathlib.Core.Path.{_≡_, refl, sym, _∙_, ap, subst}
 use lib.ListN.{length, getD, set, take, drop, length-set, length-append, length-drop}
 use lib.Seq.{take-suc, take-suc-set, take-take, take-at, length-take-le, getD-drop}
 use lib.Dec.{eqb}
 use borrow.Author.Tests.{eqb-true, eq-eqb, ne-eqb}
-use Rattle.grammar.specs.Lists.{any, keep, distinct, isIn}
+use Rattle.grammar.specs.Lists.{keep, distinct, isIn}
 use Rattle.theory.proofs.BoolLaws.{false-of, not-both, or-none}
-use Rattle.theory.proofs.ListLaws.{kept, distinct-was, in-mem, mem-in}
+use Rattle.theory.proofs.ListLaws.{kept, distinct-was, in-mem, mem-in, in-append, taken-mem, eqb-decides, eqb-sym}
 use Rattle.theory.proofs.DistinctLaws.{keep-distinct, distinct-again, distinct-left, distinct-grows, one-more-new, one-more-old}
 use Rattle.sets.specs.Sets.{size}
 use Rattle.sets.proofs.SizeLaws.{size-le, size-nothing, size-add}
 use Rattle.pairs.specs.Walks.{Once, Adds}
-
-pub eqb-decides : (m n : ℕ) → (eqb m n ≡ true) ↔ (m ≡ n)
-eqb-decides m n = (eqb-true m n, eq-eqb m n)
-
-in-append : (p : ℕ) (xs ys : List ℕ) → isIn p (xs ++ ys) ≡ (isIn p xs || isIn p ys)
-unfolding isIn
-in-append p [] ys = refl
-in-append p (x ∷ xs) ys = ap (λ (b : Bool). eqb p x || b) (in-append p xs ys) ∙ regroup (eqb p x) (isIn p xs) (isIn p ys)
-  where
-    regroup : (a b c : Bool) → (a || (b || c)) ≡ ((a || b) || c)
-    regroup true b c = refl
-    regroup false b c = refl
-
-pub taken-mem : (l : List ℕ) (i n : ℕ) → i < n → i < length l → List·Memᴰ (getD l i 0) (take n l)
-taken-mem [] i n h k = absurd (omega arith)
-taken-mem (x ∷ l) i zero h k = absurd (omega arith)
-taken-mem (x ∷ l) zero (suc n) h k = List·Memᴰ·head refl
-taken-mem (x ∷ l) (suc i) (suc n) h k = List·Memᴰ·tail (taken-mem l i n (omega arith) (omega arith))
 
 module _ (p : ℕ) (l : List ℕ) (i : ℕ) where
   pub among-here : (count : ℕ) → i < count → count ≤ length l → getD l i 0 ≡ p → isIn p (take count l) ≡ true
@@ -66,7 +48,7 @@ module _ (x : ℕ) (xs : List ℕ) (e : distinct eqb (x ∷ xs) ≡ x ∷ xs) wh
   others-once : distinct eqb xs ≡ xs
   others-once =
       ap (distinct eqb) (sym others)
-      ∙ sym (keep-distinct eqb eqb-decides unlike (distinct eqb xs))
+      ∙ sym (keep-distinct eqb unlike (λ y z e. ap unlike (eqb-true y z e)) (distinct eqb xs))
       ∙ ap (keep unlike) (distinct-again eqb eqb-decides xs)
       ∙ others
 
@@ -100,7 +82,7 @@ module _ (bound : ℕ) (list : List ℕ) (count : ℕ) (once : Once bound list c
   pub adds-old : (p : ℕ) → isIn p (take count list) ≡ true → Adds (take count list) (p ∷ []) list count
   unfolding isIn
   adds-old p e =
-      record { all = sym (one-more-old eqb eqb-decides (take count list) p e ∙ once .once); held = once .held }
+      record { all = sym (one-more-old eqb eqb-sym (take count list) p e ∙ once .once); held = once .held }
 
   pub adds-new : (p : ℕ) → isIn p (take count list) ≡ false → count < length list
       → Adds (take count list) (p ∷ []) (set list count p) (count + 1)
@@ -111,7 +93,7 @@ module _ (bound : ℕ) (list : List ℕ) (count : ℕ) (once : Once bound list c
             ap (λ (n : ℕ). take n (set list count p)) (add-one count)
             ∙ take-suc-set list count p h
             ∙ ap (λ (l : List ℕ). l ++ (p ∷ [])) (sym (once .once))
-            ∙ sym (one-more-new eqb eqb-decides (take count list) p e);
+            ∙ sym (one-more-new eqb eqb-sym (take count list) p e);
         held = rw length-set (omega arith);
       }
 
@@ -136,7 +118,7 @@ module _ (bound : ℕ) (list : List ℕ) (count : ℕ) (once : Once bound list c
   -- what stood there stands there still, before all that was added
   pub front-kept : (more list′ : List ℕ) (r : ℕ) → Adds (take count list) more list′ r → take count list′ ≡ take count list
   front-kept more list′ r a =
-      let g = distinct-grows eqb eqb-decides (take count list) more in
+      let g = distinct-grows eqb (take count list) more in
       let e = a .all ∙ g .1 ∙ ap (λ (l : List ℕ). l ++ g .0) (once .once) in
       let l = length-take-le count list (once .held) in
       let n = ap length e ∙ length-append (take count list) (g .0) in

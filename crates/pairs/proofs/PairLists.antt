@@ -1,8 +1,8 @@
 -- The pairs of a type by number: `pairs-are`: they are the numbers of the first rules of pairs of that type, ascending.
-use Prim.Native.Nat.{ℕ, zero, suc, _<_}
+use Prim.Native.Nat.{ℕ, zero, suc}
 use native.Mathlib.Omega.{arith}
-use mathlib.Core.Bool.{Bool, true, false, not, _&&_, _||_}
-use mathlib.Core.List.{List, [], _∷_, _++_, map, map-map, List·Memᴰ, List·Memᴰ·head, List·Memᴰ·tail}
+use mathlib.Core.Bool.{Bool, true, false, not, _&&_, and-true, and-false}
+use mathlib.Core.List.{List, [], _∷_, map, map-map}
 use mathlib.Core.Path.{_≡_, refl, sym, _∙_, ap, ap₂, fun-ext}
 use lib.ListN.{length, getD}
 use lib.Dec.{eqb}
@@ -12,9 +12,10 @@ use Rattle.grammar.specs.Content.{none}
 use Rattle.grammar.specs.Table.{Rule, Table}
 use Rattle.grammar.specs.KindTests.{samePair}
 use Rattle.grammar.specs.Normalise.{pairOf, pairsOf}
-use Rattle.theory.proofs.BoolLaws.{and-right, same-test}
-use Rattle.theory.proofs.ListLaws.{keep-yes, keep-no, kept, keep-map}
-use Rattle.theory.proofs.NormaliseDocuments.{pair-refl, pair-trans}
+use Rattle.theory.proofs.BoolLaws.{same-test, and-left}
+use Rattle.theory.proofs.ListLaws.{keep-yes, keep-no, kept, keep-map, keep-both, map-on}
+use Rattle.theory.proofs.PlaceLaws.{place-yes, place-no}
+use Rattle.theory.proofs.NormaliseDocuments.{pair-refl}
 use Rattle.theory.proofs.KindTests.{same-pair-sym}
 
 numbers-suc : (from n : ℕ) → numbersFrom (suc from) n ≡ map suc (numbersFrom from n)
@@ -27,42 +28,10 @@ eqb-suc m n =
     same-test (eqb (suc m) (suc n)) (eqb m n)
     (λ e. eq-eqb m n (let q = eqb-true (suc m) (suc n) e in omega arith), λ e. eq-eqb (suc m) (suc n) (ap suc (eqb-true m n e)))
 
-map-on : {A B : Type 0} (f g : A → B) (xs : List A) → ((x : A) → List·Memᴰ x xs → f x ≡ g x) → map f xs ≡ map g xs
-map-on f g [] h = refl
-map-on f g (x ∷ xs) h = ap₂ _∷_ (h x (List·Memᴰ·head refl)) (map-on f g xs (λ y m. h y (List·Memᴰ·tail m)))
-
-keep-keep : {A : Type 0} (p q : A → Bool) (xs : List A) → keep p (keep q xs) ≡ keep (λ x. q x && p x) xs
-unfolding keep
-keep-keep p q [] = refl
-keep-keep p q (x ∷ xs) = go (q x) refl (p x) refl (keep-keep p q xs)
-  where
-    go : (a : Bool) → q x ≡ a → (b : Bool) → p x ≡ b → keep p (keep q xs) ≡ keep (λ y. q y && p y) xs
-        → keep p (keep q (x ∷ xs)) ≡ keep (λ y. q y && p y) (x ∷ xs)
-    go true e true f ih =
-        ap (keep p) (keep-yes q x xs e)
-        ∙ keep-yes p x (keep q xs) f
-        ∙ ap (λ l. x ∷ l) ih
-        ∙ sym (keep-yes (λ y. q y && p y) x xs (ap₂ _&&_ e f))
-    go true e false f ih =
-        ap (keep p) (keep-yes q x xs e)
-        ∙ keep-no p x (keep q xs) f
-        ∙ ih
-        ∙ sym (keep-no (λ y. q y && p y) x xs (ap₂ _&&_ e f))
-    go false e b f ih =
-        ap (keep p) (keep-no q x xs e) ∙ ih ∙ sym (keep-no (λ y. q y && p y) x xs (ap (λ (c : Bool). c && p x) e))
-
 module _ {A : Type 0} (same : A → A → Bool) (same-refl : (x : A) → same x x ≡ true)
     (same-sym : (x y : A) → same x y ≡ true → same y x ≡ true) (d : A) where
   flip : (x y : A) → same x y ≡ same y x
   flip x y = same-test (same x y) (same y x) (same-sym x y, same-sym y x)
-
-  place-past : (x y : A) (ys : List A) → same x y ≡ false → place same x (y ∷ ys) ≡ suc (place same x ys)
-  unfolding place
-  place-past x y ys e = rw (e, place)
-
-  place-front : (x y : A) (ys : List A) → same x y ≡ true → place same x (y ∷ ys) ≡ zero
-  unfolding place
-  place-front x y ys e = rw (e, place)
 
   -- the number is that of the first of its kind
   abbrev isFirst : List A → ℕ → Bool
@@ -82,17 +51,13 @@ module _ {A : Type 0} (same : A → A → Bool) (same-refl : (x : A) → same x 
           ≡ ((not (same x (getD xs q d)) && p) && eqb (place same (getD xs q d) xs) q)
       go true e p =
           ap (λ (c : Bool). p && c)
-          (ap (λ (n : ℕ). eqb n (suc q)) (place-front (getD xs q d) x xs e) ∙ ne-eqb 0 (suc q) (λ z. omega arith))
-          ∙ never p
+          (ap (λ (n : ℕ). eqb n (suc q)) (place-yes same (getD xs q d) x xs e) ∙ ne-eqb 0 (suc q) (λ z. omega arith))
+          ∙ and-false p
           ∙ sym
           (ap (λ (c : Bool). (not c && p) && eqb (place same (getD xs q d) xs) q) (flip x (getD xs q d) ∙ e))
-        where
-          never : (p : Bool) → (p && false) ≡ false
-          never true = refl
-          never false = refl
       go false e p =
           ap (λ (c : Bool). p && c)
-          (ap (λ (n : ℕ). eqb n (suc q)) (place-past (getD xs q d) x xs e) ∙ eqb-suc (place same (getD xs q d) xs) q)
+          (ap (λ (n : ℕ). eqb n (suc q)) (place-no same (getD xs q d) x xs e) ∙ eqb-suc (place same (getD xs q d) xs) q)
           ∙ sym
           (ap (λ (c : Bool). (not c && p) && eqb (place same (getD xs q d) xs) q) (flip x (getD xs q d) ∙ e))
 
@@ -114,28 +79,20 @@ module _ {A : Type 0} (same : A → A → Bool) (same-refl : (x : A) → same x 
           → map (λ y. place same y (x ∷ xs)) (keep P (keep unlike (distinct same xs)))
           ≡ keep test (numbersFrom 1 (length xs))
       rest ih =
-          ap (map (λ y. place same y (x ∷ xs))) (keep-keep P unlike (distinct same xs))
+          ap (map (λ y. place same y (x ∷ xs))) (keep-both unlike P (distinct same xs))
           ∙ map-on (λ y. place same y (x ∷ xs)) (λ y. suc (place same y xs)) (keep (λ y. unlike y && P y) (distinct same xs))
           (λ y m.
           let k = kept (λ z. unlike z && P z) (distinct same xs) m .1 in
-          place-past y x xs (flip y x ∙ not-true (same x y) (first-part (unlike y) (P y) k)))
+          place-no same y x xs (flip y x ∙ not-true (same x y) (and-left (unlike y) (P y) k)))
           ∙ sym (map-map suc (λ y. place same y xs) (keep (λ y. unlike y && P y) (distinct same xs)))
           ∙ ap (map suc) ih
           ∙ ap (λ f. map suc (keep f (numbersBelow (length xs)))) (sym (fun-ext (first-past P x xs)))
           ∙ sym (keep-map suc test (numbersBelow (length xs)))
           ∙ ap (keep test) (sym (numbers-suc 0 (length xs)))
-        where
-          first-part : (a b : Bool) → (a && b) ≡ true → a ≡ true
-          first-part true b e = refl
-          first-part false b e = e
 
       here : (b : Bool) → P x ≡ b → test 0 ≡ b
       here b e =
-          ap₂ _&&_ e (ap (λ (n : ℕ). eqb n 0) (place-front x x xs (same-refl x)) ∙ eq-eqb 0 0 refl) ∙ plain b
-        where
-          plain : (b : Bool) → (b && true) ≡ b
-          plain true = refl
-          plain false = refl
+          ap₂ _&&_ e (ap (λ (n : ℕ). eqb n 0) (place-yes same x x xs (same-refl x)) ∙ eq-eqb 0 0 refl) ∙ and-true b
 
       go : (b : Bool) → P x ≡ b
           → map (λ y. place same y xs) (keep (λ y. unlike y && P y) (distinct same xs))
@@ -144,7 +101,7 @@ module _ {A : Type 0} (same : A → A → Bool) (same-refl : (x : A) → same x 
           ≡ keep test (0 ∷ numbersFrom 1 (length xs))
       go true e ih =
           ap (map (λ y. place same y (x ∷ xs))) (keep-yes P x (keep unlike (distinct same xs)) e)
-          ∙ ap₂ _∷_ (place-front x x xs (same-refl x)) (rest ih)
+          ∙ ap₂ _∷_ (place-yes same x x xs (same-refl x)) (rest ih)
           ∙ sym (keep-yes test 0 (numbersFrom 1 (length xs)) (here true e))
       go false e ih =
           ap (map (λ y. place same y (x ∷ xs))) (keep-no P x (keep unlike (distinct same xs)) e)

@@ -1,38 +1,39 @@
 -- The view of a union rule by rule: the place of a pair (`pair-here`, `pair-nowhere`), one rule more (`views-more`), no rules
 -- (`no-views`), the next rule of the old table (`old-next`) and of the addition (`new-next`), and the view of the whole
 -- (`views-same`, `union-rules`).
-use Prim.Native.Nat.{ℕ, zero, suc, _+_, _-_, _≤_, _<_}
+use Prim.Native.Nat.{ℕ, _+_, _-_, _≤_, _<_}
 use native.Mathlib.Omega.{arith}
 use native.Mathlib.Numerals.{add-one}
 use mathlib.Core.Bool.{Bool, true, false, _&&_}
-use mathlib.Core.List.{List, [], _∷_, _++_, map, append-nil, append-assoc, map-append, List·Memᴰ}
+use mathlib.Core.List.{List, [], _∷_, _++_, map, append-nil, append-assoc, map-append}
 use mathlib.Core.Logic.{⊎-elim}
 use mathlib.Core.Option.{some as just}
 use mathlib.Core.Path.{_≡_, refl, sym, _∙_, ap, ap₂, subst}
 use lib.ListN.{length, getD, getElem?, set, take, drop, length-append, length-set, length-drop}
 use lib.Seq.{take-suc, take-all, getD-set-same, getD-set-other, length-take-le}
 use lib.Dec.{eqb}
-use Rattle.grammar.specs.Lists.{any, place}
+use Rattle.grammar.specs.Lists.{place}
 use Rattle.grammar.specs.Limits.{standard}
-use Rattle.grammar.specs.Names.{Name, sameName}
+use Rattle.grammar.specs.Names.{sameName}
 use Rattle.grammar.specs.Content.{Content}
 use Rattle.grammar.specs.Table.{Rule, Table}
 use Rattle.grammar.specs.KindTests.{samePair}
 use Rattle.grammar.specs.ReadContent.{contentBytes, isProper}
 use Rattle.grammar.specs.Unite.{shifted, unitedLabels, added, unite}
 use Rattle.grammar.specs.Normalise.{pairOf}
-use Rattle.theory.proofs.ListLaws.{at-else, any-of, at-mem, at-below, below-at, place-found}
+use Rattle.theory.proofs.ListLaws.{at-else, any-of, at-mem, at-below, below-at}
+use Rattle.theory.proofs.PlaceLaws.{place-front, place-end}
 use Rattle.theory.proofs.NormaliseDocuments.{pair-refl}
 use Rattle.reader.specs.declared.tables.TableIndex.{TableIndex}
-use Rattle.reader.specs.ExprAt.{_upTo_, exprAt}
+use Rattle.reader.specs.ExprAt.{_upTo_}
 use Rattle.reader.specs.TableIndex.{part, Stands, Indexes, ruleType, ruleLabel, contentFrom, contentTo}
 use Rattle.reader.proofs.ExprLaws.{expr-of}
 use Rattle.reader.proofs.TableIndexLaws.{at-end, rule-at}
 use Rattle.pairs.specs.declared.labels.Names.{Names}
 use Rattle.pairs.specs.declared.union.United.{United}
 use Rattle.pairs.specs.UnitedLabels.{NamesAt, newNames, unitedNames}
-use Rattle.pairs.specs.View.{SourceContent, typeIn, labelIn, firstIn, shiftedContent, RuleSeen, Views, rulesOnly, NextRule, TableHeld, AddingTo}
-use Rattle.pairs.proofs.UnitedLabelsLaws.{place-at-most, place-first, place-nowhere, place-front, place-back}
+use Rattle.pairs.specs.View.{SourceContent, typeIn, labelIn, RuleSeen, Views, rulesOnly, NextRule, TableHeld, AddingTo}
+use Rattle.pairs.proofs.UnitedLabelsLaws.{place-first, place-nowhere}
 
 -- the place of a pair
 module _ {old add : List ℕ} {v : United} {rs : List Rule} (w : Views old add v (rulesOnly rs)) {kind label : ℕ} (x : Rule)
@@ -76,25 +77,6 @@ source-so : {s : List ℕ} {from from′ to to′ : ℕ} {c : Content} → from 
 source-so {s} {from} {from′} {to} {to′} {c} p q x =
     subst (λ (t : ℕ). SourceContent s from′ t c) q (subst (λ (f : ℕ). SourceContent s f to c) p x)
 
-found-below : (r : Rule) (rs : List Rule) → List·Memᴰ r rs → place samePair r rs < length rs
-found-below r rs m =
-    let f = place-found samePair r rs (any-of (samePair r) m (pair-refl r)) in
-    at-below rs (place samePair r rs) (f .1)
-
--- the place of a rule after those of a list
-own-place : (x : Rule) (rs : List Rule) → place samePair x (rs ++ (x ∷ [])) ≡ place samePair x rs
-unfolding place
-own-place x [] = rw (pair-refl x, place)
-own-place x (r ∷ rs) = go (samePair x r) refl (own-place x rs)
-  where
-    go : (b : Bool) → samePair x r ≡ b → place samePair x (rs ++ (x ∷ [])) ≡ place samePair x rs
-        → place samePair x (r ∷ rs ++ (x ∷ [])) ≡ place samePair x (r ∷ rs)
-    go true e ih = rw (e, place)
-    go false e ih =
-        let p : place samePair x (r ∷ rs) ≡ suc (place samePair x rs) = rw (e, place) in
-        let q : place samePair x (r ∷ rs ++ (x ∷ [])) ≡ suc (place samePair x (rs ++ (x ∷ []))) = rw (e, place) in
-        q ∙ ap suc ih ∙ sym p
-
 module _ {old add : List ℕ} {v : United} {rs : List Rule} (w : Views old add v (rulesOnly rs)) where
   other : (l : List ℕ) (i a : ℕ) → i < v .rules → getD (set l (v .rules) a) i 0 ≡ getD l i 0
   other l i a h = getD-set-other l (v .rules) i a 0 (λ e. omega arith)
@@ -134,7 +116,7 @@ module _ {old add : List ℕ} {v : United} {rs : List Rule} (w : Views old add v
               type = other (v .types) i kind b ∙ s .type;
               small = s .small;
               label = other (v .labels) i label b ∙ s .label;
-              first = other (v .firsts) i first b ∙ s .first ∙ sym (place-front samePair r rs (x ∷ []) (found-below r rs m));
+              first = other (v .firsts) i first b ∙ s .first ∙ sym (place-front samePair r rs (x ∷ []) (any-of (samePair r) m (pair-refl r)));
               in-old =
                   λ p.
                   source-so (sym (other (v .«content_from») i from b)) (sym (other (v .«content_to») i to b)) (s .in-old p);
@@ -156,7 +138,7 @@ module _ {old add : List ℕ} {v : United} {rs : List Rule} (w : Views old add v
               type = own (v .types) i kind (rooms .types) room at ∙ n .type;
               small = n .small;
               label = own (v .labels) i label (rooms .labels) room at ∙ n .label-is;
-              first = own (v .firsts) i first (rooms .firsts) room at ∙ placed ∙ sym (own-place x rs);
+              first = own (v .firsts) i first (rooms .firsts) room at ∙ placed ∙ sym (place-end samePair x (pair-refl x) rs);
               in-old =
                   λ p.
                   source-so

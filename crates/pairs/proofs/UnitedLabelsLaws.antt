@@ -1,21 +1,21 @@
 -- Finding names by where they stand (`place-here`, `place-nowhere`), adding one (`names-more`), and the place of a name among the
 -- names of the union (`place-old`, `place-new`).
-use Prim.Native.Nat.{ℕ, zero, suc, _+_, _-_, _≤_, _<_}
+use Prim.Native.Nat.{ℕ, zero, suc, _+_, _≤_, _<_}
 use native.Mathlib.Omega.{arith}
 use native.Mathlib.Numerals.{add-one}
-use mathlib.Core.Bool.{Bool, true, false, not, false≢true, true≢false}
+use mathlib.Core.Bool.{Bool, true, false, not}
 use mathlib.Core.List.{List, [], _∷_, _++_, append-nil}
-use mathlib.Core.Logic.{_⊎_, inl, inr, ⊎-elim}
+use mathlib.Core.Logic.{⊎-elim}
 use mathlib.Core.Option.{some as just}
 use mathlib.Core.Path.{_≡_, refl, sym, _∙_, ap, subst}
-use lib.ListN.{length, getD, getElem?, set, take, drop, length-append, length-set}
+use lib.ListN.{length, getD, getElem?, set, take, length-append, length-set}
 use lib.Seq.{take-suc, take-all, getD-set-same, getD-set-other}
 use lib.Dec.{leb}
-use borrow.Author.Tests.{leb-true, leb-false, le-leb, lt-leb}
+use borrow.Author.Tests.{leb-true, leb-false}
 use Rattle.grammar.specs.Lists.{any, keep, place}
 use Rattle.grammar.specs.Names.{Name, sameName}
-use Rattle.theory.proofs.BoolLaws.{passes-or-fails, not-both}
 use Rattle.theory.proofs.ListLaws.{at-else, at-below, below-at, just-eq, keep-yes, keep-no}
+use Rattle.theory.proofs.PlaceLaws.{place-most, place-some, place-none, place-front}
 use Rattle.theory.proofs.DistinctLaws.{keep-append}
 use Rattle.reader.specs.TableIndex.{part, Stands}
 use Rattle.reader.proofs.TableIndexLaws.{at-end}
@@ -24,15 +24,6 @@ use Rattle.pairs.specs.UnitedLabels.{NamesAt, namesIf, newNames, unitedN
 
 -- places
 module _ {A : Type 0} (same : A → A → Bool) (x : A) where
-  pub place-at-most : (xs : List A) → place same x xs ≤ length xs
-  unfolding place
-  place-at-most [] = omega arith
-  place-at-most (y ∷ ys) = go (same x y) refl (place-at-most ys)
-    where
-      go : (b : Bool) → same x y ≡ b → place same x ys ≤ length ys → place same x (y ∷ ys) ≤ length (y ∷ ys)
-      go true e h = rw (e, place) (omega arith)
-      go false e h = rw (e, place) (omega arith)
-
   pub place-first : (xs : List A) (i : ℕ) {y : A} → getElem? xs i ≡ just y → same x y ≡ true
       → ((j : ℕ) (z : A) → j < i → getElem? xs j ≡ just z → same x z ≡ false)
       → place same x xs ≡ i
@@ -49,41 +40,6 @@ module _ {A : Type 0} (same : A → A → Bool) (x : A) where
   place-nowhere (y ∷ ys) h =
       let f = h zero y refl in
       rw (f, place) (ap suc (place-nowhere ys (λ j z p. h (suc j) z p)))
-
-  pub place-some : (xs : List A) → place same x xs < length xs → any (same x) xs ≡ true
-  unfolding place any
-  place-some [] h = absurd (omega arith)
-  place-some (y ∷ ys) h = go (same x y) refl (place-some ys)
-    where
-      go : (b : Bool) → same x y ≡ b → (place same x ys < length ys → any (same x) ys ≡ true) → any (same x) (y ∷ ys) ≡ true
-      go true e ih = rw (e, any)
-      go false e ih =
-          let p : place same x (y ∷ ys) ≡ suc (place same x ys) = rw (e, place) in
-          rw (e, any) (ih (omega arith))
-
-  pub place-none : (xs : List A) → length xs ≤ place same x xs → any (same x) xs ≡ false
-  unfolding place any
-  place-none [] h = refl
-  place-none (y ∷ ys) h = go (same x y) refl (place-none ys)
-    where
-      go : (b : Bool) → same x y ≡ b → (length ys ≤ place same x ys → any (same x) ys ≡ false) → any (same x) (y ∷ ys) ≡ false
-      go true e ih = let p : place same x (y ∷ ys) ≡ 0 = rw (e, place) in absurd (omega arith)
-      go false e ih =
-          let p : place same x (y ∷ ys) ≡ suc (place same x ys) = rw (e, place) in
-          rw (e, any) (ih (omega arith))
-
-  pub place-front : (xs ys : List A) → place same x xs < length xs → place same x (xs ++ ys) ≡ place same x xs
-  unfolding place
-  place-front [] ys h = absurd (omega arith)
-  place-front (z ∷ zs) ys h = go (same x z) refl (place-front zs ys)
-    where
-      go : (b : Bool) → same x z ≡ b → (place same x zs < length zs → place same x (zs ++ ys) ≡ place same x zs)
-          → place same x (z ∷ zs ++ ys) ≡ place same x (z ∷ zs)
-      go true e ih = rw (e, place)
-      go false e ih =
-          let p : place same x (z ∷ zs) ≡ suc (place same x zs) = rw (e, place) in
-          let q : place same x (z ∷ zs ++ ys) ≡ suc (place same x (zs ++ ys)) = rw (e, place) in
-          q ∙ ap suc (ih (omega arith)) ∙ sym p
 
   pub place-back : (xs ys : List A) → length xs ≤ place same x xs → place same x (xs ++ ys) ≡ length xs + place same x ys
   unfolding place
@@ -248,7 +204,8 @@ module _ {old add : List ℕ} {olds adds : Names} {ns ms : List Name} (x : Names
     label-old p e l =
         let q = e ∙ ap (λ (m : Name). place sameName m ns) name-is in
         let c = x .count in
-        q ∙ sym (place-front sameName (getD ms label []) ns (newNames ns ms) (omega arith))
+        let name = getD ms label [] in
+        q ∙ sym (place-front sameName name ns (newNames ns ms) (place-some sameName name ns (omega arith)))
 
     pub label-new : (p q : ℕ) → p ≡ place sameName (nameOf label) ns → olds .count ≤ p
         → q ≡ place sameName (nameOf label) (newNames ns ms)
@@ -264,7 +221,7 @@ pub place-few : {s : List ℕ} {names : Names} {list : List Name} (x : NamesAt s
     → p ≡ place sameName name list
     → p ≤ 64
 place-few {s} {names} {list} x name p e =
-    let a = place-at-most sameName name list in
+    let a = place-most sameName name list in
     let c = x .count in
     let f = x .few in
     omega arith

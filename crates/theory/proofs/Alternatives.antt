@@ -12,7 +12,7 @@
 --   word-alts  : hasWord known c ≡ hasAlts (λ k. isIn k known) c; so productive-word, of the list of types with a fruitful pair
 --   alts-renamed, has-renamed, pairs-renamed : of a content with types in place of types (as the addition's are made distinct)
 use Prim.Native.Nat.{ℕ}
-use mathlib.Core.Bool.{Bool, true, false, not, _&&_, _||_, true≢false, false≢true}
+use mathlib.Core.Bool.{Bool, true, false, not, _&&_, _||_, Bool·not-not, true≢false, false≢true}
 use mathlib.Core.List.{List, [], _∷_, _++_, map, List·Memᴰ, List·Memᴰ·cases-cons, List·Memᴰ·eq-of-singleton}
 use mathlib.Core.Logic.{⊎-elim}
 use mathlib.Core.Path.{_≡_, refl, sym, _∙_, ap, ap₂, subst, fun-ext}
@@ -173,10 +173,6 @@ map-empty : {A B : Type 0} (f : A → B) (xs : List A) → isEmpty (map f xs) �
 map-empty f [] = refl
 map-empty f (x ∷ xs) = refl
 
-pub not-not : (a : Bool) → not (not a) ≡ a
-not-not true = refl
-not-not false = refl
-
 not-and : (a b : Bool) → not (a && b) ≡ (not a || not b)
 not-and true b = refl
 not-and false b = refl
@@ -192,7 +188,7 @@ module _ (results : ℕ → List ℕ) where
     pub alts-empty : (c : Content) → isEmpty (alts results c) ≡ not (hasAlts (someLeft results) c)
     alts-empty none = refl
     alts-empty empty = refl
-    alts-empty (type k) = map-empty type (results k) ∙ sym (not-not (isEmpty (results k)))
+    alts-empty (type k) = map-empty type (results k) ∙ sym (Bool·not-not (isEmpty (results k)))
     alts-empty (sequence cs) = sequence-empty (altsOfEach results cs) ∙ one-empty cs
     alts-empty (choice cs) = all-empty cs
     alts-empty (anyNumber c) = around-some anyNumber empty [] (alts results c)

@@ -65,6 +65,13 @@ unless-decides false b p q =
 pub or-none : (a b : Bool) → a ≡ false → b ≡ false → (a || b) ≡ false
 or-none a b p q = rw (p, q)
 
+-- the second of three first
+pub or-turn : (a b c : Bool) → (a || (b || c)) ≡ ((b || a) || c)
+or-turn true true c = refl
+or-turn true false c = refl
+or-turn false true c = refl
+or-turn false false c = refl
+
 pub or-decides : (a b : Bool) {A B : Type 0} → (a ≡ true) ↔ A → (b ≡ true) ↔ B → ((a || b) ≡ true) ↔ (A ⊎ B)
 or-decides a b p q = (
   λ e. ⊎-elim (λ h. inl (p .0 h)) (λ h. inr (q .0 h)) (or-cases a b e),

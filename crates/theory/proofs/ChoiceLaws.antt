@@ -5,7 +5,7 @@
 --   tidy-choice      tidy (choiceOf xs) ≡ written (joinedOf alternatives (map tidy xs))
 -- And of replacing twice: replace-twice : replace (replace c f) g ≡ replace c (λ k. replace (f k) g)
 use Prim.Native.Nat.{ℕ}
-use mathlib.Core.Bool.{Bool, true, false, not, _||_}
+use mathlib.Core.Bool.{Bool, true, false, not, _||_, or-false as or-nothing}
 use mathlib.Core.List.{
   List,
   [],
@@ -113,11 +113,7 @@ module _ (known : List ℕ) where
   pub word-choice : (xs : List Content) → hasWord known (choiceOf xs) ≡ any (hasWord known) xs
   unfolding choiceOf hasWord any
   word-choice [] = refl
-  word-choice (x ∷ []) = or-nothing (hasWord known x)
-    where
-      or-nothing : (b : Bool) → b ≡ (b || false)
-      or-nothing true = refl
-      or-nothing false = refl
+  word-choice (x ∷ []) = sym (or-nothing (hasWord known x))
   word-choice (x ∷ y ∷ ys) = ap (λ (b : Bool). hasWord known x || (hasWord known y || b)) (word-operands ys)
 
 -- tidying

@@ -10,6 +10,7 @@ use Rattle.grammar.specs.Lists.{any, distinct}
 use Rattle.grammar.specs.Content.{Content, choiceOf}
 use Rattle.grammar.specs.ReadContent.{sameContent}
 use Rattle.theory.proofs.ContentBytes.{same-content}
+use Rattle.theory.proofs.ListLaws.{decided-sym}
 use Rattle.theory.proofs.DistinctLaws.{distinct-left, distinct-again, distinct-grows, one-more-new, one-more-old}
 use Rattle.theory.proofs.Alternatives.{written}
 
@@ -44,14 +45,14 @@ module _ (ds : List Content) (g : Gathered ds) where
 
   pub gather-old : (x : Content) → any (sameContent x) ds ≡ true → gathered ds (x ∷ []) ≡ ds
   unfolding gathered
-  gather-old x e = one-more-old sameContent same-content ds x e ∙ g
+  gather-old x e = one-more-old sameContent (decided-sym sameContent same-content) ds x e ∙ g
 
   pub gather-new : (x : Content) → any (sameContent x) ds ≡ false → gathered ds (x ∷ []) ≡ ds ++ (x ∷ [])
   unfolding gathered
-  gather-new x e = one-more-new sameContent same-content ds x e ∙ ap (λ (l : List Content). l ++ (x ∷ [])) g
+  gather-new x e = one-more-new sameContent (decided-sym sameContent same-content) ds x e ∙ ap (λ (l : List Content). l ++ (x ∷ [])) g
 
   pub gather-grows : (xs : List Content) → (more : List Content) × (gathered ds xs ≡ ds ++ more)
   unfolding gathered
   gather-grows xs =
-      let r = distinct-grows sameContent same-content ds xs in
+      let r = distinct-grows sameContent ds xs in
       (r .0, r .1 ∙ ap (λ (l : List Content). l ++ r .0) g)

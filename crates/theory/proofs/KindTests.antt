@@ -30,7 +30,7 @@ pub same-label : (r s : Rule) → (sameLabel r s ≡ true) ↔ (r .label ≡ s .
 unfolding sameLabel
 same-label r s = eqb-decides (r .label) (s .label)
 
-same-label-sym : (r s : Rule) → sameLabel r s ≡ true → sameLabel s r ≡ true
+pub same-label-sym : (r s : Rule) → sameLabel r s ≡ true → sameLabel s r ≡ true
 same-label-sym r s e = same-label s r .1 (sym (same-label r s .0 e))
 
 pub is-local : (g : Table) → (isLocal g ≡ true) ↔ Local g

@@ -1,5 +1,6 @@
 pub mod BoolLaws
 pub mod ListLaws
+pub mod PlaceLaws
 pub mod NameLaws
 pub mod NamedLabels
 pub mod WordLaws

@@ -1,15 +1,18 @@
 -- What the words of grammar's Lists mean, in terms of membership and positions. Of any lists:
---     any-found, any-of, all-at, all-of, kept, keep-mem       tests of elements, and what is kept
+--     any-found, any-of, any-append, all-at, all-of           tests of elements
+--     kept, keep-mem, keep-on, keep-both                      what is kept
 --     distinct-was, distinct-has, distinct-mem                the distinct elements
 --     at-mem, mem-at, at-below, below-at, at-joined, at-else  what stands at a place
---     place-found, place-of, place-same, same-place           the place of an element
 --     differ-at, all-differ, distinct-new, distinct-end       lists of which all elements are distinct
---     joined-from, joined-mem, joined-append                  lists of lists, joined
---     map-at, at-map, related-map, related-at, related-mem    images, and lists related element by element
--- Of numbers: in-mem, mem-in, same-numbers, numbers-below, one-place, and AllIn (all of one list are in another).
+--     joined-from, joined-mem, joined-append, joined-on       lists of lists, joined
+--     map-on, map-at, at-map                                  images
+--     related-map, related-at, related-mem                    lists related element by element
+-- Of numbers: in-mem, mem-in, in-append, taken-mem, set-all, set-up-to, same-numbers, and AllIn (all of one list are in another);
+-- numbers-below, numbers-joined, numbers-next, numbers-end, listed-from, one-place.
 use Prim.Native.Nat.{ℕ, zero, suc, _+_, _≤_, _<_}
 use native.Mathlib.Omega.{arith}
-use mathlib.Core.Bool.{Bool, true, false, not, _||_, false≢true}
+use native.Mathlib.Numerals.{add-one}
+use mathlib.Core.Bool.{Bool, true, false, not, _&&_, _||_, or-assoc, false≢true}
 use mathlib.Core.List.{
   List,
   [],
@@ -32,9 +35,11 @@ use mathlib.Core.List.{
 }
 use mathlib.Core.Logic.{_↔_, _⊎_, inl, inr, ⊎-elim}
 use mathlib.Core.Option.{Option, none as nothing, some as just}
-use mathlib.Core.Path.{_≡_, refl, sym, _∙_, ap, subst}
+use mathlib.Core.Path.{_≡_, refl, sym, _∙_, ap, ap₂, subst}
 use lib.Dec.{eqb}
-use lib.ListN.{length, getElem?, getD}
+use lib.ListN.{length, getElem?, getD, set, take, replicate}
+use lib.Seq.{getD-set-same, getD-set-other}
+use borrow.Author.Count.{below-more}
 use borrow.Author.Tests.{eqb-true, eqb-false, eq-eqb, not-true}
 use Rattle.grammar.specs.Lists.{
   any,
@@ -42,7 +47,6 @@ use Rattle.grammar.specs.Lists.{
   keep,
   distinct,
   allDistinct,
-  place,
   joinedOf,
   isIn,
   sameNumbers,
@@ -58,7 +62,6 @@ use Rattle.theory.proofs.BoolLaws.{
   or-right,
   not-both,
   passes-or-fails,
-  same-test,
   false-of,
   or-false,
 }
@@ -77,6 +80,12 @@ module _ {A : Type 0} where
   unfolding any
   any-of test (List·Memᴰ·head {x = y} {xs = ys} e) p = or-left (test y) (any test ys) (ap test (sym e) ∙ p)
   any-of test (List·Memᴰ·tail {x = y} {xs = ys} m) p = or-right (test y) (any test ys) (any-of test m p)
+
+  pub any-append : (test : A → Bool) (xs ys : List A) → any test (xs ++ ys) ≡ (any test xs || any test ys)
+  unfolding any
+  any-append test [] ys = refl
+  any-append test (x ∷ xs) ys =
+      ap (λ (b : Bool). test x || b) (any-append test xs ys) ∙ sym (or-assoc (test x) (any test xs) (any test ys))
 
   pub all-at : (test : A → Bool) {x : A} {xs : List A} → all test xs ≡ true → List·Memᴰ x xs → test x ≡ true
   unfolding all
@@ -123,6 +132,28 @@ module _ {A : Type 0} where
       go (inl e) ih = rw (keep-yes test y ys e) (List·Memᴰ·tail ih)
       go (inr e) ih = rw (keep-no test y ys e) ih
 
+  -- tests that agree on the elements keep the same
+  pub keep-on : (p q : A → Bool) (xs : List A) → ((x : A) → List·Memᴰ x xs → p x ≡ q x) → keep p xs ≡ keep q xs
+  unfolding keep
+  keep-on p q [] h = refl
+  keep-on p q (x ∷ xs) h = go (q x) refl (keep-on p q xs (λ y m. h y (List·Memᴰ·tail m)))
+    where
+      go : (b : Bool) → q x ≡ b → keep p xs ≡ keep q xs → keep p (x ∷ xs) ≡ keep q (x ∷ xs)
+      go true e ih = rw (h x (List·Memᴰ·head refl) ∙ e, e, keep) (ap (λ (l : List A). x ∷ l) ih)
+      go false e ih = rw (h x (List·Memᴰ·head refl) ∙ e, e, keep) ih
+
+  -- one test after the other
+  pub keep-both : (p q : A → Bool) (xs : List A) → keep q (keep p xs) ≡ keep (λ x. p x && q x) xs
+  unfolding keep
+  keep-both p q [] = refl
+  keep-both p q (x ∷ xs) = go (p x) refl (q x) refl (keep-both p q xs)
+    where
+      go : (a : Bool) → p x ≡ a → (b : Bool) → q x ≡ b → keep q (keep p xs) ≡ keep (λ y. p y && q y) xs
+          → keep q (keep p (x ∷ xs)) ≡ keep (λ y. p y && q y) (x ∷ xs)
+      go true e true f ih = rw (e, f, keep) (ap (λ (l : List A). x ∷ l) ih)
+      go true e false f ih = rw (e, f, keep) ih
+      go false e b f ih = rw (e, keep) ih
+
   -- what is distinct was there, and each element has one that is the same among the distinct
   pub distinct-was : (same : A → A → Bool) (xs : List A) {x : A} → List·Memᴰ x (distinct same xs) → List·Memᴰ x xs
   unfolding distinct
@@ -149,12 +180,19 @@ module _ {A : Type 0} where
             (r .0, List·Memᴰ·tail (keep-mem (λ w. not (same z w)) (r .1) (ap not e)), r .2))
             (passes-or-fails (same z (r .0)))
 
-  -- of a test that decides equality: each element is among the distinct
+  -- a test that decides equality is symmetric and transitive
+  module _ (same : A → A → Bool) (decides : (x y : A) → (same x y ≡ true) ↔ (x ≡ y)) where
+    pub decided-sym : (x y : A) → same x y ≡ true → same y x ≡ true
+    decided-sym x y e = decides y x .1 (sym (decides x y .0 e))
+
+    pub decided-trans : (x y z : A) → same x y ≡ true → same y z ≡ true → same x z ≡ true
+    decided-trans x y z p q = decides x z .1 (decides x y .0 p ∙ decides y z .0 q)
+
+  -- each element is then among the distinct
   pub distinct-mem : (same : A → A → Bool) → ((x y : A) → (same x y ≡ true) ↔ (x ≡ y)) → {x : A} {xs : List A} → List·Memᴰ x xs
       → List·Memᴰ x (distinct same xs)
   distinct-mem same decides {x} m =
-      let r =
-      distinct-has same (λ y. decides y y .1 refl) (λ y z w p q. decides y w .1 (decides y z .0 p ∙ decides z w .0 q)) m in
+      let r = distinct-has same (λ y. decides y y .1 refl) (decided-trans same decides) m in
       Memᴰ·cast (sym (decides (r .0) x .0 (r .2))) (r .1)
 
   -- positions
@@ -193,51 +231,6 @@ module _ {A : Type 0} where
 
   first-differs : (same : A → A → Bool) (z : A) (zs : List A) {y : A} → not (any (same z) zs) ≡ true → List·Memᴰ y zs → same z y ≡ true → ⊥
   first-differs same z zs n m e = not-both (any-of (same z) m e) (not-true (any (same z) zs) n)
-
-  -- the place of an element that is found
-  pub place-found : (same : A → A → Bool) (x : A) (xs : List A) → any (same x) xs ≡ true
-      → (y : A) × (getElem? xs (place same x xs) ≡ just y) × (same x y ≡ true)
-  unfolding any place
-  place-found same x [] e = absurd (false≢true e)
-  place-found same x (y ∷ ys) e = go (same x y) refl (λ h. place-found same x ys h)
-    where
-      go : (b : Bool) → same x y ≡ b
-          → (any (same x) ys ≡ true → (z : A) × (getElem? ys (place same x ys) ≡ just z) × (same x z ≡ true))
-          → (z : A) × (getElem? (y ∷ ys) (place same x (y ∷ ys)) ≡ just z) × (same x z ≡ true)
-      go true q ih = (y, rw (q, place), q)
-      go false q ih =
-          let r = ih (rw q at e) in
-          (r .0, rw (q, place) (r .1), r .2)
-
-  -- of a test that decides equality: an element that is listed stands at its place
-  pub place-of : (same : A → A → Bool) → ((x y : A) → (same x y ≡ true) ↔ (x ≡ y)) → {x : A} {xs : List A} → List·Memᴰ x xs
-      → getElem? xs (place same x xs) ≡ just x
-  place-of same decides {x} {xs} m =
-      let (y, at, e) = place-found same x xs (any-of (same x) m (decides x x .1 refl)) in
-      at ∙ ap {B = Option A} just (sym (decides x y .0 e))
-
-  -- elements that are the same have one place, and elements found at one place are the same
-  module _ (same : A → A → Bool) (same-sym : (x y : A) → same x y ≡ true → same y x ≡ true)
-      (same-trans : (x y z : A) → same x y ≡ true → same y z ≡ true → same x z ≡ true) where
-    pub place-same : (x y : A) → same x y ≡ true → (xs : List A) → place same x xs ≡ place same y xs
-    unfolding place
-    place-same x y e [] = refl
-    place-same x y e (z ∷ zs) = go (same y z) refl (place-same x y e zs)
-      where
-        alike : same x z ≡ same y z
-        alike = same-test (same x z) (same y z) (same-trans y x z (same-sym x y e), same-trans x y z e)
-
-        go : (b : Bool) → same y z ≡ b → place same x zs ≡ place same y zs → place same x (z ∷ zs) ≡ place same y (z ∷ zs)
-        go true q ih = rw (alike ∙ q, q, place)
-        go false q ih = rw (alike ∙ q, q, place) (ap suc ih)
-
-    pub same-place : (x y : A) (xs : List A) → any (same x) xs ≡ true → any (same y) xs ≡ true → place same x xs ≡ place same y xs
-        → same x y ≡ true
-    same-place x y xs p q e =
-        let (u, at, xu) = place-found same x xs p in
-        let (v, bt, yv) = place-found same y xs q in
-        let w : u ≡ v = just-eq (sym bt ∙ subst (λ (i : ℕ). getElem? xs i ≡ just u) e at) in
-        same-trans x v y (subst (λ (z : A). same x z ≡ true) w xu) (same-sym y v yv)
 
   -- no two elements are the same, by positions
   module _ (same : A → A → Bool) (same-sym : (x y : A) → same x y ≡ true → same y x ≡ true) where
@@ -286,6 +279,16 @@ module _ {A B : Type 0} where
   joined-mem f {y = y} (List·Memᴰ·head {xs = zs} q) m = Memᴰ·append-left (joinedOf f zs) (subst (λ z. List·Memᴰ y (f z)) q m)
   joined-mem f (List·Memᴰ·tail {x = z} n) m = Memᴰ·append-right (f z) (joined-mem f n m)
 
+  -- functions that agree on the elements
+  pub map-on : (f g : A → B) (xs : List A) → ((x : A) → List·Memᴰ x xs → f x ≡ g x) → map f xs ≡ map g xs
+  map-on f g [] h = refl
+  map-on f g (x ∷ xs) h = ap₂ _∷_ (h x (List·Memᴰ·head refl)) (map-on f g xs (λ y m. h y (List·Memᴰ·tail m)))
+
+  pub joined-on : (f g : A → List B) (xs : List A) → ((x : A) → List·Memᴰ x xs → f x ≡ g x) → joinedOf f xs ≡ joinedOf g xs
+  unfolding joinedOf
+  joined-on f g [] h = refl
+  joined-on f g (x ∷ xs) h = ap₂ _++_ (h x (List·Memᴰ·head refl)) (joined-on f g xs (λ y m. h y (List·Memᴰ·tail m)))
+
 -- each element of a list has a property
 module _ {A : Type 0} (P : A → Type 0) where
   abbrev pub Each : List A → Type 0
@@ -312,6 +315,38 @@ in-mem n ns e = let r = any-found (eqb n) ns e in Memᴰ·cast (eqb-true n (r .0
 pub mem-in : {n : ℕ} {ns : List ℕ} → List·Memᴰ n ns → isIn n ns ≡ true
 unfolding isIn
 mem-in {n} m = any-of (eqb n) m (eq-eqb n n refl)
+
+pub in-append : (n : ℕ) (ms ns : List ℕ) → isIn n (ms ++ ns) ≡ (isIn n ms || isIn n ns)
+unfolding isIn
+in-append n ms ns = any-append (eqb n) ms ns
+
+-- the number at a place is among the first
+pub taken-mem : (l : List ℕ) (i n : ℕ) → i < n → i < length l → List·Memᴰ (getD l i 0) (take n l)
+taken-mem [] i n h k = absurd (omega arith)
+taken-mem (x ∷ l) i zero h k = absurd (omega arith)
+taken-mem (x ∷ l) zero (suc n) h k = List·Memᴰ·head refl
+taken-mem (x ∷ l) (suc i) (suc n) h k = List·Memᴰ·tail (taken-mem l i n (omega arith) (omega arith))
+
+pub zeros-at : (n i : ℕ) → _≡_ {A = ℕ} (getD (replicate n 0) i 0) 0
+zeros-at zero i = refl
+zeros-at (suc n) zero = refl
+zeros-at (suc n) (suc i) = zeros-at n i
+
+-- one number set anew, in a list of which all numbers have a property, and in one of which those so far have one
+module _ (l : List ℕ) (i v : ℕ) (h : i < length l) where
+  pub set-all : (P : ℕ → Type 0) → ((j : ℕ) → P (getD l j 0)) → P v → (j : ℕ) → P (getD (set l i v) j 0)
+  set-all P old new j =
+      ⊎-elim
+      (λ e. subst (λ (k : ℕ). P (getD (set l i v) k 0)) (sym (eqb-true j i e)) (subst P (sym (getD-set-same l i v 0 h)) new))
+      (λ e. subst P (sym (getD-set-other l i j v 0 (eqb-false j i e))) (old j))
+      (passes-or-fails (eqb j i))
+
+  pub set-up-to : (P : ℕ → ℕ → Type 0) → ((j : ℕ) → j < i → P j (getD l j 0)) → P i v → (j : ℕ) → j < i + 1
+      → P j (getD (set l i v) j 0)
+  set-up-to P old new =
+      below-more (λ j. P j (getD (set l i v) j 0)) i
+      (λ j k. subst (P j) (sym (getD-set-other l i j v 0 (omega arith))) (old j k))
+      (subst (P i) (sym (getD-set-same l i v 0 h)) new)
 
 -- all numbers of one list are in another
 abbrev pub AllIn : List ℕ → List ℕ → Type 0
@@ -409,16 +444,16 @@ pub eqb-decides : (m n : ℕ) → (eqb m n ≡ true) ↔ (m ≡ n)
 eqb-decides m n = (eqb-true m n, eq-eqb m n)
 
 pub eqb-sym : (m n : ℕ) → eqb m n ≡ true → eqb n m ≡ true
-eqb-sym m n e = eq-eqb n m (sym (eqb-true m n e))
+eqb-sym = decided-sym eqb eqb-decides
 
 -- the numbers below a bound
-numbers-from : (from n : ℕ) {k : ℕ} → List·Memᴰ k (numbersFrom from n) → (from ≤ k) × (k < from + n)
+pub numbers-within : (from n : ℕ) {k : ℕ} → List·Memᴰ k (numbersFrom from n) → (from ≤ k) × (k < from + n)
 unfolding numbersFrom
-numbers-from from zero m = elim m [ ]
-numbers-from from (suc n) {k} m =
+numbers-within from zero m = elim m [ ]
+numbers-within from (suc n) {k} m =
     ⊎-elim
     (λ e. omega arith)
-    (λ q. let r = numbers-from (suc from) n q in omega arith)
+    (λ q. let r = numbers-within (suc from) n q in omega arith)
     (List·Memᴰ·cases-cons m)
 
 from-numbers : (from n k : ℕ) → from ≤ k → k < from + n → List·Memᴰ k (numbersFrom from n)
@@ -433,7 +468,7 @@ from-numbers from (suc n) k p q =
 pub numbers-below : (n k : ℕ) → List·Memᴰ k (numbersBelow n) ↔ (k < n)
 unfolding numbersBelow
 numbers-below n k =
-    (λ m. let r = numbers-from zero n m in omega arith, λ h. from-numbers zero n k (omega arith) (omega arith))
+    (λ m. let r = numbers-within zero n m in omega arith, λ h. from-numbers zero n k (omega arith) (omega arith))
 
 from-differ : (from n : ℕ) → allDistinct eqb (numbersFrom from n) ≡ true
 unfolding numbersFrom allDistinct
@@ -449,7 +484,7 @@ from-differ from (suc n) =
     first e =
         let r = any-found (eqb from) (numbersFrom (suc from) n) e in
         let same = eqb-true from (r .0) (r .2) in
-        let above = numbers-from (suc from) n (r .1) in
+        let above = numbers-within (suc from) n (r .1) in
         omega arith
 
 pub numbers-differ : (n : ℕ) → allDistinct eqb (numbersBelow n) ≡ true
@@ -457,7 +492,7 @@ unfolding numbersBelow
 numbers-differ n = from-differ zero n
 
 pub one-place : (ns : List ℕ) (i j : ℕ) {m n : ℕ} → allDistinct eqb ns ≡ true → getElem? ns i ≡ just m → getElem? ns j ≡ just n → m ≡ n → i ≡ j
-one-place ns i j {m} {n} d p q e = differ-at eqb (λ x y t. eq-eqb y x (sym (eqb-true x y t))) ns i j m n d p q (eq-eqb m n e)
+one-place ns i j {m} {n} d p q e = differ-at eqb eqb-sym ns i j m n d p q (eq-eqb m n e)
 
 module _ {A : Type 0} where
   -- what is kept of different elements differs
@@ -571,6 +606,40 @@ pub numbers-length : (from n : ℕ) → length (numbersFrom from n) ≡ n
 unfolding numbersFrom
 numbers-length from zero = refl
 numbers-length from (suc n) = ap suc (numbers-length (suc from) n)
+
+-- numbers, and those that follow
+pub numbers-joined : (a m k : ℕ) → numbersFrom a (m + k) ≡ numbersFrom a m ++ numbersFrom (a + m) k
+unfolding numbersFrom
+numbers-joined a zero k =
+    let z : zero + k ≡ k = omega arith in
+    let y : a ≡ a + zero = omega arith in
+    ap₂ numbersFrom y z
+numbers-joined a (suc m) k =
+    let z : suc m + k ≡ suc (m + k) = omega arith in
+    let y : suc a + m ≡ a + suc m = omega arith in
+    ap (numbersFrom a) z
+    ∙ ap (λ (l : List ℕ). a ∷ l)
+    (numbers-joined (suc a) m k ∙ ap (λ (b : ℕ). numbersFrom (suc a) m ++ numbersFrom b k) y)
+
+pub numbers-next : (a n : ℕ) → numbersFrom a (suc n) ≡ numbersFrom a n ++ ((a + n) ∷ [])
+unfolding numbersFrom
+numbers-next a n = ap (numbersFrom a) (sym (add-one n)) ∙ numbers-joined a n 1
+
+pub numbers-end : (n : ℕ) → numbersBelow (n + 1) ≡ numbersBelow n ++ (n ∷ [])
+unfolding numbersBelow
+numbers-end n =
+    let z : zero + n ≡ n = omega arith in
+    ap (numbersFrom zero) (add-one n) ∙ numbers-next zero n ∙ ap (λ (k : ℕ). numbersFrom zero n ++ (k ∷ [])) z
+
+-- a list is what stands at its places
+pub listed-from : {A : Type 0} (f : ℕ → A) (a : ℕ) (xs : List A) (d : A) → ((j : ℕ) → j < length xs → f (a + j) ≡ getD xs j d)
+    → xs ≡ map f (numbersFrom a (length xs))
+unfolding numbersFrom
+listed-from f a [] d h = refl
+listed-from f a (x ∷ xs) d h =
+    let z : a + 0 ≡ a = omega arith in
+    ap₂ _∷_ (sym (h zero (omega arith)) ∙ ap f z)
+    (listed-from f (suc a) xs d (λ j l. let q : suc a + j ≡ a + suc j = omega arith in ap f q ∙ h (suc j) (omega arith)))
 
 -- nothing stands at a place only past the end
 pub past-end : {A : Type 0} (xs : List A) (i : ℕ) → getElem? xs i ≡ nothing → length xs ≤ i

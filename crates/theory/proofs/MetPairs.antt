@@ -5,7 +5,7 @@
 -- And whether such contents have a word of known pairs:
 --   word-met, word-met-in-pair : hasWord known (inPairsOf pairs c) ≡ hasAlts (hasLeft pairs known) c
 use Prim.Native.Nat.{ℕ}
-use mathlib.Core.Bool.{Bool, true, false, not, _&&_, _||_}
+use mathlib.Core.Bool.{Bool, true, false, not, _&&_, _||_, Bool·not-not}
 use mathlib.Core.List.{List, [], _∷_, _++_, map}
 use mathlib.Core.Path.{_≡_, refl, sym, _∙_, ap, ap₂, fun-ext}
 use Rattle.grammar.specs.Lists.{any, keep, joinedOf, isIn}
@@ -42,7 +42,6 @@ use Rattle.theory.proofs.Alternatives.{
   inPairsOf,
   pairsLeft,
   hasLeft,
-  not-not,
 }
 use Rattle.theory.proofs.ChoiceLaws.{notNone, replace-choice, simplify-choice, word-choice}
 use Rattle.theory.proofs.EmittedContent.{unless, joined-twice, markPair, pairsMarked, some-none, pruned-marked}
@@ -120,7 +119,7 @@ module _ (pairs : ℕ → List ℕ) (known : List ℕ) where
   all-have : (cs : Contents) → not (any isNone (simplifyAll (replaceAll cs marked))) ≡ allHaveAlts (someLeft left) cs
   all-have cs =
       ap not (some-none pairs known (λ p. p) cs)
-      ∙ not-not (allHaveAlts (hasLeft pairs known) cs)
+      ∙ Bool·not-not (allHaveAlts (hasLeft pairs known) cs)
       ∙ ap (λ has. allHaveAlts has cs) (sym (some-pairs pairs known))
 
   mutual

@@ -72,7 +72,7 @@ use Rattle.theory.proofs.NoTwo.{no-two-append, no-two-keep, no-two-map,
 -- the worklist
 module _ (g : Table) where
   -- of the sets met in a set, those not yet found
-  abbrev newSets : List TypeSet → TypeSet → List TypeSet
+  abbrev pub newSets : List TypeSet → TypeSet → List TypeSet
   newSets sets s = keep (λ t. not (any (sameNumbers t) sets)) (setsMet g s)
 
   found-or-new : (sets : List TypeSet) (s : TypeSet) {t : TypeSet} → List·Memᴰ t (setsMet g s)
@@ -88,11 +88,12 @@ module _ (g : Table) where
       not-both (any-of (sameNumbers t) n (same-numbers-refl t))
       (not-true (any (sameNumbers t) sets) (kept (λ u. not (any (sameNumbers u) sets)) (setsMet g s) m .1))
 
-  more-end : (n next : ℕ) (sets : List TypeSet) → getElem? sets next ≡ nothing → moreSets g (suc n) next sets ≡ sets
+  pub more-end : (n next : ℕ) (sets : List TypeSet) → getElem? sets next ≡ nothing → moreSets g n next sets ≡ sets
   unfolding moreSets
-  more-end n next sets e = rw (e, moreSets)
+  more-end zero next sets e = refl
+  more-end (suc n) next sets e = rw (e, moreSets)
 
-  more-next : (n next : ℕ) (sets : List TypeSet) {s : TypeSet} → getElem? sets next ≡ just s
+  pub more-next : (n next : ℕ) (sets : List TypeSet) {s : TypeSet} → getElem? sets next ≡ just s
       → moreSets g (suc n) next sets ≡ moreSets g n (suc next) (sets ++ newSets sets s)
   unfolding moreSets
   more-next n next sets e = rw (e, moreSets)
@@ -121,7 +122,7 @@ more-ended g Inv step (suc n) next sets h =
         → Ended Inv n (suc next) (moreSets g n (suc next) (sets ++ newSets g sets s)))
         → Ended Inv (suc n) next (moreSets g (suc n) next sets)
     go nothing e ih =
-        subst (λ (l : List TypeSet). Ended Inv (suc n) next l) (sym (more-end g n next sets e))
+        subst (λ (l : List TypeSet). Ended Inv (suc n) next l) (sym (more-end g (suc n) next sets e))
         (record { last = next; holds = h; done = λ few. past-end sets next e })
     go (just s) e ih =
         subst (λ (l : List TypeSet). Ended Inv (suc n) next l) (sym (more-next g n next sets e))

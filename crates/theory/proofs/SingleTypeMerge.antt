@@ -45,9 +45,9 @@ use Rattle.theory.proofs.ListLaws.{
   at-front,
   related-map,
   related-turn,
-  place-of,
   numbers-decide,
 }
+use Rattle.theory.proofs.PlaceLaws.{place-of}
 use Rattle.theory.proofs.NameLaws.{name-refl}
 use Rattle.theory.proofs.WordLaws.{merge-words}
 use Rattle.theory.proofs.Standing.{word-stands, merge-type}
@@ -79,7 +79,7 @@ use Rattle.theory.proofs.TableConditions.{Labelled, OneRuleEach, HasRul
 use Rattle.theory.proofs.ReducedAutomaton.{step-alive}
 
 -- the first of a set with members
-first-member : (s : TypeSet) {k : ℕ} → List·Memᴰ k s → List·Memᴰ (getD s 0 0) s
+pub first-member : (s : TypeSet) {k : ℕ} → List·Memᴰ k s → List·Memᴰ (getD s 0 0) s
 first-member [] m = elim m [ ]
 first-member (k ∷ s) m = List·Memᴰ·head refl
 
