@@ -4,15 +4,15 @@
 -- and so for a caller that gathers from source contents one after the other: start-kept, the empty list at the front of the draft.
 use Prim.Native.Nat.{ℕ, _-_, _≤_, _<_}
 use native.Mathlib.Omega.{arith}
-use mathlib.Core.Bool.{true, false, _&&_, _||_}
+use mathlib.Core.Bool.{true, false, _||_}
 use mathlib.Core.List.{List, []}
 use mathlib.Core.Logic.{_⊎_, inl, inr}
 use mathlib.Core.Option.{some as just}
 use mathlib.Core.Path.{_≡_, sym, _∙_, ap}
 use lib.ListN.{length, take, drop}
 use lib.Seq.{take-take}
-use lib.Dec.{ltb, leb}
-use borrow.Author.Tests.{lt-ltb, le-ltb, ltb-true, ltb-false, leb-true}
+use lib.Dec.{ltb}
+use borrow.Author.Tests.{lt-ltb, le-ltb, ltb-true, ltb-false}
 use Rattle.grammar.specs.Limits.{Limits, standard}
 use Rattle.grammar.specs.Content.{
   Content,
@@ -32,13 +32,13 @@ use Rattle.grammar.specs.Content.{
 }
 use Rattle.grammar.specs.ReadContent.{contentBytes, isProper, areProper}
 use Rattle.grammar.specs.Size.{widestChoice, widestOf, contentTooLarge}
-use Rattle.theory.proofs.BoolLaws.{and-left, and-right, or-left, or-right, or-none, not-both, passes-or-fails}
+use Rattle.theory.proofs.BoolLaws.{or-left, or-right, or-none, not-both, passes-or-fails}
 use Rattle.theory.proofs.Counted.{counted-proper}
 use Rattle.reader.specs.ExprAt.{_upTo_, exprAt}
 use Rattle.reader.specs.Extents.{properAt}
 use Rattle.reader.specs.declared.contents.Extent.the-variants.{Nowhere, Upto}
 use Rattle.reader.proofs.ExprLaws.{same-placed, expr-kept, expr-written, expr-bytes, expr-forward}
-use Rattle.reader.proofs.ExtentLaws.{proper-yes, proper-no}
+use Rattle.reader.proofs.ExtentLaws.{proper-yes, proper-no, proper-sequence, proper-choice, proper-first}
 use Rattle.emitting.specs.Drafts.{Kept, Added}
 use Rattle.emitting.specs.Completing.{Regular, Stored}
 use Rattle.emitting.proofs.WideLaws.{one-long, one-wide, unfit-large}
@@ -53,14 +53,10 @@ module _ (lim : Limits) where
     proper-narrow none p = omega arith
     proper-narrow empty p = omega arith
     proper-narrow (type k) p = omega arith
-    proper-narrow (sequence cs) p =
-        all-narrow cs (and-right (leb 2 (count cs) && leb (count cs) (lim .operands)) (areProper lim cs) p)
+    proper-narrow (sequence cs) p = all-narrow cs (proper-sequence lim cs p .2)
     proper-narrow (choice cs) p =
-        let counts = leb 2 (count cs) && leb (count cs) (lim .operands) in
-        let few =
-        leb-true (count cs) (lim .operands)
-        (and-right (leb 2 (count cs)) (leb (count cs) (lim .operands)) (and-left counts (areProper lim cs) p)) in
-        let others = all-narrow cs (and-right counts (areProper lim cs) p) in
+        let (two, few, each) = proper-choice lim cs p in
+        let others = all-narrow cs each in
         omega arith
     proper-narrow (anyNumber c) p = proper-narrow c p
     proper-narrow (oneOrMore c) p = proper-narrow c p
@@ -69,8 +65,9 @@ module _ (lim : Limits) where
     pub all-narrow : (cs : Contents) → areProper lim cs ≡ true → widestOf cs ≤ lim .operands
     all-narrow []ᶜ p = omega arith
     all-narrow (c ∷ᶜ cs) p =
-        let a = proper-narrow c (and-left (isProper lim c) (areProper lim cs) p) in
-        let b = all-narrow cs (and-right (isProper lim c) (areProper lim cs) p) in
+        let (first, others) = proper-first lim c cs p in
+        let a = proper-narrow c first in
+        let b = all-narrow cs others in
         omega arith
 
 module _ (d : List ℕ) (c : Content) (last : ℕ) (stands : exprAt d 0 ≡ just (c upTo last)) where

@@ -2,12 +2,12 @@
 --   no-sources, first-source, other-sources, row-wide, row-then   a row gathered: none; the first; the others after it
 --   no-operands, first-operand, .. , row-on                       a row written: none; the first, finished; the others after it
 --   sequence-..., around-...                                      a sequence, and an operator of one operand, around a row written
-use Prim.Native.Nat.{ℕ, zero, suc, _+_, _-_, _*_, _≤_, _<_}
+use Prim.Native.Nat.{ℕ, suc, _+_, _-_, _*_, _≤_, _<_}
 use native.Mathlib.Omega.{arith}
 use mathlib.Core.Bool.{true, false}
 use mathlib.Core.List.{List, [], _∷_, _++_, map}
 use mathlib.Core.Option.{some as just}
-use mathlib.Core.Path.{_≡_, refl, sym, _∙_, ap, ap₂, subst}
+use mathlib.Core.Path.{_≡_, refl, sym, _∙_, ap, subst}
 use lib.ListN.{length, getD, getElem?, take, set, length-set}
 use lib.Seq.{take-set-le, getD-set-same, getD-take}
 use Rattle.grammar.specs.Lists.{joinedOf}
@@ -42,7 +42,7 @@ use Rattle.emitting.specs.declared.emitter.Emitted.the-variants as emitt
 use Rattle.emitting.specs.Drafts.{Row, Kept, Newest, Unfit, TooWide, Added, Gathers, Finished}
 use Rattle.pairs.specs.Walks.{listOf}
 use Rattle.emitting.specs.Emitting.{Room, Source, Sources, Seen, GathersSeen, Operands, Laid, Emits}
-use Rattle.emitting.proofs.RowLaws.{exprs-uncons, exprs-none-left}
+use Rattle.emitting.proofs.RowLaws.{exprs-only}
 use Rattle.emitting.proofs.FinishLaws.{
   single-stands,
   counted-stands,
@@ -383,11 +383,9 @@ one-stands : (s : List ℕ) (at : ℕ) (c : Content) (next : ℕ) → exprsAt s 
     → exprAt s at ≡ just (c upTo next)
 unfolding operands
 one-stands s at c next e =
-    let u = exprs-uncons s at zero (c ∷ []) next e in
-    let o = exprs-none-left s (u .middle) (u .others) next (u .others-at) in
-    let f : u .first ≡ c = cc (u .both) in
-    u .first-at
-    ∙ ap₂ (λ (x : Content) (m : ℕ). just (x upTo m)) f (sym (o .1))
+    let o = exprs-only s at (c ∷ []) next e in
+    let same : o .0 ≡ c = cc (o .1) in
+    o .2 ∙ ap (λ (x : Content). just (x upTo next)) same
 
 -- a byte before a place up to which bytes are kept
 byte-kept : (d d' : List ℕ) (i n : ℕ) → i < n → take n d' ≡ take n d → getD d' i 0 ≡ getD d i 0
@@ -510,15 +508,6 @@ module _ {s : List ℕ} {at : ℕ} {types from results d : List ℕ} {base count
       let r = q .room in
       let f = q .fits in
       omega arith
-
-  pub around-room : limit + 1026 ≤ length d
-  around-room =
-      let m = around-deep in
-      let r = q .room in
-      omega arith
-
-  abbrev pub around-spare : Room d base count end limit
-  around-spare = record { kept = q .kept; fits = q .fits; room = around-room }
 
   pub around-blank : (next : ℕ) → next ≡ one .operand .next → getD s at 0 ≡ 6 → hasAlts (someLeft res) inner ≡ false
       → Gathers d d base end limit (q .there .next) (gathered (q .kept .list) (alts res (q .there .content))) (gathering.Upto next count end)

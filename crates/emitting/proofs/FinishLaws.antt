@@ -1,7 +1,7 @@
 -- What the writing of an operator's first bytes makes of the operands after them:
 --   alone-stands, single-stands, counted-stands : the bytes and the operands are the expression
 --   finish-none, finish-one, finish-more : none, the one operand, the choice of them all
-use Prim.Native.Nat.{ℕ, zero, _+_, _-_, _≤_, _<_}
+use Prim.Native.Nat.{ℕ, _+_, _-_, _≤_, _<_}
 use native.Mathlib.Omega.{arith}
 use mathlib.Core.List.{List, [], _∷_, _++_, append-assoc}
 use mathlib.Core.Option.{some as just}
@@ -24,7 +24,7 @@ use Rattle.reader.proofs.ExprLaws.{
   operator-choice,
 }
 use Rattle.emitting.specs.Drafts.{Row, Finished}
-use Rattle.emitting.proofs.RowLaws.{exprs-uncons, exprs-none-left}
+use Rattle.emitting.proofs.RowLaws.{exprs-none-left, exprs-only}
 use Rattle.emitting.proofs.KeptLaws.{row-count}
 
 module _ (d : List ℕ) (at : ℕ) where
@@ -87,20 +87,11 @@ module _ (d : List ℕ) (start n end : ℕ) (ds : List Content) (r : Row d (star
         keeps = take-set-le start d start 0 (omega arith);
       }
 
-  one-stands : n ≡ 1 → (x : Content) × (ds ≡ x ∷ []) × (exprAt d (start + 2) ≡ just (x upTo end))
-  one-stands z =
-      let q = exprs-uncons d (start + 2) zero ds end (ap (exprsAt d (start + 2)) (sym z) ∙ r .stand) in
-      let o = exprs-none-left d (q .middle) (q .others) end (q .others-at) in (
-        q .first,
-        q .both ∙ ap (λ (l : List Content). q .first ∷ l) (o .0),
-        q .first-at ∙ ap (λ (m : ℕ). just (q .first upTo m)) (sym (o .1)),
-      )
-
   pub finish-one : (d' : List ℕ) → n ≡ 1 → d' ≡ paste d start (drop (start + 2) d) (end - (start + 2))
       → Finished d d' start (choiceOf ds) (end - 2)
   unfolding choiceOf
   finish-one d' z p =
-      let o = one-stands z in
+      let o = exprs-only d (start + 2) ds end (ap (exprsAt d (start + 2)) (sym z) ∙ r .stand) in
       let x = o .0 in
       let k = end - (start + 2) in
       let w = expr-written d (start + 2) x end (o .2) in

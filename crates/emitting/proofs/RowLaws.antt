@@ -1,6 +1,6 @@
 -- Expressions one after the other, as lists:
 --   exprs-join : some expressions and some after them are all of them; exprs-one-more : one more at the end
---   exprs-uncons : the first of some, and the others
+--   exprs-uncons : the first of some, and the others; exprs-only : the one where there is one
 --   opens-.. : what the first bytes of an expression say of its operands
 --   operands-few : as many expressions have at least as many bytes
 use Prim.Native.Nat.{ℕ, zero, suc, _+_, _-_, _≤_, _<_}
@@ -29,7 +29,7 @@ use Rattle.grammar.specs.ReadContent.{contentBytes, operandBytes}
 use Rattle.grammar.specs.Tidy.{listOf}
 use Rattle.theory.proofs.ContentBytes.{content-has-bytes}
 use Rattle.reader.specs.ExprAt.{_upTo_, placed, exprAt, exprsAt}
-use Rattle.reader.proofs.ExprLaws.{Parts, exprs-none, exprs-more, exprs-first, exprs-end, exprs-written, expr-parts, expr-forward, expr-written}
+use Rattle.reader.proofs.ExprLaws.{Parts, exprs-none, exprs-more, exprs-first, exprs-end, exprs-written, expr-parts, expr-forward, count-inside}
 use Rattle.emitting.specs.Drafts.{Stands, Ends, Headed}
 
 pub operands-list : (cs : Contents) → operands (listOf cs) ≡ cs
@@ -117,6 +117,17 @@ module _ (s : List ℕ) where
       let q = exprs-end s at (x ∷ᶜ operands xs) next e in
       let z : _≡_ {A = ℕ} 0 1 = cc (q .0) in
       absurd (omega arith)
+
+  -- just one
+  pub exprs-only : (at : ℕ) (xs : List Content) (next : ℕ) → exprsAt s at 1 ≡ just (operands xs upTo next)
+      → (x : Content) × (xs ≡ x ∷ []) × (exprAt s at ≡ just (x upTo next))
+  exprs-only at xs next e =
+      let q = exprs-uncons at zero xs next e in
+      let o = exprs-none-left (q .middle) (q .others) next (q .others-at) in (
+        q .first,
+        q .both ∙ ap (λ (l : List Content). q .first ∷ l) (o .0),
+        q .first-at ∙ ap (λ (m : ℕ). just (q .first upTo m)) (sym (o .1)),
+      )
 
   pub ends-join : (m n at mid next : ℕ) → Ends s at m mid → Ends s mid n next → Ends s at (m + n) next
   ends-join m n at mid next e f =
@@ -219,21 +230,7 @@ module _ (s : List ℕ) (at : ℕ) (next : ℕ) where
   no-operands : (n : ℕ) → next ≡ n → Ends s n 0 next
   no-operands n e = record { contents = []ᶜ; stand = exprs-none s n ∙ ap (λ (k : ℕ). just ([]ᶜ upTo k)) (sym e) }
 
-  counted-has : (c : Content) → exprAt s at ≡ just (c upTo next) → 3 ≤ getD s at 0 → getD s at 0 ≤ 4 → at + 2 ≤ length s
-  unfolding contentBytes
-  counted-has none e h k = let p = expr-parts s at none next e in absurd (omega arith)
-  counted-has empty e h k = let p = expr-parts s at empty next e in absurd (omega arith)
-  counted-has (type n) e h k = let p = expr-parts s at (type n) next e in absurd (omega arith)
-  counted-has (sequence cs) e h k = let w = expr-written s at (sequence cs) next e in omega arith
-  counted-has (choice cs) e h k = let w = expr-written s at (choice cs) next e in omega arith
-  counted-has (anyNumber c) e h k = let p = expr-parts s at (anyNumber c) next e in absurd (omega arith)
-  counted-has (oneOrMore c) e h k = let p = expr-parts s at (oneOrMore c) next e in absurd (omega arith)
-  counted-has (optional c) e h k = let p = expr-parts s at (optional c) next e in absurd (omega arith)
-
   module _ (c : Content) (e : exprAt s at ≡ just (c upTo next)) where
-    pub counted-inside : 3 ≤ getD s at 0 → getD s at 0 ≤ 4 → at + 2 ≤ length s
-    counted-inside h k = counted-has c e h k
-
     pub opens-alone : getD s at 0 ≤ 1 → Headed s at 1 0 next
     opens-alone h =
         let f = expr-forward s at c next e in
@@ -250,7 +247,7 @@ module _ (s : List ℕ) (at : ℕ) (next : ℕ) where
         record {
           operands = counted-parts c (expr-parts s at c next e) h k;
           some = omega arith;
-          inside = counted-inside h k;
+          inside = let i = count-inside s at c next e h k in omega arith;
         }
 
     pub opens-single : 5 ≤ getD s at 0 → Headed s at 1 1 next

@@ -9,8 +9,6 @@ use mathlib.Core.List.{List, [], _∷_, _++_, map}
 use mathlib.Core.Option.{some as just}
 use mathlib.Core.Path.{_≡_, refl, sym, _∙_, ap, ap₂, subst}
 use lib.ListN.{length, getD, getElem?}
-use lib.Dec.{leb}
-use borrow.Author.Tests.{ltb-true}
 use Rattle.grammar.specs.Lists.{joinedOf}
 use Rattle.grammar.specs.Limits.{Limits, standard}
 use Rattle.grammar.specs.Content.{
@@ -26,13 +24,12 @@ use Rattle.grammar.specs.Content.{
   Contents,
   []ᶜ,
   _∷ᶜ_,
-  count,
   nesting,
   deepest,
   operands,
 }
 use Rattle.grammar.specs.ReadContent.{isProper, areProper, counted, single, operators}
-use Rattle.theory.proofs.BoolLaws.{and-left, and-right, and-intro}
+use Rattle.theory.proofs.BoolLaws.{and-intro}
 use Rattle.theory.proofs.Alternatives.{
   alts,
   altsOfEach,
@@ -47,6 +44,7 @@ use Rattle.theory.proofs.Alternatives.{
 }
 use Rattle.reader.specs.ExprAt.{_upTo_, placed, exprAt, exprsAt}
 use Rattle.reader.proofs.ExprLaws.{same-placed, exprs-first, exprs-end, exprs-more, exprs-none, expr-forward, counted-was, single-was, operator-any-number, operator-one-or-more, operator-optional}
+use Rattle.reader.proofs.ExtentLaws.{proper-number, proper-sequence, proper-choice, proper-first}
 use Rattle.pairs.specs.ContentAt.{ContentAt, ContentsAt}
 use Rattle.pairs.specs.Walks.{hasAt, hasRowAt, listOf}
 use Rattle.emitting.specs.Emitting.{Maps}
@@ -63,11 +61,10 @@ pub record FirstThere (lim : Limits) (s : List ℕ) (at n : ℕ) (there : Conten
   pub forward : at < first .next
 
 pub first-of : (lim : Limits) (s : List ℕ) (at n : ℕ) (there : ContentsAt lim s at n) → (n ≡ 0 → ⊥) → FirstThere lim s at n there
-unfolding areProper
 first-of lim s at zero there h = absurd (h refl)
 first-of lim s at (suc n) there h =
     let f = exprs-first s at n (there .contents) (there .next) (there .stand) in
-    let p = ap (areProper lim) (sym (f .both)) ∙ there .proper in
+    let p = proper-first lim (f .first) (f .others) (ap (areProper lim) (sym (f .both)) ∙ there .proper) in
     let w = expr-forward s at (f .first) (f .middle) (f .first-at) in
     let z : suc n - 1 ≡ n = omega arith in
     record {
@@ -76,7 +73,7 @@ first-of lim s at (suc n) there h =
             content = f .first;
             next = f .middle;
             stands = f .first-at;
-            proper = and-left (isProper lim (f .first)) (areProper lim (f .others)) p;
+            proper = p .0;
           };
       others =
           record {
@@ -84,7 +81,7 @@ first-of lim s at (suc n) there h =
             next = there .next;
             inside = omega arith;
             stand = ap (exprsAt s (f .middle)) z ∙ f .others-at;
-            proper = and-right (isProper lim (f .first)) (areProper lim (f .others)) p;
+            proper = p .1;
           };
       both = f .both;
       ends = refl;
@@ -267,11 +264,9 @@ module _ (lim : Limits) (f g : ℕ → Bool) (agree : (k : ℕ) → k < lim .typ
     pub has-agrees : (c : Content) → isProper lim c ≡ true → hasAlts f c ≡ hasAlts g c
     has-agrees none p = refl
     has-agrees empty p = refl
-    has-agrees (type k) p = agree k (ltb-true k (lim .types) p)
-    has-agrees (sequence cs) p =
-        all-agree cs (and-right (leb 2 (count cs) && leb (count cs) (lim .operands)) (areProper lim cs) p)
-    has-agrees (choice cs) p =
-        one-agrees cs (and-right (leb 2 (count cs) && leb (count cs) (lim .operands)) (areProper lim cs) p)
+    has-agrees (type k) p = agree k (proper-number lim k p)
+    has-agrees (sequence cs) p = all-agree cs (proper-sequence lim cs p .2)
+    has-agrees (choice cs) p = one-agrees cs (proper-choice lim cs p .2)
     has-agrees (anyNumber c) p = refl
     has-agrees (oneOrMore c) p = has-agrees c p
     has-agrees (optional c) p = refl
@@ -279,14 +274,14 @@ module _ (lim : Limits) (f g : ℕ → Bool) (agree : (k : ℕ) → k < lim .typ
     pub all-agree : (cs : Contents) → areProper lim cs ≡ true → allHaveAlts f cs ≡ allHaveAlts g cs
     all-agree []ᶜ p = refl
     all-agree (c ∷ᶜ cs) p =
-        ap₂ _&&_ (has-agrees c (and-left (isProper lim c) (areProper lim cs) p))
-        (all-agree cs (and-right (isProper lim c) (areProper lim cs) p))
+        let (first, others) = proper-first lim c cs p in
+        ap₂ _&&_ (has-agrees c first) (all-agree cs others)
 
     pub one-agrees : (cs : Contents) → areProper lim cs ≡ true → oneHasAlts f cs ≡ oneHasAlts g cs
     one-agrees []ᶜ p = refl
     one-agrees (c ∷ᶜ cs) p =
-        ap₂ _||_ (has-agrees c (and-left (isProper lim c) (areProper lim cs) p))
-        (one-agrees cs (and-right (isProper lim c) (areProper lim cs) p))
+        let (first, others) = proper-first lim c cs p in
+        ap₂ _||_ (has-agrees c first) (one-agrees cs others)
 
 -- what the walk finds
 module _ (types from results : List ℕ) (maps : Maps types from results) (s : List ℕ) (at : ℕ) where

@@ -3,7 +3,7 @@
 --   wide-choice  the choice of them does not; unfit-first, unfit-others : nor does a row in which it stands
 --   wide-sequence, wide-single : nor do operands with a sequence, a repetition or an option of it
 --   too-large    the finished content is too large
-use Prim.Native.Nat.{ℕ, suc, _+_, _-_, _≤_, _<_}
+use Prim.Native.Nat.{ℕ, suc, _+_, _≤_, _<_}
 use native.Mathlib.Omega.{arith}
 use mathlib.Core.Bool.{true, _||_}
 use mathlib.Core.List.{List, [], _∷_, _++_, List·Memᴰ, List·Memᴰ·head, List·Memᴰ·cases-cons, Memᴰ·append-right}

@@ -1,13 +1,13 @@
 -- Laws of lists for the forms by sets. Of what is kept, and of images:
---   keep-on, map-on, map-itself, joined-on    tests and functions that agree on the elements of a list
+--   map-itself                        a function that leaves each element of a list
 --   keep-nothing                      nothing is kept where nothing passes the test
---   any-map, place-image              some image passes a test; the place of an image
+--   any-map                           some image passes a test
 --   some-mem, mem-some                a list that is not empty has an element
 --   in-kept                           a number is kept of a list that has it just where it passes the test
 -- Of lists by places: same-at, numbered, past-nothing; kept-below. Of distinct elements:
 --   first-itself     an element of the distinct ones stands at its own place
 --   distinct-append  of two lists joined: of the second those that are not in the first
---   distinct-all, distinct-on, distinct-image, distinct-longer
+--   distinct-all, distinct-image, distinct-longer
 use Prim.Native.Nat.{ℕ, zero, suc, _+_, _-_, _≤_}
 use native.Mathlib.Omega.{arith}
 use mathlib.Core.Bool.{Bool, true, false, not, _||_, false≢true}
@@ -28,42 +28,33 @@ use mathlib.Core.List.{
 use mathlib.Core.Logic.{_↔_, ⊎-elim}
 use mathlib.Core.Option.{none as nothing, some as just}
 use mathlib.Core.Path.{_≡_, refl, sym, _∙_, ap, ap₂}
-use lib.ListN.{length, length-append, length-map, getElem?, getD}
+use lib.ListN.{length, length-append, getElem?, getD}
 use borrow.Author.Tests.{not-true}
-use Rattle.grammar.specs.Lists.{any, keep, distinct, allDistinct, place, joinedOf, isIn, numbersFrom, numbersBelow}
+use Rattle.grammar.specs.Lists.{any, keep, distinct, allDistinct, place, isIn, numbersFrom, numbersBelow}
 use Rattle.grammar.specs.ReadTable.{isEmpty}
 use Rattle.theory.proofs.BoolLaws.{and-left, and-right, same-test, false-of, not-both, or-false}
 use Rattle.theory.proofs.ListLaws.{
   any-of,
-  keep-yes,
   keep-no,
   keep-all,
-  keep-map,
   keep-mem,
   kept,
-  distinct-was,
-  at-map,
   mem-at,
   numbers-below,
-  at-else,
   numbers-at,
-  numbers-length,
   in-mem,
   mem-in,
+  map-on,
+  distinct-map,
+  decided-sym,
+  decided-trans,
+  listed-from,
+  numbers-joined,
 }
-use Rattle.theory.proofs.DistinctLaws.{keep-append, keep-within, keep-distinct, distinct-grows}
+use Rattle.theory.proofs.DistinctLaws.{keep-append, keep-within, distinct-grows, distinct-finer}
+pub use Rattle.theory.proofs.ListLaws.{keep-on}
 
 module _ {A : Type 0} where
-  pub keep-on : (p q : A → Bool) (xs : List A) → ((x : A) → List·Memᴰ x xs → p x ≡ q x) → keep p xs ≡ keep q xs
-  unfolding keep
-  keep-on p q [] h = refl
-  keep-on p q (x ∷ xs) h = go (q x) refl (keep-on p q xs (λ y m. h y (List·Memᴰ·tail m)))
-    where
-      go : (b : Bool) → q x ≡ b → keep p xs ≡ keep q xs → keep p (x ∷ xs) ≡ keep q (x ∷ xs)
-      go true e ih =
-          keep-yes p x xs (h x (List·Memᴰ·head refl) ∙ e) ∙ ap (λ (l : List A). x ∷ l) ih ∙ sym (keep-yes q x xs e)
-      go false e ih = keep-no p x xs (h x (List·Memᴰ·head refl) ∙ e) ∙ ih ∙ sym (keep-no q x xs e)
-
   pub keep-nothing : (test : A → Bool) (xs : List A) → ((x : A) → List·Memᴰ x xs → test x ≡ false) → keep test xs ≡ []
   unfolding keep
   keep-nothing test [] h = refl
@@ -98,13 +89,7 @@ module _ {A : Type 0} where
   pub numbered : (d : A) (xs : List A) → xs ≡ map (λ i. getD xs i d) (numbersBelow (length xs))
   unfolding numbersBelow
   numbered d xs =
-      same-at xs (map (λ i. getD xs i d) (numbersBelow (length xs)))
-      (sym (length-map (numbersBelow (length xs)) (λ i. getD xs i d) ∙ numbers-length zero (length xs)))
-      (λ i x y p q.
-      let (k, at, e) = at-map (λ i. getD xs i d) (numbersBelow (length xs)) i q in
-      let here = numbers-at zero (length xs) i at in
-      let same : i ≡ k = omega arith in
-      sym (at-else xs i d p) ∙ ap (λ (j : ℕ). getD xs j d) same ∙ e)
+      listed-from (λ i. getD xs i d) zero xs d (λ i h. let z : zero + i ≡ i = omega arith in ap (λ (k : ℕ). getD xs k d) z)
 
   module _ (same : A → A → Bool) (same-refl : (x : A) → same x x ≡ true)
       (same-sym : (x y : A) → same x y ≡ true → same y x ≡ true) (d : A) where
@@ -169,7 +154,7 @@ module _ {A : Type 0} where
     -- what comes after takes nothing away
     pub distinct-longer : (xs ys zs : List A) → length (distinct same (xs ++ ys)) ≤ length (distinct same (xs ++ (ys ++ zs)))
     distinct-longer xs ys zs =
-        let (more, e) = distinct-grows same decides (xs ++ ys) zs in
+        let (more, e) = distinct-grows same (xs ++ ys) zs in
         let n =
         ap (λ (l : List A). length (distinct same l)) (sym (append-assoc xs ys zs))
         ∙ ap length e
@@ -191,70 +176,25 @@ module _ {A : Type 0} where
       (false-of (same x y)
       (λ e. not-both (any-of (same x) m e) (not-true (any (same x) xs) (and-left new (allDistinct same xs) d))))))
 
-  pub distinct-on : (p q : A → A → Bool) (xs : List A)
-      → ((x y : A) → List·Memᴰ x xs → List·Memᴰ y xs → p x y ≡ q x y)
-      → distinct p xs ≡ distinct q xs
-  unfolding distinct
-  distinct-on p q [] h = refl
-  distinct-on p q (x ∷ xs) h =
-      ap (λ (l : List A). x ∷ l)
-      (ap (keep (λ y. not (p x y))) (distinct-on p q xs (λ y z m n. h y z (List·Memᴰ·tail m) (List·Memᴰ·tail n)))
-      ∙ keep-on (λ y. not (p x y)) (λ y. not (q x y)) (distinct q xs)
-      (λ y m. ap not (h x y (List·Memᴰ·head refl) (List·Memᴰ·tail (distinct-was q xs m)))))
-
 module _ {A B : Type 0} where
-  pub map-on : (f g : A → B) (xs : List A) → ((x : A) → List·Memᴰ x xs → f x ≡ g x) → map f xs ≡ map g xs
-  map-on f g [] h = refl
-  map-on f g (x ∷ xs) h = ap₂ _∷_ (h x (List·Memᴰ·head refl)) (map-on f g xs (λ y m. h y (List·Memᴰ·tail m)))
-
-  pub joined-on : (f g : A → List B) (xs : List A) → ((x : A) → List·Memᴰ x xs → f x ≡ g x) → joinedOf f xs ≡ joinedOf g xs
-  unfolding joinedOf
-  joined-on f g [] h = refl
-  joined-on f g (x ∷ xs) h = ap₂ _++_ (h x (List·Memᴰ·head refl)) (joined-on f g xs (λ y m. h y (List·Memᴰ·tail m)))
-
   pub any-map : (f : A → B) (test : B → Bool) (xs : List A) → any test (map f xs) ≡ any (λ x. test (f x)) xs
   unfolding any
   any-map f test [] = refl
   any-map f test (x ∷ xs) = ap (λ (b : Bool). test (f x) || b) (any-map f test xs)
 
-  -- the place of an image, where images are the same just where their sources are
-  pub place-image : (f : A → B) (p : A → A → Bool) (q : B → B → Bool) (x : A) (xs : List A)
-      → ((y : A) → List·Memᴰ y xs → q (f x) (f y) ≡ p x y)
-      → place p x xs ≡ place q (f x) (map f xs)
-  unfolding place
-  place-image f p q x [] h = refl
-  place-image f p q x (y ∷ ys) h =
-      go (p x y) refl (place-image f p q x ys (λ z m. h z (List·Memᴰ·tail m)))
-    where
-      go : (b : Bool) → p x y ≡ b → place p x ys ≡ place q (f x) (map f ys)
-          → place p x (y ∷ ys) ≡ place q (f x) (map f (y ∷ ys))
-      go true e ih = rw (e, h y (List·Memᴰ·head refl) ∙ e, place)
-      go false e ih = rw (e, h y (List·Memᴰ·head refl) ∙ e, place) (ap suc ih)
-
   -- equal elements may go before their images are told apart
   module _ (p : A → A → Bool) (p-decides : (x y : A) → (p x y ≡ true) ↔ (x ≡ y)) (q : B → B → Bool)
       (q-decides : (x y : B) → (q x y ≡ true) ↔ (x ≡ y)) (f : A → B) where
     pub distinct-image : (xs : List A) → distinct q (map f (distinct p xs)) ≡ distinct q (map f xs)
-    unfolding distinct
-    distinct-image [] = refl
-    distinct-image (x ∷ xs) =
-        let apart : (B → Bool) = λ y. not (q (f x) y) in
-        let unlike : (A → Bool) = λ y. not (p x y) in
-        let D = distinct p xs in
-        ap (λ (l : List B). f x ∷ l)
-        (keep-distinct q q-decides apart (map f (keep unlike D))
-        ∙ ap (distinct q)
-        (keep-map f apart (keep unlike D)
-        ∙ ap (map f) (keep-within (λ y. apart (f y)) unlike D apart-unlike)
-        ∙ sym (keep-map f apart D))
-        ∙ sym (keep-distinct q q-decides apart (map f D))
-        ∙ ap (keep apart) (distinct-image xs))
-      where
-        apart-unlike : (y : A) → not (q (f x) (f y)) ≡ true → not (p x y) ≡ true
-        apart-unlike y e =
-            ap not
-            (false-of (p x y)
-            (λ s. not-both (q-decides (f x) (f y) .1 (ap f (p-decides x y .0 s))) (not-true (q (f x) (f y)) e)))
+    distinct-image xs =
+        distinct-map f q (distinct p xs)
+        ∙ ap (map f)
+        (distinct-finer (λ x y. q (f x) (f y)) (λ x y. decided-sym q q-decides (f x) (f y))
+        (λ x y z. decided-trans q q-decides (f x) (f y) (f z))
+        p
+        (λ x y e. q-decides (f x) (f y) .1 (ap f (p-decides x y .0 e)))
+        xs)
+        ∙ sym (distinct-map f q xs)
 
 pub map-itself : {A : Type 0} (f : A → A) (xs : List A) → ((x : A) → List·Memᴰ x xs → f x ≡ x) → map f xs ≡ xs
 map-itself f xs h = map-on f (λ x. x) xs h ∙ map-id xs
@@ -263,20 +203,6 @@ pub in-kept : (test : ℕ → Bool) (n : ℕ) (ns : List ℕ) → List·Memᴰ n
 in-kept test n ns m =
     same-test (isIn n (keep test ns)) (test n)
     (λ e. kept test ns (in-mem n (keep test ns) e) .1, λ e. mem-in (keep-mem test m e))
-
--- the numbers below a bound, and those that follow
-numbers-joined : (a m k : ℕ) → numbersFrom a (m + k) ≡ numbersFrom a m ++ numbersFrom (a + m) k
-unfolding numbersFrom
-numbers-joined a zero k =
-    let z : zero + k ≡ k = omega arith in
-    let y : a ≡ a + zero = omega arith in
-    ap₂ numbersFrom y z
-numbers-joined a (suc m) k =
-    let z : suc m + k ≡ suc (m + k) = omega arith in
-    let y : suc a + m ≡ a + suc m = omega arith in
-    ap (numbersFrom a) z
-    ∙ ap (λ (l : List ℕ). a ∷ l)
-    (numbers-joined (suc a) m k ∙ ap (λ (b : ℕ). numbersFrom (suc a) m ++ numbersFrom b k) y)
 
 -- what is kept of the numbers below a bound, told by a larger bound
 pub kept-below : (test : ℕ → Bool) (n m : ℕ) → n ≤ m

@@ -17,13 +17,12 @@ use Rattle.grammar.specs.ReadTable.{isEmpty}
 use Rattle.grammar.specs.Table.{Rule, Table}
 use Rattle.grammar.specs.SingleTypeForm.{TypeSet}
 use Rattle.theory.proofs.BoolLaws.{not-both}
-use Rattle.theory.proofs.ListLaws.{at-else, mem-in}
+use Rattle.theory.proofs.ListLaws.{at-else, mem-in, numbers-end}
 use Rattle.theory.proofs.DistinctLaws.{keep-append}
 use Rattle.pairs.specs.declared.union.United.{United}
 use Rattle.pairs.specs.View.{Views, labelIn}
 use Rattle.pairs.specs.PairNumbers.{ruleAt}
 use Rattle.pairs.proofs.ViewLaws.{seen}
-use Rattle.reducing.proofs.NumberLaws.{numbers-end}
 use Rattle.forms.specs.SetForms.{labelled, labelSets, setLabel}
 use Rattle.forms.specs.declared.set_words.Counted.{Counted}
 use Rattle.forms.specs.declared.set_words.Counted.the-variants.{TooMany, Count}

@@ -32,7 +32,7 @@ use Rattle.theory.proofs.ListLaws.{
   in-mem,
   numbers-below,
 }
-use Rattle.theory.proofs.PlaceLaws.{place-of}
+use Rattle.theory.proofs.PlaceLaws.{place-of, place-image}
 use Rattle.theory.proofs.Alternatives.{alts, written, resultsOf}
 use Rattle.theory.proofs.EmittedRule.{pairContents, pairsStanding, local-content}
 use Rattle.theory.proofs.UsedLabelsDocuments.{used-differ}
@@ -49,7 +49,7 @@ use Rattle.forms.specs.SetForms.{
   localTable,
   tableBySets,
 }
-use Rattle.forms.proofs.KeptLists.{some-mem, mem-some, place-image, in-kept}
+use Rattle.forms.proofs.KeptLists.{some-mem, mem-some, in-kept}
 use Rattle.forms.proofs.UnionFit.{UnionFit}
 use Rattle.forms.proofs.StandingPairs.{left-pair, left-label, rule-left, left-rule, set-contents}
 use Rattle.forms.proofs.SetsFound.{

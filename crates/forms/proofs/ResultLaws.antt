@@ -1,5 +1,5 @@
 -- Numbers in place of pairs:
---   numbers-more, small-more    one number more
+--   numbers-more    one number more
 --   all-numbers                 numbers for all places are the images
 --   label-if-left, label-if-gone   the label of a pair, where it is left
 --   numbers-left                the numbers of the sets by pair, from those by label
@@ -10,9 +10,9 @@ use mathlib.Core.Bool.{Bool, true, false}
 use mathlib.Core.List.{List, [], _∷_, map, List·Memᴰ}
 use mathlib.Core.Path.{_≡_, refl, sym, _∙_, ap, ap₂, subst}
 use lib.ListN.{length, getD, set, take, drop, replicate, length-map, List·getD-eq-default}
-use lib.Seq.{getD-set-same, getD-set-other, ext-getD}
-use lib.Dec.{eqb, ltb}
-use borrow.Author.Tests.{eqb-true, eqb-false, ltb-true, ltb-false}
+use lib.Seq.{ext-getD}
+use lib.Dec.{ltb}
+use borrow.Author.Tests.{ltb-true, ltb-false}
 use Rattle.grammar.specs.Lists.{place, isIn, sameNumbers, numbersBelow}
 use Rattle.grammar.specs.Limits.{standard}
 use Rattle.grammar.specs.Unite.{shifted}
@@ -21,7 +21,7 @@ use Rattle.grammar.specs.Normalise.{pairsOf, normalise}
 use Rattle.grammar.specs.Reduce.{fruitful}
 use Rattle.grammar.specs.SingleTypeForm.{TypeSet}
 use Rattle.theory.proofs.Alternatives.{resultsOf}
-use Rattle.theory.proofs.ListLaws.{kept, below-at, at-else, at-mem, numbers-below}
+use Rattle.theory.proofs.ListLaws.{kept, below-at, at-else, at-mem, numbers-below, map-on, set-up-to, zeros-at}
 use Rattle.theory.proofs.TableConditions.{Labelled}
 use Rattle.pairs.specs.declared.lists.TypeLists.{TypeLists}
 use Rattle.pairs.specs.Walks.{listOf, Listed}
@@ -30,35 +30,14 @@ use Rattle.pairs.specs.TypeLists.{ListsOf}
 use Rattle.pairs.proofs.PairLists.{pairs-are}
 use Rattle.forms.specs.SetForms.{labelled, labelLeft, setNumber}
 use Rattle.forms.specs.Worklist.{NumbersOf}
-use Rattle.forms.proofs.KeptLists.{map-on}
 
 -- one number more
 module _ (n : ℕ) (list : List ℕ) (x : ℕ) (h : n < length list) where
   pub numbers-more : (f : ℕ → ℕ) → NumbersOf f n list → x ≡ f n → NumbersOf f (n + 1) (set list n x)
-  numbers-more f before e i l = go (eqb i n) refl
-    where
-      go : (b : Bool) → eqb i n ≡ b → getD (set list n x) i 0 ≡ f i
-      go true b =
-          let q = eqb-true i n b in
-          ap (λ (j : ℕ). getD (set list n x) j 0) q ∙ getD-set-same list n x 0 h ∙ e ∙ ap f (sym q)
-      go false b = let q = eqb-false i n b in getD-set-other list n i x 0 q ∙ before i (omega arith)
-
-  pub small-more : (bound : ℕ) → ((i : ℕ) → getD list i 0 ≤ bound) → x ≤ bound → (i : ℕ) → getD (set list n x) i 0 ≤ bound
-  small-more bound before k i = go (eqb i n) refl
-    where
-      go : (b : Bool) → eqb i n ≡ b → getD (set list n x) i 0 ≤ bound
-      go true b =
-          let e = ap (λ (j : ℕ). getD (set list n x) j 0) (eqb-true i n b) ∙ getD-set-same list n x 0 h in
-          omega arith
-      go false b =
-          let e = getD-set-other list n i x 0 (eqb-false i n b) in
-          let p = before i in
-          omega arith
+  numbers-more f = set-up-to list n x h (λ i y. y ≡ f i)
 
 pub none-small : (n bound i : ℕ) → getD (replicate n 0) i 0 ≤ bound
-none-small zero bound i = omega arith
-none-small (suc n) bound zero = omega arith
-none-small (suc n) bound (suc i) = none-small n bound i
+none-small n bound i = let e = zeros-at n i in omega arith
 
 -- images
 map-at : (f : ℕ → ℕ) (l : List ℕ) (i : ℕ) → i < length l → getD (map f l) i 0 ≡ f (getD l i 0)

@@ -19,7 +19,7 @@ use Rattle.grammar.specs.Lists.{any, keep, distinct, place, isIn, sameNumbers, 
 use Rattle.grammar.specs.ReadTable.{isEmpty}
 use Rattle.grammar.specs.SingleTypeForm.{TypeSet}
 use Rattle.theory.proofs.BoolLaws.{false-of}
-use Rattle.theory.proofs.ListLaws.{at-below, below-at, at-joined, at-mem, just-eq, same-numbers, same-numbers-refl, numbers-decide, keep-yes}
+use Rattle.theory.proofs.ListLaws.{at-below, below-at, at-joined, at-mem, just-eq, same-numbers, same-numbers-refl, numbers-decide, keep-yes, decided-sym}
 use Rattle.theory.proofs.PlaceLaws.{place-found, place-some}
 use Rattle.theory.proofs.DistinctLaws.{one-more-new, one-more-old}
 use Rattle.sets.specs.Sets.{member, storeAt, Empties}
@@ -131,7 +131,7 @@ module _ {words : List ℕ} {sets : List TypeSet} (held : SetsHeld words sets) (
   module _ (once : distinct sameNumbers sets ≡ sets) where
     pub old-put : (r : ℕ) → r ≡ place sameNumbers s sets → r < count → SetsCounted words (distinct sameNumbers (sets ++ (s ∷ []))) (Count count)
     old-put r e h =
-        let same = one-more-old sameNumbers numbers-decide sets s (place-some sameNumbers s sets (omega arith)) ∙ once in
+        let same = one-more-old sameNumbers (decided-sym sameNumbers numbers-decide) sets s (place-some sameNumbers s sets (omega arith)) ∙ once in
         subst (λ (l : List TypeSet). SetsCounted words l (Count count)) (sym same) (counted, held)
 
     pub new-put : (r : ℕ) → r ≡ place sameNumbers s sets → count ≤ r → sets ++ (s ∷ []) ≡ distinct sameNumbers (sets ++ (s ∷ []))
@@ -139,7 +139,7 @@ module _ {words : List ℕ} {sets : List TypeSet} (held : SetsHeld words sets) (
         let none : any (sameNumbers s) sets ≡ false =
         false-of (any (sameNumbers s) sets)
         (λ t. let f = place-found sameNumbers s sets t in let l = at-below sets (place sameNumbers s sets) (f .1) in omega arith) in
-        sym (one-more-new sameNumbers numbers-decide sets s none ∙ ap (λ (l : List TypeSet). l ++ (s ∷ [])) once)
+        sym (one-more-new sameNumbers (decided-sym sameNumbers numbers-decide) sets s none ∙ ap (λ (l : List TypeSet). l ++ (s ∷ [])) once)
 
 pub no-sets : (words : List ℕ) → 256 ≤ length words → SetsCounted words [] (Count 0)
 no-sets words room = (

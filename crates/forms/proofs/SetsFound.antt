@@ -12,14 +12,12 @@ use mathlib.Core.Bool.{Bool, true, not, _&&_}
 use mathlib.Core.List.{
   List,
   [],
-  _∷_,
   _++_,
   append-assoc,
   append-nil,
   map,
   map-map,
   List·Memᴰ,
-  List·Memᴰ·head,
   List·Memᴰ·append-cases,
   Memᴰ·of-map,
 }
@@ -51,21 +49,21 @@ use Rattle.theory.proofs.ListLaws.{
   numbers-differ,
   numbers-decide,
   eqb-decides,
+  map-on,
 }
-use Rattle.theory.proofs.SetsClosed.{starts-first}
-use Rattle.theory.proofs.DistinctLaws.{keep-distinct, distinct-again}
+use Rattle.theory.proofs.SetsClosed.{starts-first, newSets, more-end, more-next}
+use Rattle.theory.proofs.SingleTypeMerge.{first-member}
+use Rattle.theory.proofs.DistinctLaws.{keep-distinct, distinct-again, distinct-on}
 use Rattle.pairs.specs.PairNumbers.{ruleAt, isLeft, isStart, metIn}
 use Rattle.pairs.proofs.ReachedLaws.{start-reached}
 use Rattle.forms.specs.SetForms.{labelled, labelSets, labelLeft, setLabel, singleTypeSets, metWithin}
 use Rattle.forms.specs.SetWords.{Ascending}
 use Rattle.forms.specs.Worklist.{setsWithin}
 use Rattle.forms.proofs.KeptLists.{
-  map-on,
   past-nothing,
   some-mem,
   distinct-append,
   distinct-all,
-  distinct-on,
   distinct-image,
   distinct-longer,
   kept-below,
@@ -139,7 +137,7 @@ module _ (u : Table) (pairs : ℕ → Bool) where
       (λ x y m n.
       let (p, o) = some-mem (labelled u pairs y) (kept hasSet (numbersBelow (length (u .labels))) n .1) in
       same-label x y p o)
-      ∙ sym (keep-distinct eqb eqb-decides hasSet (numbersBelow (length (u .labels))))
+      ∙ sym (keep-distinct eqb hasSet (λ x y e. ap hasSet (eqb-true x y e)) (numbersBelow (length (u .labels))))
       ∙ ap (keep hasSet) (distinct-all eqb (numbersBelow (length (u .labels))) (numbers-differ (length (u .labels)))))
       ∙ sym label-sets-are
 
@@ -151,23 +149,19 @@ pub record SetOfLabel (u : Table) (s : TypeSet) : Type 0 where
   pub among : setLabel u s < length (u .labels)
   pub ascending : Ascending s
 
-first-of : (s : TypeSet) {p : ℕ} → List·Memᴰ p s → List·Memᴰ (getD s 0 0) s
-first-of [] m = elim m [ ]
-first-of (q ∷ s) m = List·Memᴰ·head refl
-
 pub label-of-set : (u : Table) (pairs : ℕ → Bool) (l : ℕ) {p : ℕ} → List·Memᴰ p (labelled u pairs l)
     → setLabel u (labelled u pairs l) ≡ l
 unfolding setLabel
 label-of-set u pairs l m =
     let s = labelled u pairs l in
-    labelled-pair u pairs l (getD s 0 0) .0 (first-of s m) .label
+    labelled-pair u pairs l (getD s 0 0) .0 (first-member s m) .label
 
 pub set-of-label : (u : Table) → UnionFit u → (pairs : ℕ → Bool) → ((p : ℕ) → pairs p ≡ true → isLeft u p ≡ true) → (l : ℕ)
     → {p : ℕ} → List·Memᴰ p (labelled u pairs l) → SetOfLabel u (labelled u pairs l)
 unfolding setLabel
 set-of-label u fit pairs left l m =
     let s = labelled u pairs l in
-    let first = first-of s m in
+    let first = first-member s m in
     let among = left (getD s 0 0) (labelled-pair u pairs l (getD s 0 0) .0 first .listed) in
     record {
       first = first;
@@ -177,36 +171,23 @@ set-of-label u fit pairs left l m =
       ascending = labelled-ascending u pairs (fit .few) l;
     }
 
--- the worklist, one step
+-- the worklist
 module _ (g : Table) where
-  abbrev newSets : List TypeSet → TypeSet → List TypeSet
-  newSets sets s = keep (λ t. not (any (sameNumbers t) sets)) (setsMet g s)
-
-  look-into : (n next : ℕ) (sets : List TypeSet) {s : TypeSet} → getElem? sets next ≡ just s
-      → moreSets g (suc n) next sets ≡ moreSets g n (suc next) (sets ++ newSets sets s)
-  unfolding moreSets
-  look-into n next sets e = rw (e, moreSets)
-
-  look-none : (n next : ℕ) (sets : List TypeSet) → getElem? sets next ≡ nothing → moreSets g n next sets ≡ sets
-  unfolding moreSets
-  look-none zero next sets e = refl
-  look-none (suc n) next sets e = rw (e, moreSets)
-
   -- sets are only added
   more-grow : (n next : ℕ) (sets : List TypeSet) → (rest : List TypeSet) × (moreSets g n next sets ≡ sets ++ rest)
   unfolding moreSets
   more-grow zero next sets = ([], sym (append-nil sets))
   more-grow (suc n) next sets =
-      go (getElem? sets next) refl (λ s. more-grow n (suc next) (sets ++ newSets sets s))
+      go (getElem? sets next) refl (λ s. more-grow n (suc next) (sets ++ newSets g sets s))
     where
       go : (o : Option TypeSet) → getElem? sets next ≡ o
           → ((s : TypeSet) → (rest : List TypeSet)
-          × (moreSets g n (suc next) (sets ++ newSets sets s) ≡ (sets ++ newSets sets s) ++ rest))
+          × (moreSets g n (suc next) (sets ++ newSets g sets s) ≡ (sets ++ newSets g sets s) ++ rest))
           → (rest : List TypeSet) × (moreSets g (suc n) next sets ≡ sets ++ rest)
-      go nothing e ih = ([], look-none (suc n) next sets e ∙ sym (append-nil sets))
+      go nothing e ih = ([], more-end g (suc n) next sets e ∙ sym (append-nil sets))
       go (just s) e ih =
           let (rest, f) = ih s in
-          (newSets sets s ++ rest, look-into n next sets e ∙ f ∙ append-assoc sets (newSets sets s) rest)
+          (newSets g sets s ++ rest, more-next g n next sets e ∙ f ∙ append-assoc sets (newSets g sets s) rest)
 
 -- These sets are found, and those below `next` have been looked into: what is left to do, done from here, gives all sets.
 pub record Found (u : Table) (next : ℕ) (sets : List TypeSet) : Type 0 where
@@ -305,7 +286,7 @@ module _ (u : Table) where
         whole =
             ap (moreSets g (64 - (next + 1)) (next + 1)) (sets-added s left sets (f .once))
             ∙ ap (λ (n : ℕ). moreSets g (64 - (next + 1)) n (sets ++ newSets g sets s)) (sym one)
-            ∙ sym (look-into g (64 - (next + 1)) next sets e)
+            ∙ sym (more-next g (64 - (next + 1)) next sets e)
             ∙ ap (λ (n : ℕ). moreSets g n next sets) (sym fuel)
             ∙ f .whole;
       }
@@ -320,7 +301,7 @@ module _ (u : Table) where
 
   pub found-all : (next : ℕ) (sets : List TypeSet) → Found u next sets → length sets ≤ next → sets ≡ singleTypeSets u
   found-all next sets f h =
-      sym (look-none (reduce (normalise u)) (64 - next) next sets (past-nothing sets next h)) ∙ f .whole
+      sym (more-end (reduce (normalise u)) (64 - next) next sets (past-nothing sets next h)) ∙ f .whole
 
   pub found-many : (next : ℕ) (sets : List TypeSet) → Found u next sets → 64 < length sets → 64 < length (singleTypeSets u)
   found-many next sets f h =

@@ -37,6 +37,8 @@ use Rattle.theory.proofs.ListLaws.{
   in-mem,
   mem-in,
   numbers-below,
+  keep-on,
+  joined-on,
 }
 use Rattle.theory.proofs.PlaceLaws.{place-found}
 use Rattle.theory.proofs.DistinctLaws.{keep-within}
@@ -51,7 +53,7 @@ use Rattle.pairs.proofs.PairLists.{firsts-are}
 use Rattle.pairs.proofs.MetLaws.{met-hold}
 use Rattle.pairs.proofs.ReachedLaws.{start-pairs, start-reached, met-reached, reached-set}
 use Rattle.forms.specs.SetForms.{labelled, labelLeft}
-use Rattle.forms.proofs.KeptLists.{keep-on, joined-on, map-itself, numbered, first-itself}
+use Rattle.forms.proofs.KeptLists.{map-itself, numbered, first-itself}
 
 -- what stands where there is no rule
 abbrev noRule : Rule

@@ -2,7 +2,7 @@
 --   set-given                           the set that a pair met gives
 --   up-none, up-more, up-many, up-all   the sets of the pairs met up to one are added
 --   look-more, look-many, look-all      one set more is looked into
-use Prim.Native.Nat.{ℕ, _+_, _-_, _≤_, _<_}
+use Prim.Native.Nat.{ℕ, _+_, _≤_, _<_}
 use native.Mathlib.Omega.{arith}
 use native.Mathlib.Numerals.{add-one}
 use mathlib.Core.Bool.{Bool}
@@ -16,14 +16,13 @@ use Rattle.grammar.specs.Lists.{distinct, isIn, sameNumbers}
 use Rattle.grammar.specs.SingleTypeForm.{TypeSet}
 use Rattle.grammar.specs.Table.{Table}
 use Rattle.theory.proofs.Alternatives.{pairsMet}
-use Rattle.theory.proofs.ListLaws.{distinct-was, joined-from, below-at, numbers-decide}
+use Rattle.theory.proofs.ListLaws.{distinct-was, joined-from, below-at, numbers-decide, taken-mem}
 use Rattle.theory.proofs.DistinctLaws.{distinct-left, distinct-again}
 use Rattle.sets.specs.Sets.{member}
 use Rattle.pairs.specs.declared.union.United.{United}
 use Rattle.pairs.specs.View.{Views, labelIn}
 use Rattle.pairs.specs.PairNumbers.{ruleAt, fruitfulOf, contentsIn, metIn}
 use Rattle.pairs.proofs.MetLaws.{met-hold}
-use Rattle.pairs.proofs.OnceLaws.{taken-mem}
 use Rattle.reducing.proofs.MeetingLaws.{distinct-in}
 use Rattle.forms.specs.declared.set_words.Counted.{Counted}
 use Rattle.forms.specs.declared.set_words.Counted.the-variants.{TooMany, Count}

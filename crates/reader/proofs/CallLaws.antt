@@ -11,12 +11,12 @@ use Rattle.grammar.specs.Table.{Table}
 use Rattle.grammar.specs.Outcome.{Outcome, given, refused, _>>=_, _>>_, turnBack, number}
 use Rattle.grammar.specs.Answers.{reading, numberAfter}
 use Rattle.grammar.specs.ReadTable.{readTable}
+use Rattle.grammar.specs.ReadDocument.{readDocument}
 use Rattle.grammar.specs.Calls.{Part, workAfter, partBytes, partOfLabel, tableReads, documentReads, labelName}
 use Rattle.grammar.specs.declared.Refusal.{Refusal}
 use Rattle.grammar.specs.declared.Refusal.the-variants.{WorkTooShort, OutOfRange}
 use Rattle.grammar.specs.declared.Reading.{Reading}
 use Rattle.grammar.specs.declared.Reading.the-variants.{Readable, Refused as Unreadable}
-use Rattle.theory.proofs.OutcomeLaws.{no-fault}
 use Rattle.reader.specs.declared.calls.LabelFound.{LabelFound}
 use Rattle.reader.specs.declared.calls.LabelFound.the-variants.{At, Refused as Unfound}
 use Rattle.reader.specs.declared.tables.TableRead.{TableRead}
@@ -24,36 +24,33 @@ use Rattle.reader.specs.declared.documents.DocumentRead.{DocumentRead}
 use Rattle.reader.specs.DocumentNodes.{DocumentReads}
 use Rattle.reader.specs.TableIndex.{part, labelFrom, labelTo, Inside, Indexes, Reads}
 use Rattle.reader.specs.ReaderCalls.{TableAnswered, DocumentAnswered, LabelAnswered, LabelSought, labelIn}
-use Rattle.reader.proofs.AnswerLaws.{fault, unreadable, was-readable, was-unreadable}
+use Rattle.reader.proofs.AnswerLaws.{unreadable, was-readable, was-unreadable}
 use Rattle.reader.proofs.DocumentAnswers.{document-answer}
 use Rattle.reader.proofs.LabelParts.{are-bytes, label-part, label-unread, label-past, label-found}
 use Rattle.reader.proofs.TableIndexLaws.{label-at}
-use Rattle.reader.proofs.WorkLaws.{enough, too-short, work-kept}
+use Rattle.reader.proofs.WorkLaws.{work-kept, lent-short, lent-enough}
 
 module _ (table work : List ℕ) where
-  table-reads-short : length work < 16384 → tableReads standard asciiClasses table work ≡ refused WorkTooShort
-  unfolding tableReads
-  table-reads-short h = fault _ WorkTooShort _ (too-short work h)
-
-  table-reads-enough : 16384 ≤ length work → tableReads standard asciiClasses table work ≡ readTable standard asciiClasses table
-  unfolding tableReads
-  table-reads-enough h = no-fault _ WorkTooShort _ (enough work h)
-
   pub table-unanswered : length work < 16384 → TableAnswered table work work (Unreadable WorkTooShort)
+  unfolding tableReads
   table-unanswered h =
-      record { answer-is = sym (unreadable _ WorkTooShort (table-reads-short h)); work-left = work-kept work h }
+      record {
+        answer-is = sym (unreadable _ WorkTooShort (lent-short work (readTable standard asciiClasses table) h));
+        work-left = work-kept work h;
+      }
 
   pub table-answered : 16384 ≤ length work → (left : List ℕ) → left ≡ workAfter standard work → (answer : Reading)
       → answer ≡ reading (readTable standard asciiClasses table) → TableAnswered table work left answer
+  unfolding tableReads
   table-answered h left w answer a =
-      record { answer-is = a ∙ ap reading (sym (table-reads-enough h)); work-left = w }
+      record { answer-is = a ∙ ap reading (sym (lent-enough work (readTable standard asciiClasses table) h)); work-left = w }
 
 module _ (document work : List ℕ) where
   pub document-unanswered : length work < 16384 → DocumentAnswered document work work (Unreadable WorkTooShort)
   unfolding documentReads
   document-unanswered h =
       record {
-        answer-is = sym (unreadable (documentReads standard asciiClasses document work) WorkTooShort (fault _ WorkTooShort _ (too-short work h)));
+        answer-is = sym (unreadable _ WorkTooShort (lent-short work (readDocument standard asciiClasses document) h));
         work-left = work-kept work h;
       }
 
@@ -62,7 +59,8 @@ module _ (document work : List ℕ) where
   unfolding documentReads
   document-answered h left w r d =
       record {
-        answer-is = sym (ap reading (no-fault _ WorkTooShort _ (enough work h)) ∙ document-answer document r d);
+        answer-is =
+            sym (ap reading (lent-enough work (readDocument standard asciiClasses document) h) ∙ document-answer document r d);
         work-left = w;
       }
 
@@ -143,14 +141,14 @@ module _ (table : List ℕ) (label : ℕ) (work : List ℕ) where
   label-name-short h =
       ap
       (λ (o : Outcome Table). o >>= (λ g. turnBack (leb (length (g .labels)) label) OutOfRange >> given (partOfLabel (g .labels) label)))
-      (table-reads-short table work h)
+      (lent-short work (readTable standard asciiClasses table) h)
 
   label-name-enough : 16384 ≤ length work → labelName standard asciiClasses table label work ≡ labelIn table label
-  unfolding labelName labelIn
+  unfolding labelName tableReads labelIn
   label-name-enough h =
       ap
       (λ (o : Outcome Table). o >>= (λ g. turnBack (leb (length (g .labels)) label) OutOfRange >> given (partOfLabel (g .labels) label)))
-      (table-reads-enough table work h)
+      (lent-enough work (readTable standard asciiClasses table) h)
 
   -- a refusal, and a name that was found
   refused-so : (r : Refusal) (left : List ℕ) → labelName standard asciiClasses table label work ≡ refused r → left ≡ workAfter standard work

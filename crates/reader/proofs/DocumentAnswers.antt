@@ -1,7 +1,8 @@
 -- What a document that was read means for those above.
 --   nodes-count, node-held : the nodes that an index holds, by position
 --   document-tree : whenever reading gives nodes, they make a tree
---   document-answer : whether the document reads is the answer that reading found
+--   nodes-read, document-unread : what the nodes and the document are, by the answer that reading found
+--   document-answer : whether the document reads is that answer
 use Prim.Native.Nat.{ℕ, zero, suc, _<_}
 use native.Mathlib.Omega.{arith}
 use mathlib.Core.Bool.{Bool, true, false, true≢false}
@@ -9,7 +10,8 @@ use mathlib.Core.List.{List, [], _∷_, _++_}
 use mathlib.Core.Option.{some as just}
 use mathlib.Core.Path.{_≡_, refl, sym, _∙_, ap}
 use lib.Dec.{ltb}
-use lib.ListN.{length, getElem?}
+use lib.ListN.{length, getElem?, length-append}
+use lib.Seq.{getD-at}
 use borrow.Author.Tests.{ltb-true, ltb-false}
 use Rattle.grammar.specs.Limits.{Limits, standard}
 use Rattle.grammar.specs.Names.{Classes, asciiClasses}
@@ -24,17 +26,17 @@ use Rattle.grammar.specs.declared.Reading.the-variants.{Readable, Refused as Un
 use Rattle.reader.specs.declared.documents.DocumentIndex.{DocumentIndex}
 use Rattle.reader.specs.declared.documents.DocumentRead.{DocumentRead}
 use Rattle.reader.specs.DocumentNodes.{nodeAt, firstNodes, nodesIn, outcomeOf, DocumentReads}
-use Rattle.reader.proofs.DocumentTrees.{treeCount, complete}
+use Rattle.theory.proofs.ListLaws.{at-joined, at-or-else}
+use Rattle.reader.proofs.DocumentTrees.{trees-few, complete}
 use Rattle.reader.proofs.DocumentLoop.{nodes-length}
+use Rattle.reader.proofs.TableFaults.{is-some}
 
 module _ (lim : Limits) (classes : Classes) where
   some-read : (bytes : List ℕ) (ns : List Node) → readNodes lim classes bytes ≡ given ns → isEmpty ns ≡ false
-  unfolding treeCount
-  some-read bytes ns e = go ns (complete lim classes bytes ns e .0)
-    where
-      go : (l : List Node) → treeCount l ≡ 1 → isEmpty l ≡ false
-      go [] p = absurd (omega arith)
-      go (n ∷ l) p = refl
+  some-read bytes ns e =
+      let one = complete lim classes bytes ns e .0 in
+      let few = trees-few ns in
+      is-some ns (omega arith)
 
   -- reading on to the tree
   tree-given : (ns : List Node) → isEmpty ns ≡ false → (t : Tree) × (treeOf ns ≡ given t)
@@ -52,40 +54,38 @@ module _ (lim : Limits) (classes : Classes) where
       let t = tree-given ns (some-read bytes ns e) in
       (t .0, t .1, tree-of-nodes bytes (given ns) e ∙ t .1)
 
-  pub document-refused : (bytes : List ℕ) (r : Refusal) → readNodes lim classes bytes ≡ refused r → readDocument lim classes bytes ≡ refused r
+  document-refused : (bytes : List ℕ) (r : Refusal) → readNodes lim classes bytes ≡ refused r → readDocument lim classes bytes ≡ refused r
   document-refused bytes r e = tree-of-nodes bytes (refused r) e
 
--- whether the document reads is the answer that reading found
-pub document-answer : (s : List ℕ) (r : DocumentRead) → DocumentReads s r → reading (readDocument standard asciiClasses s) ≡ r .answer
-unfolding reading
-document-answer s r d = go (r .answer) refl
-  where
-    go : (a : Reading) → r .answer ≡ a → reading (readDocument standard asciiClasses s) ≡ r .answer
-    go Readable e =
-        ap
-        reading
-        (document-tree standard asciiClasses s (nodesIn s (r .index)) (d .outcome ∙ ap (λ (x : Reading). outcomeOf x (nodesIn s (r .index))) e) .2)
-        ∙ sym e
-    go (Unreadable x) e =
-        ap
-        reading
-        (document-refused standard asciiClasses s x (d .outcome ∙ ap (λ (x : Reading). outcomeOf x (nodesIn s (r .index))) e))
-        ∙ sym e
+-- a document that was read, by the answer that reading found
+module _ (s : List ℕ) (r : DocumentRead) (d : DocumentReads s r) where
+  nodes-are : (a : Reading) → r .answer ≡ a → readNodes standard asciiClasses s ≡ outcomeOf a (nodesIn s (r .index))
+  nodes-are a e = d .outcome ∙ ap (λ (x : Reading). outcomeOf x (nodesIn s (r .index))) e
+
+  pub nodes-read : r .answer ≡ Readable → readNodes standard asciiClasses s ≡ given (nodesIn s (r .index))
+  nodes-read e = nodes-are Readable e
+
+  pub document-unread : (q : Refusal) → r .answer ≡ Unreadable q → readDocument standard asciiClasses s ≡ refused q
+  document-unread q e = document-refused standard asciiClasses s q (nodes-are (Unreadable q) e)
+
+  -- whether the document reads is the answer
+  pub document-answer : reading (readDocument standard asciiClasses s) ≡ r .answer
+  unfolding reading
+  document-answer = go (r .answer) refl
+    where
+      go : (a : Reading) → r .answer ≡ a → reading (readDocument standard asciiClasses s) ≡ r .answer
+      go Readable e =
+          ap reading (document-tree standard asciiClasses s (nodesIn s (r .index)) (nodes-read e) .2) ∙ sym e
+      go (Unreadable q) e = ap reading (document-unread q e) ∙ sym e
 
 -- the nodes that an index holds, by position
 pub nodes-count : (s : List ℕ) (ix : DocumentIndex) → length (nodesIn s ix) ≡ ix .nodes
 nodes-count s ix = nodes-length s (ix .names) (ix .sizes) (ix .children) (ix .nodes)
 
-at-left : {A : Type 0} (l m : List A) (i : ℕ) → i < length l → getElem? (l ++ m) i ≡ getElem? l i
-at-left [] m i h = absurd (omega arith)
-at-left (x ∷ l) m zero h = refl
-at-left (x ∷ l) m (suc i) h = at-left l m i (omega arith)
-
 at-last : {A : Type 0} (l : List A) (x : A) (i : ℕ) → i ≡ length l → getElem? (l ++ (x ∷ [])) i ≡ just x
-at-last [] x zero h = refl
-at-last [] x (suc i) h = absurd (omega arith)
-at-last (y ∷ l) x zero h = absurd (omega arith)
-at-last (y ∷ l) x (suc i) h = at-last l x i (omega arith)
+at-last l x i h =
+    let n = length-append l (x ∷ []) in
+    at-or-else (l ++ (x ∷ [])) i x (omega arith) ∙ ap just (getD-at l x [] x i (sym h))
 
 first-at : (s names sizes children : List ℕ) (n i : ℕ) → i < n
     → getElem? (firstNodes s names sizes children n) i ≡ just (nodeAt s names sizes children i)
@@ -102,7 +102,7 @@ first-at s names sizes children (suc n) i h = go (ltb i n) refl (λ k. first-at 
     go true e ih =
         let k = ltb-true i n e in
         let l = long in
-        at-left (firstNodes s names sizes children n) (nodeAt s names sizes children n ∷ []) i (omega arith) ∙ ih k
+        at-joined (firstNodes s names sizes children n) (nodeAt s names sizes children n ∷ []) i (omega arith) ∙ ih k
     go false e ih =
         let k = ltb-false i n e in
         let l = long in

@@ -19,6 +19,7 @@ use Rattle.reader.specs.declared.documents.Step.the-variants.{Node as No
 use Rattle.reader.specs.DocumentNodes.{nodeAt, firstNodes, Indexed, outcomeOf}
 use Rattle.reader.specs.DocumentSteps.{Sized, restOf, NodeStep, StepSays, openLevels, Open, After}
 use Rattle.reader.proofs.OpenLevels.{levels-length}
+use Rattle.reader.proofs.TableIndexLaws.{put}
 
 module _ (s names sizes children : List ℕ) where
   pub nodes-length : (n : ℕ) → length (firstNodes s names sizes children n) ≡ n
@@ -55,9 +56,6 @@ module _ (s names sizes children : List ℕ) where
     where
       node-stored : nodeAt s (set names n a) (set sizes n b) (set children n k) n ≡ record { name = take b (drop a s); children = k }
       node-stored = rw (getD-set-same names n a 0 p, getD-set-same sizes n b 0 q, getD-set-same children n k 0 r)
-
-stored-at : (l : List ℕ) (n i v : ℕ) → i ≡ n → n < length l → getD (set l n v) i 0 ≡ v
-stored-at l n i v e h = ap (λ (j : ℕ). getD (set l n v) j 0) e ∙ getD-set-same l n v 0 h
 
 pub record SoFar (s names sizes children : List ℕ) (nodes at : ℕ) (coming : List ℕ) (depth : ℕ) : Type 0 where
   pub reached : at ≤ length s
@@ -127,8 +125,8 @@ module _ (s names sizes children : List ℕ) where
           within i h false e =
               let p = ltb-false i nodes e in
               let room = step .room in
-              let a = stored-at names nodes i from (omega arith) (omega (arith, far .names-room)) in
-              let b = stored-at sizes nodes i (to - from) (omega arith) (omega (arith, far .sizes-room)) in
+              let a = put names nodes i from (omega (arith, far .names-room)) (omega arith) in
+              let b = put sizes nodes i (to - from) (omega (arith, far .sizes-room)) (omega arith) in
               omega (arith, step .order, step .within)
 
           counts : (i : ℕ) → i < nodes + 1 → (b : Bool) → ltb i nodes ≡ b → getD (set children nodes k) i 0 ≤ 200
@@ -140,7 +138,7 @@ module _ (s names sizes children : List ℕ) where
           counts i h false e =
               let p = ltb-false i nodes e in
               let room = step .room in
-              let a = stored-at children nodes i k (omega arith) (omega (arith, far .children-room)) in
+              let a = put children nodes i k (omega (arith, far .children-room)) (omega arith) in
               omega (arith, step .few)
 
       pub so-far-next : SoFar s (set names nodes from) (set sizes nodes (to - from)) (set children nodes k) (nodes + 1) to coming′ depth′

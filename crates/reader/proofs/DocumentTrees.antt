@@ -1,7 +1,7 @@
 -- Nodes that reading gives are one whole tree: read backwards, each node finds its children among the trees behind it, and one
 -- tree is left. (So a stack of what the nodes behind gave never runs out, and ends with one.)
 --   complete : readNodes lim classes bytes ≡ given ns → (treeCount ns ≡ 1) × Enough ns
-use Prim.Native.Nat.{ℕ, zero, suc, _+_, _-_, _≤_, _<_}
+use Prim.Native.Nat.{ℕ, zero, suc, _+_, _-_, _≤_}
 use native.Mathlib.Omega.{arith}
 use mathlib.Core.Bool.{Bool, true, false, not, _||_, true≢false, false≢true}
 use mathlib.Core.List.{List, [], _∷_, _++_, append-assoc, append-nil}
@@ -35,6 +35,7 @@ use Rattle.grammar.specs.declared.Refusal.the-variants.{BadField, BadTree, Byte
 use Rattle.theory.proofs.BoolLaws.{or-false}
 use Rattle.reader.specs.DocumentSteps.{badCounts}
 use Rattle.reader.proofs.DocumentFields.{tried, fits, read-empty, read-tried, reads-long, reads-short}
+use Rattle.reader.proofs.TableFaults.{is-some}
 
 -- how many trees a forest has
 unfoldable pub trees : Forest → ℕ
@@ -45,6 +46,12 @@ trees (t ∷ᵗ ts) = suc (trees ts)
 unfoldable pub treeCount : List Node → ℕ
 treeCount [] = zero
 treeCount (n ∷ ns) = suc (treeCount ns - n .children)
+
+-- nodes make at most as many trees as they are
+pub trees-few : (ns : List Node) → treeCount ns ≤ length ns
+unfolding treeCount
+trees-few [] = omega arith
+trees-few (n ∷ ns) = let h = trees-few ns in omega arith
 
 -- each node finds as many trees behind it as it has children
 abbrev pub Enough : List Node → Type 0
@@ -137,10 +144,6 @@ ended-given true false c ms ns e = absurd (no-given e)
 ended-given true true true ms ns e = absurd (no-given e)
 ended-given true true false ms ns e = (refl, cc)
 
-empty-not : {A : Type 0} (l : List A) → 0 < length l → isEmpty l ≡ false
-empty-not [] h = absurd (omega arith)
-empty-not (x ∷ l) h = refl
-
 -- a node was read
 record NodeGiven (o more : Opened) : Type 0 where
   it : Node
@@ -204,7 +207,7 @@ module _ (lim : Limits) (classes : Classes) where
           (leb (lim .nodes) (length (o .nodes)) || ltb (lim .children) k || ltb (lim .levels) (length (o .toCome)))
           (eqb (length (o .toCome)) 0)
           (passed .0) .1) in
-          record { it = n; with-it = passed .1; still-open = empty-not (o .toCome) (omega arith) }
+          record { it = n; with-it = passed .1; still-open = is-some (o .toCome) (omega arith) }
 
   field-end : (o : Opened) (f : Field) (rest : Fields) → eqb (f .tag) documentEndTag ≡ true
       → readNodeFields lim classes o (f then rest) ≡ ended (isEmpty (f .value)) (isEmpty (o .toCome)) (bytesLeft rest) (o .nodes)

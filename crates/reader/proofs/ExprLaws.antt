@@ -2,12 +2,12 @@
 -- * What they are, operator by operator and operand by operand: `expr-past`, `expr-unknown`, `expr-alone`, `expr-numbered`,
 --   `expr-counted`, `expr-single` (`expr-unnumbered`, `expr-uncounted` where the bytes stop), `exprs-none`, `exprs-stop`, `exprs-more`.
 -- * Where a content is known to stand: the place after it (`expr-forward`) and its bytes (`expr-bytes`, `expr-written`, and back
---   `written-expr`); what its operator's byte says (`alone-was`, `numbered-was`, `counted-was`, `single-was`); its parts by cases of
+--   `written-expr`); what its operator's byte says (`operator-known`, `alone-was`, `numbered-was`, `counted-was`, `single-was`), and
+--   that a number or a count is there (`number-inside`, `count-inside`); its parts by cases of
 --   the content (`expr-parts`); the first of so many (`exprs-first`, `exprs-end`).
 -- * The same bytes elsewhere are the same content: `expr-kept`, `exprs-kept`, `expr-in`.
 use Prim.Native.Nat.{ℕ, zero, suc, _+_, _-_, _≤_, _<_}
 use native.Mathlib.Omega.{arith}
-use native.Mathlib.Numerals.{add-one}
 use mathlib.Core.Bool.{true, false}
 use mathlib.Core.List.{List, [], _∷_, _++_, append-assoc}
 use mathlib.Core.Logic.{_⊎_, inl, inr}
@@ -15,7 +15,7 @@ use mathlib.Core.Option.{Option, none as nothing, some as just}
 use mathlib.Core.Path.{_≡_, refl, sym, _∙_, ap, subst}
 use lib.ListN.{length, getD, getElem?, take, drop, length-append, length-take, length-drop, drop-of-length-le, take-append-drop}
 use lib.Dec.{ltb}
-use lib.Seq.{drop-cons, drop-drop, drop-append-seam, drop-append-le, drop-append-add, take-append-add, take-add, take-at, drop-at, length-take-le}
+use lib.Seq.{drop-drop, drop-append-seam, drop-append-le, drop-append-add, take-append-add, take-at, length-take-le}
 use borrow.Author.Tests.{ltb-true, ltb-false}
 use Rattle.grammar.specs.Content.{
   Content,
@@ -53,19 +53,12 @@ use Rattle.theory.proofs.ContentBytes.{
   expression-of,
   operands-of,
   content-has-bytes,
+  unknown-operator,
 }
 use Rattle.reader.specs.ExprAt.{Placed, _upTo_, placed, inFront, exprAt, exprsAt}
+use Rattle.reader.proofs.FieldReading.{part-of, from-place, from-place-two}
 
--- the bytes from a place on, the first of them apart
-from-place : (s : List ℕ) (at : ℕ) → at < length s → drop at s ≡ getD s at 0 ∷ drop (at + 1) s
-from-place s at h = rw add-one (drop-cons s at 0 h)
-
-from-place-two : (s : List ℕ) (at : ℕ) → at + 1 < length s → drop at s ≡ getD s at 0 ∷ getD s (at + 1) 0 ∷ drop (at + 2) s
-from-place-two s at h =
-    let two : at + 1 + 1 ≡ at + 2 = omega arith in
-    from-place s at (omega arith)
-    ∙ ap (λ (l : List ℕ). getD s at 0 ∷ l) (from-place s (at + 1) h ∙ ap (λ (n : ℕ). getD s (at + 1) 0 ∷ drop n s) two)
-
+-- the last byte
 last-place : (s : List ℕ) (at : ℕ) → at + 1 ≡ length s → drop at s ≡ getD s at 0 ∷ []
 last-place s at h =
     from-place s at (omega arith) ∙ ap (λ (l : List ℕ). getD s at 0 ∷ l) (drop-of-length-le s {i = at + 1} (omega arith))
@@ -318,16 +311,7 @@ unfolding operators
 operator-optional = refl
 
 pub operator-unknown : (b : ℕ) → 7 < b → getElem? operators b ≡ nothing
-unfolding operators
-operator-unknown zero h = absurd (omega arith)
-operator-unknown (suc zero) h = absurd (omega arith)
-operator-unknown (suc (suc zero)) h = absurd (omega arith)
-operator-unknown (suc (suc (suc zero))) h = absurd (omega arith)
-operator-unknown (suc (suc (suc (suc zero)))) h = absurd (omega arith)
-operator-unknown (suc (suc (suc (suc (suc zero))))) h = absurd (omega arith)
-operator-unknown (suc (suc (suc (suc (suc (suc zero)))))) h = absurd (omega arith)
-operator-unknown (suc (suc (suc (suc (suc (suc (suc zero))))))) h = absurd (omega arith)
-operator-unknown (suc (suc (suc (suc (suc (suc (suc (suc b)))))))) h = refl
+operator-unknown b h = unknown-operator b (omega arith)
 
 -- Where a content is known to stand, its operator's byte says what it is and where its parts stand.
 module _ (s : List ℕ) (at : ℕ) (c : Content) (next : ℕ) (stands : exprAt s at ≡ just (c upTo next)) where
@@ -336,6 +320,13 @@ module _ (s : List ℕ) (at : ℕ) (c : Content) (next : ℕ) (stands : exprAt s
       let h = expr-forward s at c next stands in
       let z : _≡_ {A = ℕ} 0 1 = cc (expr-unknown s at (omega arith) o) in
       omega arith
+
+  pub operator-known : getD s at 0 ≤ 7
+  operator-known = go (passes-or-fails (ltb 7 (getD s at 0)))
+    where
+      go : (ltb 7 (getD s at 0) ≡ true) ⊎ (ltb 7 (getD s at 0) ≡ false) → getD s at 0 ≤ 7
+      go (inl t) = absurd (known-operator (operator-unknown (getD s at 0) (ltb-true 7 (getD s at 0) t)))
+      go (inr t) = ltb-false 7 (getD s at 0) t
 
   pub alone-was : (d : Content) → getElem? operators (getD s at 0) ≡ just (alone d) → (d ≡ c) × (at + 1 ≡ next)
   alone-was d o =
@@ -365,6 +356,17 @@ module _ (s : List ℕ) (at : ℕ) (c : Content) (next : ℕ) (stands : exprAt s
 
   pub counted-more : (f : Contents → Content) → getElem? operators (getD s at 0) ≡ just (counted f) → at + 1 < length s
   counted-more f o = more (λ last. expr-uncounted s at last f o)
+
+  pub number-inside : getD s at 0 ≡ 2 → at + 1 < length s
+  number-inside e = numbered-more type (ap (getElem? operators) e ∙ operator-type)
+
+  pub count-inside : 3 ≤ getD s at 0 → getD s at 0 ≤ 4 → at + 1 < length s
+  count-inside l h = go (getD s at 0 - 3) refl
+    where
+      go : (k : ℕ) → getD s at 0 - 3 ≡ k → at + 1 < length s
+      go zero e = let three : getD s at 0 ≡ 3 = omega arith in counted-more sequence (ap (getElem? operators) three ∙ operator-sequence)
+      go (suc zero) e = let four : getD s at 0 ≡ 4 = omega arith in counted-more choice (ap (getElem? operators) four ∙ operator-choice)
+      go (suc (suc k)) e = absurd (omega arith)
 
   pub numbered-was : (f : ℕ → Content) → getElem? operators (getD s at 0) ≡ just (numbered f)
       → (f (getD s (at + 1) 0) ≡ c) × (at + 2 ≡ next)
@@ -470,9 +472,6 @@ exprs-end s at cs next e =
     (sym (p .0), sym (p .1))
 
 -- Where the same bytes stand, the same content stands: with more bytes after or before them, or with later bytes cut off.
-part-of : (s : List ℕ) (at n : ℕ) → at ≤ length s → drop at (take (at + n) s) ≡ take n (drop at s)
-part-of s at n h = ap (drop at) (take-add at n s) ∙ drop-at (take at s) (take n (drop at s)) at (length-take-le at s h)
-
 written-longer : (p q : List ℕ) (at : ℕ) (bytes : List ℕ) (next : ℕ) → Written p at bytes next → Written (p ++ q) at bytes next
 written-longer p q at bytes next w =
     let l = length-append p q in
@@ -512,12 +511,12 @@ written-cut k s at bytes next w h =
     record {
       bytes-from =
           ap (λ (j : ℕ). drop at (take j s)) from-at
-          ∙ part-of s at (length bytes + (k - next)) (omega arith)
+          ∙ part-of at (length bytes + (k - next)) s (omega arith)
           ∙ ap (take (length bytes + (k - next))) (w .bytes-from)
           ∙ take-append-add bytes (drop next s) (k - next)
           ∙ ap
           (λ (x : List ℕ). bytes ++ x)
-          (sym (part-of s next (k - next) i) ∙ ap (λ (j : ℕ). drop next (take j s)) from-next);
+          (sym (part-of next (k - next) s i) ∙ ap (λ (j : ℕ). drop next (take j s)) from-next);
       next-is = n;
       inside = omega arith;
     }

@@ -36,13 +36,13 @@ use Rattle.grammar.specs.Outcome.{Outcome, given, refused, _>>=_, _>>_, turnBac
 use Rattle.grammar.specs.declared.Refusal.{Refusal}
 use Rattle.grammar.specs.declared.Refusal.the-variants.{BadContent, NestedTooDeep}
 use Rattle.theory.proofs.BoolLaws.{and-left, and-right, passes-or-fails}
-use Rattle.theory.proofs.ContentBytes.{expression-was, content-has-bytes}
+use Rattle.theory.proofs.ContentBytes.{expression-was, content-has-bytes, unknown-operator}
 use Rattle.reader.specs.ExprAt.{Placed, _upTo_, placed, inFront, exprAt, exprsAt}
 use Rattle.reader.specs.Extents.{extentBy, NestsBelow, properAt, properRowAt, typeAt, deeperOf, joinedOf, contentAnswer}
 use Rattle.reader.specs.declared.contents.ContentAnswer.the-variants.{Fine, Refused}
 use Rattle.reader.specs.declared.contents.Extent.{Extent}
 use Rattle.reader.specs.declared.contents.Extent.the-variants.{Nowhere, Upto}
-use Rattle.reader.proofs.ExprLaws.{same-placed, expr-written, expr-past, expr-unknown, expr-alone, expr-single, expr-numbered, expr-unnumbered, expr-counted, expr-uncounted, exprs-none, exprs-stop, exprs-more, exprs-written, operator-none, operator-empty, operator-type, operator-sequence, operator-choice, operator-any-number, operator-one-or-more, operator-optional, operator-unknown}
+use Rattle.reader.proofs.ExprLaws.{same-placed, expr-written, expr-past, expr-unknown, expr-alone, expr-single, expr-numbered, expr-unnumbered, expr-counted, expr-uncounted, exprs-none, exprs-stop, exprs-more, exprs-written, operator-none, operator-empty, operator-type, operator-sequence, operator-choice, operator-any-number, operator-one-or-more, operator-optional}
 
 -- What is found of anything that stands at a place.
 module _ {A : Type 0} (proper : A → Bool) (deep : A → ℕ) where
@@ -239,7 +239,7 @@ module _ (lim : Limits) (s : List ℕ) (at : ℕ) where
 
   module _ (inside : at < length s) where
     pub proper-unknown : 7 < getD s at 0 → properAt lim s at ≡ Nowhere
-    proper-unknown h = proper-none (expr-unknown s at inside (operator-unknown (getD s at 0) h))
+    proper-unknown h = proper-none (expr-unknown s at inside (unknown-operator (getD s at 0) (omega arith)))
 
     pub proper-alone : getD s at 0 ≤ 1 → properAt lim s at ≡ Upto (at + 1) 1
     unfolding isProper nesting

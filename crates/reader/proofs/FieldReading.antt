@@ -2,7 +2,7 @@
 --   field-found : fieldAt s at ≡ Found tag from to → FoundField s at tag from to
 --   field-none : fieldAt s at ≡ NoBytes → (length s ≤ at) × (fieldsOf (drop at s) ≡ noBytes)
 --   field-past : fieldAt s at ≡ PastEnd → (at < length s) × (fieldsOf (drop at s) ≡ pastEnd)
-use Prim.Native.Nat.{ℕ, suc, _+_, _≤_, _<_}
+use Prim.Native.Nat.{ℕ, _+_, _≤_, _<_}
 use native.Mathlib.Numerals.{add-one}
 use native.Mathlib.Omega.{arith}
 use mathlib.Core.Bool.{Bool, true, false}
@@ -35,19 +35,23 @@ module _ (s : List ℕ) (at : ℕ) where
 pub part-of : {A : Type 0} (f n : ℕ) (l : List A) → f ≤ length l → slice f (f + n) l ≡ take n (drop f l)
 part-of f n l h = ap (drop f) (take-add f n l) ∙ drop-at (take f l) (take n (drop f l)) f (length-take-le f l h)
 
+-- the bytes from a place on, the first of them apart
+pub from-place : (s : List ℕ) (at : ℕ) → at < length s → drop at s ≡ getD s at 0 ∷ drop (at + 1) s
+from-place s at h = rw add-one (drop-cons s at 0 h)
+
+pub from-place-two : (s : List ℕ) (at : ℕ) → at + 1 < length s → drop at s ≡ getD s at 0 ∷ getD s (at + 1) 0 ∷ drop (at + 2) s
+from-place-two s at h =
+    let two : at + 1 + 1 ≡ at + 2 = omega arith in
+    from-place s at (omega arith)
+    ∙ ap (λ (l : List ℕ). getD s at 0 ∷ l) (from-place s (at + 1) h ∙ ap (λ (n : ℕ). getD s (at + 1) 0 ∷ drop n s) two)
+
 module _ (s : List ℕ) (at : ℕ) where
   three : at + 3 ≤ length s → drop at s ≡ getD s at 0 ∷ getD s (at + 1) 0 ∷ getD s (at + 2) 0 ∷ drop (at + 3) s
   three h =
-      drop-cons s at 0 (omega arith)
-      ∙ ap (λ (l : List ℕ). getD s at 0 ∷ l) (one-more at (at + 1) (add-one at) (omega arith))
-      ∙ ap (λ (l : List ℕ). getD s at 0 ∷ getD s (at + 1) 0 ∷ l) (one-more (at + 1) (at + 2) (omega arith) (omega arith))
-      ∙ ap (λ (k : ℕ). getD s at 0 ∷ getD s (at + 1) 0 ∷ getD s (at + 2) 0 ∷ drop k s) third
-    where
-      third : suc (at + 2) ≡ at + 3
-      third = omega arith
-
-      one-more : (i j : ℕ) → j ≡ suc i → j < length s → drop (suc i) s ≡ getD s j 0 ∷ drop (suc j) s
-      one-more i j e h = ap (λ (k : ℕ). drop k s) (sym e) ∙ drop-cons s j 0 h
+      let next : at + 2 + 1 ≡ at + 3 = omega arith in
+      from-place-two s at (omega arith)
+      ∙ ap (λ (l : List ℕ). getD s at 0 ∷ getD s (at + 1) 0 ∷ l)
+      (from-place s (at + 2) (omega arith) ∙ ap (λ (n : ℕ). getD s (at + 2) 0 ∷ drop n s) next)
 
   long : at + 3 ≤ length s → length s < at + 3 + sizeAt s at → fieldsOf (drop at s) ≡ pastEnd
   long h k =

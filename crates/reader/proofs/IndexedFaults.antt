@@ -3,14 +3,14 @@ use Prim.Native.Nat.{ℕ, _+_, _-_, _≤_, _<_}
 use native.Mathlib.Omega.{arith}
 use mathlib.Core.Bool.{true, false}
 use mathlib.Core.List.{List, [], _∷_}
-use mathlib.Core.Path.{_≡_, refl, sym, _∙_, ap}
+use mathlib.Core.Path.{_≡_, sym, _∙_, ap}
 use lib.ListN.{length, getD}
 use Rattle.grammar.specs.Lists.{isIn}
 use Rattle.grammar.specs.Limits.{standard}
 use Rattle.grammar.specs.Names.{asciiClasses}
 use Rattle.grammar.specs.Content.{Content}
 use Rattle.grammar.specs.Table.{Table}
-use Rattle.grammar.specs.Outcome.{Outcome, given, refused, _>>=_}
+use Rattle.grammar.specs.Outcome.{Outcome, given, _>>=_}
 use Rattle.grammar.specs.Answers.{reading}
 use Rattle.grammar.specs.ReadContent.{readContent}
 use Rattle.grammar.specs.ReadTable.{withStart, withRule, readStart, readRule}
@@ -22,6 +22,7 @@ use Rattle.reader.specs.declared.contents.ContentAnswer.the-variants.{Fi
 use Rattle.reader.specs.Extents.{contentAnswer}
 use Rattle.reader.specs.TableIndex.{part, Inside, Indexes}
 use Rattle.reader.proofs.AnswerLaws.{readable, unreadable}
+use Rattle.reader.proofs.ExtentLaws.{fine-given, refused-so}
 use Rattle.reader.proofs.TableFaults.{
   LabelFits,
   part-size,
@@ -177,17 +178,13 @@ module _ {s : List ℕ} {index : TableIndex} {g : Table} (x : Indexes s index g)
               (by-content
               ∙ ap
               (λ (o : Outcome Content). o >>= (λ c. given (withRule g (record { type = getD s from 0; label = getD s (from + 1) 0; content = c }))))
-              (unfit (readContent standard (part s (from + 2) to)) e))
-            where
-              unfit : (o : Outcome Content) → contentAnswer o ≡ Unfit r → o ≡ refused r
-              unfit (refused q) e = cc
-              unfit (given c) e = let z : _≡_ {A = ℕ} 0 1 = cc in absurd (omega arith)
+              (refused-so (readContent standard (part s (from + 2) to)) r e))
 
           pub rule-reads : contentAnswer (readContent standard (part s (from + 2) to)) ≡ Fine
               → reading (readRule standard g (part s from to)) ≡ Readable
           unfolding content
           rule-reads e =
-              let f = fine (readContent standard (part s (from + 2) to)) e in
+              let f = fine-given (readContent standard (part s (from + 2) to)) e in
               readable
               _
               (withRule g (record { type = getD s from 0; label = getD s (from + 1) 0; content = f .0 }))
@@ -195,7 +192,3 @@ module _ {s : List ℕ} {index : TableIndex} {g : Table} (x : Indexes s index g)
               ∙ ap
               (λ (o : Outcome Content). o >>= (λ c. given (withRule g (record { type = getD s from 0; label = getD s (from + 1) 0; content = c }))))
               (f .1))
-            where
-              fine : (o : Outcome Content) → contentAnswer o ≡ Fine → (c : Content) × (o ≡ given c)
-              fine (refused q) e = let z : _≡_ {A = ℕ} 0 1 = cc in absurd (omega arith)
-              fine (given c) e = (c, refl)

@@ -22,21 +22,15 @@ use Rattle.grammar.specs.Calls.{partBytes, partOfLabel}
 use Rattle.grammar.specs.declared.Refusal.{Refusal}
 use Rattle.grammar.specs.declared.Refusal.the-variants.{OutOfRange}
 use Rattle.theory.proofs.FieldBytes.{AreBytes}
-use Rattle.theory.proofs.ListLaws.{mem-at, just-eq}
+use Rattle.theory.proofs.ListLaws.{mem-at, just-eq, at-else}
 use Rattle.theory.proofs.OutcomeLaws.{given-then, no-fault}
 use Rattle.theory.proofs.ReadWithin.{read-was}
 use Rattle.reader.specs.ReaderCalls.{labelIn}
 use Rattle.reader.proofs.AnswerLaws.{fault}
 
--- the element at a place, as both look-ups have it
-pub getD-of : {A : Type 0} (xs : List A) (i : ℕ) (x d : A) → getElem? xs i ≡ just x → getD xs i d ≡ x
-getD-of [] i x d e = let z : _≡_ {A = ℕ} 0 1 = cc in absurd (omega arith)
-getD-of (y ∷ xs) zero x d e = sym (just-eq e)
-getD-of (y ∷ xs) (suc i) x d e = getD-of xs i x d e
-
 -- bytes, one by one
 pub are-bytes : (s : List ℕ) → ((i : ℕ) → getD s i 0 < 256) → AreBytes s
-are-bytes s h b m = let p = mem-at m in subst (λ (n : ℕ). n < 256) (getD-of s (p .0) b 0 (p .1)) (h (p .0))
+are-bytes s h b m = let p = mem-at m in subst (λ (n : ℕ). n < 256) (at-else s (p .0) 0 (p .1)) (h (p .0))
 
 -- what the elements before a place give stands in front of what that element gives
 joined-at : {A B : Type 0} (f : A → List B) (xs : List A) (i : ℕ) (x : A) (rest : List B) → getElem? xs i ≡ just x
@@ -73,7 +67,7 @@ module _ (lim : Limits) (classes : Classes) (s : List ℕ) (g : Table) (small : 
       let k = length (joinedOf (fieldBytes labelTag) (take i (g .labels))) in
       let front : drop (k + 3) s ≡ n ++ p .0 =
       sym (drop-drop 3 k s) ∙ ap (λ (l : List ℕ). drop 3 (drop k l)) (labels-first .1) ∙ ap (drop 3) (p .1) ∙ behind n (p .0) in
-      ap₂ take (ap length (getD-of (g .labels) i n [] e)) front ∙ take-append-seam n (p .0)
+      ap₂ take (ap length (at-else (g .labels) i [] e)) front ∙ take-append-seam n (p .0)
     where
       behind : (m after : List ℕ) → drop 3 (fieldBytes labelTag m ++ after) ≡ m ++ after
       behind m after = refl

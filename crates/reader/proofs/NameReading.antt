@@ -1,20 +1,15 @@
 -- Names read byte by byte: what the tests of a name are from a place on, and of two names from a place on in both.
 use Prim.Native.Nat.{ℕ, suc, _+_, _≤_, _<_}
-use native.Mathlib.Numerals.{add-one}
 use native.Mathlib.Omega.{arith}
 use mathlib.Core.Bool.{Bool, true, false, _&&_}
 use mathlib.Core.List.{List, [], _∷_}
-use mathlib.Core.Path.{_≡_, refl, sym, _∙_, ap, ap₂}
+use mathlib.Core.Path.{_≡_, refl, _∙_, ap, ap₂}
 use lib.Dec.{eqb, leb}
 use lib.ListN.{length, getD, drop, drop-of-length-le}
-use lib.Seq.{drop-cons}
 use borrow.Author.Tests.{eq-eqb, ne-eqb, le-leb, lt-leb}
 use Rattle.grammar.specs.Lists.{all, sameNumbers}
 use Rattle.grammar.specs.Names.{Classes, isName, sameName}
-
--- the element at a place, and the list from the next place on
-from : (s : List ℕ) (i : ℕ) → i < length s → drop i s ≡ getD s i 0 ∷ drop (i + 1) s
-from s i h = drop-cons s i 0 h ∙ ap (λ (k : ℕ). getD s i 0 ∷ drop k s) (sym (add-one i))
+use Rattle.reader.proofs.FieldReading.{from-place}
 
 -- a byte that may stand after the first
 abbrev pub later : Classes → ℕ → Bool
@@ -46,13 +41,13 @@ module _ (classes : Classes) (s : List ℕ) where
         → all (later classes) (drop i s) ≡ all (later classes) (drop (i + 1) s)
     unfolding all
     later-next h e =
-        ap (all (later classes)) (from s i h)
+        ap (all (later classes)) (from-place s i h)
         ∙ ap (λ (t : Bool). t && all (later classes) (drop (i + 1) s)) (le-leb 1 (getD classes (getD s i 0) 0) (omega arith))
 
     pub later-fails : i < length s → getD classes (getD s i 0) 0 ≡ 0 → all (later classes) (drop i s) ≡ false
     unfolding all
     later-fails h e =
-        ap (all (later classes)) (from s i h)
+        ap (all (later classes)) (from-place s i h)
         ∙ ap (λ (t : Bool). t && all (later classes) (drop (i + 1) s)) (lt-leb 1 (getD classes (getD s i 0) 0) (omega arith))
 
     pub later-end : length s ≤ i → all (later classes) (drop i s) ≡ true
@@ -81,13 +76,13 @@ module _ (a b : List ℕ) where
         → sameName (drop i a) (drop i b) ≡ sameName (drop (i + 1) a) (drop (i + 1) b)
     unfolding sameName
     same-next h k e =
-        ap₂ sameNumbers (from a i h) (from b i k)
+        ap₂ sameNumbers (from-place a i h) (from-place b i k)
         ∙ ap (λ (t : Bool). t && sameNumbers (drop (i + 1) a) (drop (i + 1) b)) (eq-eqb (getD a i 0) (getD b i 0) e)
 
     pub same-fails : i < length a → i < length b → (getD a i 0 ≡ getD b i 0 → ⊥) → sameName (drop i a) (drop i b) ≡ false
     unfolding sameName
     same-fails h k e =
-        ap₂ sameNumbers (from a i h) (from b i k)
+        ap₂ sameNumbers (from-place a i h) (from-place b i k)
         ∙ ap (λ (t : Bool). t && sameNumbers (drop (i + 1) a) (drop (i + 1) b)) (ne-eqb (getD a i 0) (getD b i 0) e)
 
     pub same-end : length a ≤ i → length b ≤ i → sameName (drop i a) (drop i b) ≡ true

@@ -19,17 +19,21 @@ use Rattle.grammar.specs.ReadTable.{isEmpty, withLabel, withStart, withRule, re
 use Rattle.grammar.specs.declared.Refusal.the-variants.{BadField, BadName, Repeated, TooMany, OutOfRange}
 use Rattle.theory.proofs.BoolLaws.{and-left, and-right, and-intro, or-left, or-right, or-none, false-of}
 use Rattle.theory.proofs.OutcomeLaws.{no-fault}
+use Rattle.theory.proofs.ReadSteps.{empty-is}
 use Rattle.reader.specs.TableIndex.{part, Inside}
 use Rattle.reader.proofs.AnswerLaws.{fault}
 use Rattle.reader.proofs.FieldReading.{part-of}
 
 none-of : {A : Type 0} (xs : List A) → isEmpty xs ≡ true → length xs ≡ 0
-none-of [] e = refl
-none-of (x ∷ xs) e = let z : _≡_ {A = ℕ} 0 1 = cc in absurd (omega arith)
+none-of xs e = ap length (empty-is xs e)
 
-is-none : {A : Type 0} (xs : List A) → length xs ≡ 0 → isEmpty xs ≡ true
+pub is-none : {A : Type 0} (xs : List A) → length xs ≡ 0 → isEmpty xs ≡ true
 is-none [] e = refl
 is-none (x ∷ xs) e = absurd (omega arith)
+
+pub is-some : {A : Type 0} (xs : List A) → 0 < length xs → isEmpty xs ≡ false
+is-some [] h = absurd (omega arith)
+is-some (x ∷ xs) h = refl
 
 module _ (lim : Limits) (classes : Classes) (g : Table) (value : List ℕ) where
   -- a label comes before all starts and rules, and is of a length that a name may have

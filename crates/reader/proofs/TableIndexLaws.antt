@@ -28,8 +28,8 @@ module _ {A : Type 0} where
 kept : (l : List ℕ) (n i a : ℕ) → i < n → getD (set l n a) i 0 ≡ getD l i 0
 kept l n i a h = getD-set-other l n i a 0 (λ e. omega arith)
 
-put : (l : List ℕ) (n i a : ℕ) → length l ≡ 64 → n < 64 → i ≡ n → getD (set l n a) i 0 ≡ a
-put l n i a size h e = ap (λ (k : ℕ). getD (set l n a) k 0) e ∙ getD-set-same l n a 0 (omega arith)
+pub put : (l : List ℕ) (n i a : ℕ) → n < length l → i ≡ n → getD (set l n a) i 0 ≡ a
+put l n i a h e = ap (λ (k : ℕ). getD (set l n a) k 0) e ∙ getD-set-same l n a 0 h
 
 room : (l : List ℕ) (n a : ℕ) → length l ≡ 64 → length (set l n a) ≡ 64
 room l n a e = length-set l n a ∙ e
@@ -144,8 +144,8 @@ module _ {s : List ℕ} {index : TableIndex} {g : Table} (x : Indexes s index g)
           let at : i ≡ index .labels = p .0 ∙ sym (x .labels) in
           stands-so
           here
-          (put (index .«label_from») (index .labels) i from (x .rooms .label-from) few at)
-          (put (index .«label_to») (index .labels) i to (x .rooms .label-to) few at)
+          (put (index .«label_from») (index .labels) i from (omega (arith, x .rooms .label-from)) at)
+          (put (index .«label_to») (index .labels) i to (omega (arith, x .rooms .label-to)) at)
           (p .1)
 
   pub start-added : (k : ℕ) → index .starts < 64 → Indexes s (addStart index k) (withStart g k)
@@ -180,7 +180,7 @@ module _ {s : List ℕ} {index : TableIndex} {g : Table} (x : Indexes s index g)
 
       newest : (i t : ℕ) → (i ≡ length (g .starts)) × (k ≡ t) → startType (addStart index k) i ≡ t
       newest i t p =
-          put (index .«start_type») (index .starts) i k (x .rooms .start-type) few (p .0 ∙ sym (x .starts)) ∙ p .1
+          put (index .«start_type») (index .starts) i k (omega (arith, x .rooms .start-type)) (p .0 ∙ sym (x .starts)) ∙ p .1
 
   pub rule-added : (r : Rule) (from to : ℕ) → Stands s from to (contentBytes (r .content)) → index .rules < 64
       → Indexes s (addRule index (r .type) (r .label) from to) (withRule g r)
@@ -229,13 +229,13 @@ module _ {s : List ℕ} {index : TableIndex} {g : Table} (x : Indexes s index g)
           let at : i ≡ index .rules = p .0 ∙ sym (x .rules) in
           let w = x .rooms in
           record {
-            type = put (index .«rule_type») (index .rules) i (r .type) (w .rule-type) few at ∙ ap (λ (z : Rule). z .type) (p .1);
-            label = put (index .«rule_label») (index .rules) i (r .label) (w .rule-label) few at ∙ ap (λ (z : Rule). z .label) (p .1);
+            type = put (index .«rule_type») (index .rules) i (r .type) (omega (arith, w .rule-type)) at ∙ ap (λ (z : Rule). z .type) (p .1);
+            label = put (index .«rule_label») (index .rules) i (r .label) (omega (arith, w .rule-label)) at ∙ ap (λ (z : Rule). z .label) (p .1);
             content =
                 stands-so
                 h
-                (put (index .«content_from») (index .rules) i from (w .content-from) few at)
-                (put (index .«content_to») (index .rules) i to (w .content-to) few at)
+                (put (index .«content_from») (index .rules) i from (omega (arith, w .content-from)) at)
+                (put (index .«content_to») (index .rules) i to (omega (arith, w .content-to)) at)
                 (ap (λ (z : Rule). contentBytes (z .content)) (p .1));
           }
 

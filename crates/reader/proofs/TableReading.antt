@@ -1,8 +1,8 @@
 -- Reading a table field by field: how far reading came, and where each field leads.
 use Prim.Native.Nat.{ℕ, _≤_, _<_}
 use native.Mathlib.Omega.{arith}
-use mathlib.Core.Bool.{true, false, not}
-use mathlib.Core.List.{List, [], _∷_}
+use mathlib.Core.Bool.{true, not}
+use mathlib.Core.List.{List}
 use mathlib.Core.Logic.{_⊎_, ⊎-elim}
 use mathlib.Core.Path.{_≡_, refl, sym, _∙_, ap, subst}
 use lib.Dec.{ltb}
@@ -29,7 +29,7 @@ use Rattle.reader.specs.FieldAt.{fieldAt}
 use Rattle.reader.specs.TableIndex.{part, Inside, Indexes, Indexed, Reads, endOutcome}
 use Rattle.reader.proofs.AnswerLaws.{fault, readable, unreadable, was-readable, was-unreadable, never-given}
 use Rattle.reader.proofs.FieldReading.{FoundField, field-none, field-past}
-use Rattle.reader.proofs.TableFaults.{part-size, part-slice}
+use Rattle.reader.proofs.TableFaults.{is-none, is-some, part-size, part-slice}
 use Rattle.reader.proofs.TableSteps.{refused-reads}
 
 -- which of the three a field is, by its tag
@@ -154,19 +154,11 @@ module _ (s : List ℕ) (from to : ℕ) (h : Inside s from to) (g : Table) where
   pub end-with-value : (from ≡ to → ⊥) → reading (endOutcome g (part s from to) (fieldsOf (drop to s))) ≡ Unreadable BadField
   unfolding ending
   end-with-value n =
-      unreadable ending BadField (fault _ BadField _ (ap not (some-bytes (part s from to) (let size = part-size s from to h in let order = h .order in omega arith))))
-    where
-      some-bytes : (v : List ℕ) → 0 < length v → isEmpty v ≡ false
-      some-bytes [] k = absurd (omega arith)
-      some-bytes (b ∷ v) k = refl
+      unreadable ending BadField (fault _ BadField _ (ap not (is-some (part s from to) (let size = part-size s from to h in let order = h .order in omega arith))))
 
   module _ (e : from ≡ to) where
     no-value : {B : Type 0} (next : Outcome B) → (turnBack (not (isEmpty (part s from to))) BadField >> next) ≡ next
-    no-value next = no-fault _ BadField next (ap not (no-bytes (part s from to) (let size = part-size s from to h in omega arith)))
-      where
-        no-bytes : (v : List ℕ) → length v ≡ 0 → isEmpty v ≡ true
-        no-bytes [] k = refl
-        no-bytes (b ∷ v) k = absurd (omega arith)
+    no-value next = no-fault _ BadField next (ap not (is-none (part s from to) (let size = part-size s from to h in omega arith)))
 
     pub end-with-more : (to ≡ length s → ⊥) → reading (endOutcome g (part s from to) (fieldsOf (drop to s))) ≡ Unreadable BytesAfterEnd
     unfolding ending

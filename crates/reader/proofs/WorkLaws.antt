@@ -1,4 +1,4 @@
--- Clearing words front to back, and the working memory that a call leaves.
+-- Clearing words front to back, the working memory that a call leaves, and reading with working memory lent.
 use Prim.Native.Nat.{ℕ, suc, _+_, _≤_, _<_}
 use native.Mathlib.Numerals.{add-one}
 use native.Mathlib.Omega.{arith}
@@ -9,7 +9,11 @@ use lib.ListN.{length, take, drop, set, replicate, length-replicate, replicate-a
 use lib.Seq.{drop-cons, set-at, append-snoc, length-take-le}
 use borrow.Author.Tests.{lt-ltb, le-ltb}
 use Rattle.grammar.specs.Limits.{standard}
+use Rattle.grammar.specs.Outcome.{Outcome, refused, _>>_, turnBack}
 use Rattle.grammar.specs.Calls.{workTooShort, workAfter}
+use Rattle.grammar.specs.declared.Refusal.the-variants.{WorkTooShort}
+use Rattle.theory.proofs.OutcomeLaws.{no-fault}
+use Rattle.reader.proofs.AnswerLaws.{fault}
 
 -- so many words cleared
 abbrev pub clearedTo : ℕ → List ℕ → List ℕ
@@ -56,3 +60,14 @@ module _ (work : List ℕ) where
       ap (λ (l : List ℕ). l ++ drop n work) (c ∙ ap (λ (k : ℕ). replicate k 0) (length-take-le n work h))
       ∙ ap (λ (k : ℕ). replicate k 0 ++ drop k work) e
       ∙ work-cleared (omega arith)
+
+-- reading with the working memory lent
+module _ {A : Type 0} (work : List ℕ) (o : Outcome A) where
+  abbrev pub lent : Outcome A
+  lent = turnBack (workTooShort standard work) WorkTooShort >> o
+
+  pub lent-short : length work < 16384 → lent ≡ refused WorkTooShort
+  lent-short h = fault (workTooShort standard work) WorkTooShort o (too-short work h)
+
+  pub lent-enough : 16384 ≤ length work → lent ≡ o
+  lent-enough h = no-fault (workTooShort standard work) WorkTooShort o (enough work h)

@@ -24,7 +24,7 @@ use Rattle.grammar.specs.Unite.{shifted}
 use Rattle.grammar.specs.Normalise.{pairOf, normalise}
 use Rattle.grammar.specs.Reduce.{fruitful}
 use Rattle.theory.proofs.BoolLaws.{and-left, false-of, same-test}
-use Rattle.theory.proofs.ListLaws.{kept, joined-from, in-mem, numbers-below, at-else}
+use Rattle.theory.proofs.ListLaws.{kept, joined-from, in-mem, numbers-below, at-else, keep-on, keep-both, set-all}
 use Rattle.theory.proofs.Alternatives.{onlyIf, someLeft}
 use Rattle.sets.specs.Sets.{nothing}
 use Rattle.pairs.specs.declared.union.United.{United}
@@ -41,7 +41,7 @@ use Rattle.pairs.proofs.PutsLaws.{puts-was, puts-has}
 use Rattle.pairs.proofs.ViewLaws.{seen}
 use Rattle.pairs.proofs.PairLists.{pairs-are}
 use Rattle.reducing.specs.PairsListed.{isPair, pairsIn, pairsFrom, Filled, Appends, Earlier, ListsEach}
-use Rattle.reducing.proofs.NumberLaws.{keep-same, keep-both, joined-next, joined-start}
+use Rattle.reducing.proofs.NumberLaws.{joined-next, joined-start}
 
 -- numbers after others
 pub appends-same : {front xs ys list : List ℕ} {count : ℕ} → xs ≡ ys → Appends front xs list count → Appends front ys list count
@@ -58,16 +58,6 @@ appends-join front xs ys list list′ count r a b =
       all = b .all ∙ ap (λ (l : List ℕ). l ++ ys) (a .all) ∙ append-assoc front xs ys;
       filled = b .filled;
     }
-
-set-below : (list : List ℕ) (i p bound : ℕ) → i < length list → ((j : ℕ) → getD list j 0 < bound) → p < bound → (j : ℕ)
-    → getD (set list i p) j 0 < bound
-set-below list i p bound inside h small j = go (eqb j i) refl
-  where
-    go : (b : Bool) → eqb j i ≡ b → getD (set list i p) j 0 < bound
-    go true e =
-        subst (λ (n : ℕ). getD (set list i p) n 0 < bound) (sym (eqb-true j i e))
-        (subst (λ (x : ℕ). x < bound) (sym (getD-set-same list i p 0 inside)) small)
-    go false e = subst (λ (x : ℕ). x < bound) (sym (getD-set-other list i j p 0 (eqb-false j i e))) (h j)
 
 pub append-room : (list : List ℕ) (count p : ℕ) → Filled list count → p < 128 → isIn p (take count list) ≡ false
     → count < length list
@@ -91,7 +81,7 @@ append-new list count p b f small e on =
                 (λ q m. subst (λ (x : ℕ). x < 128) (sym (List·Memᴰ·eq-of-singleton m)) small)
                 (adds-new 128 list count (f .once) p e room)
                 (length-set list count p);
-            below = set-below list count p 128 room (f .below) small;
+            below = set-all list count p room (λ n. n < 128) (f .below) small;
           };
     })
 
@@ -335,7 +325,7 @@ module _ {old add : List ℕ} {v : United} {u : Table} (x : Views old add v u) w
       let found : ℕ → Bool = λ p. isIn p (fruitful (normalise u)) in
       let test : ℕ → Bool = λ q. eqb (ruleAt u q .type) k && eqb (pairOf u (ruleAt u q)) q in
       ap (λ (set : ℕ → Bool). keep (isPair v set k) (numbersBelow (v .rules))) e
-      ∙ keep-same (isPair v found k) (λ q. test q && found q) (numbersBelow (v .rules))
+      ∙ keep-on (isPair v found k) (λ q. test q && found q) (numbersBelow (v .rules))
       (λ q m.
       let r = rule-at q (numbers-below (v .rules) q .0 m) in
       ap₂ (λ (t p : ℕ). eqb t k && eqb p q && found q) (r .0) (r .1))

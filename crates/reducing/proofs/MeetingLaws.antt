@@ -7,12 +7,10 @@
 --   part-next                one number more of a part in a set
 use Prim.Native.Nat.{ℕ, _+_, _-_, _≤_, _<_}
 use native.Mathlib.Omega.{arith}
-use native.Mathlib.Numerals.{add-one}
 use mathlib.Core.Bool.{Bool, true, false, _&&_, _||_}
 use mathlib.Core.List.{List, [], _∷_, _++_, List·Memᴰ, Memᴰ·map, Memᴰ·of-map}
 use mathlib.Core.Path.{_≡_, refl, sym, _∙_, ap, ap₂, subst, fun-ext}
 use lib.ListN.{length, getD, take, drop}
-use lib.Seq.{take-suc}
 use lib.Dec.{eqb, leb}
 use borrow.Author.Tests.{eqb-true, eq-eqb, ltb-true}
 use Rattle.grammar.specs.Lists.{keep, distinct, joinedOf, isIn, numbersBelow}
@@ -24,8 +22,9 @@ use Rattle.grammar.specs.KindTests.{samePair}
 use Rattle.grammar.specs.Unite.{shifted}
 use Rattle.grammar.specs.Normalise.{pairOf}
 use Rattle.theory.proofs.BoolLaws.{and-left, and-right, same-test}
-use Rattle.theory.proofs.ListLaws.{kept, keep-mem, joined-from, joined-mem, numbers-below, at-mem, mem-at, at-below, at-else, at-or-else, any-of, in-mem, mem-in, taken-mem, distinct-was, distinct-mem, eqb-decides}
+use Rattle.theory.proofs.ListLaws.{kept, keep-mem, joined-from, joined-mem, numbers-below, at-mem, mem-at, at-below, at-else, at-or-else, any-of, in-mem, mem-in, taken-mem, distinct-was, distinct-mem, eqb-decides, keep-on, eqb-sym, decided-trans}
 use Rattle.theory.proofs.PlaceLaws.{place-found}
+use Rattle.theory.proofs.DistinctLaws.{among-distinct}
 use Rattle.theory.proofs.NormaliseDocuments.{pair-refl}
 use Rattle.theory.proofs.Alternatives.{hasAlts, allHaveAlts, oneHasAlts, someLeft, onlyIf, pairsMet, pairsMetAll, pairs-renamed}
 use Rattle.theory.proofs.EmittedContent.{joined-map, joined-twice}
@@ -44,7 +43,7 @@ use Rattle.pairs.proofs.OnceLaws.{part-more, adds-none, adds-join, adds-same}
 use Rattle.reducing.specs.declared.meeting.Met.{Met}
 use Rattle.reducing.specs.PairsListed.{PartBelow}
 use Rattle.reducing.specs.PairsMet.{MetHeld, ContentMet, metInRule, metInPair, Meets}
-use Rattle.reducing.proofs.NumberLaws.{put-next, keep-same, joined-only, joined-next, joined-start}
+use Rattle.reducing.proofs.NumberLaws.{put-next, joined-only, joined-next, joined-start}
 use Rattle.reducing.proofs.ListingLaws.{rule-at}
 
 -- lists that agree on the types of a proper content
@@ -159,7 +158,7 @@ module _ {old add : List ℕ} {v : United} {u : Table} (x : Views old add v u) w
   pair-met p =
       joined-only (λ i. eqb (firstIn v i) p) (metInRule u) (numbersBelow (v .rules))
       ∙ ap (joinedOf (metInRule u))
-      (keep-same (λ i. eqb (firstIn v i) p) (λ i. eqb (pairOf u (ruleAt u i)) p) (numbersBelow (v .rules))
+      (keep-on (λ i. eqb (firstIn v i) p) (λ i. eqb (pairOf u (ruleAt u i)) p) (numbersBelow (v .rules))
       (λ i m. ap (λ (q : ℕ). eqb q p) (rule-at x i (numbers-below (v .rules) i .0 m) .1))
       ∙ ap (λ (n : ℕ). keep (λ i. eqb (pairOf u (ruleAt u i)) p) (numbersBelow n)) (x .rules))
       ∙ sym (joined-map (pairsMet (fruitfulOf u)) (contentOf u)
@@ -262,13 +261,9 @@ module _ (u : Table) (set : ℕ → Bool) (p : ℕ) where
 
 -- a number among numbers, and among each of them once
 pub distinct-in : (xs : List ℕ) → _≡_ {A = ℕ → Bool} (λ p. isIn p (distinct eqb xs)) (λ p. isIn p xs)
+unfolding isIn
 distinct-in xs =
-    fun-ext
-    (λ p.
-    same-test (isIn p (distinct eqb xs)) (isIn p xs) (
-      λ e. mem-in (distinct-was eqb xs (in-mem p (distinct eqb xs) e)),
-      λ e. mem-in (distinct-mem eqb eqb-decides (in-mem p xs e)),
-    ))
+    fun-ext (λ p. among-distinct eqb eqb-sym (decided-trans eqb eqb-decides) (λ q. eq-eqb q q refl) p xs)
 
 -- a number of the list
 pub once-at : (list : List ℕ) (count i : ℕ) → Once 128 list count → i < count → getD list i 0 < 128

@@ -88,9 +88,10 @@ module _ (g : Table) where
       not-both (any-of (sameNumbers t) n (same-numbers-refl t))
       (not-true (any (sameNumbers t) sets) (kept (λ u. not (any (sameNumbers u) sets)) (setsMet g s) m .1))
 
-  more-end : (n next : ℕ) (sets : List TypeSet) → getElem? sets next ≡ nothing → moreSets g (suc n) next sets ≡ sets
+  pub more-end : (n next : ℕ) (sets : List TypeSet) → getElem? sets next ≡ nothing → moreSets g n next sets ≡ sets
   unfolding moreSets
-  more-end n next sets e = rw (e, moreSets)
+  more-end zero next sets e = refl
+  more-end (suc n) next sets e = rw (e, moreSets)
 
   pub more-next : (n next : ℕ) (sets : List TypeSet) {s : TypeSet} → getElem? sets next ≡ just s
       → moreSets g (suc n) next sets ≡ moreSets g n (suc next) (sets ++ newSets sets s)
@@ -121,7 +122,7 @@ more-ended g Inv step (suc n) next sets h =
         → Ended Inv n (suc next) (moreSets g n (suc next) (sets ++ newSets g sets s)))
         → Ended Inv (suc n) next (moreSets g (suc n) next sets)
     go nothing e ih =
-        subst (λ (l : List TypeSet). Ended Inv (suc n) next l) (sym (more-end g n next sets e))
+        subst (λ (l : List TypeSet). Ended Inv (suc n) next l) (sym (more-end g (suc n) next sets e))
         (record { last = next; holds = h; done = λ few. past-end sets next e })
     go (just s) e ih =
         subst (λ (l : List TypeSet). Ended Inv (suc n) next l) (sym (more-next g n next sets e))

@@ -1,6 +1,6 @@
 -- The stack of type sets: from a word on, set by set, stand the types of the trees of the nodes from a place on (`Stacked`). One node more
 -- takes its children's sets and leaves its own (`stack-next`); when all nodes are gone through, the root's set is left (`stack-root`).
-use Prim.Native.Nat.{ℕ, zero, suc, _+_, _*_, _-_, _≤_, _<_}
+use Prim.Native.Nat.{ℕ, zero, suc, _+_, _*_, _-_, _≤_}
 use native.Mathlib.Omega.{arith}
 use native.Mathlib.Numerals.{add-one}
 use mathlib.Core.Bool.{Bool, _&&_}
@@ -8,25 +8,25 @@ use mathlib.Core.List.{List, [], _∷_, map}
 use mathlib.Core.Option.{some as just}
 use mathlib.Core.Path.{_≡_, refl, sym, _∙_, ap, ap₂, subst, fun-ext}
 use lib.ListN.{length, getD, getElem?, take, drop, length-drop, drop-of-length-le}
+use lib.Seq.{drop-cons}
 use Rattle.grammar.specs.Lists.{keep}
 use Rattle.grammar.specs.Names.{Name}
 use Rattle.grammar.specs.Outcome.{given}
 use Rattle.grammar.specs.Table.{Rule, Table}
 use Rattle.grammar.specs.Tree.{Tree, node, Forest, []ᵗ, _∷ᵗ_}
 use Rattle.grammar.specs.ReadDocument.{Node, firstTrees, otherTrees, forestOf, treeOf}
-use Rattle.grammar.specs.Membership.{isNamed, matches, typesOf, typesOfAll}
-use Rattle.sets.specs.Sets.{member, wordsAt, storeAt}
+use Rattle.grammar.specs.Membership.{isNamed, typesOf, typesOfAll}
+use Rattle.sets.specs.Sets.{member, storeAt}
 use Rattle.sets.proofs.SetLaws.{words-store, store-after}
-use Rattle.theory.proofs.ListLaws.{at-below}
-use Rattle.theory.proofs.MarkedRun.{run, holds, run-matches}
-use Rattle.reader.proofs.DocumentTrees.{treeCount, enough-at}
+use Rattle.theory.proofs.ListLaws.{at-below, at-else}
+use Rattle.theory.proofs.MarkedRun.{holds, run-matches}
+use Rattle.reader.proofs.DocumentTrees.{treeCount, trees-few, enough-at}
 use Rattle.reader.proofs.DocumentAnswers.{nodes-count, node-held}
 use Rattle.reader.specs.DocumentNodes.{nodeAt, nodesIn}
 use Rattle.reader.specs.declared.documents.DocumentIndex.{DocumentIndex}
 use Rattle.walks.specs.TypeSets.{setAt, testsAt}
-use Rattle.validator.specs.KnownTable.{ruleFits, typesFor}
+use Rattle.validator.specs.KnownTable.{typesFor}
 use Rattle.validator.specs.KnownDocument.{KnownNodes}
-use Rattle.walks.proofs.WalkLaws.{tests-next, tests-none}
 
 -- Sets that stand one after the other: the first, and those behind them.
 tests-take : (words : List ℕ) (k n at : ℕ) → k ≤ n → take k (testsAt words at n) ≡ testsAt words at k
@@ -88,15 +88,6 @@ module _ (g : Table) where
       (fun-ext (λ (r : Rule).
       ap (λ (b : Bool). isNamed g (r .label) n && b) (sym (run-matches (r .content) (typesOfAll g ts)))))
 
--- the elements from a place on
-pub drop-next : {A : Type 0} (xs : List A) (at : ℕ) (x : A) → getElem? xs at ≡ just x → drop at xs ≡ x ∷ drop (at + 1) xs
-drop-next {A} xs at x e = go xs at e ∙ sym (ap (λ (k : ℕ). x ∷ drop k xs) (add-one at))
-  where
-    go : (xs : List A) (at : ℕ) → getElem? xs at ≡ just x → drop at xs ≡ x ∷ drop (suc at) xs
-    go [] at e = let z : _≡_ {A = ℕ} 0 1 = cc in absurd (omega arith)
-    go (y ∷ ys) zero e = let p : y ≡ x = cc in ap (λ (z : A). z ∷ ys) p
-    go (y ∷ ys) (suc at) e = go ys at e
-
 -- set by set, the types of the trees of some nodes
 abbrev pub Stacked : Table → List Node → List ℕ → ℕ → Type 0
 Stacked g ns words top = testsAt words top (treeCount ns) ≡ map holds (typesOfAll g (forestOf ns))
@@ -156,12 +147,6 @@ stack-root g ns words top one stacked t e = go (forestOf ns) refl
         let left = sym (ap (testsAt words top) one) ∙ stacked ∙ ap (λ (f : Forest). map holds (typesOfAll g f)) p in
         same-first left ∙ ap (λ (u : Tree). holds (typesOf g u)) root
 
--- how many trees, and how many nodes
-trees-few : (ns : List Node) → treeCount ns ≤ length ns
-unfolding treeCount
-trees-few [] = omega arith
-trees-few (n ∷ ns) = let h = trees-few ns in omega arith
-
 -- A round over the nodes of a document, at the node before a place.
 module _ (d : List ℕ) (nodes : DocumentIndex) (known : KnownNodes d nodes) (i at : ℕ) (before : at + 1 ≡ i) (inside : i ≤ nodes .nodes) where
   round-node : Node
@@ -173,7 +158,9 @@ module _ (d : List ℕ) (nodes : DocumentIndex) (known : KnownNodes d nodes) (i 
 
   round-drop : drop at (nodesIn d nodes) ≡ round-node ∷ drop i (nodesIn d nodes)
   round-drop =
-      drop-next (nodesIn d nodes) at round-node round-held ∙ ap (λ (k : ℕ). round-node ∷ drop k (nodesIn d nodes)) before
+      drop-cons (nodesIn d nodes) at round-node (at-below (nodesIn d nodes) at round-held)
+      ∙ ap₂ (λ (n : Node) (k : ℕ). n ∷ drop k (nodesIn d nodes)) (at-else (nodesIn d nodes) at round-node round-held)
+      (sym (add-one at) ∙ before)
 
   pub round-enough : getD (nodes .children) at 0 ≤ treeCount (drop i (nodesIn d nodes))
   unfolding round-node

@@ -1,58 +1,41 @@
 -- The types of a node, rule by rule. A rule is named as the node exactly if its label is the place of the node's name (`named-by-place`), so
 -- what the code asks of a rule is what the table says of it (`asked-is`, `not-asked`). A set that has the types of the first rules has, with
 -- the next rule's if it fits, those of one rule more (`types-step`).
-use Prim.Native.Nat.{ℕ, zero, suc, _+_, _/_, _≤_, _<_}
+use Prim.Native.Nat.{ℕ, _+_, _-_, _/_, _≤_, _<_}
 use native.Mathlib.Omega.{arith}
 use native.Mathlib.Numerals.{add-one}
-use mathlib.Core.Bool.{Bool, true, false, _&&_, _||_, or-comm, or-false, or-assoc}
-use mathlib.Core.List.{List, [], _∷_, _++_, map, append-nil}
+use mathlib.Core.Bool.{Bool, true, false, _&&_, _||_, or-comm, or-false}
+use mathlib.Core.List.{List, [], _∷_, _++_, map, append-nil, map-append}
 use mathlib.Core.Option.{none as nothing, some as just}
 use mathlib.Core.Path.{_≡_, refl, sym, _∙_, ap, ap₂, subst, fun-ext}
 use lib.Dec.{eqb}
 use lib.ListN.{length, getD, set, getElem?, take}
-use lib.Seq.{take-all, getD-set-same, getD-set-other}
+use lib.Seq.{take-all, take-suc, getD-set-same, getD-set-other}
 use borrow.Author.Count.{below-more}
 use borrow.Author.Tests.{eqb-true, eq-eqb, ne-eqb}
 use Rattle.grammar.specs.Lists.{any, keep, isIn, allDistinct, place}
-use Rattle.grammar.specs.Limits.{Limits, standard}
+use Rattle.grammar.specs.Limits.{standard}
 use Rattle.grammar.specs.Names.{Name, sameName}
-use Rattle.grammar.specs.Content.{Content}
-use Rattle.grammar.specs.ReadContent.{contentBytes, isProper}
 use Rattle.grammar.specs.Table.{Rule, Table}
 use Rattle.grammar.specs.Membership.{isNamed}
-use Rattle.grammar.specs.WithinLimits.{RuleWithin}
 use Rattle.sets.specs.Sets as sets
 use Rattle.sets.specs.Sets.{member, putAt, add}
 use Rattle.sets.proofs.SetLaws.{member-put, length-put, member-words}
 use Rattle.theory.proofs.BoolLaws.{same-test}
-use Rattle.theory.proofs.ListLaws.{any-of, at-mem, below-at, differ-at, just-eq, keep-yes, keep-no, place-found}
+use Rattle.theory.proofs.ListLaws.{any-of, at-mem, at-below, at-else, below-at, differ-at, in-append, just-eq, keep-yes, keep-no}
+use Rattle.theory.proofs.DistinctLaws.{keep-append}
 use Rattle.theory.proofs.NameLaws.{name-sym, name-trans}
-use Rattle.theory.proofs.MarkedRun.{run, holds}
+use Rattle.theory.proofs.PlaceLaws.{place-found, place-some}
+use Rattle.theory.proofs.MarkedRun.{holds}
 use Rattle.reader.specs.ExprAt.{_upTo_, exprAt}
-use Rattle.reader.specs.TableIndex.{part, startType, ruleType, ruleLabel, contentFrom, contentTo, RuleAt, Stands}
+use Rattle.reader.specs.TableIndex.{part, ruleLabel, contentFrom, contentTo}
 use Rattle.reader.specs.declared.tables.TableIndex.{TableIndex}
-use Rattle.reader.proofs.ExprLaws.{expr-of}
-use Rattle.reader.proofs.LabelSearch.{place-some}
-use Rattle.reader.proofs.TableIndexLaws.{start-at, rule-at}
+use Rattle.reader.proofs.TableFaults.{part-size}
+use Rattle.reader.proofs.TableFound.{RuleFound, rule-found-at, content-in-part}
 use Rattle.walks.specs.TypeSets.{setAt}
 use Rattle.walks.specs.WalkAt.{runAt, WholeAt}
 use Rattle.validator.specs.KnownTable.{Known, ruleFits, typesFor, WithIf}
 use Rattle.walks.proofs.WalkLaws.{run-at}
-
--- Bytes that are a content's.
-module _ (s : List ℕ) (c : Content) (are : s ≡ contentBytes c) where
-  content-stands : exprAt s 0 ≡ just (c upTo (0 + length (contentBytes c)))
-  content-stands = expr-of s 0 c [] (are ∙ sym (append-nil (contentBytes c)))
-
-  pub content-whole : (lim : Limits) → isProper lim c ≡ true → WholeAt lim s
-  content-whole lim p =
-      record {
-        proper-at = record { content = c; next = 0 + length (contentBytes c); stands = content-stands; proper = p };
-        whole = let e = ap length are in omega arith;
-      }
-
-  pub content-run : (tests : List (ℕ → Bool)) → runAt s tests ≡ run c tests
-  content-run tests = run-at s c (0 + length (contentBytes c)) tests content-stands
 
 -- where labels differ, a name has just the label at its place
 named-by-place : (g : Table) → allDistinct sameName (g .labels) ≡ true → (l : ℕ) (n : Name) → l < length (g .labels)
@@ -78,46 +61,51 @@ named-by-place g differ l n below =
 
 -- A rule of a table that is known.
 module _ {s : List ℕ} {index : TableIndex} {g : Table} (known : Known s index g) (i : ℕ) (below : i < index .rules) where
-  pub known-rule : (r : Rule) × (getElem? (g .rules) i ≡ just r) × RuleAt s index i r
-  known-rule = rule-at (known .indexes) i below
+  abbrev pub known-rule : RuleFound s index g i
+  known-rule = rule-found-at (known .indexes) (known .within) i below
 
-  rule-within : RuleWithin standard (length (g .labels)) (known-rule .0)
-  rule-within = known .within .each-rule (known-rule .0) (at-mem (g .rules) i (known-rule .1))
-
-  pub rule-type-small : ruleType index i < 64
-  unfolding standard
-  rule-type-small = let h = rule-within .type in let e = known-rule .2 .type in omega arith
-
-  pub rule-content : Stands s (contentFrom index i) (contentTo index i) (contentBytes (known-rule .0 .content))
-  rule-content = known-rule .2 .content
+  rule-stands : exprAt (part s (contentFrom index i) (contentTo index i)) 0
+      ≡ just (known-rule .rule .content upTo (contentTo index i - contentFrom index i))
+  rule-stands = content-in-part (known-rule .rule .content) (known-rule .at .content)
 
   pub rule-whole : WholeAt standard (part s (contentFrom index i) (contentTo index i))
-  rule-whole = content-whole _ (known-rule .0 .content) (rule-content .bytes-are) standard (rule-within .content .proper)
+  rule-whole =
+      record {
+        proper-at =
+            record {
+              content = known-rule .rule .content;
+              next = contentTo index i - contentFrom index i;
+              stands = rule-stands;
+              proper = known-rule .within .content .proper;
+            };
+        whole = sym (part-size s (contentFrom index i) (contentTo index i) (known-rule .at .content .inside));
+      }
 
   pub rule-size : length (part s (contentFrom index i) (contentTo index i)) ≤ 1024
   unfolding standard
-  rule-size = let h = rule-within .content .size in let e = ap length (rule-content .bytes-are) in omega arith
+  rule-size = let h = known-rule .within .content .size in let e = ap length (known-rule .at .content .bytes-are) in omega arith
 
-  rule-named : (n : Name) → isNamed g (known-rule .0 .label) n ≡ eqb (ruleLabel index i) (place sameName n (g .labels))
+  rule-named : (n : Name) → isNamed g (known-rule .rule .label) n ≡ eqb (ruleLabel index i) (place sameName n (g .labels))
   rule-named n =
-      named-by-place g (known .within .labels-differ) (known-rule .0 .label) n (rule-within .label)
-      ∙ ap (λ (l : ℕ). eqb l (place sameName n (g .labels))) (sym (known-rule .2 .label))
+      named-by-place g (known .within .labels-differ) (known-rule .rule .label) n (known-rule .within .label)
+      ∙ ap (λ (l : ℕ). eqb l (place sameName n (g .labels))) (sym (known-rule .at .label))
 
   -- at a node whose name has this label, the rule's content is asked if the rule has the label too
   module _ (n : Name) (tests : List (ℕ → Bool)) (label : ℕ) (e : label ≡ place sameName n (g .labels)) where
-    rule-fits-is : ruleFits g n tests (known-rule .0)
+    rule-fits-is : ruleFits g n tests (known-rule .rule)
         ≡ (eqb (ruleLabel index i) label && runAt (part s (contentFrom index i) (contentTo index i)) tests)
     unfolding ruleFits
     rule-fits-is =
         ap₂ _&&_ (rule-named n ∙ ap (eqb (ruleLabel index i)) (sym e))
-        (sym (content-run _ (known-rule .0 .content) (rule-content .bytes-are) tests))
+        (sym (run-at (part s (contentFrom index i) (contentTo index i)) (known-rule .rule .content) (contentTo index i - contentFrom index i)
+        tests rule-stands))
 
     pub asked-is : ruleLabel index i ≡ label
-        → runAt (part s (contentFrom index i) (contentTo index i)) tests ≡ ruleFits g n tests (known-rule .0)
+        → runAt (part s (contentFrom index i) (contentTo index i)) tests ≡ ruleFits g n tests (known-rule .rule)
     asked-is h =
         sym (rule-fits-is ∙ ap (λ (b : Bool). b && runAt (part s (contentFrom index i) (contentTo index i)) tests) (eq-eqb (ruleLabel index i) label h))
 
-    pub not-asked : (ruleLabel index i ≡ label → ⊥) → false ≡ ruleFits g n tests (known-rule .0)
+    pub not-asked : (ruleLabel index i ≡ label → ⊥) → false ≡ ruleFits g n tests (known-rule .rule)
     not-asked h =
         sym (rule-fits-is ∙ ap (λ (b : Bool). b && runAt (part s (contentFrom index i) (contentTo index i)) tests) (ne-eqb (ruleLabel index i) label h))
 
@@ -130,40 +118,10 @@ flags-more flags i flag right inside so e =
     (getD-set-same flags i flag false inside ∙ e)
 
 -- Rules one after the other.
-take-more : {A : Type 0} (xs : List A) (i : ℕ) (x : A) → getElem? xs i ≡ just x → take (i + 1) xs ≡ take i xs ++ (x ∷ [])
-take-more {A} xs i x e = ap (λ (n : ℕ). take n xs) (add-one i) ∙ go xs i e
-  where
-    go : (xs : List A) (i : ℕ) → getElem? xs i ≡ just x → take (suc i) xs ≡ take i xs ++ (x ∷ [])
-    go [] i e = let z : _≡_ {A = ℕ} 0 1 = cc in absurd (omega arith)
-    go (y ∷ ys) zero e = let p : y ≡ x = cc in ap (λ (z : A). z ∷ []) p
-    go (y ∷ ys) (suc i) e = ap (λ (l : List A). y ∷ l) (go ys i e)
-
-module _ {A : Type 0} (test : A → Bool) where
-  keep-append : (xs ys : List A) → keep test (xs ++ ys) ≡ keep test xs ++ keep test ys
-  unfolding keep
-  keep-append [] ys = refl
-  keep-append (x ∷ xs) ys = go (test x) refl (keep-append xs ys)
-    where
-      go : (b : Bool) → test x ≡ b → keep test (xs ++ ys) ≡ keep test xs ++ keep test ys
-          → keep test ((x ∷ xs) ++ ys) ≡ keep test (x ∷ xs) ++ keep test ys
-      go true e ih =
-          keep-yes test x (xs ++ ys) e ∙ ap (λ (l : List A). x ∷ l) ih ∙ sym (ap (λ (l : List A). l ++ keep test ys) (keep-yes test x xs e))
-      go false e ih = keep-no test x (xs ++ ys) e ∙ ih ∙ sym (ap (λ (l : List A). l ++ keep test ys) (keep-no test x xs e))
-
-map-append : {A B : Type 0} (f : A → B) (xs ys : List A) → map f (xs ++ ys) ≡ map f xs ++ map f ys
-map-append f [] ys = refl
-map-append {B = B} f (x ∷ xs) ys = ap (λ (l : List B). f x ∷ l) (map-append f xs ys)
-
-any-append : {A : Type 0} (test : A → Bool) (xs ys : List A) → any test (xs ++ ys) ≡ (any test xs || any test ys)
-unfolding any
-any-append test [] ys = refl
-any-append test (x ∷ xs) ys =
-    ap (λ (b : Bool). test x || b) (any-append test xs ys) ∙ sym (or-assoc (test x) (any test xs) (any test ys))
-
 holds-end : (ks : List ℕ) (k : ℕ) → holds (ks ++ (k ∷ [])) ≡ add k (holds ks)
 unfolding isIn
 holds-end ks k =
-    fun-ext (λ j. any-append (eqb j) ks (k ∷ []) ∙ ap (λ (b : Bool). any (eqb j) ks || b) (or-false (eqb j k))
+    fun-ext (λ j. in-append j ks (k ∷ []) ∙ ap (λ (b : Bool). any (eqb j) ks || b) (or-false (eqb j k))
     ∙ or-comm (any (eqb j) ks) (eqb j k))
 
 module _ (g : Table) (n : Name) (tests : List (ℕ → Bool)) where
@@ -176,7 +134,10 @@ module _ (g : Table) (n : Name) (tests : List (ℕ → Bool)) where
       ≡ typesFor g n tests (take i (g .rules)) ++ typesFor g n tests (r ∷ [])
   unfolding typesFor
   types-more i r e =
-      ap (λ (rs : List Rule). typesFor g n tests rs) (take-more (g .rules) i r e)
+      ap (λ (rs : List Rule). typesFor g n tests rs)
+      (ap (λ (k : ℕ). take k (g .rules)) (add-one i)
+      ∙ take-suc (g .rules) i r (at-below (g .rules) i e)
+      ∙ ap (λ (x : Rule). take i (g .rules) ++ (x ∷ [])) (at-else (g .rules) i r e))
       ∙ ap (map (λ (r : Rule). r .type)) (keep-append (ruleFits g n tests) (take i (g .rules)) (r ∷ []))
       ∙ map-append (λ (r : Rule). r .type) (keep (ruleFits g n tests) (take i (g .rules))) (keep (ruleFits g n tests) (r ∷ []))
 
@@ -230,13 +191,6 @@ without-it old k flag size f =
       members = sym (ap (λ (b : Bool). elim b as (λ f. ℕ → Bool) [ true ↦ add k (member old 0) | false ↦ member old 0 ]) f);
       size = size;
     }
-
--- A start of a table that is known.
-module _ {s : List ℕ} {index : TableIndex} {g : Table} (known : Known s index g) (i : ℕ) (below : i < index .starts) where
-  pub start-small : startType index i < 64
-  unfolding standard
-  start-small =
-      known .within .start-types (startType index i) (at-mem (g .starts) i (start-at (known .indexes) i below))
 
 -- a number of a set that was read in its words
 pub set-has : (words : List ℕ) (at k : ℕ) → k < 64 → member words at k ≡ setAt words at k

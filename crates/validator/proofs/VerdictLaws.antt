@@ -10,9 +10,9 @@ use Rattle.grammar.specs.Table.{Table}
 use Rattle.grammar.specs.Tree.{Tree}
 use Rattle.grammar.specs.Outcome.{Outcome, given, refused, _>>=_}
 use Rattle.grammar.specs.Answers.{verdict}
-use Rattle.grammar.specs.Calls.{workTooShort, workAfter, tableReads, tableLetsIn, tableIsLocal, tableIsSingleType}
+use Rattle.grammar.specs.Calls.{workAfter, tableReads, tableLetsIn, tableIsLocal, tableIsSingleType}
 use Rattle.grammar.specs.ReadTable.{readTable}
-use Rattle.grammar.specs.ReadDocument.{readNodes, readDocument, treeOf}
+use Rattle.grammar.specs.ReadDocument.{readDocument, treeOf}
 use Rattle.grammar.specs.Membership.{letsIn}
 use Rattle.grammar.specs.KindTests.{isLocal, isSingleType}
 use Rattle.grammar.specs.declared.Refusal.{Refusal}
@@ -20,17 +20,16 @@ use Rattle.grammar.specs.declared.Refusal.the-variants.{WorkTooShort}
 use Rattle.grammar.specs.declared.Reading.the-variants.{Readable, Refused as Unreadable}
 use Rattle.grammar.specs.declared.Verdict.{Verdict}
 use Rattle.grammar.specs.declared.Verdict.the-variants.{Refused as Undecided}
-use Rattle.theory.proofs.OutcomeLaws.{given-then, no-fault}
-use Rattle.reader.specs.DocumentNodes.{DocumentReads, nodesIn, outcomeOf}
+use Rattle.theory.proofs.OutcomeLaws.{given-then}
+use Rattle.reader.specs.DocumentNodes.{DocumentReads, nodesIn}
 use Rattle.reader.specs.TableIndex.{Reads}
 use Rattle.reader.specs.declared.documents.DocumentRead.{DocumentRead}
 use Rattle.reader.specs.declared.tables.TableRead.{TableRead}
 use Rattle.reader.specs.declared.tables.TableIndex.{TableIndex}
-use Rattle.reader.proofs.AnswerLaws.{fault}
-use Rattle.reader.proofs.WorkLaws.{enough, too-short, work-kept, work-cleared}
+use Rattle.reader.proofs.WorkLaws.{work-kept, work-cleared, lent-short, lent-enough}
 use Rattle.reader.proofs.TableFound.{TableFound, table-found, table-refused}
 use Rattle.reader.proofs.DocumentTrees.{complete}
-use Rattle.reader.proofs.DocumentAnswers.{document-tree, document-refused}
+use Rattle.reader.proofs.DocumentAnswers.{document-tree, nodes-read, document-unread}
 use Rattle.validator.specs.KnownTable.{Known, SomeTable}
 use Rattle.validator.specs.KnownDocument.{KnownNodes}
 use Rattle.validator.specs.ValidatorCalls.{Answered, Cleared, letsInOf, kindOf}
@@ -38,16 +37,6 @@ use Rattle.validator.specs.ValidatorCalls.{Answered, Cleared, letsInOf, 
 -- a table that was read is known
 pub found-table : {s : List ℕ} {index : TableIndex} → TableFound s index → SomeTable s index
 found-table f = record { table = f .table; known = record { indexes = f .indexes; within = f .within } }
-
--- reading a table with the working memory lent
-module _ (table work : List ℕ) where
-  reads-short : length work < 16384 → tableReads standard asciiClasses table work ≡ refused WorkTooShort
-  unfolding tableReads
-  reads-short h = fault _ WorkTooShort _ (too-short work h)
-
-  reads-enough : 16384 ≤ length work → tableReads standard asciiClasses table work ≡ readTable standard asciiClasses table
-  unfolding tableReads
-  reads-enough h = no-fault _ WorkTooShort _ (enough work h)
 
 -- any call: refused for its working memory, or answered by one that was lent just the words that it needs
 module _ (o : Outcome Bool) (work : List ℕ) where
@@ -69,15 +58,17 @@ module _ (o : Outcome Bool) (work : List ℕ) where
 -- letting in
 module _ (table document : List ℕ) where
   pub lets-in-short : (work : List ℕ) → length work < 16384 → tableLetsIn standard asciiClasses table document work ≡ refused WorkTooShort
-  unfolding tableLetsIn
+  unfolding tableLetsIn tableReads
   lets-in-short work h =
-      ap (λ (o : Outcome Table). o >>= λ g. (readDocument standard asciiClasses document >>= λ d. given (letsIn g d))) (reads-short table work h)
+      ap (λ (o : Outcome Table). o >>= λ g. (readDocument standard asciiClasses document >>= λ d. given (letsIn g d)))
+      (lent-short work (readTable standard asciiClasses table) h)
 
   pub lets-in-enough : (work : List ℕ) → 16384 ≤ length work
       → tableLetsIn standard asciiClasses table document work ≡ letsInOf table document
-  unfolding tableLetsIn letsInOf
+  unfolding tableLetsIn tableReads letsInOf
   lets-in-enough work h =
-      ap (λ (o : Outcome Table). o >>= λ g. (readDocument standard asciiClasses document >>= λ d. given (letsIn g d))) (reads-enough table work h)
+      ap (λ (o : Outcome Table). o >>= λ g. (readDocument standard asciiClasses document >>= λ d. given (letsIn g d)))
+      (lent-enough work (readTable standard asciiClasses table) h)
 
   module _ (r : TableRead) (so : Reads table (readTable standard asciiClasses table) r) where
     pub table-refuses : (q : Refusal) → r .answer ≡ Unreadable q → Undecided q ≡ verdict (letsInOf table document)
@@ -100,18 +91,12 @@ module _ (table document : List ℕ) where
 
       pub document-refuses : (q : Refusal) → f .answer ≡ Unreadable q → Undecided q ≡ verdict (letsInOf table document)
       unfolding verdict
-      document-refuses q p =
-          sym (ap verdict (lets-in-from (refused q)
-          (document-refused standard asciiClasses document q
-          (reads .outcome ∙ ap (λ a. outcomeOf a (nodesIn document (f .index))) p))))
+      document-refuses q p = sym (ap verdict (lets-in-from (refused q) (document-unread document f reads q p)))
 
       module _ (p : f .answer ≡ Readable) where
-        read : readNodes standard asciiClasses document ≡ given (nodesIn document (f .index))
-        read = reads .outcome ∙ ap (λ a. outcomeOf a (nodesIn document (f .index))) p
-
         pub nodes-known : KnownNodes document (f .index)
         nodes-known =
-            let c = complete standard asciiClasses document (nodesIn document (f .index)) read in
+            let c = complete standard asciiClasses document (nodesIn document (f .index)) (nodes-read document f reads p) in
             record { indexed = reads .indexed; one-tree = c .0; enough = c .1 }
 
         pub decided : (answer : Verdict) (says-yes : Bool) → answer ≡ verdict (given says-yes)
@@ -119,7 +104,7 @@ module _ (table document : List ℕ) where
             → answer ≡ verdict (letsInOf table document)
         unfolding found-table
         decided answer says-yes a says =
-            let t = document-tree standard asciiClasses document (nodesIn document (f .index)) read in
+            let t = document-tree standard asciiClasses document (nodesIn document (f .index)) (nodes-read document f reads p) in
             a
             ∙ ap (λ (b : Bool). verdict (given b)) (says (found .table) (found-table found .known) (t .0) (t .1))
             ∙ sym (ap verdict (lets-in-from (given (t .0)) (t .2)))
@@ -129,12 +114,13 @@ module _ (test : Table → Bool) (table : List ℕ) where
   -- a call that reads a table and tests it
   pub kind-short : (work : List ℕ) → length work < 16384
       → (tableReads standard asciiClasses table work >>= λ g. given (test g)) ≡ refused WorkTooShort
-  kind-short work h = ap (λ (o : Outcome Table). o >>= λ g. given (test g)) (reads-short table work h)
+  unfolding tableReads
+  kind-short work h = ap (λ (o : Outcome Table). o >>= λ g. given (test g)) (lent-short work (readTable standard asciiClasses table) h)
 
   pub kind-enough : (work : List ℕ) → 16384 ≤ length work
       → (tableReads standard asciiClasses table work >>= λ g. given (test g)) ≡ kindOf test table
-  unfolding kindOf
-  kind-enough work h = ap (λ (o : Outcome Table). o >>= λ g. given (test g)) (reads-enough table work h)
+  unfolding kindOf tableReads
+  kind-enough work h = ap (λ (o : Outcome Table). o >>= λ g. given (test g)) (lent-enough work (readTable standard asciiClasses table) h)
 
   module _ (r : TableRead) (so : Reads table (readTable standard asciiClasses table) r) where
     pub kind-refuses : (q : Refusal) → r .answer ≡ Unreadable q → Undecided q ≡ verdict (kindOf test table)

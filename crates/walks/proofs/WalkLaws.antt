@@ -6,12 +6,11 @@ use Prim.Native.Nat.{ℕ, zero, suc, _+_, _*_, _-_, _≤_, _<_}
 use native.Mathlib.Omega.{arith}
 use mathlib.Core.Bool.{Bool, true, false, _&&_, _||_}
 use mathlib.Core.List.{List, [], _∷_, _++_}
-use mathlib.Core.Logic.{_⊎_, inl, inr}
 use mathlib.Core.Option.{some as just}
 use mathlib.Core.Path.{_≡_, refl, sym, _∙_, ap, subst}
-use lib.Dec.{eqb, leb, ltb}
+use lib.Dec.{eqb}
 use lib.ListN.{length, getD, getElem?, replicate, length-append}
-use borrow.Author.Tests.{ltb-true, ltb-false, ne-eqb}
+use borrow.Author.Tests.{ne-eqb}
 use Rattle.grammar.specs.Limits.{Limits}
 use Rattle.grammar.specs.Content.{
   Content,
@@ -29,7 +28,6 @@ use Rattle.grammar.specs.Content.{
   count,
 }
 use Rattle.grammar.specs.ReadContent.{contentBytes, operandBytes, operators, counted, single, isProper, areProper}
-use Rattle.theory.proofs.BoolLaws.{and-left, and-right, passes-or-fails}
 use Rattle.theory.proofs.Marked.{nullable}
 use Rattle.theory.proofs.MarkedRun.{run}
 use Rattle.theory.proofs.MarkedPass.{Walked, walk, walkInTurn, walkEach, walks, isMarked, noMarks, walk-nullable, walks-run}
@@ -39,9 +37,7 @@ use Rattle.reader.proofs.ExprLaws.{
   expr-written,
   alone-was,
   numbered-was,
-  numbered-more,
   counted-was,
-  counted-more,
   single-was,
   exprs-first,
   exprs-end,
@@ -53,10 +49,9 @@ use Rattle.reader.proofs.ExprLaws.{
   operator-any-number,
   operator-one-or-more,
   operator-optional,
-  operator-unknown,
-  known-operator,
   FirstAt,
 }
+use Rattle.reader.proofs.ExtentLaws.{proper-number, proper-sequence, proper-choice, proper-first as both-proper}
 use Rattle.walks.specs.TypeSets.{setAt, testsAt}
 use Rattle.walks.specs.WalkAt.{walkAt, walkInTurnAt, walkEachAt, walksAt, runAt, walked, ended, ProperAt, WholeAt, ProperRowAt}
 use Rattle.walks.specs.declared.matching.Passed.{Passed}
@@ -134,37 +129,16 @@ abbrev pub orNone : Walked → Walked
 orNone p = record { marks = p .marks; next = p .next; nullable = true; final = p .final }
 
 module _ (lim : Limits) (s : List ℕ) (at : ℕ) (stands : ProperAt lim s at) where
-  -- the bytes are there
+  -- the byte is there
   pub byte-inside : at < length s
   byte-inside = let h = expr-forward s at (stands .content) (stands .next) (stands .stands) in omega arith
 
-  pub byte-known : getD s at 0 ≤ 7
-  byte-known = go (passes-or-fails (ltb 7 (getD s at 0)))
-    where
-      go : (ltb 7 (getD s at 0) ≡ true) ⊎ (ltb 7 (getD s at 0) ≡ false) → getD s at 0 ≤ 7
-      go (inl t) =
-          absurd (known-operator s at (stands .content) (stands .next) (stands .stands)
-          (operator-unknown (getD s at 0) (ltb-true 7 (getD s at 0) t)))
-      go (inr t) = ltb-false 7 (getD s at 0) t
-
-  pub number-inside : getD s at 0 ≡ 2 → at + 1 < length s
-  number-inside e = numbered-more s at (stands .content) (stands .next) (stands .stands) type (ap (getElem? operators) e ∙ operator-type)
-
-  pub sequence-inside : getD s at 0 ≡ 3 → at + 1 < length s
-  sequence-inside e =
-      counted-more s at (stands .content) (stands .next) (stands .stands) sequence (ap (getElem? operators) e ∙ operator-sequence)
-
-  pub choice-inside : getD s at 0 ≡ 4 → at + 1 < length s
-  choice-inside e =
-      counted-more s at (stands .content) (stands .next) (stands .stands) choice (ap (getElem? operators) e ∙ operator-choice)
-
   -- a type is in range
   pub type-small : getD s at 0 ≡ 2 → getD s (at + 1) 0 < lim .types
-  unfolding isProper
   type-small e =
       let p =
       numbered-was s at (stands .content) (stands .next) (stands .stands) type (ap (getElem? operators) e ∙ operator-type) in
-      ltb-true (getD s (at + 1) 0) (lim .types) (ap (isProper lim) (p .0) ∙ stands .proper)
+      proper-number lim (getD s (at + 1) 0) (ap (isProper lim) (p .0) ∙ stands .proper)
 
   -- the operand of an operator, and the operands
   operand-of : (f : Content → Content) → ((c : Content) → isProper lim (f c) ≡ isProper lim c)
@@ -202,18 +176,12 @@ module _ (lim : Limits) (s : List ℕ) (at : ℕ) (stands : ProperAt lim s at) w
   optional-operand e = operand-of optional (λ c. refl) (ap (getElem? operators) e ∙ operator-optional)
 
   pub sequence-operands : getD s at 0 ≡ 3 → ProperRowAt lim s (at + 2) (getD s (at + 1) 0)
-  unfolding isProper
   sequence-operands e =
-      operands-of sequence
-      (λ cs h. and-right (leb 2 (count cs) && leb (count cs) (lim .operands)) (areProper lim cs) h)
-      (ap (getElem? operators) e ∙ operator-sequence)
+      operands-of sequence (λ cs h. proper-sequence lim cs h .2) (ap (getElem? operators) e ∙ operator-sequence)
 
   pub choice-operands : getD s at 0 ≡ 4 → ProperRowAt lim s (at + 2) (getD s (at + 1) 0)
-  unfolding isProper
   choice-operands e =
-      operands-of choice
-      (λ cs h. and-right (leb 2 (count cs) && leb (count cs) (lim .operands)) (areProper lim cs) h)
-      (ap (getElem? operators) e ∙ operator-choice)
+      operands-of choice (λ cs h. proper-choice lim cs h .2) (ap (getElem? operators) e ∙ operator-choice)
 
   -- The walk, operator by operator.
   module _ (marks : List ℕ) (b : Bool) (has : ℕ → Bool) where
@@ -331,17 +299,14 @@ module _ (lim : Limits) (s : List ℕ) (at count : ℕ) (row : ProperRowAt lim s
   row-first : FirstAt s at (count - 1) (row .contents) (row .next)
   row-first = exprs-first s at (count - 1) (row .contents) (row .next) (ap (exprsAt s at) row-count ∙ row .stands)
 
+  row-proper : (isProper lim (row-first .first) ≡ true) × (areProper lim (row-first .others) ≡ true)
+  row-proper = both-proper lim (row-first .first) (row-first .others) (sym (ap (areProper lim) (row-first .both)) ∙ row .proper)
+
   -- the first operand, and the others after it
   pub proper-first : ProperAt lim s at
-  unfolding isProper
   proper-first =
       let p = row-first in
-      record {
-        content = p .first;
-        next = p .middle;
-        stands = p .first-at;
-        proper = and-left (isProper lim (p .first)) (areProper lim (p .others)) (sym (ap (areProper lim) (p .both)) ∙ row .proper);
-      }
+      record { content = p .first; next = p .middle; stands = p .first-at; proper = row-proper .0 }
 
   module _ (marks : List ℕ) (b : Bool) (has : ℕ → Bool) where
     -- the place that the walk over the first leaves
@@ -353,15 +318,7 @@ module _ (lim : Limits) (s : List ℕ) (at count : ℕ) (row : ProperRowAt lim s
     others-stand = ap (λ (next : ℕ). exprsAt s next (count - 1)) first-end ∙ row-first .others-at
 
     pub proper-others : ProperRowAt lim s (walkAt s at marks b has .next) (count - 1)
-    unfolding isProper
-    proper-others =
-        let p = row-first in
-        record {
-          contents = p .others;
-          next = row .next;
-          stands = others-stand;
-          proper = and-right (isProper lim (p .first)) (areProper lim (p .others)) (sym (ap (areProper lim) (p .both)) ∙ row .proper);
-        }
+    proper-others = record { contents = row-first .others; next = row .next; stands = others-stand; proper = row-proper .1 }
 
     pub first-forward : (at < walkAt s at marks b has .next) × (walkAt s at marks b has .next ≤ length s)
     first-forward = walk-forward lim s at proper-first marks b has

@@ -4,8 +4,9 @@ use mathlib.Core.Path.{sym, subst}
 use borrow.Author.Needs.{needs}
 use Prim.Native.Nat.{ℕ}
 use Rattle.reader.proofs.ExprLaws.{expr-forward}
+use Rattle.reader.proofs.ExprLaws.{count-inside}
 use Rattle.emitting.specs.Drafts.{Headed}
-use Rattle.emitting.proofs.RowLaws.{counted-inside, opens-alone, opens-numbered, opens-counted, opens-single}
+use Rattle.emitting.proofs.RowLaws.{opens-alone, opens-numbered, opens-counted, opens-single}
 use Rattle.emitting.proofs.drafts.opening.Statement.{statement}
 use Rattle.emitting.proofs.drafts.opening.Tie as tie
 
@@ -22,14 +23,14 @@ add-wide : tie.Need-add-wide
 add-wide c =
     let q = c .before .before .before .before .before .before .pre in
     let not-2 = c .before .before .match .rest .1 in
-    let f = counted-inside _ _ (q .next) (q .content) (q .stands) (omega arith) (omega arith) in
+    let f = count-inside _ _ (q .content) (q .next) (q .stands) (omega arith) (omega arith) in
     omega arith
 
 shared-slice-read-wide-2 : tie.Need-shared-slice-read-wide-2
 shared-slice-read-wide-2 c =
     let q = c .before .before .before .before .before .before .before .pre in
     let not-2 = c .before .before .before .match .rest .1 in
-    let f = counted-inside _ _ (q .next) (q .content) (q .stands) (omega arith) (omega arith) in
+    let f = count-inside _ _ (q .content) (q .next) (q .stands) (omega arith) (omega arith) in
     omega arith
 
 wide-requires-2 : tie.Need-wide-requires-2

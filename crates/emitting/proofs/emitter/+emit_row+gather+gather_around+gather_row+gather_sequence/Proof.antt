@@ -37,7 +37,6 @@ use Rattle.emitting.proofs.EmitLaws.{
   sequence-newest,
   sequence-settled,
   around-inside,
-  around-spare,
   around-blank,
   around-empty,
   around-operands,
@@ -552,11 +551,7 @@ gather-around-returns-3 t c =
 
 gather-around-gather-empty-requires : (t : ℕ) → gather-around-lts.Need-gather-empty-requires (gather-around-calls t) (gather-around-at t) gather-around.Post
 gather-around-gather-empty-requires t c κs =
-    let a = c .before .before .before .before .before .before .before .before .before .before .args in
-    let res = listOf (a .from .now) (a .results .now) in
-    let q = c .before .before .before .before .before .before .before .before .before .before .pre .1 .1 in
-    let b = c .before .before .before .before .before .before .before .before .before .before .pre .1 .0 in
-    around-spare q res (single-of standard _ _ (q .there) res b)
+    source-room (c .before .before .before .before .before .before .before .before .before .before .pre .1 .1)
 
 gather-around-returns-4 : (t : ℕ) → gather-around-lts.Need-returns-4 (gather-around-calls t) (gather-around-at t) gather-around.Post
 gather-around-returns-4 t c =
@@ -567,7 +562,7 @@ gather-around-returns-4 t c =
     let one = single-of standard _ _ (q .there) res b in
     let found = content-found _ _ _ (q .maps) _ _ (one .operand) _ _ (c .before .before .before .before .before .before .content-has .ensures) in
     let has-not = sym (found .0) ∙ c .before .before .before .before .before .if1 .left in
-    around-empty q res one _ _ _ (found .1) (c .before .before .before .before .if2 .left) has-not (c .before .before .gather-empty .ensures (around-spare q res one))
+    around-empty q res one _ _ _ (found .1) (c .before .before .before .before .if2 .left) has-not (c .before .before .gather-empty .ensures (source-room q))
 
 gather-row-gather-requires : (t : ℕ) → gather-row-lts.Need-gather-requires (gather-row-calls t) (gather-row-at t) gather-row.Post
 gather-row-gather-requires t c κs =

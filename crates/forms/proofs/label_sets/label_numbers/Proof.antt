@@ -8,6 +8,7 @@ use borrow.Author.Needs.{needs}
 use Rattle.grammar.specs.Lists.{place, sameNumbers}
 use Rattle.grammar.specs.SingleTypeForm.{TypeSet}
 use Rattle.grammar.specs.Table.{Table}
+use Rattle.theory.proofs.ListLaws.{set-all}
 use Rattle.sets.specs.Sets.{member}
 use Rattle.pairs.specs.View.{Views}
 use Rattle.forms.specs.SetForms.{labelled}
@@ -15,7 +16,7 @@ use Rattle.forms.specs.SetWords.{SetsHeld}
 use Rattle.forms.specs.Worklist.{NumbersOf}
 use Rattle.forms.proofs.SetsFound.{labelled-ascending}
 use Rattle.forms.proofs.LabelLaws.{few-rules}
-use Rattle.forms.proofs.ResultLaws.{numbers-more, small-more, none-small}
+use Rattle.forms.proofs.ResultLaws.{numbers-more, none-small}
 use Rattle.forms.proofs.label_sets.label_numbers.Statement.{statement}
 use Rattle.forms.proofs.label_sets.label_numbers.Tie as tie
 
@@ -64,7 +65,7 @@ loop-again c =
       λ old add u sets x held counted.
           numbers-more (l .l) (l .of) _ (omega arith) _ (l .inv .1 old add u sets x held counted)
           (c .set-number .ensures .0 sets _ held counted (c .before .labelled-pairs .ensures .0 old add u x) (labelled-ascending u _ (few-rules x) (l .l))),
-      small-more (l .l) (l .of) _ (omega arith) 64 (l .inv .2) (omega arith),
+      set-all (l .of) (l .l) _ (omega arith) (λ n. n ≤ 64) (l .inv .2) (omega arith),
       length-set (l .of) (l .l) _ ∙ long,
     )
 

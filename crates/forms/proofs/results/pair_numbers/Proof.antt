@@ -6,12 +6,13 @@ use mathlib.Core.Path.{_≡_, _∙_, ap}
 use lib.ListN.{length, getD, length-set, length-replicate}
 use borrow.Author.Needs.{needs}
 use Rattle.grammar.specs.Table.{Table}
+use Rattle.theory.proofs.ListLaws.{set-all}
 use Rattle.sets.specs.Sets.{member}
 use Rattle.pairs.specs.View.{Views}
 use Rattle.pairs.specs.PairNumbers.{isLeft}
 use Rattle.forms.specs.SetForms.{labelLeft}
 use Rattle.forms.specs.Worklist.{NumbersOf}
-use Rattle.forms.proofs.ResultLaws.{numbers-more, small-more, none-small}
+use Rattle.forms.proofs.ResultLaws.{numbers-more, none-small}
 use Rattle.forms.proofs.results.pair_numbers.Statement.{statement}
 use Rattle.forms.proofs.results.pair_numbers.Tie as tie
 
@@ -50,7 +51,7 @@ loop-again c =
       omega arith,
       λ old add u x is.
           numbers-more (l .p) (l .of) _ (omega arith) _ (l .inv .1 old add u x is) (ap (λ (k : ℕ). getD by k 0) (c .label-left .ensures .0 old add u x is)),
-      small-more (l .p) (l .of) _ (omega arith) 64 (l .inv .2) (c .before .before .before .before .pre .3 (c .label-left .result)),
+      set-all (l .of) (l .p) _ (omega arith) (λ n. n ≤ 64) (l .inv .2) (c .before .before .before .before .pre .3 (c .label-left .result)),
       length-set (l .of) (l .p) _ ∙ long,
     )
 

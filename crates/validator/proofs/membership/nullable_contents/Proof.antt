@@ -47,13 +47,13 @@ element-copy-out-to c =
     omega arith
 
 sub-matches : tie.Need-sub-matches Inv-loop μ-loop
-sub-matches c = laws.rule-content (c .before .before .before .before .before .before .before .pre .0 .known) (c .before .before .before .loop .rule) (c .before .before .loop-test .taken) .inside .order
+sub-matches c = laws.known-rule (c .before .before .before .before .before .before .before .pre .0 .known) (c .before .before .before .loop .rule) (c .before .before .loop-test .taken) .at .content .inside .order
 
 part-matches-start : tie.Need-part-matches-start Inv-loop μ-loop
-part-matches-start c = laws.rule-content (c .before .before .before .before .before .before .before .pre .0 .known) (c .before .before .before .loop .rule) (c .before .before .loop-test .taken) .inside .order
+part-matches-start c = laws.known-rule (c .before .before .before .before .before .before .before .pre .0 .known) (c .before .before .before .loop .rule) (c .before .before .loop-test .taken) .at .content .inside .order
 
 part-matches-end : tie.Need-part-matches-end Inv-loop μ-loop
-part-matches-end c = laws.rule-content (c .before .before .before .before .before .before .before .pre .0 .known) (c .before .before .before .loop .rule) (c .before .before .loop-test .taken) .inside .within
+part-matches-end c = laws.known-rule (c .before .before .before .before .before .before .before .pre .0 .known) (c .before .before .before .loop .rule) (c .before .before .loop-test .taken) .at .content .inside .within
 
 matches-requires : tie.Need-matches-requires Inv-loop μ-loop
 matches-requires c κs =

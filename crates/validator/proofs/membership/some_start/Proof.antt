@@ -7,9 +7,10 @@ use borrow.Author.Count.{below-more}
 use borrow.Author.Needs.{needs}
 use Rattle.reader.specs.TableIndex.{startType}
 use Rattle.reader.proofs.LabelSearch.{start-passes, no-start-passes}
+use Rattle.reader.proofs.TableFound.{start-small}
 use Rattle.sets.specs.Sets.{member}
 use Rattle.walks.specs.TypeSets.{setAt}
-use Rattle.validator.proofs.TypeLaws.{start-small, set-has}
+use Rattle.validator.proofs.TypeLaws.{set-has}
 use Rattle.validator.proofs.membership.some_start.Statement.{statement}
 use Rattle.validator.proofs.membership.some_start.Tie as tie
 
@@ -24,7 +25,8 @@ element-copy-out-wide c = omega (arith, c .before .before .before .before .pre .
 
 has-requires : tie.Need-has-requires Inv-loop μ-loop
 has-requires c κs =
-    let small = start-small (c .before .before .before .before .before .before .pre .0 .known) (c .before .before .before .loop .start) (c .before .before .loop-test .taken) in
+    let table = c .before .before .before .before .before .before .pre .0 .known in
+    let small = start-small (table .indexes) (table .within) (c .before .before .before .loop .start) (c .before .before .loop-test .taken) in
     let read = c .wide .ensures .0 in
     let room = c .before .before .before .before .before .before .pre .1 in
     omega arith
@@ -34,7 +36,8 @@ returns c =
     let a = c .before .before .before .before .before .before .before .before .args in
     let i = c .before .before .before .before .before .loop .start in
     let below = c .before .before .before .before .loop-test .taken in
-    let small = start-small (c .before .before .before .before .before .before .before .before .pre .0 .known) i below in
+    let table = c .before .before .before .before .before .before .before .before .pre .0 .known in
+    let small = start-small (table .indexes) (table .within) i below in
     λ g known.
     sym (start-passes (known .indexes) (setAt (a .words .now) (a .at)) i below
     (sym (set-has (a .words .now) (a .at) (startType (a .t2) i) small)
@@ -48,7 +51,8 @@ loop-again : tie.Need-loop-again Inv-loop μ-loop
 loop-again c =
     let a = c .before .before .before .before .before .before .before .before .args in
     let i = c .before .before .before .before .before .loop .start in
-    let small = start-small (c .before .before .before .before .before .before .before .before .pre .0 .known) i (c .before .before .before .before .loop-test .taken) in
+    let table = c .before .before .before .before .before .before .before .before .pre .0 .known in
+    let small = start-small (table .indexes) (table .within) i (c .before .before .before .before .loop-test .taken) in
     below-more _ i (c .before .before .before .before .before .loop .inv)
     (sym (set-has (a .words .now) (a .at) (startType (a .t2) i) small)
     ∙ sym (c .before .has .ensures ∙ ap (λ (k : ℕ). member (a .words .now) (a .at) k) (c .before .before .wide .ensures .0))

@@ -80,15 +80,15 @@ shared-slice-read-to c =
 
 sub-content-fits : tie.Need-sub-content-fits Inv-loop μ-loop
 sub-content-fits c =
-    laws.rule-content (c .before .before .before .before .before .before .before .before .before .before .before .before .before .before .before .before .pre .0 .at .known) (c .before .before .before .before .before .before .loop .i) (c .before .before .before .before .before .loop-test .taken) .inside .order
+    laws.known-rule (c .before .before .before .before .before .before .before .before .before .before .before .before .before .before .before .before .pre .0 .at .known) (c .before .before .before .before .before .before .loop .i) (c .before .before .before .before .before .loop-test .taken) .at .content .inside .order
 
 part-content-fits-start : tie.Need-part-content-fits-start Inv-loop μ-loop
 part-content-fits-start c =
-    laws.rule-content (c .before .before .before .before .before .before .before .before .before .before .before .before .before .before .before .before .pre .0 .at .known) (c .before .before .before .before .before .before .loop .i) (c .before .before .before .before .before .loop-test .taken) .inside .order
+    laws.known-rule (c .before .before .before .before .before .before .before .before .before .before .before .before .before .before .before .before .pre .0 .at .known) (c .before .before .before .before .before .before .loop .i) (c .before .before .before .before .before .loop-test .taken) .at .content .inside .order
 
 part-content-fits-end : tie.Need-part-content-fits-end Inv-loop μ-loop
 part-content-fits-end c =
-    laws.rule-content (c .before .before .before .before .before .before .before .before .before .before .before .before .before .before .before .before .pre .0 .at .known) (c .before .before .before .before .before .before .loop .i) (c .before .before .before .before .before .loop-test .taken) .inside .within
+    laws.known-rule (c .before .before .before .before .before .before .before .before .before .before .before .before .before .before .before .before .pre .0 .at .known) (c .before .before .before .before .before .before .loop .i) (c .before .before .before .before .before .loop-test .taken) .at .content .inside .within
 
 shared-slice-read-content-fits : tie.Need-shared-slice-read-content-fits Inv-loop μ-loop
 shared-slice-read-content-fits c =
@@ -116,7 +116,7 @@ shared-slice-read-wide-2 c =
 
 with-if-requires : tie.Need-with-if-requires Inv-loop μ-loop
 with-if-requires c κs =
-    let type = laws.rule-type-small (c .before .before .before .before .before .before .before .before .before .before .before .before .before .before .before .before .before .before .before .before .before .before .before .before .pre .0 .at .known) (c .before .before .before .before .before .before .before .before .before .before .before .before .before .before .loop .i) (c .before .before .before .before .before .before .before .before .before .before .before .before .before .loop-test .taken) in
+    let type = laws.known-rule (c .before .before .before .before .before .before .before .before .before .before .before .before .before .before .before .before .before .before .before .before .before .before .before .before .pre .0 .at .known) (c .before .before .before .before .before .before .before .before .before .before .before .before .before .before .loop .i) (c .before .before .before .before .before .before .before .before .before .before .before .before .before .loop-test .taken) .type-below in
     let read = c .wide2 .ensures .0 in
     (omega arith, c .before .before .before .before .before .before .before .before .before .before .before .before .before .before .loop .inv .2)
 
@@ -149,9 +149,9 @@ loop-again c =
       λ g at n named.
           let rule = laws.known-rule (at .known) i below in
           ap (λ (s : Set4). member (s .words) 0) (w .13)
-          ∙ laws.types-step g n tests i (rule .0) (rule .1) (old .words) (w .11 .result .words) (w .6 .result) (w .10 .result)
+          ∙ laws.types-step g n tests i (rule .rule) (rule .listed) (old .words) (w .11 .result .words) (w .6 .result) (w .10 .result)
           (w .6 .ensures ∙ laws.asked-is (at .known) i below n tests (a .label) named (sym label ∙ w .0 .taken))
-          (w .10 .ensures .0 ∙ rule .2 .type)
+          (w .10 .ensures .0 ∙ rule .at .type)
           (w .11 .ensures)
           (inv .3 g at n named),
     ))
@@ -162,10 +162,10 @@ loop-again c =
       λ g at n named.
           let rule = laws.known-rule (at .known) i below in
           ap (λ (s : Set4). member (s .words) 0) (w .2)
-          ∙ laws.types-step g n tests i (rule .0) (rule .1) (old .words) (old .words) false (rule .0 .type)
+          ∙ laws.types-step g n tests i (rule .rule) (rule .listed) (old .words) (old .words) false (rule .rule .type)
           (laws.not-asked (at .known) i below n tests (a .label) named (λ e. w .0 .left (label ∙ e)))
           refl
-          (laws.without-it (old .words) (rule .0 .type) false (inv .2) refl)
+          (laws.without-it (old .words) (rule .rule .type) false (inv .2) refl)
           (inv .3 g at n named),
     ))
     (c .if1 .came)

@@ -11,6 +11,7 @@ use borrow.Fn.Kinds.{In}
 use borrow.Fn.PlainCycle.{Measures, is, falls, and}
 use Rattle.grammar.specs.Limits.{standard}
 use Rattle.theory.proofs.MarkedPass.{Walked, isMarked}
+use Rattle.reader.proofs.ExprLaws.{operator-known, number-inside, count-inside}
 use Rattle.walks.specs.TypeSets.{setAt}
 use Rattle.walks.specs.declared.matching.Passed.{Passed}
 use Rattle.walks.specs.WalkAt.{ProperRowAt, walkAt, walkInTurnAt, walkEachAt, walked, ended}
@@ -212,7 +213,7 @@ operand-typed-requires t c κs =
     let at = start .args .at in
     let stands = start .pre .1 .0 in
     let is-type = c .before .if1 .taken in
-    (laws.number-inside standard s at stands is-type, laws.type-small standard s at stands is-type, start .pre .1 .1)
+    (number-inside s at (stands .content) (stands .next) (stands .stands) is-type, laws.type-small standard s at stands is-type, start .pre .1 .1)
 
 operand-returns : (t : ℕ) → operand-lts.Need-returns (operand-calls t) (operand-at t) operand.Post
 operand-returns t c =
@@ -247,7 +248,7 @@ pass-typed-requires t c κs =
     let room = start .pre .1 .1 in
     let byte = sym (c .before .before .wide .ensures .0) in
     let k = byte ∙ c .before .match .keys3 in
-    (laws.number-inside standard s at stands k, laws.type-small standard s at stands k, room)
+    (number-inside s at (stands .content) (stands .next) (stands .stands) k, laws.type-small standard s at stands k, room)
 
 pass-add-wide : (t : ℕ) → pass-lts.Need-add-wide (pass-calls t) (pass-at t) pass.Post
 pass-add-wide t c = omega (arith, laws.byte-inside standard _ _ (c .before .before .before .before .before .before .pre .1 .0))
@@ -261,7 +262,8 @@ pass-shared-slice-read-wide-2 t c =
     let room = start .pre .1 .1 in
     let inside = laws.byte-inside standard s at stands in
     let byte = sym (c .before .before .wide .ensures .0) in
-    let more = laws.sequence-inside standard s at stands (byte ∙ c .before .match .keys4) in
+    let op = byte ∙ c .before .match .keys4 in
+    let more = count-inside s at (stands .content) (stands .next) (stands .stands) (omega arith) (omega arith) in
     omega arith
 
 pass-add-in-turn : (t : ℕ) → pass-lts.Need-add-in-turn (pass-calls t) (pass-at t) pass.Post
@@ -277,7 +279,7 @@ pass-in-turn-requires t c κs =
     let inside = laws.byte-inside standard s at stands in
     let byte = sym (c .before .before .before .before .wide .ensures .0) in
     let op = byte ∙ c .before .before .before .match .keys4 in
-    let more = laws.sequence-inside standard s at stands op in
+    let more = count-inside s at (stands .content) (stands .next) (stands .stands) (omega arith) (omega arith) in
     (omega arith, (subst (λ (n : ℕ). ProperRowAt standard s (at + 2) n) (sym (c .before .wide2 .ensures .0)) (laws.sequence-operands standard s at stands op), room))
 
 pass-sealed-requires : (t : ℕ) → pass-lts.Need-sealed-requires (pass-calls t) (pass-at t) pass.Post
@@ -295,7 +297,8 @@ pass-shared-slice-read-wide-3 t c =
     let room = start .pre .1 .1 in
     let inside = laws.byte-inside standard s at stands in
     let byte = sym (c .before .before .wide .ensures .0) in
-    let more = laws.choice-inside standard s at stands (byte ∙ c .before .match .keys5) in
+    let op = byte ∙ c .before .match .keys5 in
+    let more = count-inside s at (stands .content) (stands .next) (stands .stands) (omega arith) (omega arith) in
     omega arith
 
 pass-add-each : (t : ℕ) → pass-lts.Need-add-each (pass-calls t) (pass-at t) pass.Post
@@ -311,7 +314,7 @@ pass-each-requires t c κs =
     let inside = laws.byte-inside standard s at stands in
     let byte = sym (c .before .before .before .before .wide .ensures .0) in
     let op = byte ∙ c .before .before .before .match .keys5 in
-    let more = laws.choice-inside standard s at stands op in
+    let more = count-inside s at (stands .content) (stands .next) (stands .stands) (omega arith) (omega arith) in
     (omega arith, (subst (λ (n : ℕ). ProperRowAt standard s (at + 2) n) (sym (c .before .wide3 .ensures .0)) (laws.choice-operands standard s at stands op), room))
 
 pass-sealed-requires-2 : (t : ℕ) → pass-lts.Need-sealed-requires-2 (pass-calls t) (pass-at t) pass.Post
@@ -398,7 +401,7 @@ pass-pass-requires-3 t c κs =
     let inside = laws.byte-inside standard s at stands in
     let byte = sym (c .before .before .wide .ensures .0) in
     let rest = c .before .match .rest in
-    let known = laws.byte-known standard s at stands in
+    let known = operator-known s at (stands .content) (stands .next) (stands .stands) in
     let last =
     laws.byte-last (c .before .before .wide .result) (subst (λ (n : ℕ). n ≤ 7) byte known) (rest .0 .0 .0 .0 .0 .0 .1) (rest .0 .0 .0 .0 .0 .1)
     (rest .0 .0 .0 .0 .1) (rest .0 .0 .0 .1) (rest .0 .0 .1) (rest .0 .1) (rest .1) in
@@ -516,7 +519,7 @@ pass-returns-8 t c =
     let marks = start .args .marks .now in
     let b = start .args .incoming in
     let rest = c .before .before .before .before .before .before .before .before .before .match .rest in
-    let known = laws.byte-known standard s at stands in
+    let known = operator-known s at (stands .content) (stands .next) (stands .stands) in
     let last =
     laws.byte-last (c .before .before .before .before .before .before .before .before .before .before .wide .result) (subst (λ (n : ℕ). n ≤ 7) byte known) (rest .0 .0 .0 .0 .0 .0 .1) (rest .0 .0 .0 .0 .0 .1)
     (rest .0 .0 .0 .0 .1) (rest .0 .0 .0 .1) (rest .0 .0 .1) (rest .0 .1) (rest .1) in
