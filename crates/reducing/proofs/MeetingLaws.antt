@@ -21,8 +21,8 @@ use Rattle.grammar.specs.Table.{Rule, Table}
 use Rattle.grammar.specs.KindTests.{samePair}
 use Rattle.grammar.specs.Unite.{shifted}
 use Rattle.grammar.specs.Normalise.{pairOf}
-use Rattle.theory.proofs.BoolLaws.{and-left, and-right, same-test}
-use Rattle.theory.proofs.ListLaws.{kept, keep-mem, joined-from, joined-mem, numbers-below, at-mem, mem-at, at-below, at-else, at-or-else, any-of, in-mem, mem-in, taken-mem, distinct-was, distinct-mem, eqb-decides, keep-on, eqb-sym, decided-trans}
+use Rattle.theory.proofs.BoolLaws.{and-left, and-right}
+use Rattle.theory.proofs.ListLaws.{kept, keep-mem, joined-from, joined-mem, numbers-below, at-mem, mem-at, at-below, at-else, at-or-else, any-of, taken-mem, eqb-decides, keep-on, eqb-sym, decided-trans}
 use Rattle.theory.proofs.PlaceLaws.{place-found}
 use Rattle.theory.proofs.DistinctLaws.{among-distinct}
 use Rattle.theory.proofs.NormaliseDocuments.{pair-refl}
