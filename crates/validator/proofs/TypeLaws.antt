@@ -25,14 +25,14 @@ use Rattle.sets.specs.Sets as sets
 use Rattle.sets.specs.Sets.{member, putAt, add}
 use Rattle.sets.proofs.SetLaws.{member-put, length-put, member-words}
 use Rattle.theory.proofs.BoolLaws.{same-test}
-use Rattle.theory.proofs.ListLaws.{any-of, at-mem, below-at, differ-at, just-eq, keep-yes, keep-no, place-found}
+use Rattle.theory.proofs.ListLaws.{any-of, at-mem, below-at, differ-at, just-eq, keep-yes, keep-no}
 use Rattle.theory.proofs.NameLaws.{name-sym, name-trans}
 use Rattle.theory.proofs.MarkedRun.{run, holds}
+use Rattle.theory.proofs.PlaceLaws.{place-found, place-some}
 use Rattle.reader.specs.ExprAt.{_upTo_, exprAt}
 use Rattle.reader.specs.TableIndex.{part, startType, ruleType, ruleLabel, contentFrom, contentTo, RuleAt, Stands}
 use Rattle.reader.specs.declared.tables.TableIndex.{TableIndex}
 use Rattle.reader.proofs.ExprLaws.{expr-of}
-use Rattle.reader.proofs.LabelSearch.{place-some}
 use Rattle.reader.proofs.TableIndexLaws.{start-at, rule-at}
 use Rattle.walks.specs.TypeSets.{setAt}
 use Rattle.walks.specs.WalkAt.{runAt, WholeAt}
