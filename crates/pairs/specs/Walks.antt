@@ -57,7 +57,7 @@ pub record Seen (seen : List ℕ) (left : ℕ → List ℕ) (numbers : List ℕ)
   pub size : length seen ≡ 4
   pub there : (k : ℕ) → member seen 0 k ≡ true → (p : ℕ) → List·Memᴰ p (left k) → List·Memᴰ p numbers
 
--- after some numbers the numbers of a type stand there, and the types seen are those of the answer
+-- the answer for a type: whether it has numbers, its numbers after the others, each once, and the types seen by then
 pub record TypeMet (left : ℕ → List ℕ) (numbers : List ℕ) (k after : ℕ) (list : List ℕ) (r : MetOne) : Type 0 where
   pub has : r .has ≡ someLeft left k
   pub adds : Adds numbers (left k) list (r .count)

@@ -216,12 +216,12 @@ pub fn met_row(
         first.count,
         more,
     );
-    let all = others.seen;
+    let most = others.seen;
     MetRow {
         all: both(first.has, others.all),
         one: either(first.has, others.one),
         count: others.count,
         next: others.next,
-        seen: all,
+        seen: most,
     }
 }
