@@ -233,6 +233,72 @@ fn gather_around(
     gather_empty(draft, base, count, end, limit, asked.next)
 }
 
+// The alternatives that a content with operands gives: a sequence, a choice, or an operator of one operand.
+fn gather_compound(
+    content: &[u8],
+    at: usize,
+    types: &[u32],
+    from: &[u8],
+    results: &[u8],
+    draft: &mut [u8],
+    base: usize,
+    count: usize,
+    end: usize,
+    limit: usize,
+    seen: &mut [u32],
+) -> Gathering
+    requires { ⌜ (3 ≤ getD (now content) at 0)
+        × ((q : Source (now content) at (now types) (now from) (now results) (now draft) base count end limit)
+        × Seen (now seen) (now from) (now results) (q .kept .list)) ⌝ }
+    ensures { λ r. ⌜ ((q : Source (now (content .entry)) at (now (types .entry)) (now (from .entry)) (now (results .entry))
+        (now (draft .entry)) base count end limit)
+        → Seen (now (seen .entry)) (now (from .entry)) (now (results .entry)) (q .kept .list)
+        → GathersSeen (now (draft .entry)) (now (draft .exit)) base end limit (q .there .next)
+        (now (seen .exit)) (now (from .entry)) (now (results .entry))
+        (gathered (q .kept .list) (alts (listOf (now (from .entry)) (now (results .entry))) (q .there .content))) r) ⌝ }
+{
+    match wide(content[at]) {
+        3 => gather_sequence(
+            content,
+            at,
+            types,
+            from,
+            results,
+            draft,
+            base,
+            count,
+            end,
+            limit,
+        ),
+        4 => gather_row(
+            content,
+            at + 2,
+            wide(content[at + 1]),
+            types,
+            from,
+            results,
+            draft,
+            base,
+            count,
+            end,
+            limit,
+            seen,
+        ),
+        _ => gather_around(
+            content,
+            at,
+            types,
+            from,
+            results,
+            draft,
+            base,
+            count,
+            end,
+            limit,
+        ),
+    }
+}
+
 // Adds to the operands in the draft the alternatives that the source content at a place gives. The result types of each source type
 // in `seen` are among the operands.
 pub fn gather(
@@ -280,7 +346,7 @@ pub fn gather(
                 seen,
             )
         }
-        3 => gather_sequence(
+        _ => gather_compound(
             content,
             at,
             types,
@@ -291,35 +357,7 @@ pub fn gather(
             count,
             end,
             limit,
-        ),
-        4 => {
-            let n = wide(content[at + 1]);
-            gather_row(
-                content,
-                at + 2,
-                n,
-                types,
-                from,
-                results,
-                draft,
-                base,
-                count,
-                end,
-                limit,
-                seen,
-            )
-        }
-        _ => gather_around(
-            content,
-            at,
-            types,
-            from,
-            results,
-            draft,
-            base,
-            count,
-            end,
-            limit,
+            seen,
         ),
     }
 }

@@ -1,6 +1,6 @@
--- The emitter's functions meet their contracts. The measure is four times the bytes from the place on: a row is two more, a content
--- one more; every call goes on past a byte, or from a row to its first content, or from a content to what its operator needs.
--- Each return is a law of EmitLaws.
+-- The emitter's functions meet their contracts. The measure is four times the bytes from the place on: a row is three more, a
+-- content two more, a content with operands one more; every call goes on past a byte, or from a row to its first content, or from a
+-- content to what its operator needs. Each return is a law of EmitLaws.
 use Prim.Native.Nat.{_+_, _-_, _*_}
 use native.Mathlib.Omega.{arith}
 use mathlib.Core.List.{List}
@@ -56,19 +56,22 @@ use borrow.Fn.Kinds.{In}
 use borrow.Fn.PlainCycle.{Measures, is, falls, and}
 use Rattle.emitting.proofs.emitter.emit_row.Reads as emit-row
 use Rattle.emitting.proofs.emitter.emit_row.Kinds as emit-row-kinds
-use Rattle.emitting.proofs.emitter.+emit_row+gather+gather_around+gather_row+gather_sequence.Lts-emit_row as emit-row-lts
+use Rattle.emitting.proofs.emitter.+emit_row+gather+gather_around+gather_compound+gather_row+gather_sequence.Lts-emit_row as emit-row-lts
 use Rattle.emitting.proofs.emitter.gather.Reads as gather
 use Rattle.emitting.proofs.emitter.gather.Kinds as gather-kinds
-use Rattle.emitting.proofs.emitter.+emit_row+gather+gather_around+gather_row+gather_sequence.Lts-gather as gather-lts
+use Rattle.emitting.proofs.emitter.+emit_row+gather+gather_around+gather_compound+gather_row+gather_sequence.Lts-gather as gather-lts
 use Rattle.emitting.proofs.emitter.gather_around.Reads as gather-around
 use Rattle.emitting.proofs.emitter.gather_around.Kinds as gather-around-kinds
-use Rattle.emitting.proofs.emitter.+emit_row+gather+gather_around+gather_row+gather_sequence.Lts-gather_around as gather-around-lts
+use Rattle.emitting.proofs.emitter.+emit_row+gather+gather_around+gather_compound+gather_row+gather_sequence.Lts-gather_around as gather-around-lts
+use Rattle.emitting.proofs.emitter.gather_compound.Reads as gather-compound
+use Rattle.emitting.proofs.emitter.gather_compound.Kinds as gather-compound-kinds
+use Rattle.emitting.proofs.emitter.+emit_row+gather+gather_around+gather_compound+gather_row+gather_sequence.Lts-gather_compound as gather-compound-lts
 use Rattle.emitting.proofs.emitter.gather_row.Reads as gather-row
 use Rattle.emitting.proofs.emitter.gather_row.Kinds as gather-row-kinds
-use Rattle.emitting.proofs.emitter.+emit_row+gather+gather_around+gather_row+gather_sequence.Lts-gather_row as gather-row-lts
+use Rattle.emitting.proofs.emitter.+emit_row+gather+gather_around+gather_compound+gather_row+gather_sequence.Lts-gather_row as gather-row-lts
 use Rattle.emitting.proofs.emitter.gather_sequence.Reads as gather-sequence
 use Rattle.emitting.proofs.emitter.gather_sequence.Kinds as gather-sequence-kinds
-use Rattle.emitting.proofs.emitter.+emit_row+gather+gather_around+gather_row+gather_sequence.Lts-gather_sequence as gather-sequence-lts
+use Rattle.emitting.proofs.emitter.+emit_row+gather+gather_around+gather_compound+gather_row+gather_sequence.Lts-gather_sequence as gather-sequence-lts
 use Rattle.reader.proofs.numbers.wide.Reads as wide-reads
 use Rattle.emitting.proofs.drafts.finish.Reads as finish-reads
 use Rattle.emitting.proofs.drafts.settle.Reads as settle-reads
@@ -76,24 +79,27 @@ use Rattle.emitting.proofs.emitter.gather_empty.Reads as gather-empty-r
 use Rattle.emitting.proofs.emitter.gather_type.Reads as gather-type-reads
 use Rattle.pairs.proofs.productive.content_has.Reads as content-has-reads
 use Rattle.pairs.proofs.productive.row_has.Reads as row-has-reads
-use Rattle.emitting.proofs.emitter.+emit_row+gather+gather_around+gather_row+gather_sequence.{
+use Rattle.emitting.proofs.emitter.+emit_row+gather+gather_around+gather_compound+gather_row+gather_sequence.{
   statement,
 }
-use Rattle.emitting.proofs.emitter.+emit_row+gather+gather_around+gather_row+gather_sequence.Tie.{
+use Rattle.emitting.proofs.emitter.+emit_row+gather+gather_around+gather_compound+gather_row+gather_sequence.Tie.{
   close,
 }
 
 abbrev μ-emit-row : Measures 5 emit-row-kinds.ps ℕ
-μ-emit-row κs a = 4 * (length (a .0 .now) - a .1 .0) + 2
+μ-emit-row κs a = 4 * (length (a .0 .now) - a .1 .0) + 3
 
 abbrev μ-gather : Measures 6 gather-kinds.ps ℕ
-μ-gather κs a = 4 * (length (a .0 .now) - a .1 .0) + 1
+μ-gather κs a = 4 * (length (a .0 .now) - a .1 .0) + 2
 
 abbrev μ-gather-around : Measures 5 gather-around-kinds.ps ℕ
 μ-gather-around κs a = 4 * (length (a .0 .now) - a .1 .0)
 
+abbrev μ-gather-compound : Measures 6 gather-compound-kinds.ps ℕ
+μ-gather-compound κs a = 4 * (length (a .0 .now) - a .1 .0) + 1
+
 abbrev μ-gather-row : Measures 6 gather-row-kinds.ps ℕ
-μ-gather-row κs a = 4 * (length (a .0 .now) - a .1 .0) + 2
+μ-gather-row κs a = 4 * (length (a .0 .now) - a .1 .0) + 3
 
 abbrev μ-gather-sequence : Measures 5 gather-sequence-kinds.ps ℕ
 μ-gather-sequence κs a = 4 * (length (a .0 .now) - a .1 .0)
@@ -122,6 +128,22 @@ gather-around-below t =
     gather-around-kinds.ps
     (falls 5 gather-around-kinds.ps _<_ μ-gather-around t)
     gather-around.Pre
+
+abbrev gather-compound-at : ℕ → In 6 gather-compound-kinds.ps
+gather-compound-at t =
+    and
+    6
+    gather-compound-kinds.ps
+    (is 6 gather-compound-kinds.ps μ-gather-compound t)
+    gather-compound.Pre
+
+abbrev gather-compound-below : ℕ → In 6 gather-compound-kinds.ps
+gather-compound-below t =
+    and
+    6
+    gather-compound-kinds.ps
+    (falls 6 gather-compound-kinds.ps _<_ μ-gather-compound t)
+    gather-compound.Pre
 
 abbrev gather-row-at : ℕ → In 6 gather-row-kinds.ps
 gather-row-at t =
@@ -165,12 +187,8 @@ gather-calls t = (
   gather-empty-reads.Learnt,
   gather-type-reads.Asked,
   gather-type-reads.Learnt,
-  gather-sequence-below t,
-  gather-sequence.Post,
-  gather-row-below t,
-  gather-row.Post,
-  gather-around-below t,
-  gather-around.Post,
+  gather-compound-below t,
+  gather-compound.Post,
 )
 
 abbrev gather-around-calls : ℕ → gather-around-lts.Claims
@@ -183,6 +201,18 @@ gather-around-calls t = (
   settle-reads.Learnt,
   gather-empty-reads.Asked,
   gather-empty-reads.Learnt,
+)
+
+abbrev gather-compound-calls : ℕ → gather-compound-lts.Claims
+gather-compound-calls t = (
+  wide-reads.Asked,
+  wide-reads.Learnt,
+  gather-sequence-below t,
+  gather-sequence.Post,
+  gather-row-below t,
+  gather-row.Post,
+  gather-around-below t,
+  gather-around.Post,
 )
 
 abbrev gather-row-calls : ℕ → gather-row-lts.Claims
@@ -321,8 +351,8 @@ gather-shared-slice-read-wide t c =
     let q = c .before .before .before .before .before .before .before .pre .1 .0 in
     content-inside standard _ _ (q .there) .0
 
-gather-add-t18 : (t : ℕ) → gather-lts.Need-add-t18 (gather-calls t) (gather-at t) gather.Post
-gather-add-t18 t c =
+gather-add-t17 : (t : ℕ) → gather-lts.Need-add-t17 (gather-calls t) (gather-at t) gather.Post
+gather-add-t17 t c =
     let q = c .before .before .before .before .before .before .before .before .before .pre .1 .0 in
     let i = content-inside standard _ _ (q .there) in
     omega arith
@@ -357,52 +387,15 @@ gather-gather-type-requires t c κs =
     let i = type-there standard _ _ (q .there) b in
     (omega arith, (source-room q, c .before .before .before .before .before .before .before .before .before .before .before .before .before .pre .1 .1))
 
-gather-gather-sequence-requires : (t : ℕ) → gather-lts.Need-gather-sequence-requires (gather-calls t) (gather-at t) gather.Post
-gather-gather-sequence-requires t c κs =
-    let m = c .before .before .before .before .before .before .before .before .before .before .pre .0 in
-    let b = sym (c .before .before .wide .ensures .0) ∙ c .before .match .keys4 in
-    (omega arith, (b, c .before .before .before .before .before .before .before .before .before .before .pre .1 .0))
-
-gather-add-wide-2 : (t : ℕ) → gather-lts.Need-add-wide-2 (gather-calls t) (gather-at t) gather.Post
-gather-add-wide-2 t c =
-    let q = c .before .before .before .before .before .before .before .before .before .pre .1 .0 in
-    let i = content-inside standard _ _ (q .there) in
-    omega arith
-
-gather-shared-slice-read-wide-3 : (t : ℕ) → gather-lts.Need-shared-slice-read-wide-3 (gather-calls t) (gather-at t) gather.Post
-gather-shared-slice-read-wide-3 t c =
-    let q = c .before .before .before .before .before .before .before .before .before .before .pre .1 .0 in
-    let b = sym (c .before .before .wide .ensures .0) ∙ c .before .match .keys5 in
-    count-there standard _ _ (q .there) (omega arith) (omega arith)
-
-gather-add-gather-row : (t : ℕ) → gather-lts.Need-add-gather-row (gather-calls t) (gather-at t) gather.Post
-gather-add-gather-row t c =
-    let q = c .before .before .before .before .before .before .before .before .before .before .before .pre .1 .0 in
-    let b = sym (c .before .before .before .wide .ensures .0) ∙ c .before .before .match .keys5 in
-    let i = count-there standard _ _ (q .there) (omega arith) (omega arith) in
-    omega arith
-
-gather-gather-row-requires : (t : ℕ) → gather-lts.Need-gather-row-requires (gather-calls t) (gather-at t) gather.Post
-gather-gather-row-requires t c κs =
-    let a = c .before .before .before .before .before .before .before .before .before .before .before .before .before .args in
-    let res = listOf (a .from .now) (a .results .now) in
-    let m = c .before .before .before .before .before .before .before .before .before .before .before .before .before .pre .0 in
-    let q = c .before .before .before .before .before .before .before .before .before .before .before .before .before .pre .1 .0 in
-    let b = sym (c .before .before .before .before .before .wide .ensures .0) ∙ c .before .before .before .before .match .keys5 in
-    let i = count-there standard _ _ (q .there) (omega arith) (omega arith) in
-    (omega arith, (choice-sources q res (choices-of q b (c .before .before .wide3 .ensures .0)), c .before .before .before .before .before .before .before .before .before .before .before .before .before .pre .1 .1))
-
-gather-gather-around-requires : (t : ℕ) → gather-lts.Need-gather-around-requires (gather-calls t) (gather-at t) gather.Post
-gather-gather-around-requires t c κs =
-    let m = c .before .before .before .before .before .before .before .before .before .before .pre .0 in
-    let w = c .before .before .wide .ensures .0 in
-    let r = c .before .match .rest in
-    let n4 = r .1 in
-    let n3 = r .0 .1 in
-    let n2 = r .0 .0 .1 in
-    let n1 = r .0 .0 .0 .1 in
-    let n0 = r .0 .0 .0 .0 .1 in
-    (omega arith, (omega arith, c .before .before .before .before .before .before .before .before .before .before .pre .1 .0))
+gather-gather-compound-requires : (t : ℕ) → gather-lts.Need-gather-compound-requires (gather-calls t) (gather-at t) gather.Post
+gather-gather-compound-requires t c κs =
+    let m = c .before .before .before .before .before .before .before .before .before .before .before .pre .0 in
+    let w = c .before .before .before .wide .ensures .0 in
+    let r = c .before .before .match .rest in
+    let n2 = r .1 in
+    let n1 = r .0 .1 in
+    let n0 = r .0 .0 .1 in
+    (omega arith, (omega arith, c .before .before .before .before .before .before .before .before .before .before .before .pre .1))
 
 gather-returns : (t : ℕ) → gather-lts.Need-returns (gather-calls t) (gather-at t) gather.Post
 gather-returns t c =
@@ -418,21 +411,6 @@ gather-returns-3 : (t : ℕ) → gather-lts.Need-returns-3 (gather-calls t) (gat
 gather-returns-3 t c =
     let b = sym (c .before .before .before .before .before .before .before .before .before .before .wide .ensures .0) ∙ c .before .before .before .before .before .before .before .before .before .match .keys3 in
     λ q s. type-gives q b _ (c .before .before .before .before .before .before .before .wide2 .ensures .0) _ _ (c .before .before .before .before .gather-type .ensures (source-room q) s)
-
-gather-returns-4 : (t : ℕ) → gather-lts.Need-returns-4 (gather-calls t) (gather-at t) gather.Post
-gather-returns-4 t c = λ q s. record { gathers = c .before .before .gather-sequence .ensures q; known = seen-more s _ }
-
-gather-returns-5 : (t : ℕ) → gather-lts.Need-returns-5 (gather-calls t) (gather-at t) gather.Post
-gather-returns-5 t c =
-    let a = c .before .before .before .before .before .before .before .before .before .before .before .before .before .before .before .before .before .before .args in
-    let res = listOf (a .from .now) (a .results .now) in
-    let b = sym (c .before .before .before .before .before .before .before .before .before .before .wide .ensures .0) ∙ c .before .before .before .before .before .before .before .before .before .match .keys5 in
-    λ q s.
-    let cs = choices-of q b (c .before .before .before .before .before .before .before .wide3 .ensures .0) in
-    choice-gives q res cs _ _ (c .before .before .before .before .gather-row .ensures (choice-sources q res cs) s)
-
-gather-returns-6 : (t : ℕ) → gather-lts.Need-returns-6 (gather-calls t) (gather-at t) gather.Post
-gather-returns-6 t c = λ q s. record { gathers = c .before .before .gather-around .ensures q; known = seen-more s _ }
 
 gather-around-shared-slice-read-operator :
     (t : ℕ) → gather-around-lts.Need-shared-slice-read-operator (
@@ -563,6 +541,71 @@ gather-around-returns-4 t c =
     let found = content-found _ _ _ (q .maps) _ _ (one .operand) _ _ (c .before .before .before .before .before .before .content-has .ensures) in
     let has-not = sym (found .0) ∙ c .before .before .before .before .before .if1 .left in
     around-empty q res one _ _ _ (found .1) (c .before .before .before .before .if2 .left) has-not (c .before .before .gather-empty .ensures (source-room q))
+
+gather-compound-shared-slice-read-wide : (t : ℕ) → gather-compound-lts.Need-shared-slice-read-wide (gather-compound-calls t) (gather-compound-at t) gather-compound.Post
+gather-compound-shared-slice-read-wide t c =
+    let q = c .before .before .before .before .before .before .before .pre .1 .1 .0 in
+    content-inside standard _ _ (q .there) .0
+
+gather-compound-gather-sequence-requires : (t : ℕ) → gather-compound-lts.Need-gather-sequence-requires (gather-compound-calls t) (gather-compound-at t) gather-compound.Post
+gather-compound-gather-sequence-requires t c κs =
+    let m = c .before .before .before .before .before .before .before .before .before .before .pre .0 in
+    let b = sym (c .before .before .wide .ensures .0) ∙ c .before .match .keys1 in
+    (omega arith, (b, c .before .before .before .before .before .before .before .before .before .before .pre .1 .1 .0))
+
+gather-compound-add-gather-row : (t : ℕ) → gather-compound-lts.Need-add-gather-row (gather-compound-calls t) (gather-compound-at t) gather-compound.Post
+gather-compound-add-gather-row t c =
+    let q = c .before .before .before .before .before .before .before .before .before .pre .1 .1 .0 in
+    let b = sym (c .before .wide .ensures .0) ∙ c .match .keys2 in
+    let i = count-there standard _ _ (q .there) (omega arith) (omega arith) in
+    omega arith
+
+gather-compound-add-wide : (t : ℕ) → gather-compound-lts.Need-add-wide (gather-compound-calls t) (gather-compound-at t) gather-compound.Post
+gather-compound-add-wide t c =
+    let q = c .before .before .before .before .before .before .before .before .before .pre .1 .1 .0 in
+    let i = content-inside standard _ _ (q .there) in
+    omega arith
+
+gather-compound-shared-slice-read-wide-2 : (t : ℕ) → gather-compound-lts.Need-shared-slice-read-wide-2 (gather-compound-calls t) (gather-compound-at t) gather-compound.Post
+gather-compound-shared-slice-read-wide-2 t c =
+    let q = c .before .before .before .before .before .before .before .before .before .before .pre .1 .1 .0 in
+    let b = sym (c .before .before .wide .ensures .0) ∙ c .before .match .keys2 in
+    count-there standard _ _ (q .there) (omega arith) (omega arith)
+
+gather-compound-gather-row-requires : (t : ℕ) → gather-compound-lts.Need-gather-row-requires (gather-compound-calls t) (gather-compound-at t) gather-compound.Post
+gather-compound-gather-row-requires t c κs =
+    let a = c .before .before .before .before .before .before .before .before .before .before .before .before .before .args in
+    let res = listOf (a .from .now) (a .results .now) in
+    let m = c .before .before .before .before .before .before .before .before .before .before .before .before .before .pre .0 in
+    let q = c .before .before .before .before .before .before .before .before .before .before .before .before .before .pre .1 .1 .0 in
+    let b = sym (c .before .before .before .before .before .wide .ensures .0) ∙ c .before .before .before .before .match .keys2 in
+    let i = count-there standard _ _ (q .there) (omega arith) (omega arith) in
+    (omega arith, (choice-sources q res (choices-of q b (c .before .before .wide2 .ensures .0)), c .before .before .before .before .before .before .before .before .before .before .before .before .before .pre .1 .1 .1))
+
+gather-compound-gather-around-requires : (t : ℕ) → gather-compound-lts.Need-gather-around-requires (gather-compound-calls t) (gather-compound-at t) gather-compound.Post
+gather-compound-gather-around-requires t c κs =
+    let m = c .before .before .before .before .before .before .before .before .before .before .pre .0 in
+    let low = c .before .before .before .before .before .before .before .before .before .before .pre .1 .0 in
+    let w = c .before .before .wide .ensures .0 in
+    let r = c .before .match .rest in
+    let n4 = r .1 in
+    let n3 = r .0 .1 in
+    (omega arith, (omega arith, c .before .before .before .before .before .before .before .before .before .before .pre .1 .1 .0))
+
+gather-compound-returns : (t : ℕ) → gather-compound-lts.Need-returns (gather-compound-calls t) (gather-compound-at t) gather-compound.Post
+gather-compound-returns t c = λ q s. record { gathers = c .before .before .gather-sequence .ensures q; known = seen-more s _ }
+
+gather-compound-returns-2 : (t : ℕ) → gather-compound-lts.Need-returns-2 (gather-compound-calls t) (gather-compound-at t) gather-compound.Post
+gather-compound-returns-2 t c =
+    let a = c .before .before .before .before .before .before .before .before .before .before .before .before .before .before .before .before .before .before .args in
+    let res = listOf (a .from .now) (a .results .now) in
+    let b = sym (c .before .before .before .before .before .before .before .before .before .before .wide .ensures .0) ∙ c .before .before .before .before .before .before .before .before .before .match .keys2 in
+    λ q s.
+    let cs = choices-of q b (c .before .before .before .before .before .before .before .wide2 .ensures .0) in
+    choice-gives q res cs _ _ (c .before .before .before .before .gather-row .ensures (choice-sources q res cs) s)
+
+gather-compound-returns-3 : (t : ℕ) → gather-compound-lts.Need-returns-3 (gather-compound-calls t) (gather-compound-at t) gather-compound.Post
+gather-compound-returns-3 t c = λ q s. record { gathers = c .before .before .gather-around .ensures q; known = seen-more s _ }
 
 gather-row-gather-requires : (t : ℕ) → gather-row-lts.Need-gather-requires (gather-row-calls t) (gather-row-at t) gather-row.Post
 gather-row-gather-requires t c κs =
@@ -783,12 +826,13 @@ gather-sequence-returns-3 t c =
     let found = row-found _ _ _ (q .maps) _ _ _ (cs .operands) _ _ _ (c .before .row-has .ensures) in
     sequence-blank q res cs n _ (found .1) (sym (found .0) ∙ c .if1 .left)
 
-pub +emit-row+gather+gather-around+gather-row+gather-sequence-spec : {M : Type 1} → statement M
-+emit-row+gather+gather-around+gather-row+gather-sequence-spec =
+pub +emit-row+gather+gather-around+gather-compound+gather-row+gather-sequence-spec : {M : Type 1} → statement M
++emit-row+gather+gather-around+gather-compound+gather-row+gather-sequence-spec =
     close
     μ-emit-row
     μ-gather
     μ-gather-around
+    μ-gather-compound
     μ-gather-row
     μ-gather-sequence
     (λ t. emit-row-lts.spec (emit-row-calls t)
@@ -817,7 +861,7 @@ pub +emit-row+gather+gather-around+gather-row+gather-sequence-spec : {M : Type 1
     gather.Post
     (gather-shared-slice-read-wide t)
     (λ c κs. search needs)
-    (gather-add-t18 t)
+    (gather-add-t17 t)
     (gather-add-gather-empty t)
     (λ c κs. source-room (c .before .before .before .before .before .before .before .before .before .before .pre .1 .0))
     (gather-add-wide t)
@@ -825,26 +869,16 @@ pub +emit-row+gather+gather-around+gather-row+gather-sequence-spec : {M : Type 1
     (λ c κs. search needs)
     (gather-add-gather-type t)
     (gather-gather-type-requires t)
-    (gather-gather-sequence-requires t)
-    (gather-add-wide-2 t)
-    (gather-shared-slice-read-wide-3 t)
-    (λ c κs. search needs)
-    (gather-add-gather-row t)
-    (gather-gather-row-requires t)
-    (gather-gather-around-requires t)
+    (gather-gather-compound-requires t)
     (gather-returns t)
     (λ c. c .before .before .gather-empty .kept .0)
     (gather-returns-2 t)
     (λ c. c .before .before .before .before .gather-type .kept .1 .1 .1 .0)
     (λ c. c .before .before .before .before .gather-type .kept .1 .1 .1 .1 .1 .1 .1 .1 .1 .0)
     (gather-returns-3 t)
-    (λ c. c .before .before .gather-sequence .kept .1 .1 .1 .1 .1 .0)
-    (gather-returns-4 t)
-    (λ c. c .before .before .before .before .gather-row .kept .1 .1 .1 .1 .1 .1 .0)
-    (λ c. c .before .before .before .before .gather-row .kept .1 .1 .1 .1 .1 .1 .1 .1 .1 .1 .1 .0)
-    (gather-returns-5 t)
-    (λ c. c .before .before .gather-around .kept .1 .1 .1 .1 .1 .0)
-    (gather-returns-6 t))
+    (λ c. c .before .before .before .before .gather-compound .kept .1 .1 .1 .1 .1 .0)
+    (λ c. c .before .before .before .before .gather-compound .kept .1 .1 .1 .1 .1 .1 .1 .1 .1 .1 .0)
+    (λ c. c .before .before .before .before .gather-compound .ensures))
     (λ t. gather-around-lts.spec (gather-around-calls t)
     (gather-around-at t)
     gather-around.Post
@@ -866,6 +900,25 @@ pub +emit-row+gather+gather-around+gather-row+gather-sequence-spec : {M : Type 1
     (gather-around-gather-empty-requires t)
     (λ c. c .before .before .gather-empty .kept .0)
     (gather-around-returns-4 t))
+    (λ t. gather-compound-lts.spec (gather-compound-calls t)
+    (gather-compound-at t)
+    gather-compound.Post
+    (gather-compound-shared-slice-read-wide t)
+    (λ c κs. search needs)
+    (gather-compound-gather-sequence-requires t)
+    (gather-compound-add-gather-row t)
+    (gather-compound-add-wide t)
+    (gather-compound-shared-slice-read-wide-2 t)
+    (λ c κs. search needs)
+    (gather-compound-gather-row-requires t)
+    (gather-compound-gather-around-requires t)
+    (λ c. c .before .before .gather-sequence .kept .1 .1 .1 .1 .1 .0)
+    (gather-compound-returns t)
+    (λ c. c .before .before .before .before .gather-row .kept .1 .1 .1 .1 .1 .1 .0)
+    (λ c. c .before .before .before .before .gather-row .kept .1 .1 .1 .1 .1 .1 .1 .1 .1 .1 .1 .0)
+    (gather-compound-returns-2 t)
+    (λ c. c .before .before .gather-around .kept .1 .1 .1 .1 .1 .0)
+    (gather-compound-returns-3 t))
     (λ t. gather-row-lts.spec
     (gather-below t, gather.Post, gather-row-below t, gather-row.Post)
     (gather-row-at t)
