@@ -41,7 +41,7 @@ use Rattle.reader.proofs.ExprLaws.{
 use Rattle.pairs.specs.declared.met.MetOne.{MetOne}
 use Rattle.pairs.specs.declared.met.MetRow.{MetRow}
 use Rattle.pairs.specs.ContentAt.{ContentsAt}
-use Rattle.pairs.specs.Walks.{listOf, Listed, Once, Adds, Seen, TypeMet, metAt, metRowAt, MetAsks, MetRowAsks, MetFinds, MetRowFinds}
+use Rattle.pairs.specs.Walks.{listOf, Listed, Once, Adds, Seen, TypeMet, metAt, metRowAt, MetAsks, MetRowAsks, MetFinds, MetRowFinds, sequenceMet}
 use Rattle.pairs.proofs.ContentAtLaws.{placed-of, content-inside, type-there, count-there, operands-there, first-there, others-there}
 use Rattle.pairs.proofs.ProductiveLaws.{placed-through}
 use Rattle.pairs.proofs.OnceLaws.{adds-once, adds-same, front-kept, part-below}
@@ -341,9 +341,9 @@ module _ (s : List ℕ) (at : ℕ) (from pairs list : List ℕ) (count : ℕ) wh
 
   module _ (list′ : List ℕ) (r : MetRow) (n : ℕ) (a : MetAsks s at from pairs list count) (counts : n ≡ getD s (at + 1) 0)
       (row : MetRowFinds (listOf from pairs) (take count list) s (at + 2) n list′ r) where
-    pub sequence-finds : getD s at 0 ≡ 3 → r .all ≡ true
+    sequence-finds-all : getD s at 0 ≡ 3 → r .all ≡ true
         → MetFinds (listOf from pairs) (take count list) s at list′ (record { has = true; count = r .count; next = r .next; seen = r .seen })
-    sequence-finds e all =
+    sequence-finds-all e all =
         record {
           found =
               met-sequence left numbers s at (r .one) (take (r .count) list′) (r .next)
@@ -356,7 +356,7 @@ module _ (s : List ℕ) (at : ℕ) (from pairs list : List ℕ) (count : ℕ) wh
           known = row .known;
         }
 
-    pub sequence-finds-none : (seen : Set4) → Seen (seen .words) left numbers → getD s at 0 ≡ 3 → r .all ≡ false
+    sequence-finds-none : (seen : Set4) → Seen (seen .words) left numbers → getD s at 0 ≡ 3 → r .all ≡ false
         → length list′ ≡ length list
         → MetFinds (listOf from pairs) (take count list) s at list′
         (record { has = false; count = count; next = r .next; seen = seen })
@@ -377,6 +377,14 @@ module _ (s : List ℕ) (at : ℕ) (from pairs list : List ℕ) (count : ℕ) wh
           held = subst (λ (m : ℕ). count ≤ m) (sym same) (a .once .held);
           known = subst (λ (l : List ℕ). Seen (seen .words) left l) (sym kept) known;
         }
+
+    pub sequence-finds : (seen : Set4) → Seen (seen .words) left numbers → getD s at 0 ≡ 3 → length list′ ≡ length list
+        → MetFinds (listOf from pairs) (take count list) s at list′ (sequenceMet r count seen)
+    sequence-finds seen known e same = go (r .all) refl
+      where
+        go : (b : Bool) → r .all ≡ b → MetFinds (listOf from pairs) (take count list) s at list′ (sequenceMet r count seen)
+        go true all = rw all (sequence-finds-all e all)
+        go false all = rw all (sequence-finds-none seen known e all same)
 
     pub choice-finds : getD s at 0 ≡ 4
         → MetFinds (listOf from pairs) (take count list) s at list′ (record { has = r .one; count = r .count; next = r .next; seen = r .seen })

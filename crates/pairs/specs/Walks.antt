@@ -1,6 +1,6 @@
 -- What the walks over a content find. Each is stated of the content that stands at a place, together with the place after it.
 use Prim.Native.Nat.{ℕ, _+_, _-_, _≤_, _<_}
-use mathlib.Core.Bool.{Bool, true}
+use mathlib.Core.Bool.{Bool, true, false, cond}
 use mathlib.Core.List.{List, _++_, List·Memᴰ}
 use mathlib.Core.Option.{Option, some as just}
 use mathlib.Core.Path.{_≡_}
@@ -10,6 +10,7 @@ use Rattle.grammar.specs.Lists.{distinct}
 use Rattle.grammar.specs.Limits.{standard}
 use Rattle.theory.proofs.Alternatives.{hasAlts, allHaveAlts, oneHasAlts, someLeft, pairsMet, pairsMetAll}
 use Rattle.sets.specs.Sets.{member}
+use Rattle.sets.specs.declared.four.Set4.{Set4}
 use Rattle.reader.specs.ExprAt.{Placed, _upTo_, placed, exprAt, exprsAt}
 use Rattle.pairs.specs.ContentAt.{ContentAt, ContentsAt}
 use Rattle.pairs.specs.declared.met.MetOne.{MetOne}
@@ -97,3 +98,11 @@ pub record MetRowFinds (left : ℕ → List ℕ) (numbers s : List ℕ) (at n : 
   pub found : metRowAt left numbers s at n ≡ just ((r .all, r .one, take (r .count) list) upTo (r .next))
   pub held : r .count ≤ length list
   pub known : Seen (r .seen .words) left (take (r .count) list)
+
+-- the answer for a sequence, from that for its operands: where one has no alternatives, the count and the types seen are those
+-- before them
+abbrev pub sequenceMet : MetRow → (count : ℕ) → Set4 → MetOne
+sequenceMet row count seen =
+    cond (row .all)
+    (record { has = true; count = row .count; next = row .next; seen = row .seen })
+    (record { has = false; count = count; next = row .next; seen = seen })

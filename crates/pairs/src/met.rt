@@ -9,7 +9,7 @@ ghost use mathlib.Core.List.{List, [], _∷_};
 ghost use Prim.Native.Nat.{_-_, _≤_, _<_};
 ghost use lib.ListN.{length, take, drop};
 ghost use Rattle.grammar.specs.Lists.{isIn};
-ghost use Rattle.pairs.specs.Walks.{listOf, Listed, Once, Adds, Parts, Seen, TypeMet, MetAsks, MetFinds, MetRowAsks, MetRowFinds};
+ghost use Rattle.pairs.specs.Walks.{listOf, Listed, Once, Adds, Parts, Seen, TypeMet, MetAsks, MetFinds, MetRowAsks, MetRowFinds, sequenceMet};
 
 // Whether a content has alternatives, how many numbers stand in the list after it, the place after it, and types whose pairs are
 // all in the list.
@@ -103,6 +103,35 @@ fn met_type(
     }
 }
 
+// The answer where no pairs are met.
+fn met_none(has: bool, count: usize, next: usize, seen: Set4) -> MetOne
+    ensures { λ r. ⌜ r ≡ record { has = has; count = count; next = next; seen = seen } ⌝ }
+{
+    MetOne {
+        has,
+        count,
+        next,
+        seen,
+    }
+}
+
+// The answer for a sequence, from that for its operands. Where one has no alternatives, no pairs are met: `count` and `seen` are
+// those before the operands.
+fn met_sequence(row: MetRow, count: usize, seen: Set4) -> MetOne
+    ensures { λ r. ⌜ r ≡ sequenceMet row count seen ⌝ }
+{
+    if row.all {
+        let more = row.seen;
+        return MetOne {
+            has: true,
+            count: row.count,
+            next: row.next,
+            seen: more,
+        };
+    }
+    met_none(false, count, row.next, seen)
+}
+
 // The pairs met in the content at a place, added to the list. `from` and `pairs` give the pairs of each type, and `seen` has types
 // whose pairs are all in the list.
 pub fn met(
@@ -120,18 +149,8 @@ pub fn met(
 {
     let operator = wide(content[at]);
     match operator {
-        0 => MetOne {
-            has: false,
-            count,
-            next: at + 1,
-            seen,
-        },
-        1 => MetOne {
-            has: true,
-            count,
-            next: at + 1,
-            seen,
-        },
+        0 => met_none(false, count, at + 1, seen),
+        1 => met_none(true, count, at + 1, seen),
         2 => {
             let k = wide(content[at + 1]);
             met_type(k, from, pairs, list, count, at + 2, seen)
@@ -139,21 +158,7 @@ pub fn met(
         3 => {
             let n = wide(content[at + 1]);
             let row = met_row(content, at + 2, n, from, pairs, list, count, seen);
-            if row.all {
-                let more = row.seen;
-                return MetOne {
-                    has: true,
-                    count: row.count,
-                    next: row.next,
-                    seen: more,
-                };
-            }
-            MetOne {
-                has: false,
-                count,
-                next: row.next,
-                seen,
-            }
+            met_sequence(row, count, seen)
         }
         4 => {
             let n = wide(content[at + 1]);

@@ -5,8 +5,8 @@ use sets::words::has;
 ghost use mathlib.Core.Path.{_≡_};
 ghost use mathlib.Core.Bool.{_&&_, _||_};
 ghost use mathlib.Core.Option.{some as just};
-ghost use Prim.Native.Nat.{_+_, _≤_};
-ghost use lib.ListN.{length};
+ghost use Prim.Native.Nat.{_+_, _≤_, _<_};
+ghost use lib.ListN.{length, getD};
 ghost use Rattle.grammar.specs.Limits.{standard};
 ghost use Rattle.sets.specs.Sets.{member};
 ghost use Rattle.reader.specs.ExprAt.{_upTo_};
@@ -44,6 +44,21 @@ pub fn either(a: bool, b: bool) -> bool
     b
 }
 
+// Whether the content at a place, a type, has alternatives: whether the type gives something.
+fn type_has(content: &[u8], at: usize, types: &[u32], base: usize) -> Productive
+    requires { ⌜ (at + 1 < length (now content)) × (getD (now content) (at + 1) 0 < 64) × (base + 2 ≤ length (now types)) ⌝ }
+    ensures { λ r. ⌜ r ≡ record {
+      has = member (now (types .entry)) base (getD (now (content .entry)) (at + 1) 0);
+      next = at + 2;
+    } ⌝ }
+{
+    let k = wide(content[at + 1]);
+    Productive {
+        has: has(types, base, k),
+        next: at + 2,
+    }
+}
+
 // Whether the content at a place has alternatives.
 pub fn content_has(content: &[u8], at: usize, types: &[u32], base: usize) -> Productive
     requires { ⌜ (ContentAt standard (now content) at) × (base + 2 ≤ length (now types)) ⌝ }
@@ -59,13 +74,7 @@ pub fn content_has(content: &[u8], at: usize, types: &[u32], base: usize) -> Pro
             has: true,
             next: at + 1,
         },
-        2 => {
-            let k = wide(content[at + 1]);
-            Productive {
-                has: has(types, base, k),
-                next: at + 2,
-            }
-        }
+        2 => type_has(content, at, types, base),
         3 => {
             let n = wide(content[at + 1]);
             let row = row_has(content, at + 2, n, types, base);

@@ -8,7 +8,7 @@ use borrow.Author.Needs.{needs}
 use Rattle.grammar.specs.Limits.{standard}
 use Rattle.pairs.specs.ContentAt.{ContentsAt}
 use Rattle.pairs.proofs.ContentAtLaws.{content-inside, type-there, count-there, operands-there, operand-there}
-use Rattle.pairs.proofs.MetLaws.{none-finds, empty-finds, type-finds, sequence-finds, sequence-finds-none, choice-finds, one-or-more-finds, around-finds, no-row-finds, row-finds, first-asks, others-ask}
+use Rattle.pairs.proofs.MetLaws.{none-finds, empty-finds, type-finds, sequence-finds, choice-finds, one-or-more-finds, around-finds, no-row-finds, row-finds, first-asks, others-ask}
 use borrow.Fn.Kinds.{In}
 use borrow.Fn.PlainCycle.{Measures, is, falls, and}
 use Rattle.pairs.proofs.met.met.Reads as met
@@ -17,6 +17,8 @@ use Rattle.pairs.proofs.met.+met+met_row.Lts-met as met-lts
 use Rattle.pairs.proofs.met.met_row.Reads as met-row
 use Rattle.pairs.proofs.met.met_row.Kinds as met-row-kinds
 use Rattle.pairs.proofs.met.+met+met_row.Lts-met_row as met-row-lts
+use Rattle.pairs.proofs.met.met_none.Reads as met-none-reads
+use Rattle.pairs.proofs.met.met_sequence.Reads as met-sequence-reads
 use Rattle.pairs.proofs.met.met_type.Reads as met-type-reads
 use Rattle.pairs.proofs.productive.both.Reads as both-reads
 use Rattle.pairs.proofs.productive.either.Reads as either-reads
@@ -43,7 +45,7 @@ abbrev met-row-below : ℕ → In 4 met-row-kinds.ps
 met-row-below t = and 4 met-row-kinds.ps (falls 4 met-row-kinds.ps _<_ μ-met-row t) met-row.Pre
 
 abbrev met-calls : ℕ → met-lts.Claims
-met-calls t = (wide-reads.Asked, wide-reads.Learnt, met-type-reads.Asked, met-type-reads.Learnt, met-row-below t, met-row.Post, met-below t, met.Post)
+met-calls t = (wide-reads.Asked, wide-reads.Learnt, met-none-reads.Asked, met-none-reads.Learnt, met-type-reads.Asked, met-type-reads.Learnt, met-row-below t, met-row.Post, met-sequence-reads.Asked, met-sequence-reads.Learnt, met-below t, met.Post)
 
 abbrev met-row-calls : ℕ → met-row-lts.Claims
 met-row-calls t = (met-below t, met.Post, met-row-below t, met-row.Post, both-reads.Asked, both-reads.Learnt, either-reads.Asked, either-reads.Learnt)
@@ -56,15 +58,23 @@ met-wide-requires : (t : ℕ) → met-lts.Need-wide-requires (met-calls t) (met-
 met-wide-requires t c κs =
     search needs
 
-met-add-t21 : (t : ℕ) → met-lts.Need-add-t21 (met-calls t) (met-at t) met.Post
-met-add-t21 t c =
+met-add-met-none : (t : ℕ) → met-lts.Need-add-met-none (met-calls t) (met-at t) met.Post
+met-add-met-none t c =
     let i = content-inside standard _ _ (c .before .before .before .before .before .before .before .pre .1 .0 .there) .0 in
     omega arith
 
-met-add-t22 : (t : ℕ) → met-lts.Need-add-t22 (met-calls t) (met-at t) met.Post
-met-add-t22 t c =
+met-met-none-requires : (t : ℕ) → met-lts.Need-met-none-requires (met-calls t) (met-at t) met.Post
+met-met-none-requires t c κs =
+    search needs
+
+met-add-met-none-2 : (t : ℕ) → met-lts.Need-add-met-none-2 (met-calls t) (met-at t) met.Post
+met-add-met-none-2 t c =
     let i = content-inside standard _ _ (c .before .before .before .before .before .before .before .pre .1 .0 .there) .0 in
     omega arith
+
+met-met-none-requires-2 : (t : ℕ) → met-lts.Need-met-none-requires-2 (met-calls t) (met-at t) met.Post
+met-met-none-requires-2 t c κs =
+    search needs
 
 met-add-wide : (t : ℕ) → met-lts.Need-add-wide (met-calls t) (met-at t) met.Post
 met-add-wide t c =
@@ -133,13 +143,9 @@ met-met-row-requires t c κs =
       ),
     )
 
-met-same-length : (t : ℕ) → met-lts.Need-same-length (met-calls t) (met-at t) met.Post
-met-same-length t c =
-    c .before .before .before .before .met-row .kept .1 .1 .1 .1 .1 .0
-
-met-returns : (t : ℕ) → met-lts.Need-returns (met-calls t) (met-at t) met.Post
-met-returns t c =
-    sequence-finds _ _ _ _ _ _ _ _ _ (c .before .before .before .before .before .before .before .before .before .before .before .before .before .before .before .pre .1 .0) (c .before .before .before .before .before .before .wide3 .ensures .0) (c .before .before .before .before .met-row .ensures) (sym (c .before .before .before .before .before .before .before .before .before .wide .ensures .0) ∙ c .before .before .before .before .before .before .before .before .match .keys4) (c .before .if1 .taken)
+met-met-sequence-requires : (t : ℕ) → met-lts.Need-met-sequence-requires (met-calls t) (met-at t) met.Post
+met-met-sequence-requires t c κs =
+    search needs
 
 met-add-wide-3 : (t : ℕ) → met-lts.Need-add-wide-3 (met-calls t) (met-at t) met.Post
 met-add-wide-3 t c =
@@ -235,52 +241,58 @@ met-met-requires-2 t c κs =
       ),
     )
 
+met-returns : (t : ℕ) → met-lts.Need-returns (met-calls t) (met-at t) met.Post
+met-returns t c =
+    let start = c .before .before .before .before .before .before .before .before in
+    rw (c .met-none .ensures) (none-finds _ _ _ _ _ _ _ (start .pre .1 .0) (start .pre .1 .1) (sym (c .before .before .wide .ensures .0) ∙ c .before .match .keys1))
+
 met-returns-2 : (t : ℕ) → met-lts.Need-returns-2 (met-calls t) (met-at t) met.Post
 met-returns-2 t c =
-    none-finds _ _ _ _ _ _ _ (c .before .before .before .before .before .before .before .pre .1 .0) (c .before .before .before .before .before .before .before .pre .1 .1) (sym (c .before .wide .ensures .0) ∙ c .match .keys1)
+    let start = c .before .before .before .before .before .before .before .before in
+    rw (c .met-none2 .ensures) (empty-finds _ _ _ _ _ _ _ (start .pre .1 .0) (start .pre .1 .1) (sym (c .before .before .wide .ensures .0) ∙ c .before .match .keys2))
+
+met-same-length : (t : ℕ) → met-lts.Need-same-length (met-calls t) (met-at t) met.Post
+met-same-length t c =
+    c .before .before .met-type .kept .1 .1 .1 .0
 
 met-returns-3 : (t : ℕ) → met-lts.Need-returns-3 (met-calls t) (met-at t) met.Post
 met-returns-3 t c =
-    empty-finds _ _ _ _ _ _ _ (c .before .before .before .before .before .before .before .pre .1 .0) (c .before .before .before .before .before .before .before .pre .1 .1) (sym (c .before .wide .ensures .0) ∙ c .match .keys2)
+    type-finds _ _ _ _ _ _ _ _ _ (c .before .before .before .before .before .before .before .before .before .before .before .before .before .pre .1 .0) (sym (c .before .before .before .before .before .before .before .wide .ensures .0) ∙ c .before .before .before .before .before .before .match .keys3) (c .before .before .before .before .wide2 .ensures .0) (c .before .before .met-type .ensures)
 
 met-same-length-2 : (t : ℕ) → met-lts.Need-same-length-2 (met-calls t) (met-at t) met.Post
 met-same-length-2 t c =
-    c .before .before .met-type .kept .1 .1 .1 .0
+    c .before .before .before .met-row .kept .1 .1 .1 .1 .1 .0
 
 met-returns-4 : (t : ℕ) → met-lts.Need-returns-4 (met-calls t) (met-at t) met.Post
 met-returns-4 t c =
-    type-finds _ _ _ _ _ _ _ _ _ (c .before .before .before .before .before .before .before .before .before .before .before .before .before .pre .1 .0) (sym (c .before .before .before .before .before .before .before .wide .ensures .0) ∙ c .before .before .before .before .before .before .match .keys3) (c .before .before .before .before .wide2 .ensures .0) (c .before .before .met-type .ensures)
+    let start = c .before .before .before .before .before .before .before .before .before .before .before .before .before .before in
+    let row = c .before .before .before .met-row in
+    let byte = sym (c .before .before .before .before .before .before .before .before .wide .ensures .0) ∙ c .before .before .before .before .before .before .before .match .keys4 in
+    rw (c .met-sequence .ensures)
+    (sequence-finds _ _ _ _ _ _ _ _ _ (start .pre .1 .0) (c .before .before .before .before .before .wide3 .ensures .0) (row .ensures) _ (start .pre .1 .1) byte (row .kept .1 .1 .1 .1 .1 .0))
 
 met-same-length-3 : (t : ℕ) → met-lts.Need-same-length-3 (met-calls t) (met-at t) met.Post
 met-same-length-3 t c =
-    c .before .before .before .met-row .kept .1 .1 .1 .1 .1 .0
+    c .before .before .before .met-row2 .kept .1 .1 .1 .1 .1 .0
 
 met-returns-5 : (t : ℕ) → met-lts.Need-returns-5 (met-calls t) (met-at t) met.Post
 met-returns-5 t c =
-    sequence-finds-none _ _ _ _ _ _ _ _ _ (c .before .before .before .before .before .before .before .before .before .before .before .before .before .before .pre .1 .0) (c .before .before .before .before .before .wide3 .ensures .0) (c .before .before .before .met-row .ensures) _ (c .before .before .before .before .before .before .before .before .before .before .before .before .before .before .pre .1 .1) (sym (c .before .before .before .before .before .before .before .before .wide .ensures .0) ∙ c .before .before .before .before .before .before .before .match .keys4) (c .if1 .left) (c .before .before .before .met-row .kept .1 .1 .1 .1 .1 .0)
+    choice-finds _ _ _ _ _ _ _ _ _ (c .before .before .before .before .before .before .before .before .before .before .before .before .before .before .pre .1 .0) (c .before .before .before .before .before .wide4 .ensures .0) (c .before .before .before .met-row2 .ensures) (sym (c .before .before .before .before .before .before .before .before .wide .ensures .0) ∙ c .before .before .before .before .before .before .before .match .keys5)
 
 met-same-length-4 : (t : ℕ) → met-lts.Need-same-length-4 (met-calls t) (met-at t) met.Post
 met-same-length-4 t c =
-    c .before .before .before .met-row2 .kept .1 .1 .1 .1 .1 .0
+    c .before .before .met .kept .1 .1 .1 .1 .0
 
 met-returns-6 : (t : ℕ) → met-lts.Need-returns-6 (met-calls t) (met-at t) met.Post
 met-returns-6 t c =
-    choice-finds _ _ _ _ _ _ _ _ _ (c .before .before .before .before .before .before .before .before .before .before .before .before .before .before .pre .1 .0) (c .before .before .before .before .before .wide4 .ensures .0) (c .before .before .before .met-row2 .ensures) (sym (c .before .before .before .before .before .before .before .before .wide .ensures .0) ∙ c .before .before .before .before .before .before .before .match .keys5)
+    one-or-more-finds _ _ _ _ _ _ _ _ (c .before .before .before .before .before .before .before .before .before .before .before .pre .1 .0) (c .before .before .met .ensures) (sym (c .before .before .before .before .before .wide .ensures .0) ∙ c .before .before .before .before .match .keys6)
 
 met-same-length-5 : (t : ℕ) → met-lts.Need-same-length-5 (met-calls t) (met-at t) met.Post
 met-same-length-5 t c =
-    c .before .before .met .kept .1 .1 .1 .1 .0
+    c .before .before .before .met2 .kept .1 .1 .1 .1 .0
 
 met-returns-7 : (t : ℕ) → met-lts.Need-returns-7 (met-calls t) (met-at t) met.Post
 met-returns-7 t c =
-    one-or-more-finds _ _ _ _ _ _ _ _ (c .before .before .before .before .before .before .before .before .before .before .before .pre .1 .0) (c .before .before .met .ensures) (sym (c .before .before .before .before .before .wide .ensures .0) ∙ c .before .before .before .before .match .keys6)
-
-met-same-length-6 : (t : ℕ) → met-lts.Need-same-length-6 (met-calls t) (met-at t) met.Post
-met-same-length-6 t c =
-    c .before .before .before .met2 .kept .1 .1 .1 .1 .0
-
-met-returns-8 : (t : ℕ) → met-lts.Need-returns-8 (met-calls t) (met-at t) met.Post
-met-returns-8 t c =
     let e = c .before .before .before .before .before .before .wide .ensures .0 in
     let r = c .before .before .before .before .before .match .rest in
     let n6 = r .1 in
@@ -337,8 +349,10 @@ pub +met+met-row-spec : {M : Type 1} → statement M
     met.Post
     (met-shared-slice-read-wide t)
     (met-wide-requires t)
-    (met-add-t21 t)
-    (met-add-t22 t)
+    (met-add-met-none t)
+    (met-met-none-requires t)
+    (met-add-met-none-2 t)
+    (met-met-none-requires-2 t)
     (met-add-wide t)
     (met-shared-slice-read-wide-2 t)
     (met-wide-requires-2 t)
@@ -349,8 +363,7 @@ pub +met+met-row-spec : {M : Type 1} → statement M
     (met-wide-requires-3 t)
     (met-add-met-row t)
     (met-met-row-requires t)
-    (met-same-length t)
-    (met-returns t)
+    (met-met-sequence-requires t)
     (met-add-wide-3 t)
     (met-shared-slice-read-wide-4 t)
     (met-wide-requires-4 t)
@@ -360,7 +373,9 @@ pub +met+met-row-spec : {M : Type 1} → statement M
     (met-met-requires t)
     (met-add-met-2 t)
     (met-met-requires-2 t)
+    (met-returns t)
     (met-returns-2 t)
+    (met-same-length t)
     (met-returns-3 t)
     (met-same-length-2 t)
     (met-returns-4 t)
@@ -369,9 +384,7 @@ pub +met+met-row-spec : {M : Type 1} → statement M
     (met-same-length-4 t)
     (met-returns-6 t)
     (met-same-length-5 t)
-    (met-returns-7 t)
-    (met-same-length-6 t)
-    (met-returns-8 t))
+    (met-returns-7 t))
     λ t. met-row-lts.spec (met-row-calls t)
     (met-row-at t)
     met-row.Post

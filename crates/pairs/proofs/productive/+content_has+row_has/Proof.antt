@@ -2,14 +2,11 @@
 -- more: every call goes on past a byte, but the one for the first of a row. Each return is a law of ProductiveLaws.
 use Prim.Native.Nat.{suc, _+_, _-_, _*_}
 use native.Mathlib.Omega.{arith}
-use mathlib.Core.Bool.{Bool}
-use mathlib.Core.Option.{some as just}
 use mathlib.Core.Path.{_≡_, sym, _∙_, ap, subst}
 use lib.ListN.{length}
 use borrow.Author.Needs.{needs}
 use Rattle.grammar.specs.Limits.{standard}
 use Rattle.sets.specs.Sets.{member}
-use Rattle.reader.specs.ExprAt.{_upTo_}
 use Rattle.pairs.specs.ContentAt.{ContentsAt}
 use Rattle.pairs.specs.Walks.{hasRowAt}
 use Rattle.pairs.proofs.ContentAtLaws.{content-inside, type-there, count-there, operands-there, operand-there, first-there, others-there}
@@ -24,7 +21,7 @@ use Rattle.pairs.proofs.productive.row_has.Reads as row-has
 use Rattle.pairs.proofs.productive.row_has.Kinds as row-has-kinds
 use Rattle.pairs.proofs.productive.+content_has+row_has.Lts-row_has as row-has-lts
 use Rattle.reader.proofs.numbers.wide.Reads as wide-reads
-use Rattle.sets.proofs.words.has.Reads as has-reads
+use Rattle.pairs.proofs.productive.type_has.Reads as type-has-reads
 use Rattle.pairs.proofs.productive.both.Reads as both-reads
 use Rattle.pairs.proofs.productive.either.Reads as either-reads
 use Rattle.pairs.proofs.productive.+content_has+row_has.{statement}
@@ -51,7 +48,7 @@ abbrev row-has-below : ℕ → In 2 row-has-kinds.ps
 row-has-below t = and 2 row-has-kinds.ps (falls 2 row-has-kinds.ps _<_ μ-row-has t) row-has.Pre
 
 abbrev content-has-calls : ℕ → content-has-lts.Claims
-content-has-calls t = (wide-reads.Asked, wide-reads.Learnt, has-reads.Asked, has-reads.Learnt, row-has-below t, row-has.Post, content-has-below t, content-has.Post)
+content-has-calls t = (wide-reads.Asked, wide-reads.Learnt, type-has-reads.Asked, type-has-reads.Learnt, row-has-below t, row-has.Post, content-has-below t, content-has.Post)
 
 abbrev row-has-calls : ℕ → row-has-lts.Claims
 row-has-calls t = (content-has-below t, content-has.Post, row-has-below t, row-has.Post, both-reads.Asked, both-reads.Learnt, either-reads.Asked, either-reads.Learnt)
@@ -64,15 +61,22 @@ content-has-wide-requires : (t : ℕ) → content-has-lts.Need-wide-requires (co
 content-has-wide-requires t c κs =
     search needs
 
+content-has-add-t14 : (t : ℕ) → content-has-lts.Need-add-t14 (content-has-calls t) (content-has-at t) content-has.Post
+content-has-add-t14 t c =
+    let i = content-inside standard _ _ (c .before .before .before .before .before .pre .1 .0) .0 in
+    omega arith
+
 content-has-add-t15 : (t : ℕ) → content-has-lts.Need-add-t15 (content-has-calls t) (content-has-at t) content-has.Post
 content-has-add-t15 t c =
     let i = content-inside standard _ _ (c .before .before .before .before .before .pre .1 .0) .0 in
     omega arith
 
-content-has-add-t16 : (t : ℕ) → content-has-lts.Need-add-t16 (content-has-calls t) (content-has-at t) content-has.Post
-content-has-add-t16 t c =
-    let i = content-inside standard _ _ (c .before .before .before .before .before .pre .1 .0) .0 in
-    omega arith
+content-has-type-has-requires : (t : ℕ) → content-has-lts.Need-type-has-requires (content-has-calls t) (content-has-at t) content-has.Post
+unfolding standard
+content-has-type-has-requires t c κs =
+    let start = c .before .before .before .before .before in
+    let i = type-there standard _ _ (start .pre .1 .0) (sym (c .before .wide .ensures .0) ∙ c .match .keys3) in
+    (i .0, i .1, start .pre .1 .1)
 
 content-has-add-wide : (t : ℕ) → content-has-lts.Need-add-wide (content-has-calls t) (content-has-at t) content-has.Post
 content-has-add-wide t c =
@@ -81,38 +85,12 @@ content-has-add-wide t c =
 
 content-has-shared-slice-read-wide-2 : (t : ℕ) → content-has-lts.Need-shared-slice-read-wide-2 (content-has-calls t) (content-has-at t) content-has.Post
 content-has-shared-slice-read-wide-2 t c =
-    type-there standard _ _ (c .before .before .before .before .before .before .pre .1 .0) (sym (c .before .before .wide .ensures .0) ∙ c .before .match .keys3) .0
-
-content-has-wide-requires-2 : (t : ℕ) → content-has-lts.Need-wide-requires-2 (content-has-calls t) (content-has-at t) content-has.Post
-content-has-wide-requires-2 t c κs =
-    search needs
-
-content-has-has-requires : (t : ℕ) → content-has-lts.Need-has-requires (content-has-calls t) (content-has-at t) content-has.Post
-unfolding standard
-content-has-has-requires t c κs =
-    let i = type-there standard _ _ (c .before .before .before .before .before .before .before .pre .1 .0) (sym (c .before .before .before .wide .ensures .0) ∙ c .before .before .match .keys3) .1 in
-    let e = c .wide2 .ensures .0 in
-    let b = c .before .before .before .before .before .before .before .pre .1 .1 in
-    omega arith
-
-content-has-add-t17 : (t : ℕ) → content-has-lts.Need-add-t17 (content-has-calls t) (content-has-at t) content-has.Post
-content-has-add-t17 t c =
-    let i = type-there standard _ _ (c .before .before .before .before .before .before .before .before .pre .1 .0) (sym (c .before .before .before .before .wide .ensures .0) ∙ c .before .before .before .match .keys3) .0 in
-    omega arith
-
-content-has-add-wide-2 : (t : ℕ) → content-has-lts.Need-add-wide-2 (content-has-calls t) (content-has-at t) content-has.Post
-content-has-add-wide-2 t c =
-    let i = content-inside standard _ _ (c .before .before .before .before .before .pre .1 .0) .0 in
-    omega arith
-
-content-has-shared-slice-read-wide-3 : (t : ℕ) → content-has-lts.Need-shared-slice-read-wide-3 (content-has-calls t) (content-has-at t) content-has.Post
-content-has-shared-slice-read-wide-3 t c =
     let e = c .before .before .wide .ensures .0 in
     let k = c .before .match .keys4 in
     count-there standard _ _ (c .before .before .before .before .before .before .pre .1 .0) (omega arith) (omega arith)
 
-content-has-wide-requires-3 : (t : ℕ) → content-has-lts.Need-wide-requires-3 (content-has-calls t) (content-has-at t) content-has.Post
-content-has-wide-requires-3 t c κs =
+content-has-wide-requires-2 : (t : ℕ) → content-has-lts.Need-wide-requires-2 (content-has-calls t) (content-has-at t) content-has.Post
+content-has-wide-requires-2 t c κs =
     search needs
 
 content-has-add-row-has : (t : ℕ) → content-has-lts.Need-add-row-has (content-has-calls t) (content-has-at t) content-has.Post
@@ -129,21 +107,21 @@ content-has-row-has-requires t c κs =
     let i = content-inside standard _ _ (start .pre .1 .0) .0 in
     let m = start .pre .0 in
     let row = operands-there standard _ _ (start .pre .1 .0) (omega arith) (omega arith) in
-    (omega arith, (subst (ContentsAt standard s (start .args .at + 2)) (sym (c .wide3 .ensures .0)) row, start .pre .1 .1))
+    (omega arith, (subst (ContentsAt standard s (start .args .at + 2)) (sym (c .wide2 .ensures .0)) row, start .pre .1 .1))
 
-content-has-add-wide-3 : (t : ℕ) → content-has-lts.Need-add-wide-3 (content-has-calls t) (content-has-at t) content-has.Post
-content-has-add-wide-3 t c =
+content-has-add-wide-2 : (t : ℕ) → content-has-lts.Need-add-wide-2 (content-has-calls t) (content-has-at t) content-has.Post
+content-has-add-wide-2 t c =
     let i = content-inside standard _ _ (c .before .before .before .before .before .pre .1 .0) .0 in
     omega arith
 
-content-has-shared-slice-read-wide-4 : (t : ℕ) → content-has-lts.Need-shared-slice-read-wide-4 (content-has-calls t) (content-has-at t) content-has.Post
-content-has-shared-slice-read-wide-4 t c =
+content-has-shared-slice-read-wide-3 : (t : ℕ) → content-has-lts.Need-shared-slice-read-wide-3 (content-has-calls t) (content-has-at t) content-has.Post
+content-has-shared-slice-read-wide-3 t c =
     let e = c .before .before .wide .ensures .0 in
     let k = c .before .match .keys5 in
     count-there standard _ _ (c .before .before .before .before .before .before .pre .1 .0) (omega arith) (omega arith)
 
-content-has-wide-requires-4 : (t : ℕ) → content-has-lts.Need-wide-requires-4 (content-has-calls t) (content-has-at t) content-has.Post
-content-has-wide-requires-4 t c κs =
+content-has-wide-requires-3 : (t : ℕ) → content-has-lts.Need-wide-requires-3 (content-has-calls t) (content-has-at t) content-has.Post
+content-has-wide-requires-3 t c κs =
     search needs
 
 content-has-add-row-has-2 : (t : ℕ) → content-has-lts.Need-add-row-has-2 (content-has-calls t) (content-has-at t) content-has.Post
@@ -160,7 +138,7 @@ content-has-row-has-requires-2 t c κs =
     let i = content-inside standard _ _ (start .pre .1 .0) .0 in
     let m = start .pre .0 in
     let row = operands-there standard _ _ (start .pre .1 .0) (omega arith) (omega arith) in
-    (omega arith, (subst (ContentsAt standard s (start .args .at + 2)) (sym (c .wide4 .ensures .0)) row, start .pre .1 .1))
+    (omega arith, (subst (ContentsAt standard s (start .args .at + 2)) (sym (c .wide3 .ensures .0)) row, start .pre .1 .1))
 
 content-has-add-content-has : (t : ℕ) → content-has-lts.Need-add-content-has (content-has-calls t) (content-has-at t) content-has.Post
 content-has-add-content-has t c =
@@ -205,12 +183,8 @@ content-has-returns-2 t c =
 
 content-has-returns-3 : (t : ℕ) → content-has-lts.Need-returns-3 (content-has-calls t) (content-has-at t) content-has.Post
 content-has-returns-3 t c =
-    let start = c .before .before .before .before .before .before .before .before in
-    let test = member (start .args .types .now) (start .args .base) in
-    let at = start .args .at in
-    let byte = sym (c .before .before .before .before .wide .ensures .0) ∙ c .before .before .before .match .keys3 in
-    has-type test _ _ (type-there standard _ _ (start .pre .1 .0) byte .0) byte
-    ∙ ap (λ (b : Bool). just (b upTo (at + 2))) (sym (c .has .ensures ∙ ap test (c .before .wide2 .ensures .0)))
+    let byte = sym (c .before .before .wide .ensures .0) ∙ c .before .match .keys3 in
+    rw (c .type-has .ensures) (has-type _ _ _ (type-there standard _ _ (c .before .before .before .before .before .before .pre .1 .0) byte .0) byte)
 
 content-has-returns-4 : (t : ℕ) → content-has-lts.Need-returns-4 (content-has-calls t) (content-has-at t) content-has.Post
 content-has-returns-4 t c =
@@ -220,7 +194,7 @@ content-has-returns-4 t c =
     let test = member (start .args .types .now) (start .args .base) in
     let byte = sym (c .before .before .before .before .wide .ensures .0) ∙ c .before .before .before .match .keys4 in
     has-sequence test s at _ _ _ (count-there standard _ _ (start .pre .1 .0) (omega arith) (omega arith))
-    (ap (hasRowAt test s (at + 2)) (sym (c .before .wide3 .ensures .0)) ∙ c .row-has .ensures) byte
+    (ap (hasRowAt test s (at + 2)) (sym (c .before .wide2 .ensures .0)) ∙ c .row-has .ensures) byte
 
 content-has-returns-5 : (t : ℕ) → content-has-lts.Need-returns-5 (content-has-calls t) (content-has-at t) content-has.Post
 content-has-returns-5 t c =
@@ -230,7 +204,7 @@ content-has-returns-5 t c =
     let test = member (start .args .types .now) (start .args .base) in
     let byte = sym (c .before .before .before .before .wide .ensures .0) ∙ c .before .before .before .match .keys5 in
     has-choice test s at _ _ _ (count-there standard _ _ (start .pre .1 .0) (omega arith) (omega arith))
-    (ap (hasRowAt test s (at + 2)) (sym (c .before .wide4 .ensures .0)) ∙ c .row-has2 .ensures) byte
+    (ap (hasRowAt test s (at + 2)) (sym (c .before .wide3 .ensures .0)) ∙ c .row-has2 .ensures) byte
 
 content-has-returns-6 : (t : ℕ) → content-has-lts.Need-returns-6 (content-has-calls t) (content-has-at t) content-has.Post
 content-has-returns-6 t c =
@@ -297,21 +271,17 @@ pub +content-has+row-has-spec : {M : Type 1} → statement M
     content-has.Post
     (content-has-shared-slice-read-wide t)
     (content-has-wide-requires t)
+    (content-has-add-t14 t)
     (content-has-add-t15 t)
-    (content-has-add-t16 t)
+    (content-has-type-has-requires t)
     (content-has-add-wide t)
     (content-has-shared-slice-read-wide-2 t)
     (content-has-wide-requires-2 t)
-    (content-has-has-requires t)
-    (content-has-add-t17 t)
+    (content-has-add-row-has t)
+    (content-has-row-has-requires t)
     (content-has-add-wide-2 t)
     (content-has-shared-slice-read-wide-3 t)
     (content-has-wide-requires-3 t)
-    (content-has-add-row-has t)
-    (content-has-row-has-requires t)
-    (content-has-add-wide-3 t)
-    (content-has-shared-slice-read-wide-4 t)
-    (content-has-wide-requires-4 t)
     (content-has-add-row-has-2 t)
     (content-has-row-has-requires-2 t)
     (content-has-add-content-has t)
