@@ -22,6 +22,7 @@ use Rattle.theory.proofs.PathLaws.{path-refl, path-sym, path-trans}
 use Rattle.sampling.specs.SampleNodes.{Whole, TypedTo, KeyAt, KeysAt, aboveIn, nameIn, sameKey, nameAt, pathAt, parentAt, typeAt, aboveAt, sameAt, sameNameIn, LabelledTo}
 use Rattle.sampling.proofs.NumberingLaws.{place-agree, number-stays, one-more}
 use Rattle.sampling.proofs.SampleByNodes.{below-path, same-path, type-place}
+-- passed on to crates above
 pub use borrow.Author.Count.{below-more as up-to}
 
 pub record Typing (ns : List Node) (d : Tree) (types aboves firsts : List ℕ) (count i : ℕ) : Type 0 where
@@ -102,10 +103,7 @@ module _ {s names sizes parents : List ℕ} {n : ℕ} (q : Whole s names sizes p
     firsts-below u k =
         let f = t .typed .few in
         let g = q .few in
-        let l = length-take-le count firsts (omega arith) in
-        let at = at-or-else (take count firsts) u 0 (omega arith) in
-        let m =
-        subst (λ (x : ℕ). List·Memᴰ x (take count firsts)) (getD-take count firsts u 0 k) (at-mem (take count firsts) u at) in
+        let m = taken-mem firsts u count k (omega arith) in
         numbers-below i (getD firsts u 0) .0
         (distinct-was (sameAt ns d) (numbersBelow i) (subst (List·Memᴰ (getD firsts u 0)) (t .typed .firsts-are) m))
 

@@ -53,6 +53,7 @@ use Rattle.grammar.specs.Lists.{
   numbersFrom,
   numbersBelow,
 }
+use Rattle.grammar.specs.ReadTable.{isEmpty}
 use Rattle.theory.proofs.BoolLaws.{
   and-left,
   and-right,
@@ -194,6 +195,15 @@ module _ {A : Type 0} where
   distinct-mem same decides {x} m =
       let r = distinct-has same (λ y. decides y y .1 refl) (decided-trans same decides) m in
       Memᴰ·cast (sym (decides (r .0) x .0 (r .2))) (r .1)
+
+  -- a list that is not empty has an element
+  pub some-mem : (xs : List A) → not (isEmpty xs) ≡ true → (x : A) × List·Memᴰ x xs
+  some-mem [] e = absurd (false≢true e)
+  some-mem (x ∷ xs) e = (x, List·Memᴰ·head refl)
+
+  pub mem-some : {x : A} {xs : List A} → List·Memᴰ x xs → not (isEmpty xs) ≡ true
+  mem-some (List·Memᴰ·head e) = refl
+  mem-some (List·Memᴰ·tail m) = refl
 
   -- positions
   pub at-mem : (xs : List A) (i : ℕ) {x : A} → getElem? xs i ≡ just x → List·Memᴰ x xs
