@@ -33,9 +33,8 @@ use Rattle.theory.proofs.ListLaws.{
   numbers-below,
   some-mem,
   mem-some,
-  place-of,
 }
-use Rattle.theory.proofs.PlaceLaws.{place-image}
+use Rattle.theory.proofs.PlaceLaws.{place-of, place-image}
 use Rattle.theory.proofs.Alternatives.{alts, written, resultsOf}
 use Rattle.theory.proofs.EmittedRule.{pairContents, pairsStanding, local-content}
 use Rattle.theory.proofs.UsedLabelsDocuments.{used-differ}

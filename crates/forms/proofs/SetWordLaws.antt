@@ -19,8 +19,8 @@ use Rattle.grammar.specs.Lists.{any, keep, distinct, place, isIn, sameNumbers, 
 use Rattle.grammar.specs.ReadTable.{isEmpty}
 use Rattle.grammar.specs.SingleTypeForm.{TypeSet}
 use Rattle.theory.proofs.BoolLaws.{false-of}
-use Rattle.theory.proofs.ListLaws.{at-below, below-at, at-joined, at-mem, just-eq, same-numbers, same-numbers-refl, numbers-decide, keep-yes, decided-sym, mem-some, in-mem, place-found}
-use Rattle.theory.proofs.PlaceLaws.{place-some}
+use Rattle.theory.proofs.ListLaws.{at-below, below-at, at-joined, at-mem, just-eq, same-numbers, same-numbers-refl, numbers-decide, keep-yes, decided-sym, mem-some, in-mem}
+use Rattle.theory.proofs.PlaceLaws.{place-found, place-some}
 use Rattle.theory.proofs.DistinctLaws.{one-more-new, one-more-old}
 use Rattle.sets.specs.Sets.{member, storeAt, Empties}
 use Rattle.sets.proofs.SetLaws.{words-store, store-before, length-store}

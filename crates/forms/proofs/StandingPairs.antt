@@ -39,9 +39,9 @@ use Rattle.theory.proofs.ListLaws.{
   numbers-below,
   keep-on,
   joined-on,
-  place-found,
 }
 use Rattle.theory.proofs.Reached.{start-reached}
+use Rattle.theory.proofs.PlaceLaws.{place-found}
 use Rattle.theory.proofs.DistinctLaws.{keep-within}
 use Rattle.theory.proofs.KindTests.{same-pair-sym}
 use Rattle.theory.proofs.NormaliseDocuments.{pair-refl, pair-same, same-pair, pairs-of}

@@ -15,7 +15,8 @@ use Rattle.grammar.specs.Table.{Rule, Table}
 use Rattle.grammar.specs.KindTests.{samePair}
 use Rattle.grammar.specs.Unite.{shifted}
 use Rattle.grammar.specs.Normalise.{pairOf}
-use Rattle.theory.proofs.ListLaws.{any-of, at-mem, mem-at, at-below, below-at, place-found}
+use Rattle.theory.proofs.ListLaws.{any-of, at-mem, mem-at, at-below, below-at}
+use Rattle.theory.proofs.PlaceLaws.{place-found}
 use Rattle.theory.proofs.NormaliseDocuments.{pair-refl}
 use Rattle.theory.proofs.Alternatives.{hasAlts, has-renamed}
 use Rattle.sets.specs.Sets.{bitOf, member}

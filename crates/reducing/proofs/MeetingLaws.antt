@@ -22,7 +22,8 @@ use Rattle.grammar.specs.KindTests.{samePair}
 use Rattle.grammar.specs.Unite.{shifted}
 use Rattle.grammar.specs.Normalise.{pairOf}
 use Rattle.theory.proofs.BoolLaws.{and-left, and-right}
-use Rattle.theory.proofs.ListLaws.{kept, keep-mem, joined-from, joined-mem, numbers-below, at-mem, mem-at, at-below, at-else, at-or-else, any-of, eqb-decides, keep-on, taken-mem, eqb-sym, decided-trans, joined-next, place-found}
+use Rattle.theory.proofs.ListLaws.{kept, keep-mem, joined-from, joined-mem, numbers-below, at-mem, mem-at, at-below, at-else, at-or-else, any-of, eqb-decides, keep-on, taken-mem, eqb-sym, decided-trans, joined-next}
+use Rattle.theory.proofs.PlaceLaws.{place-found}
 use Rattle.theory.proofs.DistinctLaws.{among-distinct}
 use Rattle.theory.proofs.NormaliseDocuments.{pair-refl}
 use Rattle.theory.proofs.Alternatives.{hasAlts, allHaveAlts, oneHasAlts, someLeft, onlyIf, pairsMet, pairsMetAll, pairs-renamed}

@@ -28,9 +28,9 @@ use Rattle.theory.proofs.ListLaws.{
   numbers-length,
   keep-differ,
   keep-shorter,
-  place-of,
   eqb-decides,
 }
+use Rattle.theory.proofs.PlaceLaws.{place-of}
 use Rattle.theory.proofs.ReducedTable.{ReducedTable}
 use Rattle.theory.proofs.LocalMerge.{local-form-names, local-form-labelled, merged, merged-at}
 use Rattle.theory.proofs.SetsClosed.{starts-first}

@@ -3,7 +3,6 @@
 --     kept, keep-mem, keep-on, keep-both                      what is kept
 --     distinct-was, distinct-has, distinct-mem                the distinct elements
 --     at-mem, mem-at, at-below, below-at, at-joined, at-else  what stands at a place
---     place-found, place-of, place-same, same-place           what stands at the place of an element; PlaceLaws has more
 --     differ-at, all-differ, distinct-new, distinct-end       lists of which all elements are distinct
 --     joined-from, joined-mem, joined-append, joined-on       lists of lists, joined
 --     map-on, map-at, at-map                                  images
@@ -48,7 +47,6 @@ use Rattle.grammar.specs.Lists.{
   keep,
   distinct,
   allDistinct,
-  place,
   joinedOf,
   isIn,
   sameNumbers,
@@ -67,7 +65,6 @@ use Rattle.theory.proofs.BoolLaws.{
   passes-or-fails,
   false-of,
   or-false,
-  same-test,
 }
 
 module _ {A : Type 0} where
@@ -244,51 +241,6 @@ module _ {A : Type 0} where
 
   first-differs : (same : A → A → Bool) (z : A) (zs : List A) {y : A} → not (any (same z) zs) ≡ true → List·Memᴰ y zs → same z y ≡ true → ⊥
   first-differs same z zs n m e = not-both (any-of (same z) m e) (not-true (any (same z) zs) n)
-
-  -- the place of an element that is found
-  pub place-found : (same : A → A → Bool) (x : A) (xs : List A) → any (same x) xs ≡ true
-      → (y : A) × (getElem? xs (place same x xs) ≡ just y) × (same x y ≡ true)
-  unfolding any place
-  place-found same x [] e = absurd (false≢true e)
-  place-found same x (y ∷ ys) e = go (same x y) refl (λ h. place-found same x ys h)
-    where
-      go : (b : Bool) → same x y ≡ b
-          → (any (same x) ys ≡ true → (z : A) × (getElem? ys (place same x ys) ≡ just z) × (same x z ≡ true))
-          → (z : A) × (getElem? (y ∷ ys) (place same x (y ∷ ys)) ≡ just z) × (same x z ≡ true)
-      go true q ih = (y, rw (q, place), q)
-      go false q ih =
-          let r = ih (rw q at e) in
-          (r .0, rw (q, place) (r .1), r .2)
-
-  -- of a test that decides equality: an element that is listed stands at its place
-  pub place-of : (same : A → A → Bool) → ((x y : A) → (same x y ≡ true) ↔ (x ≡ y)) → {x : A} {xs : List A} → List·Memᴰ x xs
-      → getElem? xs (place same x xs) ≡ just x
-  place-of same decides {x} {xs} m =
-      let (y, at, e) = place-found same x xs (any-of (same x) m (decides x x .1 refl)) in
-      at ∙ ap {B = Option A} just (sym (decides x y .0 e))
-
-  -- elements that are the same have one place, and elements found at one place are the same
-  module _ (same : A → A → Bool) (same-sym : (x y : A) → same x y ≡ true → same y x ≡ true)
-      (same-trans : (x y z : A) → same x y ≡ true → same y z ≡ true → same x z ≡ true) where
-    pub place-same : (x y : A) → same x y ≡ true → (xs : List A) → place same x xs ≡ place same y xs
-    unfolding place
-    place-same x y e [] = refl
-    place-same x y e (z ∷ zs) = go (same y z) refl (place-same x y e zs)
-      where
-        alike : same x z ≡ same y z
-        alike = same-test (same x z) (same y z) (same-trans y x z (same-sym x y e), same-trans x y z e)
-
-        go : (b : Bool) → same y z ≡ b → place same x zs ≡ place same y zs → place same x (z ∷ zs) ≡ place same y (z ∷ zs)
-        go true q ih = rw (alike ∙ q, q, place)
-        go false q ih = rw (alike ∙ q, q, place) (ap suc ih)
-
-    pub same-place : (x y : A) (xs : List A) → any (same x) xs ≡ true → any (same y) xs ≡ true → place same x xs ≡ place same y xs
-        → same x y ≡ true
-    same-place x y xs p q e =
-        let (u, at, xu) = place-found same x xs p in
-        let (v, bt, yv) = place-found same y xs q in
-        let w : u ≡ v = just-eq (sym bt ∙ subst (λ (i : ℕ). getElem? xs i ≡ just u) e at) in
-        same-trans x v y (subst (λ (z : A). same x z ≡ true) w xu) (same-sym y v yv)
 
   -- no two elements are the same, by positions
   module _ (same : A → A → Bool) (same-sym : (x y : A) → same x y ≡ true → same y x ≡ true) where

@@ -33,9 +33,9 @@ use Rattle.theory.proofs.ListLaws.{
   one-place,
   related-map,
   related-turn,
-  place-of,
   eqb-decides,
 }
+use Rattle.theory.proofs.PlaceLaws.{place-of}
 use Rattle.theory.proofs.WordLaws.{merge-words}
 use Rattle.theory.proofs.Merge.{Forth, Back, StartType, accepted-let-in}
 use Rattle.theory.proofs.LeastMerge.{StartMember}

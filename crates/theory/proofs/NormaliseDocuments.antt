@@ -47,10 +47,9 @@ use Rattle.theory.proofs.ListLaws.{
   distinct-has,
   joined-from,
   joined-mem,
-  place-same,
-  same-place,
   related-turn,
 }
+use Rattle.theory.proofs.PlaceLaws.{place-same, same-place}
 use Rattle.theory.proofs.WordLaws.{choice-words, Spells, spells-none, spells-next, replace-words}
 use Rattle.theory.proofs.TableConditions.{Labelled, HasRule, AllRuled, OneRuleEach}
 use Rattle.theory.proofs.NoTwo.{no-two-map, no-two-weaken, no-two-distinct}

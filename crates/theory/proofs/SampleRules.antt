@@ -40,12 +40,10 @@ use Rattle.theory.proofs.ListLaws.{
   keep-mem,
   distinct-was,
   distinct-has,
-  place-found,
   at-below,
-  place-same,
-  same-place,
   distinct-mem,
 }
+use Rattle.theory.proofs.PlaceLaws.{place-found, place-same, same-place}
 use Rattle.theory.proofs.NameLaws.{name-refl, name-sym, name-trans}
 use Rattle.theory.proofs.PathLaws.{SamePath, path-refl, path-sym, path-trans, path-parts}
 use Rattle.theory.proofs.WordLaws.{choice-words}

@@ -26,7 +26,6 @@ use Rattle.grammar.specs.Widen.{ofSize, sampleTable}
 use Rattle.theory.proofs.ListLaws.{
   any-of,
   distinct-was,
-  place-found,
   at-mem,
   at-below,
   below-at,
@@ -35,6 +34,7 @@ use Rattle.theory.proofs.ListLaws.{
   distinct-map,
   keep-all,
 }
+use Rattle.theory.proofs.PlaceLaws.{place-found}
 use Rattle.theory.proofs.NameLaws.{name-refl}
 use Rattle.theory.proofs.OutcomeLaws.{had-no-fault, given-eq}
 use Rattle.theory.proofs.UsedLabelsDocuments.{used-labels-count}

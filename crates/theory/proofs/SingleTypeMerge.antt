@@ -45,9 +45,9 @@ use Rattle.theory.proofs.ListLaws.{
   at-front,
   related-map,
   related-turn,
-  place-of,
   numbers-decide,
 }
+use Rattle.theory.proofs.PlaceLaws.{place-of}
 use Rattle.theory.proofs.NameLaws.{name-refl}
 use Rattle.theory.proofs.WordLaws.{merge-words}
 use Rattle.theory.proofs.Standing.{word-stands, merge-type}

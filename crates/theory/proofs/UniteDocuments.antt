@@ -39,7 +39,6 @@ use Rattle.theory.proofs.ListLaws.{
   any-found,
   keep-mem,
   kept,
-  place-found,
   at-mem,
   at-below,
   below-at,
@@ -49,6 +48,7 @@ use Rattle.theory.proofs.ListLaws.{
   related-map,
   related-turn,
 }
+use Rattle.theory.proofs.PlaceLaws.{place-found}
 use Rattle.theory.proofs.NameLaws.{name-refl, name-sym}
 use Rattle.theory.proofs.WordLaws.{rename-words}
 use Rattle.theory.proofs.Standing.{word-stands}

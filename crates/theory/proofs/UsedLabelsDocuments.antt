@@ -37,9 +37,9 @@ use Rattle.theory.proofs.ListLaws.{
   at-or-else,
   map-at,
   related-map,
-  place-of,
   eqb-decides,
 }
+use Rattle.theory.proofs.PlaceLaws.{place-of}
 use Rattle.theory.proofs.SameRules.{SameRules, same-documents, same-local, same-single-type, same-one-rule, same-labelled}
 use Rattle.theory.proofs.TableConditions.{Labelled, OneRuleEach}
 use Rattle.theory.proofs.NoTwo.{no-two-map}
