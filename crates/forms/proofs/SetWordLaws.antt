@@ -24,7 +24,7 @@ use Rattle.theory.proofs.PlaceLaws.{place-found, place-some}
 use Rattle.theory.proofs.DistinctLaws.{one-more-new, one-more-old}
 use Rattle.sets.specs.Sets.{member, storeAt, Empties}
 use Rattle.sets.proofs.SetLaws.{words-store, store-before, length-store}
-use Rattle.pairs.proofs.UnitedLabelsLaws.{place-first, place-nowhere}
+use Rattle.reader.proofs.LabelSearch.{place-first, place-nowhere}
 use Rattle.forms.specs.declared.set_words.Counted.the-variants.{TooMany, Count}
 use Rattle.forms.specs.SetWords.{setIn, Ascending, SetsHeld, SetsCounted}
 use Rattle.forms.specs.Worklist.{Few}

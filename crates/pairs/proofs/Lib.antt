@@ -1,6 +1,7 @@
 pub mod ContentAtLaws
 pub mod ProductiveLaws
 pub mod OnceLaws
+pub mod SeenLaws
 pub mod MetLaws
 pub mod PutsLaws
 pub mod ViewLaws

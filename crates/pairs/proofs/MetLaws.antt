@@ -18,6 +18,8 @@ use Rattle.grammar.specs.ReadContent.{operators}
 use Rattle.theory.proofs.ListLaws.{eqb-decides}
 use Rattle.theory.proofs.Alternatives.{hasAlts, allHaveAlts, oneHasAlts, someLeft, onlyIf, pairsMet, pairsMetAll}
 use Rattle.theory.proofs.DistinctLaws.{distinct-left}
+use Rattle.sets.specs.Sets.{member, putAt}
+use Rattle.sets.specs.declared.four.Set4.{Set4}
 use Rattle.reader.specs.ExprAt.{_upTo_, placed, exprAt, exprsAt}
 use Rattle.reader.proofs.ExprLaws.{
   placed-from,
@@ -39,10 +41,11 @@ use Rattle.reader.proofs.ExprLaws.{
 use Rattle.pairs.specs.declared.met.MetOne.{MetOne}
 use Rattle.pairs.specs.declared.met.MetRow.{MetRow}
 use Rattle.pairs.specs.ContentAt.{ContentsAt}
-use Rattle.pairs.specs.Walks.{listOf, Listed, Once, Adds, metAt, metRowAt, MetAsks, MetRowAsks, MetFinds, MetRowFinds}
+use Rattle.pairs.specs.Walks.{listOf, Listed, Once, Adds, Seen, TypeMet, metAt, metRowAt, MetAsks, MetRowAsks, MetFinds, MetRowFinds}
 use Rattle.pairs.proofs.ContentAtLaws.{placed-of, content-inside, type-there, count-there, operands-there, first-there, others-there}
 use Rattle.pairs.proofs.ProductiveLaws.{placed-through}
-use Rattle.pairs.proofs.OnceLaws.{adds-once, front-kept, part-below}
+use Rattle.pairs.proofs.OnceLaws.{adds-once, adds-same, front-kept, part-below}
+use Rattle.pairs.proofs.SeenLaws.{seen-again, seen-put}
 
 module _ (left : ℕ → List ℕ) (numbers s : List ℕ) (at : ℕ) where
   -- of a content, and of contents
@@ -218,6 +221,27 @@ unfolding listOf
 listed-below types bound from pairs h k p m =
     part-below pairs bound (h .below) (getD from k 0) (getD from (k + 1) 0 - getD from k 0) p m
 
+-- the numbers of a type: those of one that was seen are there already
+module _ (from pairs list : List ℕ) (count k first end next : ℕ) (seen : Set4) (small : k < 64) (lists : Listed 64 128 from pairs)
+    (once : Once 128 list count) (known : Seen (seen .words) (listOf from pairs) (take count list)) (f : first ≡ getD from k 0)
+    (g : end ≡ getD from (k + 1) 0) where
+  some-there : ltb first end ≡ someLeft (listOf from pairs) k
+  some-there = ap₂ ltb f g ∙ some-listed from pairs k (lists .order k small) (lists .inside k small)
+
+  pub type-again : member (seen .words) 0 k ≡ true
+      → TypeMet (listOf from pairs) (take count list) k next list
+      (record { has = ltb first end; count = count; next = next; seen = seen })
+  type-again e = record { has = some-there; adds = seen-again once known k e; next = refl; known = known }
+
+  pub type-new : (list′ : List ℕ) (more : ℕ) (after : Set4)
+      → Adds (take count list) (take (end - first) (drop first pairs)) list′ more
+      → after .words ≡ putAt (seen .words) 0 k
+      → TypeMet (listOf from pairs) (take count list) k next list′
+      (record { has = ltb first end; count = more; next = next; seen = after })
+  type-new list′ more after a put =
+      let adds = adds-same (listed-part from pairs k first end f g) a in
+      record { has = some-there; adds = adds; next = refl; known = seen-put known k (omega arith) put adds }
+
 -- what holds of all pairs of types holds of those met
 module _ (left : ℕ → List ℕ) (P : ℕ → Type 0) (each : (k p : ℕ) → List·Memᴰ p (left k) → P p) where
   only : (b : Bool) (xs : List ℕ) (p : ℕ) → ((q : ℕ) → List·Memᴰ q xs → P q) → List·Memᴰ p (onlyIf b xs) → P p
@@ -282,38 +306,43 @@ module _ (s : List ℕ) (at : ℕ) (from pairs list : List ℕ) (count : ℕ) wh
   abbrev numbers : List ℕ
   numbers = take count list
 
-  pub none-finds : MetAsks s at from pairs list count → getD s at 0 ≡ 0
-      → MetFinds (listOf from pairs) (take count list) s at list (record { has = false; count = count; next = at + 1 })
-  none-finds a e =
-      record { found = met-none left numbers s at (a .once .once) (content-inside standard s at (a .there) .0) e; held = a .once .held }
+  pub none-finds : (seen : Set4) → MetAsks s at from pairs list count → Seen (seen .words) left numbers → getD s at 0 ≡ 0
+      → MetFinds (listOf from pairs) (take count list) s at list (record { has = false; count = count; next = at + 1; seen = seen })
+  none-finds seen a k e =
+      record {
+        found = met-none left numbers s at (a .once .once) (content-inside standard s at (a .there) .0) e;
+        held = a .once .held;
+        known = k;
+      }
 
-  pub empty-finds : MetAsks s at from pairs list count → getD s at 0 ≡ 1
-      → MetFinds (listOf from pairs) (take count list) s at list (record { has = true; count = count; next = at + 1 })
-  empty-finds a e =
-      record { found = met-empty left numbers s at (a .once .once) (content-inside standard s at (a .there) .0) e; held = a .once .held }
+  pub empty-finds : (seen : Set4) → MetAsks s at from pairs list count → Seen (seen .words) left numbers → getD s at 0 ≡ 1
+      → MetFinds (listOf from pairs) (take count list) s at list (record { has = true; count = count; next = at + 1; seen = seen })
+  empty-finds seen a k e =
+      record {
+        found = met-empty left numbers s at (a .once .once) (content-inside standard s at (a .there) .0) e;
+        held = a .once .held;
+        known = k;
+      }
 
-  pub type-finds : (list′ : List ℕ) (more first end k : ℕ) → MetAsks s at from pairs list count → getD s at 0 ≡ 2
+  pub type-finds : (list′ : List ℕ) (r : MetOne) (k : ℕ) → MetAsks s at from pairs list count → getD s at 0 ≡ 2
       → k ≡ getD s (at + 1) 0
-      → first ≡ getD from k 0
-      → end ≡ getD from (k + 1) 0
-      → Adds (take count list) (take (end - first) (drop first pairs)) list′ more
-      → MetFinds (listOf from pairs) (take count list) s at list′ (record { has = ltb first end; count = more; next = at + 2 })
-  unfolding standard
-  type-finds list′ more first end k a e t f g adds =
-      let there = type-there standard s at (a .there) e in
-      let small : k < 64 = subst (λ (n : ℕ). n < 64) (sym t) (there .1) in
+      → TypeMet (listOf from pairs) (take count list) k (at + 2) list′ r
+      → MetFinds (listOf from pairs) (take count list) s at list′ r
+  type-finds list′ r k a e t m =
       record {
         found =
-            met-type left numbers s at (ltb first end) (take more list′) (there .0) e
-            (ap₂ ltb f g ∙ some-listed from pairs k (a .lists .order k small) (a .lists .inside k small) ∙ ap (someLeft left) t)
-            (adds .all ∙ ap (λ (l : List ℕ). distinct eqb (numbers ++ l)) (listed-part from pairs k first end f g ∙ ap left t));
-        held = adds .held;
+            met-type left numbers s at (r .has) (take (r .count) list′) (type-there standard s at (a .there) e .0) e
+            (m .has ∙ ap (someLeft left) t)
+            (m .adds .all ∙ ap (λ (j : ℕ). distinct eqb (numbers ++ left j)) t)
+            ∙ ap (λ (n : ℕ). just ((r .has, take (r .count) list′) upTo n)) (sym (m .next));
+        held = m .adds .held;
+        known = m .known;
       }
 
   module _ (list′ : List ℕ) (r : MetRow) (n : ℕ) (a : MetAsks s at from pairs list count) (counts : n ≡ getD s (at + 1) 0)
       (row : MetRowFinds (listOf from pairs) (take count list) s (at + 2) n list′ r) where
     pub sequence-finds : getD s at 0 ≡ 3 → r .all ≡ true
-        → MetFinds (listOf from pairs) (take count list) s at list′ (record { has = true; count = r .count; next = r .next })
+        → MetFinds (listOf from pairs) (take count list) s at list′ (record { has = true; count = r .count; next = r .next; seen = r .seen })
     sequence-finds e all =
         record {
           found =
@@ -324,11 +353,14 @@ module _ (s : List ℕ) (at : ℕ) (from pairs list : List ℕ) (count : ℕ) wh
               ∙ ap (λ (b : Bool). just ((b, r .one, take (r .count) list′) upTo (r .next))) all)
               e;
           held = row .held;
+          known = row .known;
         }
 
-    pub sequence-finds-none : getD s at 0 ≡ 3 → r .all ≡ false → length list′ ≡ length list
-        → MetFinds (listOf from pairs) (take count list) s at list′ (record { has = false; count = count; next = r .next })
-    sequence-finds-none e all same =
+    pub sequence-finds-none : (seen : Set4) → Seen (seen .words) left numbers → getD s at 0 ≡ 3 → r .all ≡ false
+        → length list′ ≡ length list
+        → MetFinds (listOf from pairs) (take count list) s at list′
+        (record { has = false; count = count; next = r .next; seen = seen })
+    sequence-finds-none seen known e all same =
         let there = operands-there standard s at (a .there) (omega arith) (omega arith) in
         let stand = ap (exprsAt s (at + 2)) counts ∙ there .stand in
         let adds = row-finds-adds left numbers s (at + 2) n list′ r (there .contents) (there .next) stand row in
@@ -343,10 +375,11 @@ module _ (s : List ℕ) (at : ℕ) (from pairs list : List ℕ) (count : ℕ) wh
               e
               ∙ ap (λ (l : List ℕ). just ((false, l) upTo (r .next))) (sym kept);
           held = subst (λ (m : ℕ). count ≤ m) (sym same) (a .once .held);
+          known = subst (λ (l : List ℕ). Seen (seen .words) left l) (sym kept) known;
         }
 
     pub choice-finds : getD s at 0 ≡ 4
-        → MetFinds (listOf from pairs) (take count list) s at list′ (record { has = r .one; count = r .count; next = r .next })
+        → MetFinds (listOf from pairs) (take count list) s at list′ (record { has = r .one; count = r .count; next = r .next; seen = r .seen })
     choice-finds e =
         record {
           found =
@@ -356,6 +389,7 @@ module _ (s : List ℕ) (at : ℕ) (from pairs list : List ℕ) (count : ℕ) wh
               (ap (metRowAt left numbers s (at + 2)) (sym counts) ∙ row .found)
               e;
           held = row .held;
+          known = row .known;
         }
 
   module _ (list′ : List ℕ) (r : MetOne) (a : MetAsks s at from pairs list count)
@@ -367,24 +401,28 @@ module _ (s : List ℕ) (at : ℕ) (from pairs list : List ℕ) (count : ℕ) wh
               met-one-or-more left numbers s at (r .has) (take (r .count) list′) (r .next) (content-inside standard s at (a .there) .0)
               (operand .found) e;
           held = operand .held;
+          known = operand .known;
         }
 
     pub around-finds : 5 ≤ getD s at 0 → (getD s at 0 ≡ 6 → ⊥)
-        → MetFinds (listOf from pairs) (take count list) s at list′ (record { has = true; count = r .count; next = r .next })
+        → MetFinds (listOf from pairs) (take count list) s at list′ (record { has = true; count = r .count; next = r .next; seen = r .seen })
     around-finds low other =
         let i = content-inside standard s at (a .there) in
         record {
           found =
               met-around left numbers s at (r .has) (take (r .count) list′) (r .next) (i .0) (operand .found) low (i .1) other;
           held = operand .held;
+          known = operand .known;
         }
 
-  pub no-row-finds : (n : ℕ) → MetRowAsks s at n from pairs list count → n ≡ 0
-      → MetRowFinds (listOf from pairs) (take count list) s at n list (record { all = true; one = false; count = count; next = at })
-  no-row-finds n a e =
+  pub no-row-finds : (n : ℕ) (seen : Set4) → MetRowAsks s at n from pairs list count → Seen (seen .words) left numbers → n ≡ 0
+      → MetRowFinds (listOf from pairs) (take count list) s at n list
+      (record { all = true; one = false; count = count; next = at; seen = seen })
+  no-row-finds n seen a k e =
       record {
         found = ap (metRowAt left numbers s at) e ∙ row-none left numbers s at (a .once .once);
         held = a .once .held;
+        known = k;
       }
 
   pub row-finds : (n : ℕ) (list′ list″ : List ℕ) (first : MetOne) (others : MetRow) (all one : Bool) → (n ≡ 0 → ⊥)
@@ -393,13 +431,14 @@ module _ (s : List ℕ) (at : ℕ) (from pairs list : List ℕ) (count : ℕ) wh
       → all ≡ (first .has && others .all)
       → one ≡ (first .has || others .one)
       → MetRowFinds (listOf from pairs) (take count list) s at n list″
-      (record { all = all; one = one; count = others .count; next = others .next })
+      (record { all = all; one = one; count = others .count; next = others .next; seen = others .seen })
   row-finds n list′ list″ first others all one some f o p q =
       record {
         found =
             row-next left numbers s at n (first .has) (take (first .count) list′) (first .next) (others .all) (others .one) all one
             (take (others .count) list″) (others .next) some (f .found) (o .found) p q;
         held = o .held;
+        known = o .known;
       }
 
   -- what the calls for the first of a row and for the others ask

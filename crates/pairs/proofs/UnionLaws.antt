@@ -28,12 +28,12 @@ use Rattle.reader.specs.declared.tables.TableIndex.{TableIndex}
 use Rattle.reader.specs.ExprAt.{_upTo_}
 use Rattle.reader.specs.TableIndex.{part, Stands, Indexes, ruleType, ruleLabel, contentFrom, contentTo}
 use Rattle.reader.proofs.ExprLaws.{expr-of}
+use Rattle.reader.proofs.LabelSearch.{place-first, place-nowhere, index-names}
 use Rattle.reader.proofs.TableIndexLaws.{at-end, rule-at}
 use Rattle.pairs.specs.declared.labels.Names.{Names}
 use Rattle.pairs.specs.declared.union.United.{United}
 use Rattle.pairs.specs.UnitedLabels.{NamesAt, newNames, unitedNames}
 use Rattle.pairs.specs.View.{SourceContent, typeIn, labelIn, RuleSeen, Views, rulesOnly, NextRule, TableHeld, AddingTo}
-use Rattle.pairs.proofs.UnitedLabelsLaws.{place-first, place-nowhere}
 
 -- the place of a pair
 module _ {old add : List ℕ} {v : United} {rs : List Rule} (w : Views old add v (rulesOnly rs)) {kind label : ℕ} (x : Rule)
@@ -257,7 +257,7 @@ pub new-label-below : {old add : List ℕ} {olds adds fresh : Names} {index : Ta
 new-label-below {old} {add} {olds} {adds} {fresh} {index} {g} {h} a i below l e =
     let r = rule-at (a .addition .indexes) i below in
     let b = a .addition .within .each-rule (r .0) (at-mem (h .rules) i (r .1)) .label in
-    let c = a .added-names .count in
+    let c = a .added-names .at .count in
     let d = r .2 .label in
     omega arith
 
@@ -307,13 +307,12 @@ pub union-starts : (g h : Table) → rulesOnly (g .rules) .rules ≡ rulesOnly (
 union-starts g h = sym (append-nil (g .rules))
 
 -- labels of an index
-pub index-names : {s : List ℕ} {index : TableIndex} {g : Table} → Indexes s index g
+pub label-names : {s : List ℕ} {index : TableIndex} {g : Table} → Indexes s index g
     → NamesAt s (record { from = index .«label_from»; to = index .«label_to»; count = index .labels }) (g .labels)
-index-names x =
+label-names x =
     record {
-      count = x .labels;
+      at = index-names x;
       few = x .few-labels;
-      name = x .label;
       from-room = x .rooms .label-from;
       to-room = x .rooms .label-to;
     }

@@ -1,6 +1,6 @@
--- Finding names by where they stand (`place-here`, `place-nowhere`), adding one (`names-more`), and the place of a name among the
--- names of the union (`place-old`, `place-new`).
-use Prim.Native.Nat.{ℕ, zero, suc, _+_, _≤_, _<_}
+-- Names by where they stand: adding one (`names-more`), and the number of a label of the addition among the names of the union
+-- (`label-old`, `label-new`).
+use Prim.Native.Nat.{ℕ, suc, _+_, _≤_, _<_}
 use native.Mathlib.Omega.{arith}
 use native.Mathlib.Numerals.{add-one}
 use mathlib.Core.Bool.{Bool, true, false, not}
@@ -14,33 +14,17 @@ use lib.Dec.{leb}
 use borrow.Author.Tests.{leb-true, leb-false}
 use Rattle.grammar.specs.Lists.{any, keep, place}
 use Rattle.grammar.specs.Names.{Name, sameName}
-use Rattle.theory.proofs.ListLaws.{at-else, at-below, below-at, just-eq, keep-yes, keep-no}
+use Rattle.theory.proofs.ListLaws.{at-else, at-below, keep-yes, keep-no}
 use Rattle.theory.proofs.PlaceLaws.{place-most, place-some, place-none, place-front}
 use Rattle.theory.proofs.DistinctLaws.{keep-append}
 use Rattle.reader.specs.TableIndex.{part, Stands}
 use Rattle.reader.proofs.TableIndexLaws.{at-end}
+use Rattle.reader.proofs.LabelSearch.{name-at}
 use Rattle.pairs.specs.declared.labels.Names.{Names}
 use Rattle.pairs.specs.UnitedLabels.{NamesAt, namesIf, newNames, unitedNames}
 
--- places
+-- the place in joined lists
 module _ {A : Type 0} (same : A → A → Bool) (x : A) where
-  pub place-first : (xs : List A) (i : ℕ) {y : A} → getElem? xs i ≡ just y → same x y ≡ true
-      → ((j : ℕ) (z : A) → j < i → getElem? xs j ≡ just z → same x z ≡ false)
-      → place same x xs ≡ i
-  unfolding place
-  place-first [] i e t h = let z : _≡_ {A = ℕ} 0 1 = cc in absurd (omega arith)
-  place-first (y ∷ ys) zero e t h = rw (ap (same x) (sym (just-eq e)) ∙ t, place)
-  place-first (y ∷ ys) (suc i) e t h =
-      let f = h zero y (omega arith) refl in
-      rw (f, place) (ap suc (place-first ys i e t (λ j z k p. h (suc j) z (omega arith) p)))
-
-  pub place-nowhere : (xs : List A) → ((j : ℕ) (z : A) → getElem? xs j ≡ just z → same x z ≡ false) → place same x xs ≡ length xs
-  unfolding place
-  place-nowhere [] h = refl
-  place-nowhere (y ∷ ys) h =
-      let f = h zero y refl in
-      rw (f, place) (ap suc (place-nowhere ys (λ j z p. h (suc j) z p)))
-
   pub place-back : (xs ys : List A) → length xs ≤ place same x xs → place same x (xs ++ ys) ≡ length xs + place same x ys
   unfolding place
   place-back [] ys h = omega arith
@@ -55,36 +39,8 @@ module _ {A : Type 0} (same : A → A → Bool) (x : A) where
           let r = ih (omega arith) in
           omega arith
 
--- names by where they stand
+-- one name more
 module _ {s : List ℕ} {names : Names} {list : List Name} (x : NamesAt s names list) where
-  pub name-at : (i : ℕ) → i < names .count
-      → (n : Name) × (getElem? list i ≡ just n) × Stands s (getD (names .from) i 0) (getD (names .to) i 0) n
-  name-at i h =
-      let p = below-at list i (omega (arith, x .count)) in
-      (p .0, p .1, x .name i (p .0) (p .1))
-
-  pub found-here : (name : Name) (i : ℕ) → i < names .count
-      → ((j : ℕ) → j < i → sameName name (part s (getD (names .from) j 0) (getD (names .to) j 0)) ≡ false)
-      → sameName name (part s (getD (names .from) i 0) (getD (names .to) i 0)) ≡ true
-      → i ≡ place sameName name list
-  found-here name i h before e =
-      let p = name-at i h in
-      sym
-      (place-first sameName name list i (p .1) (ap (sameName name) (sym (p .2 .bytes-are)) ∙ e)
-      (λ j z k q. ap (sameName name) (sym (x .name j z q .bytes-are)) ∙ before j k))
-
-  pub found-nowhere : (name : Name)
-      → ((j : ℕ) → j < names .count → sameName name (part s (getD (names .from) j 0) (getD (names .to) j 0)) ≡ false)
-      → names .count ≡ place sameName name list
-  found-nowhere name before =
-      x .count
-      ∙ sym
-      (place-nowhere sameName name list
-      (λ j z q.
-      let b = at-below list j q in
-      ap (sameName name) (sym (x .name j z q .bytes-are)) ∙ before j (omega (arith, x .count))))
-
-  -- one name more
   pub names-more : (from to : ℕ) (n : Name) → names .count < 64 → Stands s from to n → (new : Bool) (more : List Name)
       → (new ≡ true → more ≡ list ++ (n ∷ []))
       → (new ≡ false → more ≡ list)
@@ -92,33 +48,38 @@ module _ {s : List ℕ} {names : Names} {list : List Name} (x : NamesAt s names 
   unfolding namesIf
   names-more from to n room st true more p q =
       let l = length-append list (n ∷ []) in
-      let c = x .count in
-      let fr = x .from-room in
-      let tr = x .to-room in
+      let c = x .at .count in
+      let fr = length-set (names .from) (names .count) from ∙ x .from-room in
+      let tr = length-set (names .to) (names .count) to ∙ x .to-room in
       subst (λ (ms : List Name). NamesAt s (namesIf true names from to) ms) (sym (p refl))
       (record {
-        count = omega arith;
+        at =
+            record {
+              count = omega arith;
+              name =
+                  λ i m e.
+                  ⊎-elim
+                  (λ h.
+                  let b = at-below list i h in
+                  let d : i ≡ names .count → ⊥ = λ k. omega arith in
+                  let w = x .at .name i m h in
+                  subst (λ (a : ℕ). Stands s a (getD (set (names .to) (names .count) to) i 0) m) (sym (getD-set-other (names .from) (names .count) i from 0 d))
+                  (subst (λ (a : ℕ). Stands s (getD (names .from) i 0) a m) (sym (getD-set-other (names .to) (names .count) i to 0 d)) w))
+                  (λ h.
+                  let e₁ : i ≡ names .count = h .0 ∙ sym c in
+                  let f : getD (set (names .from) (names .count) from) i 0 ≡ from =
+                  ap (λ (k : ℕ). getD (set (names .from) (names .count) from) k 0) e₁ ∙ getD-set-same (names .from) (names .count) from 0 (omega arith) in
+                  let g : getD (set (names .to) (names .count) to) i 0 ≡ to =
+                  ap (λ (k : ℕ). getD (set (names .to) (names .count) to) k 0) e₁ ∙ getD-set-same (names .to) (names .count) to 0 (omega arith) in
+                  subst (λ (a : ℕ). Stands s a (getD (set (names .to) (names .count) to) i 0) m) (sym f)
+                  (subst (λ (a : ℕ). Stands s from a m) (sym g) (subst (λ (k : Name). Stands s from to k) (h .1) st)))
+                  (at-end list n i m e);
+              from-room = omega arith;
+              to-room = omega arith;
+            };
         few = omega arith;
-        name =
-            λ i m e.
-            ⊎-elim
-            (λ h.
-            let b = at-below list i h in
-            let d : i ≡ names .count → ⊥ = λ k. omega arith in
-            let w = x .name i m h in
-            subst (λ (a : ℕ). Stands s a (getD (set (names .to) (names .count) to) i 0) m) (sym (getD-set-other (names .from) (names .count) i from 0 d))
-            (subst (λ (a : ℕ). Stands s (getD (names .from) i 0) a m) (sym (getD-set-other (names .to) (names .count) i to 0 d)) w))
-            (λ h.
-            let e₁ : i ≡ names .count = h .0 ∙ sym c in
-            let f : getD (set (names .from) (names .count) from) i 0 ≡ from =
-            ap (λ (k : ℕ). getD (set (names .from) (names .count) from) k 0) e₁ ∙ getD-set-same (names .from) (names .count) from 0 (omega arith) in
-            let g : getD (set (names .to) (names .count) to) i 0 ≡ to =
-            ap (λ (k : ℕ). getD (set (names .to) (names .count) to) k 0) e₁ ∙ getD-set-same (names .to) (names .count) to 0 (omega arith) in
-            subst (λ (a : ℕ). Stands s a (getD (set (names .to) (names .count) to) i 0) m) (sym f)
-            (subst (λ (a : ℕ). Stands s from a m) (sym g) (subst (λ (k : Name). Stands s from to k) (h .1) st)))
-            (at-end list n i m e);
-        from-room = length-set (names .from) (names .count) from ∙ fr;
-        to-room = length-set (names .to) (names .count) to ∙ tr;
+        from-room = fr;
+        to-room = tr;
       })
   names-more from to n room st false more p q = subst (λ (ms : List Name). NamesAt s names ms) (sym (q refl)) x
 
@@ -160,9 +121,14 @@ module _ (old added : List Name) where
 pub no-names : (s : List ℕ) (names : Names) → names .count ≡ 0 → length (names .from) ≡ 64 → length (names .to) ≡ 64 → NamesAt s names []
 no-names s names e f t =
     record {
-      count = e;
+      at =
+          record {
+            count = e;
+            name = λ i n q. let z : _≡_ {A = ℕ} 0 1 = cc in absurd (omega arith);
+            from-room = omega arith;
+            to-room = omega arith;
+          };
       few = omega arith;
-      name = λ i n q. let z : _≡_ {A = ℕ} 0 1 = cc in absurd (omega arith);
       from-room = f;
       to-room = t;
     }
@@ -183,10 +149,10 @@ module _ {old add : List ℕ} {olds adds : Names} {ns ms : List Name} (x : Names
       → r ≡ namesIf (leb (olds .count) p) fresh (getD (adds .from) i 0) (getD (adds .to) i 0)
       → NamesAt add r (newNames ns (take (i + 1) ms))
   new-names-step fresh r i p h e f room q =
-      let a = name-at y i h in
+      let a = name-at (y .at) i h in
       let n = a .0 in
       let at : p ≡ place sameName n ns = e ∙ ap (λ (m : Name). place sameName m ns) (a .2 .bytes-are) in
-      let c = x .count in
+      let c = x .at .count in
       subst (λ (names : Names). NamesAt add names (newNames ns (take (i + 1) ms))) (sym q)
       (names-more f (getD (adds .from) i 0) (getD (adds .to) i 0) n room (a .2) (leb (olds .count) p) (newNames ns (take (i + 1) ms))
       (λ t. let l = leb-true (olds .count) p t in new-more ns ms i (a .1) (omega arith))
@@ -196,14 +162,14 @@ module _ {old add : List ℕ} {olds adds : Names} {ns ms : List Name} (x : Names
   module _ (label : ℕ) (h : label < adds .count) where
     name-is : nameOf label ≡ getD ms label []
     name-is =
-        let a = name-at y label h in
+        let a = name-at (y .at) label h in
         a .2 .bytes-are ∙ sym (at-else ms label [] (a .1))
 
     pub label-old : (p : ℕ) → p ≡ place sameName (nameOf label) ns → p < olds .count
         → p ≡ place sameName (getD ms label []) (unitedNames ns ms)
     label-old p e l =
         let q = e ∙ ap (λ (m : Name). place sameName m ns) name-is in
-        let c = x .count in
+        let c = x .at .count in
         let name = getD ms label [] in
         q ∙ sym (place-front sameName name ns (newNames ns ms) (place-some sameName name ns (omega arith)))
 
@@ -213,7 +179,7 @@ module _ {old add : List ℕ} {olds adds : Names} {ns ms : List Name} (x : Names
     label-new p q e l f =
         let a = e ∙ ap (λ (m : Name). place sameName m ns) name-is in
         let b = f ∙ ap (λ (m : Name). place sameName m (newNames ns ms)) name-is in
-        let c = x .count in
+        let c = x .at .count in
         let d = place-back sameName (getD ms label []) ns (newNames ns ms) (omega arith) in
         omega arith
 
@@ -222,7 +188,7 @@ pub place-few : {s : List ℕ} {names : Names} {list : List Name} (x : NamesAt s
     → p ≤ 64
 place-few {s} {names} {list} x name p e =
     let a = place-most sameName name list in
-    let c = x .count in
+    let c = x .at .count in
     let f = x .few in
     omega arith
 

@@ -2,18 +2,17 @@
 use Prim.Native.Nat.{ℕ, _+_, _≤_}
 use mathlib.Core.Bool.{Bool, true, false, not}
 use mathlib.Core.List.{List, _++_}
-use mathlib.Core.Option.{some as just}
 use mathlib.Core.Path.{_≡_}
-use lib.ListN.{length, getD, getElem?, set}
+use lib.ListN.{length, set}
 use Rattle.grammar.specs.Lists.{any, keep}
 use Rattle.grammar.specs.Names.{Name, sameName}
-use Rattle.reader.specs.TableIndex.{Stands}
+use Rattle.reader.specs.NamePlaces.{NamesAt as AtPlaces}
 use Rattle.pairs.specs.declared.labels.Names.{Names}
 
+-- these names stand in the bytes where the arrays say, which have 64 places
 pub record NamesAt (s : List ℕ) (names : Names) (list : List Name) : Type 0 where
-  pub count : names .count ≡ length list
+  pub at : AtPlaces s (names .from) (names .to) (names .count) list
   pub few : names .count ≤ 64
-  pub name : (i : ℕ) (n : Name) → getElem? list i ≡ just n → Stands s (getD (names .from) i 0) (getD (names .to) i 0) n
   pub from-room : length (names .from) ≡ 64
   pub to-room : length (names .to) ≡ 64
 

@@ -1,6 +1,6 @@
 -- What the walks over a content find. Each is stated of the content that stands at a place, together with the place after it.
 use Prim.Native.Nat.{ℕ, _+_, _-_, _≤_, _<_}
-use mathlib.Core.Bool.{Bool}
+use mathlib.Core.Bool.{Bool, true}
 use mathlib.Core.List.{List, _++_, List·Memᴰ}
 use mathlib.Core.Option.{Option, some as just}
 use mathlib.Core.Path.{_≡_}
@@ -9,6 +9,7 @@ use lib.Dec.{eqb}
 use Rattle.grammar.specs.Lists.{distinct}
 use Rattle.grammar.specs.Limits.{standard}
 use Rattle.theory.proofs.Alternatives.{hasAlts, allHaveAlts, oneHasAlts, someLeft, pairsMet, pairsMetAll}
+use Rattle.sets.specs.Sets.{member}
 use Rattle.reader.specs.ExprAt.{Placed, _upTo_, placed, exprAt, exprsAt}
 use Rattle.pairs.specs.ContentAt.{ContentAt, ContentsAt}
 use Rattle.pairs.specs.declared.met.MetOne.{MetOne}
@@ -51,6 +52,18 @@ pub record Adds (numbers more list : List ℕ) (count : ℕ) : Type 0 where
   pub all : take count list ≡ distinct eqb (numbers ++ more)
   pub held : count ≤ length list
 
+-- a set of types whose numbers are all among some numbers
+pub record Seen (seen : List ℕ) (left : ℕ → List ℕ) (numbers : List ℕ) : Type 0 where
+  pub size : length seen ≡ 4
+  pub there : (k : ℕ) → member seen 0 k ≡ true → (p : ℕ) → List·Memᴰ p (left k) → List·Memᴰ p numbers
+
+-- the answer for a type: whether it has numbers, its numbers after the others, each once, and the types seen by then
+pub record TypeMet (left : ℕ → List ℕ) (numbers : List ℕ) (k after : ℕ) (list : List ℕ) (r : MetOne) : Type 0 where
+  pub has : r .has ≡ someLeft left k
+  pub adds : Adds numbers (left k) list (r .count)
+  pub next : r .next ≡ after
+  pub known : Seen (r .seen .words) left (take (r .count) list)
+
 -- whether the content has alternatives, and numbers with the pairs that are met in it after them, each once
 abbrev pub metAt : (ℕ → List ℕ) → (numbers s : List ℕ) → ℕ → Option (Placed (Bool × List ℕ))
 metAt left numbers s at =
@@ -78,7 +91,9 @@ pub record MetRowAsks (s : List ℕ) (at n : ℕ) (from pairs list : List ℕ) (
 pub record MetFinds (left : ℕ → List ℕ) (numbers s : List ℕ) (at : ℕ) (list : List ℕ) (r : MetOne) : Type 0 where
   pub found : metAt left numbers s at ≡ just ((r .has, take (r .count) list) upTo (r .next))
   pub held : r .count ≤ length list
+  pub known : Seen (r .seen .words) left (take (r .count) list)
 
 pub record MetRowFinds (left : ℕ → List ℕ) (numbers s : List ℕ) (at n : ℕ) (list : List ℕ) (r : MetRow) : Type 0 where
   pub found : metRowAt left numbers s at n ≡ just ((r .all, r .one, take (r .count) list) upTo (r .next))
   pub held : r .count ≤ length list
+  pub known : Seen (r .seen .words) left (take (r .count) list)

@@ -1,5 +1,4 @@
 // The labels of a union: the old names, then the addition's new names. Names stay where they stand in the bytes of their tables.
-use reader::names::same_name;
 ghost use mathlib.Core.Path.{_≡_};
 ghost use mathlib.Core.Bool.{Bool};
 ghost use mathlib.Core.List.{List, []};
@@ -23,17 +22,7 @@ pub fn name_place(name: &[u8], s: &[u8], names: Names) -> usize
 {
     let from = names.from;
     let to = names.to;
-    let count = names.count;
-    let mut i: usize = 0;
-    while i < count {
-        let f = from[i];
-        let t = to[i];
-        if same_name(name, &s[f..t]) {
-            return i;
-        }
-        i += 1;
-    }
-    count
+    reader::labels::name_place(name, s, &from, &to, names.count)
 }
 
 // Names with one more, or as they are.

@@ -3,18 +3,21 @@
 use crate::productive::both;
 use crate::productive::either;
 use reader::numbers::wide;
+use sets::four::Set4;
 ghost use mathlib.Core.Path.{_≡_};
 ghost use mathlib.Core.List.{List, [], _∷_};
 ghost use Prim.Native.Nat.{_-_, _≤_, _<_};
 ghost use lib.ListN.{length, take, drop};
 ghost use Rattle.grammar.specs.Lists.{isIn};
-ghost use Rattle.pairs.specs.Walks.{listOf, Once, Adds, Parts, MetAsks, MetFinds, MetRowAsks, MetRowFinds};
+ghost use Rattle.pairs.specs.Walks.{listOf, Listed, Once, Adds, Parts, Seen, TypeMet, MetAsks, MetFinds, MetRowAsks, MetRowFinds};
 
-// Whether a content has alternatives, how many numbers stand in the list after it, and the place after it.
+// Whether a content has alternatives, how many numbers stand in the list after it, the place after it, and types whose pairs are
+// all in the list.
 pub struct MetOne {
     pub has: bool,
     pub count: usize,
     pub next: usize,
+    pub seen: Set4,
 }
 
 // The same for contents one after the other: whether all have alternatives, and whether one has.
@@ -23,6 +26,7 @@ pub struct MetRow {
     pub one: bool,
     pub count: usize,
     pub next: usize,
+    pub seen: Set4,
 }
 
 // The number is among the first of the list.
@@ -67,7 +71,40 @@ pub fn append_part(list: &mut [u8], count: usize, numbers: &[u8], first: usize, 
     more
 }
 
-// The pairs met in the content at a place, added to the list. `from` and `pairs` give the pairs of each type.
+// Adds the pairs of a type; those of a type in `seen` are there already. `from` and `pairs` give the pairs of each type.
+fn met_type(
+    k: usize,
+    from: &[u8],
+    pairs: &[u8],
+    list: &mut [u8],
+    count: usize,
+    next: usize,
+    seen: Set4,
+) -> MetOne
+    requires { ⌜ (k < 64) × (Listed 64 128 (now from) (now pairs)) × (Once 128 (now list) count)
+        × (Seen (seen .words) (listOf (now from) (now pairs)) (take count (now list))) ⌝ }
+    ensures { λ r. ⌜ TypeMet (listOf (now (from .entry)) (now (pairs .entry))) (take count (now (list .entry))) k next (now (list .exit)) r ⌝ }
+{
+    let first = wide(from[k]);
+    let end = wide(from[k + 1]);
+    if seen.has(k) {
+        return MetOne {
+            has: first < end,
+            count,
+            next,
+            seen,
+        };
+    }
+    MetOne {
+        has: first < end,
+        count: append_part(list, count, pairs, first, end),
+        next,
+        seen: seen.with(k),
+    }
+}
+
+// The pairs met in the content at a place, added to the list. `from` and `pairs` give the pairs of each type, and `seen` has types
+// whose pairs are all in the list.
 pub fn met(
     content: &[u8],
     at: usize,
@@ -75,8 +112,10 @@ pub fn met(
     pairs: &[u8],
     list: &mut [u8],
     count: usize,
+    seen: Set4,
 ) -> MetOne
-    requires { ⌜ MetAsks (now content) at (now from) (now pairs) (now list) count ⌝ }
+    requires { ⌜ (MetAsks (now content) at (now from) (now pairs) (now list) count)
+        × (Seen (seen .words) (listOf (now from) (now pairs)) (take count (now list))) ⌝ }
     ensures { λ r. ⌜ MetFinds (listOf (now (from .entry)) (now (pairs .entry))) (take count (now (list .entry))) (now (content .entry)) at (now (list .exit)) r ⌝ }
 {
     let operator = wide(content[at]);
@@ -85,55 +124,57 @@ pub fn met(
             has: false,
             count,
             next: at + 1,
+            seen,
         },
         1 => MetOne {
             has: true,
             count,
             next: at + 1,
+            seen,
         },
         2 => {
             let k = wide(content[at + 1]);
-            let first = wide(from[k]);
-            let end = wide(from[k + 1]);
-            let more = append_part(list, count, pairs, first, end);
-            MetOne {
-                has: first < end,
-                count: more,
-                next: at + 2,
-            }
+            met_type(k, from, pairs, list, count, at + 2, seen)
         }
         3 => {
             let n = wide(content[at + 1]);
-            let row = met_row(content, at + 2, n, from, pairs, list, count);
+            let row = met_row(content, at + 2, n, from, pairs, list, count, seen);
             if row.all {
+                let more = row.seen;
                 return MetOne {
                     has: true,
                     count: row.count,
                     next: row.next,
+                    seen: more,
                 };
             }
             MetOne {
                 has: false,
                 count,
                 next: row.next,
+                seen,
             }
         }
         4 => {
             let n = wide(content[at + 1]);
-            let row = met_row(content, at + 2, n, from, pairs, list, count);
+            let row = met_row(content, at + 2, n, from, pairs, list, count, seen);
+            let more = row.seen;
             MetOne {
                 has: row.one,
                 count: row.count,
                 next: row.next,
+                seen: more,
             }
         }
-        6 => met(content, at + 1, from, pairs, list, count),
+        6 => met(content, at + 1, from, pairs, list, count, seen),
         _ => {
-            let operand = met(content, at + 1, from, pairs, list, count);
+            let operand = met(content, at + 1, from, pairs, list, count, seen);
+            let more = operand.seen;
             MetOne {
                 has: true,
                 count: operand.count,
                 next: operand.next,
+                seen: more,
             }
         }
     }
@@ -148,8 +189,10 @@ pub fn met_row(
     pairs: &[u8],
     list: &mut [u8],
     count: usize,
+    seen: Set4,
 ) -> MetRow
-    requires { ⌜ MetRowAsks (now content) at n (now from) (now pairs) (now list) count ⌝ }
+    requires { ⌜ (MetRowAsks (now content) at n (now from) (now pairs) (now list) count)
+        × (Seen (seen .words) (listOf (now from) (now pairs)) (take count (now list))) ⌝ }
     ensures { λ r. ⌜ MetRowFinds (listOf (now (from .entry)) (now (pairs .entry))) (take count (now (list .entry))) (now (content .entry)) at n (now (list .exit)) r ⌝ }
 {
     if n == 0 {
@@ -158,14 +201,27 @@ pub fn met_row(
             one: false,
             count,
             next: at,
+            seen,
         };
     }
-    let first = met(content, at, from, pairs, list, count);
-    let others = met_row(content, first.next, n - 1, from, pairs, list, first.count);
+    let first = met(content, at, from, pairs, list, count, seen);
+    let more = first.seen;
+    let others = met_row(
+        content,
+        first.next,
+        n - 1,
+        from,
+        pairs,
+        list,
+        first.count,
+        more,
+    );
+    let most = others.seen;
     MetRow {
         all: both(first.has, others.all),
         one: either(first.has, others.one),
         count: others.count,
         next: others.next,
+        seen: most,
     }
 }

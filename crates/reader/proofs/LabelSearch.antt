@@ -1,5 +1,6 @@
--- Searching names by where they stand (`found-here`, `found-nowhere`), and the labels and starts of an index.
-use Prim.Native.Nat.{ℕ, zero, suc, _<_, _≤_}
+-- The place of the first that is the same (`place-first`, `place-nowhere`), searching names by where they stand (`found-here`,
+-- `found-nowhere`), and the labels and starts of an index.
+use Prim.Native.Nat.{ℕ, zero, suc, _<_}
 use native.Mathlib.Omega.{arith}
 use mathlib.Core.Bool.{Bool, true, false}
 use mathlib.Core.List.{List, [], _∷_}
@@ -12,6 +13,7 @@ use Rattle.grammar.specs.Lists.{any, place}
 use Rattle.grammar.specs.Names.{Name, sameName}
 use Rattle.grammar.specs.Table.{Table}
 use Rattle.theory.proofs.BoolLaws.{false-of, not-both}
+use Rattle.theory.proofs.PlaceLaws.{place-some, place-none}
 use Rattle.theory.proofs.ListLaws.{any-found, any-of, mem-at, at-mem, at-below, below-at, just-eq}
 use Rattle.reader.specs.declared.tables.TableIndex.{TableIndex}
 use Rattle.reader.specs.TableIndex.{startType, part, Stands, Indexes}
@@ -20,7 +22,7 @@ use Rattle.reader.proofs.TableIndexLaws.{start-at}
 
 -- places
 module _ {A : Type 0} (same : A → A → Bool) (x : A) where
-  place-first : (xs : List A) (i : ℕ) {y : A} → getElem? xs i ≡ just y → same x y ≡ true
+  pub place-first : (xs : List A) (i : ℕ) {y : A} → getElem? xs i ≡ just y → same x y ≡ true
       → ((j : ℕ) (z : A) → j < i → getElem? xs j ≡ just z → same x z ≡ false)
       → place same x xs ≡ i
   unfolding place
@@ -30,34 +32,12 @@ module _ {A : Type 0} (same : A → A → Bool) (x : A) where
       let f = h zero y (omega arith) refl in
       rw (f, place) (ap suc (place-first ys i e t (λ j z k p. h (suc j) z (omega arith) p)))
 
-  place-nowhere : (xs : List A) → ((j : ℕ) (z : A) → getElem? xs j ≡ just z → same x z ≡ false) → place same x xs ≡ length xs
+  pub place-nowhere : (xs : List A) → ((j : ℕ) (z : A) → getElem? xs j ≡ just z → same x z ≡ false) → place same x xs ≡ length xs
   unfolding place
   place-nowhere [] h = refl
   place-nowhere (y ∷ ys) h =
       let f = h zero y refl in
       rw (f, place) (ap suc (place-nowhere ys (λ j z p. h (suc j) z p)))
-
-  pub place-some : (xs : List A) → place same x xs < length xs → any (same x) xs ≡ true
-  unfolding place any
-  place-some [] h = absurd (omega arith)
-  place-some (y ∷ ys) h = go (same x y) refl (place-some ys)
-    where
-      go : (b : Bool) → same x y ≡ b → (place same x ys < length ys → any (same x) ys ≡ true) → any (same x) (y ∷ ys) ≡ true
-      go true e ih = rw (e, any)
-      go false e ih =
-          let p : place same x (y ∷ ys) ≡ suc (place same x ys) = rw (e, place) in
-          rw (e, any) (ih (omega arith))
-
-  pub place-none : (xs : List A) → length xs ≤ place same x xs → any (same x) xs ≡ false
-  unfolding place any
-  place-none [] h = refl
-  place-none (y ∷ ys) h = go (same x y) refl (place-none ys)
-    where
-      go : (b : Bool) → same x y ≡ b → (length ys ≤ place same x ys → any (same x) ys ≡ false) → any (same x) (y ∷ ys) ≡ false
-      go true e ih = let p : place same x (y ∷ ys) ≡ 0 = rw (e, place) in absurd (omega arith)
-      go false e ih =
-          let p : place same x (y ∷ ys) ≡ suc (place same x ys) = rw (e, place) in
-          rw (e, any) (ih (omega arith))
 
 -- names by where they stand
 module _ {s from to : List ℕ} {count : ℕ} {list : List Name} (x : NamesAt s from to count list) where

@@ -33,7 +33,7 @@ fn met_in_content(content: &[u8], lists: Lists, list: &mut [u8], count: usize) -
 {
     let begins = lists.from;
     let numbers = lists.numbers;
-    let found = met(content, 0, &begins, &numbers, list, count);
+    let found = met(content, 0, &begins, &numbers, list, count, Set4::empty());
     found.count
 }
 

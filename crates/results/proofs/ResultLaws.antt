@@ -25,11 +25,11 @@ use Rattle.theory.proofs.Alternatives.{onlyIf}
 use Rattle.theory.proofs.ListLaws.{at-else}
 use Rattle.theory.proofs.EmittedContent.{joined-map}
 use Rattle.reader.specs.TableIndex.{part, Inside}
+use Rattle.reader.proofs.LabelSearch.{name-at}
 use Rattle.pairs.specs.declared.labels.Names.{Names}
 use Rattle.pairs.specs.declared.union.Union.{Union}
 use Rattle.pairs.specs.UnitedLabels.{newNames}
 use Rattle.pairs.specs.View.{UnionSeen}
-use Rattle.pairs.proofs.UnitedLabelsLaws.{name-at}
 use Rattle.emitting.specs.declared.completing.ContentMade.{ContentMade}
 use Rattle.emitting.specs.declared.completing.ContentMade.the-variants.{TooLarge, Upto}
 use Rattle.emitting.specs.Completing.{Stored, Made}
@@ -44,8 +44,8 @@ module _ {old add : List ℕ} {olds news : Names} (q : LabelsIn old add olds new
       → Inside old (getD (olds .from) l 0) (getD (olds .to) l 0)
       × (part old (getD (olds .from) l 0) (getD (olds .to) l 0) ≡ getD (q .first ++ q .second) l [])
   name-old h =
-      let (n, at, s) = name-at (q .old-names) l h in
-      let c = q .old-names .count in
+      let (n, at, s) = name-at (q .old-names .at) l h in
+      let c = q .old-names .at .count in
       (s .inside, s .bytes-are ∙ sym (List·getD-append (q .first) (q .second) [] l (omega arith) ∙ at-else (q .first) l [] at))
 
   pub name-new : olds .count ≤ l → l < olds .count + news .count
@@ -53,8 +53,8 @@ module _ {old add : List ℕ} {olds news : Names} (q : LabelsIn old add olds new
       × (part add (getD (news .from) (l - olds .count) 0) (getD (news .to) (l - olds .count) 0) ≡ getD (q .first ++ q .second) l [])
   name-new h k =
       let m = l - olds .count in
-      let (n, at, s) = name-at (q .new-names) m (omega arith) in
-      let c = q .old-names .count in
+      let (n, at, s) = name-at (q .new-names .at) m (omega arith) in
+      let c = q .old-names .at .count in
       let z : l ≡ length (q .first) + m = omega arith in (
         s .inside,
         s .bytes-are
@@ -71,8 +71,8 @@ module _ {old add : List ℕ} {olds news : Names} (q : LabelsIn old add olds new
 
   pub labels-joined : joinedOf nameField (numbersBelow (olds .count + news .count)) ≡ labelsBytes (q .first ++ q .second) on
   labels-joined =
-      let a = q .old-names .count in
-      let b = q .new-names .count in
+      let a = q .old-names .at .count in
+      let b = q .new-names .at .count in
       let c = length-append (q .first) (q .second) in
       let e : olds .count + news .count ≡ length (q .first ++ q .second) = omega arith in
       joined-only on (λ l. fieldBytes 0x10 (getD (q .first ++ q .second) l [])) (numbersBelow (olds .count + news .count))
@@ -131,8 +131,8 @@ module _ {old add : List ℕ} {g h : Table} {r : Union} (x : UnionSeen old add g
 
   pub union-count : r .«old_names» .count + r .«new_names» .count ≡ length (unite standard g h .labels)
   union-count =
-      let a = x .old-names .count in
-      let b = x .new-names .count in
+      let a = x .old-names .at .count in
+      let b = x .new-names .at .count in
       let c = ap length union-same in
       let d = length-append (g .labels) (newNames (g .labels) (h .labels)) in
       omega arith

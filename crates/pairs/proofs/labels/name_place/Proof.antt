@@ -1,78 +1,11 @@
--- `name_place` meets its contract. The loop's invariant: no name before `i` is the same.
-use Prim.Native.Nat.{ℕ, _-_, _≤_, _<_}
-use native.Mathlib.Omega.{arith}
-use borrow.Author.Count.{below-more}
+-- `name_place` meets its contract.
 use borrow.Author.Needs.{needs}
-use mathlib.Core.Bool.{false}
-use mathlib.Core.Path.{_≡_, sym, _∙_}
-use lib.ListN.{getD}
-use Rattle.grammar.specs.Names.{sameName}
-use Rattle.reader.specs.TableIndex.{part}
-use Rattle.pairs.proofs.UnitedLabelsLaws.{name-at, found-here, found-nowhere}
 use Rattle.pairs.proofs.labels.name_place.Statement.{statement}
 use Rattle.pairs.proofs.labels.name_place.Tie as tie
 
-abbrev Inv-loop : tie.InvT-loop
-Inv-loop name s from to count i₀ i = (k : ℕ) → k < i → sameName name (part s (getD from k 0) (getD to k 0)) ≡ false
-
-abbrev μ-loop : tie.MeasureT-loop
-μ-loop name s from to count i₀ i = count - i
-
-loop-holds : tie.Need-loop-holds Inv-loop μ-loop
-loop-holds c = λ k h. absurd (omega arith)
-
-mul-f : tie.Need-mul-f Inv-loop μ-loop
-mul-f c = omega (arith, c .before .before .before .before .before .before .pre .at .few)
-
-array-read-f : tie.Need-array-read-f Inv-loop μ-loop
-array-read-f c = omega (arith, c .before .before .before .before .before .before .pre .at .few)
-
-mul-t : tie.Need-mul-t Inv-loop μ-loop
-mul-t c = omega (arith, c .before .before .before .before .before .before .pre .at .few)
-
-array-read-t : tie.Need-array-read-t Inv-loop μ-loop
-array-read-t c = omega (arith, c .before .before .before .before .before .before .pre .at .few)
-
-sub-same-name : tie.Need-sub-same-name Inv-loop μ-loop
-sub-same-name c = name-at (c .before .before .before .before .before .before .pre .at) (c .before .loop .i) (c .loop-test .taken) .2 .inside .order
-
-part-same-name-start : tie.Need-part-same-name-start Inv-loop μ-loop
-part-same-name-start c = name-at (c .before .before .before .before .before .before .pre .at) (c .before .loop .i) (c .loop-test .taken) .2 .inside .order
-
-part-same-name-end : tie.Need-part-same-name-end Inv-loop μ-loop
-part-same-name-end c = name-at (c .before .before .before .before .before .before .pre .at) (c .before .loop .i) (c .loop-test .taken) .2 .inside .within
-
-returns : tie.Need-returns Inv-loop μ-loop
-returns c =
-    λ list x.
-    found-here x _ (c .before .before .before .before .loop .i) (c .before .before .before .loop-test .taken) (c .before .before .before .before .loop .inv) (sym (c .before .same-name .ensures) ∙ c .if1 .taken)
-
-add-i : tie.Need-add-i Inv-loop μ-loop
-add-i c = omega (arith, c .before .before .before .before .before .before .before .before .before .pre .at .few)
-
-loop-again : tie.Need-loop-again Inv-loop μ-loop
-loop-again c = below-more _ (c .before .before .before .before .loop .i) (c .before .before .before .before .loop .inv) (sym (c .before .same-name .ensures) ∙ c .if1 .left)
-
-returns-2 : tie.Need-returns-2 Inv-loop μ-loop
-returns-2 c = λ list x. found-nowhere x _ (λ j h. c .before .loop .inv j (omega arith))
+returns : tie.Need-returns
+returns c = λ list x. c .name-place .ensures list (x .at)
 
 pub name-place-spec : {M : Type 1} → statement M
 name-place-spec =
-    tie.close
-    (tie.spec
-    Inv-loop
-    μ-loop
-    loop-holds
-    mul-f
-    array-read-f
-    mul-t
-    array-read-t
-    sub-same-name
-    part-same-name-start
-    part-same-name-end
-    (λ c κs. search needs)
-    returns
-    add-i
-    (λ c. omega arith)
-    loop-again
-    returns-2)
+    tie.close (tie.spec (λ c. search needs) (λ c. search needs) (λ c κs. search needs) returns)

@@ -1,14 +1,14 @@
 -- `new_names` meets its contract. The loop's invariant: of the names before `i`, those that are not among the old stand there.
 use Prim.Native.Nat.{ℕ, _-_, _≤_}
 use native.Mathlib.Omega.{arith}
-use borrow.Author.Needs.{needs}
 use mathlib.Core.List.{List}
 use mathlib.Core.Path.{refl, sym}
 use lib.ListN.{take, replicate, length-replicate}
 use Rattle.grammar.specs.Names.{Name}
 use Rattle.pairs.specs.declared.labels.Names.{Names}
 use Rattle.pairs.specs.UnitedLabels.{NamesAt, newNames}
-use Rattle.pairs.proofs.UnitedLabelsLaws.{name-at, no-names, names-same, names-grow, new-none, new-all, new-names-step}
+use Rattle.reader.proofs.LabelSearch.{name-at}
+use Rattle.pairs.proofs.UnitedLabelsLaws.{no-names, names-same, names-grow, new-none, new-all, new-names-step}
 use Rattle.pairs.proofs.labels.new_names.Statement.{statement}
 use Rattle.pairs.proofs.labels.new_names.Tie as tie
 
@@ -47,13 +47,13 @@ array-read-t : tie.Need-array-read-t Inv-loop μ-loop
 array-read-t c = omega (arith, c .before .before .before .before .before .before .pre .1 .at .few)
 
 sub-name-place : tie.Need-sub-name-place Inv-loop μ-loop
-sub-name-place c = name-at (c .before .before .before .before .before .before .pre .1 .at) (c .before .loop .i) (c .loop-test .taken) .2 .inside .order
+sub-name-place c = name-at (c .before .before .before .before .before .before .pre .1 .at .at) (c .before .loop .i) (c .loop-test .taken) .2 .inside .order
 
 part-name-place-start : tie.Need-part-name-place-start Inv-loop μ-loop
-part-name-place-start c = name-at (c .before .before .before .before .before .before .pre .1 .at) (c .before .loop .i) (c .loop-test .taken) .2 .inside .order
+part-name-place-start c = name-at (c .before .before .before .before .before .before .pre .1 .at .at) (c .before .loop .i) (c .loop-test .taken) .2 .inside .order
 
 part-name-place-end : tie.Need-part-name-place-end Inv-loop μ-loop
-part-name-place-end c = name-at (c .before .before .before .before .before .before .pre .1 .at) (c .before .loop .i) (c .loop-test .taken) .2 .inside .within
+part-name-place-end c = name-at (c .before .before .before .before .before .before .pre .1 .at .at) (c .before .loop .i) (c .loop-test .taken) .2 .inside .within
 
 name-place-requires : tie.Need-name-place-requires Inv-loop μ-loop
 name-place-requires c κs = c .before .before .before .before .before .before .before .pre .0
@@ -79,7 +79,7 @@ loop-again c =
 returns : tie.Need-returns Inv-loop μ-loop
 returns c =
     λ ns ms x y.
-    let n = y .count in
+    let n = y .at .count in
     names-same (new-all ns ms (c .before .loop .i) (omega arith)) (c .before .loop .inv .2 ns ms x y)
 
 pub new-names-spec : {M : Type 1} → statement M

@@ -1,7 +1,7 @@
 -- `united_label` meets its contract: the name is among the old, or among the new ones after them.
 use native.Mathlib.Omega.{arith}
-use borrow.Author.Needs.{needs}
-use Rattle.pairs.proofs.UnitedLabelsLaws.{name-at, label-old, label-new, place-few}
+use Rattle.reader.proofs.LabelSearch.{name-at}
+use Rattle.pairs.proofs.UnitedLabelsLaws.{label-old, label-new, place-few}
 use Rattle.pairs.proofs.labels.united_label.Statement.{statement}
 use Rattle.pairs.proofs.labels.united_label.Tie as tie
 
@@ -18,13 +18,13 @@ array-read-t : tie.Need-array-read-t
 array-read-t c = omega (arith, c .before .before .before .before .pre .1 .at .few, c .before .before .before .before .pre .3)
 
 sub-name-place : tie.Need-sub-name-place
-sub-name-place c = name-at (c .before .before .before .before .pre .1 .at) _ (c .before .before .before .before .pre .3) .2 .inside .order
+sub-name-place c = name-at (c .before .before .before .before .pre .1 .at .at) _ (c .before .before .before .before .pre .3) .2 .inside .order
 
 part-name-place-start : tie.Need-part-name-place-start
-part-name-place-start c = name-at (c .before .before .before .before .pre .1 .at) _ (c .before .before .before .before .pre .3) .2 .inside .order
+part-name-place-start c = name-at (c .before .before .before .before .pre .1 .at .at) _ (c .before .before .before .before .pre .3) .2 .inside .order
 
 part-name-place-end : tie.Need-part-name-place-end
-part-name-place-end c = name-at (c .before .before .before .before .pre .1 .at) _ (c .before .before .before .before .pre .3) .2 .inside .within
+part-name-place-end c = name-at (c .before .before .before .before .pre .1 .at .at) _ (c .before .before .before .before .pre .3) .2 .inside .within
 
 name-place-requires : tie.Need-name-place-requires
 name-place-requires c κs = c .before .before .before .before .before .pre .0
@@ -33,13 +33,13 @@ returns : tie.Need-returns
 returns c = λ ns ms x y z. label-old x y _ (c .before .before .before .before .before .before .before .before .pre .3) _ (c .before .before .name-place .ensures ns x) (c .if1 .taken)
 
 sub-name-place-2 : tie.Need-sub-name-place-2
-sub-name-place-2 c = name-at (c .before .before .before .before .before .before .before .before .pre .1 .at) _ (c .before .before .before .before .before .before .before .before .pre .3) .2 .inside .order
+sub-name-place-2 c = name-at (c .before .before .before .before .before .before .before .before .pre .1 .at .at) _ (c .before .before .before .before .before .before .before .before .pre .3) .2 .inside .order
 
 part-name-place-start-2 : tie.Need-part-name-place-start-2
-part-name-place-start-2 c = name-at (c .before .before .before .before .before .before .before .before .pre .1 .at) _ (c .before .before .before .before .before .before .before .before .pre .3) .2 .inside .order
+part-name-place-start-2 c = name-at (c .before .before .before .before .before .before .before .before .pre .1 .at .at) _ (c .before .before .before .before .before .before .before .before .pre .3) .2 .inside .order
 
 part-name-place-end-2 : tie.Need-part-name-place-end-2
-part-name-place-end-2 c = name-at (c .before .before .before .before .before .before .before .before .pre .1 .at) _ (c .before .before .before .before .before .before .before .before .pre .3) .2 .inside .within
+part-name-place-end-2 c = name-at (c .before .before .before .before .before .before .before .before .pre .1 .at .at) _ (c .before .before .before .before .before .before .before .before .pre .3) .2 .inside .within
 
 name-place-requires-2 : tie.Need-name-place-requires-2
 name-place-requires-2 c κs = c .before .before .before .before .before .before .before .before .before .pre .2

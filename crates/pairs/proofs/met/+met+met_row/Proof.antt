@@ -1,15 +1,14 @@
 -- `met` and `met_row` meet their contracts. The measure of a content is twice the bytes from its place on, that of a row one more:
 -- every call goes on past a byte, but the one for the first of a row. Each return is a law of MetLaws.
-use Prim.Native.Nat.{suc, _+_, _-_, _*_, _≤_}
+use Prim.Native.Nat.{ℕ, _+_, _-_, _*_, _<_}
 use native.Mathlib.Omega.{arith}
-use mathlib.Core.Path.{_≡_, sym, _∙_, ap, subst}
-use lib.ListN.{length, getD}
+use mathlib.Core.Path.{sym, _∙_, subst}
+use lib.ListN.{length}
 use borrow.Author.Needs.{needs}
 use Rattle.grammar.specs.Limits.{standard}
 use Rattle.pairs.specs.ContentAt.{ContentsAt}
 use Rattle.pairs.proofs.ContentAtLaws.{content-inside, type-there, count-there, operands-there, operand-there}
 use Rattle.pairs.proofs.MetLaws.{none-finds, empty-finds, type-finds, sequence-finds, sequence-finds-none, choice-finds, one-or-more-finds, around-finds, no-row-finds, row-finds, first-asks, others-ask}
-use Prim.Native.Nat.{ℕ, _<_}
 use borrow.Fn.Kinds.{In}
 use borrow.Fn.PlainCycle.{Measures, is, falls, and}
 use Rattle.pairs.proofs.met.met.Reads as met
@@ -18,10 +17,10 @@ use Rattle.pairs.proofs.met.+met+met_row.Lts-met as met-lts
 use Rattle.pairs.proofs.met.met_row.Reads as met-row
 use Rattle.pairs.proofs.met.met_row.Kinds as met-row-kinds
 use Rattle.pairs.proofs.met.+met+met_row.Lts-met_row as met-row-lts
-use Rattle.reader.proofs.numbers.wide.Reads as wide-reads
-use Rattle.pairs.proofs.met.append_part.Reads as append-part-reads
+use Rattle.pairs.proofs.met.met_type.Reads as met-type-reads
 use Rattle.pairs.proofs.productive.both.Reads as both-reads
 use Rattle.pairs.proofs.productive.either.Reads as either-reads
+use Rattle.reader.proofs.numbers.wide.Reads as wide-reads
 use Rattle.pairs.proofs.met.+met+met_row.{statement}
 use Rattle.pairs.proofs.met.+met+met_row.Tie.{close}
 
@@ -44,203 +43,178 @@ abbrev met-row-below : ℕ → In 4 met-row-kinds.ps
 met-row-below t = and 4 met-row-kinds.ps (falls 4 met-row-kinds.ps _<_ μ-met-row t) met-row.Pre
 
 abbrev met-calls : ℕ → met-lts.Claims
-met-calls t = (wide-reads.Asked, wide-reads.Learnt, append-part-reads.Asked, append-part-reads.Learnt, met-row-below t, met-row.Post, met-below t, met.Post)
+met-calls t = (wide-reads.Asked, wide-reads.Learnt, met-type-reads.Asked, met-type-reads.Learnt, met-row-below t, met-row.Post, met-below t, met.Post)
 
 abbrev met-row-calls : ℕ → met-row-lts.Claims
 met-row-calls t = (met-below t, met.Post, met-row-below t, met-row.Post, both-reads.Asked, both-reads.Learnt, either-reads.Asked, either-reads.Learnt)
 
 met-shared-slice-read-wide : (t : ℕ) → met-lts.Need-shared-slice-read-wide (met-calls t) (met-at t) met.Post
 met-shared-slice-read-wide t c =
-    content-inside standard _ _ (c .before .before .before .before .before .pre .1 .there) .0
+    content-inside standard _ _ (c .before .before .before .before .before .pre .1 .0 .there) .0
 
 met-wide-requires : (t : ℕ) → met-lts.Need-wide-requires (met-calls t) (met-at t) met.Post
 met-wide-requires t c κs =
     search needs
 
-met-add-t20 : (t : ℕ) → met-lts.Need-add-t20 (met-calls t) (met-at t) met.Post
-met-add-t20 t c =
-    let i = content-inside standard _ _ (c .before .before .before .before .before .before .before .pre .1 .there) .0 in
-    omega arith
-
 met-add-t21 : (t : ℕ) → met-lts.Need-add-t21 (met-calls t) (met-at t) met.Post
 met-add-t21 t c =
-    let i = content-inside standard _ _ (c .before .before .before .before .before .before .before .pre .1 .there) .0 in
+    let i = content-inside standard _ _ (c .before .before .before .before .before .before .before .pre .1 .0 .there) .0 in
+    omega arith
+
+met-add-t22 : (t : ℕ) → met-lts.Need-add-t22 (met-calls t) (met-at t) met.Post
+met-add-t22 t c =
+    let i = content-inside standard _ _ (c .before .before .before .before .before .before .before .pre .1 .0 .there) .0 in
     omega arith
 
 met-add-wide : (t : ℕ) → met-lts.Need-add-wide (met-calls t) (met-at t) met.Post
 met-add-wide t c =
-    let i = content-inside standard _ _ (c .before .before .before .before .before .before .before .pre .1 .there) .0 in
+    let i = content-inside standard _ _ (c .before .before .before .before .before .before .before .pre .1 .0 .there) .0 in
     omega arith
 
 met-shared-slice-read-wide-2 : (t : ℕ) → met-lts.Need-shared-slice-read-wide-2 (met-calls t) (met-at t) met.Post
 met-shared-slice-read-wide-2 t c =
-    type-there standard _ _ (c .before .before .before .before .before .before .before .before .pre .1 .there) (sym (c .before .before .wide .ensures .0) ∙ c .before .match .keys3) .0
+    type-there standard _ _ (c .before .before .before .before .before .before .before .before .pre .1 .0 .there) (sym (c .before .before .wide .ensures .0) ∙ c .before .match .keys3) .0
 
 met-wide-requires-2 : (t : ℕ) → met-lts.Need-wide-requires-2 (met-calls t) (met-at t) met.Post
 met-wide-requires-2 t c κs =
     search needs
 
-met-shared-slice-read-wide-3 : (t : ℕ) → met-lts.Need-shared-slice-read-wide-3 (met-calls t) (met-at t) met.Post
-unfolding standard
-met-shared-slice-read-wide-3 t c =
-    let i = type-there standard _ _ (c .before .before .before .before .before .before .before .before .before .before .pre .1 .there) (sym (c .before .before .before .before .wide .ensures .0) ∙ c .before .before .before .match .keys3) .1 in
-    let e = c .before .wide2 .ensures .0 in
-    let f = c .before .before .before .before .before .before .before .before .before .before .pre .1 .lists .front in
+met-add-met-type : (t : ℕ) → met-lts.Need-add-met-type (met-calls t) (met-at t) met.Post
+met-add-met-type t c =
+    let i = type-there standard _ _ (c .before .before .before .before .before .before .before .before .before .before .pre .1 .0 .there) (sym (c .before .before .before .before .wide .ensures .0) ∙ c .before .before .before .match .keys3) .0 in
     omega arith
+
+met-met-type-requires : (t : ℕ) → met-lts.Need-met-type-requires (met-calls t) (met-at t) met.Post
+unfolding standard
+met-met-type-requires t c κs =
+    let pre = c .before .before .before .before .before .before .before .before .before .before .pre .1 in
+    let i = type-there standard _ _ (pre .0 .there) (sym (c .before .before .before .before .wide .ensures .0) ∙ c .before .before .before .match .keys3) .1 in
+    let e = c .before .wide2 .ensures .0 in
+    (omega arith, pre .0 .lists, pre .0 .once, pre .1)
+
+met-add-wide-2 : (t : ℕ) → met-lts.Need-add-wide-2 (met-calls t) (met-at t) met.Post
+met-add-wide-2 t c =
+    let i = content-inside standard _ _ (c .before .before .before .before .before .before .before .pre .1 .0 .there) .0 in
+    omega arith
+
+met-shared-slice-read-wide-3 : (t : ℕ) → met-lts.Need-shared-slice-read-wide-3 (met-calls t) (met-at t) met.Post
+met-shared-slice-read-wide-3 t c =
+    let e = c .before .before .wide .ensures .0 in
+    let k = c .before .match .keys4 in
+    count-there standard _ _ (c .before .before .before .before .before .before .before .before .pre .1 .0 .there) (omega arith) (omega arith)
 
 met-wide-requires-3 : (t : ℕ) → met-lts.Need-wide-requires-3 (met-calls t) (met-at t) met.Post
 met-wide-requires-3 t c κs =
     search needs
 
-met-add-wide-2 : (t : ℕ) → met-lts.Need-add-wide-2 (met-calls t) (met-at t) met.Post
-unfolding standard
-met-add-wide-2 t c =
-    let i = type-there standard _ _ (c .before .before .before .before .before .before .before .before .before .before .before .pre .1 .there) (sym (c .before .before .before .before .before .wide .ensures .0) ∙ c .before .before .before .before .match .keys3) .1 in
-    let e = c .before .before .wide2 .ensures .0 in
-    omega arith
-
-met-shared-slice-read-wide-4 : (t : ℕ) → met-lts.Need-shared-slice-read-wide-4 (met-calls t) (met-at t) met.Post
-unfolding standard
-met-shared-slice-read-wide-4 t c =
-    let i = type-there standard _ _ (c .before .before .before .before .before .before .before .before .before .before .before .before .pre .1 .there) (sym (c .before .before .before .before .before .before .wide .ensures .0) ∙ c .before .before .before .before .before .match .keys3) .1 in
-    let e = c .before .before .before .wide2 .ensures .0 in
-    let f = c .before .before .before .before .before .before .before .before .before .before .before .before .pre .1 .lists .front in
-    omega arith
-
-met-wide-requires-4 : (t : ℕ) → met-lts.Need-wide-requires-4 (met-calls t) (met-at t) met.Post
-met-wide-requires-4 t c κs =
-    search needs
-
-met-append-part-requires : (t : ℕ) → met-lts.Need-append-part-requires (met-calls t) (met-at t) met.Post
-unfolding standard
-met-append-part-requires t c κs =
-    let start = c .before .before .before .before .before .before .before .before .before .before .before .before .before .before in
-    let i = type-there standard _ _ (start .pre .1 .there) (sym (c .before .before .before .before .before .before .before .before .wide .ensures .0) ∙ c .before .before .before .before .before .before .before .match .keys3) .1 in
-    let e = c .before .before .before .before .before .wide2 .ensures .0 in
-    let k = c .before .before .before .before .before .wide2 .result in
-    let e3 = c .before .before .before .wide3 .ensures .0 in
-    let e4 = c .before .wide4 .ensures .0 in
-    let o = start .pre .1 .lists .order k (omega arith) in
-    let n = start .pre .1 .lists .inside k (omega arith) in
-    (start .pre .1 .once, record { order = omega arith; inside = omega arith; below = start .pre .1 .lists .below })
-
-met-add-t22 : (t : ℕ) → met-lts.Need-add-t22 (met-calls t) (met-at t) met.Post
-met-add-t22 t c =
-    let i = type-there standard _ _ (c .before .before .before .before .before .before .before .before .before .before .before .before .before .before .before .before .before .pre .1 .there) (sym (c .before .before .before .before .before .before .before .before .before .before .before .wide .ensures .0) ∙ c .before .before .before .before .before .before .before .before .before .before .match .keys3) .0 in
-    omega arith
-
-met-add-wide-3 : (t : ℕ) → met-lts.Need-add-wide-3 (met-calls t) (met-at t) met.Post
-met-add-wide-3 t c =
-    let i = content-inside standard _ _ (c .before .before .before .before .before .before .before .pre .1 .there) .0 in
-    omega arith
-
-met-shared-slice-read-wide-5 : (t : ℕ) → met-lts.Need-shared-slice-read-wide-5 (met-calls t) (met-at t) met.Post
-met-shared-slice-read-wide-5 t c =
-    let e = c .before .before .wide .ensures .0 in
-    let k = c .before .match .keys4 in
-    count-there standard _ _ (c .before .before .before .before .before .before .before .before .pre .1 .there) (omega arith) (omega arith)
-
-met-wide-requires-5 : (t : ℕ) → met-lts.Need-wide-requires-5 (met-calls t) (met-at t) met.Post
-met-wide-requires-5 t c κs =
-    search needs
-
 met-add-met-row : (t : ℕ) → met-lts.Need-add-met-row (met-calls t) (met-at t) met.Post
 met-add-met-row t c =
-    let i = content-inside standard _ _ (c .before .before .before .before .before .before .before .before .before .pre .1 .there) .0 in
+    let i = content-inside standard _ _ (c .before .before .before .before .before .before .before .before .before .pre .1 .0 .there) .0 in
     omega arith
 
 met-met-row-requires : (t : ℕ) → met-lts.Need-met-row-requires (met-calls t) (met-at t) met.Post
 met-met-row-requires t c κs =
     let start = c .before .before .before .before .before .before .before .before .before .before in
     let s = start .args .content .now in
+    let a = start .pre .1 .0 in
     let e = c .before .before .before .before .wide .ensures .0 in
     let k = c .before .before .before .match .keys4 in
-    let i = content-inside standard _ _ (start .pre .1 .there) .0 in
+    let i = content-inside standard _ _ (a .there) .0 in
     let m = start .pre .0 in
-    let row = operands-there standard _ _ (start .pre .1 .there) (omega arith) (omega arith) in (
+    let row = operands-there standard _ _ (a .there) (omega arith) (omega arith) in (
       omega arith,
-      record {
-        there = subst (ContentsAt standard s (start .args .at + 2)) (sym (c .before .wide5 .ensures .0)) row;
-        lists = start .pre .1 .lists;
-        once = start .pre .1 .once;
-      },
+      (
+        record {
+          there = subst (ContentsAt standard s (start .args .at + 2)) (sym (c .before .wide3 .ensures .0)) row;
+          lists = a .lists;
+          once = a .once;
+        },
+        start .pre .1 .1,
+      ),
     )
 
 met-same-length : (t : ℕ) → met-lts.Need-same-length (met-calls t) (met-at t) met.Post
 met-same-length t c =
-    c .before .before .before .met-row .kept .1 .1 .1 .1 .1 .0
+    c .before .before .before .before .met-row .kept .1 .1 .1 .1 .1 .0
 
 met-returns : (t : ℕ) → met-lts.Need-returns (met-calls t) (met-at t) met.Post
 met-returns t c =
-    let start = c .before .before .before .before .before .before .before .before .before .before .before .before .before .before in
-    sequence-finds _ _ _ _ _ _ _ _ _ (start .pre .1) (c .before .before .before .before .before .wide5 .ensures .0) (c .before .before .before .met-row .ensures)
-    (sym (c .before .before .before .before .before .before .before .before .wide .ensures .0) ∙ c .before .before .before .before .before .before .before .match .keys4) (c .if1 .taken)
+    sequence-finds _ _ _ _ _ _ _ _ _ (c .before .before .before .before .before .before .before .before .before .before .before .before .before .before .before .pre .1 .0) (c .before .before .before .before .before .before .wide3 .ensures .0) (c .before .before .before .before .met-row .ensures) (sym (c .before .before .before .before .before .before .before .before .before .wide .ensures .0) ∙ c .before .before .before .before .before .before .before .before .match .keys4) (c .before .if1 .taken)
 
-met-add-wide-4 : (t : ℕ) → met-lts.Need-add-wide-4 (met-calls t) (met-at t) met.Post
-met-add-wide-4 t c =
-    let i = content-inside standard _ _ (c .before .before .before .before .before .before .before .pre .1 .there) .0 in
+met-add-wide-3 : (t : ℕ) → met-lts.Need-add-wide-3 (met-calls t) (met-at t) met.Post
+met-add-wide-3 t c =
+    let i = content-inside standard _ _ (c .before .before .before .before .before .before .before .pre .1 .0 .there) .0 in
     omega arith
 
-met-shared-slice-read-wide-6 : (t : ℕ) → met-lts.Need-shared-slice-read-wide-6 (met-calls t) (met-at t) met.Post
-met-shared-slice-read-wide-6 t c =
+met-shared-slice-read-wide-4 : (t : ℕ) → met-lts.Need-shared-slice-read-wide-4 (met-calls t) (met-at t) met.Post
+met-shared-slice-read-wide-4 t c =
     let e = c .before .before .wide .ensures .0 in
     let k = c .before .match .keys5 in
-    count-there standard _ _ (c .before .before .before .before .before .before .before .before .pre .1 .there) (omega arith) (omega arith)
+    count-there standard _ _ (c .before .before .before .before .before .before .before .before .pre .1 .0 .there) (omega arith) (omega arith)
 
-met-wide-requires-6 : (t : ℕ) → met-lts.Need-wide-requires-6 (met-calls t) (met-at t) met.Post
-met-wide-requires-6 t c κs =
+met-wide-requires-4 : (t : ℕ) → met-lts.Need-wide-requires-4 (met-calls t) (met-at t) met.Post
+met-wide-requires-4 t c κs =
     search needs
 
 met-add-met-row-2 : (t : ℕ) → met-lts.Need-add-met-row-2 (met-calls t) (met-at t) met.Post
 met-add-met-row-2 t c =
-    let i = content-inside standard _ _ (c .before .before .before .before .before .before .before .before .before .pre .1 .there) .0 in
+    let i = content-inside standard _ _ (c .before .before .before .before .before .before .before .before .before .pre .1 .0 .there) .0 in
     omega arith
 
 met-met-row-requires-2 : (t : ℕ) → met-lts.Need-met-row-requires-2 (met-calls t) (met-at t) met.Post
 met-met-row-requires-2 t c κs =
     let start = c .before .before .before .before .before .before .before .before .before .before in
     let s = start .args .content .now in
+    let a = start .pre .1 .0 in
     let e = c .before .before .before .before .wide .ensures .0 in
     let k = c .before .before .before .match .keys5 in
-    let i = content-inside standard _ _ (start .pre .1 .there) .0 in
+    let i = content-inside standard _ _ (a .there) .0 in
     let m = start .pre .0 in
-    let row = operands-there standard _ _ (start .pre .1 .there) (omega arith) (omega arith) in (
+    let row = operands-there standard _ _ (a .there) (omega arith) (omega arith) in (
       omega arith,
-      record {
-        there = subst (ContentsAt standard s (start .args .at + 2)) (sym (c .before .wide6 .ensures .0)) row;
-        lists = start .pre .1 .lists;
-        once = start .pre .1 .once;
-      },
+      (
+        record {
+          there = subst (ContentsAt standard s (start .args .at + 2)) (sym (c .before .wide4 .ensures .0)) row;
+          lists = a .lists;
+          once = a .once;
+        },
+        start .pre .1 .1,
+      ),
     )
 
 met-add-met : (t : ℕ) → met-lts.Need-add-met (met-calls t) (met-at t) met.Post
 met-add-met t c =
-    let i = content-inside standard _ _ (c .before .before .before .before .before .before .before .pre .1 .there) .0 in
+    let i = content-inside standard _ _ (c .before .before .before .before .before .before .before .pre .1 .0 .there) .0 in
     omega arith
 
 met-met-requires : (t : ℕ) → met-lts.Need-met-requires (met-calls t) (met-at t) met.Post
 met-met-requires t c κs =
     let start = c .before .before .before .before .before .before .before .before in
+    let a = start .pre .1 .0 in
     let e = c .before .before .wide .ensures .0 in
     let k = c .before .match .keys6 in
-    let i = content-inside standard _ _ (start .pre .1 .there) .0 in
+    let i = content-inside standard _ _ (a .there) .0 in
     let m = start .pre .0 in (
       omega arith,
-      record {
-        there = operand-there standard _ _ (start .pre .1 .there) (omega arith);
-        lists = start .pre .1 .lists;
-        once = start .pre .1 .once;
-      },
+      (
+        record {
+          there = operand-there standard _ _ (a .there) (omega arith);
+          lists = a .lists;
+          once = a .once;
+        },
+        start .pre .1 .1,
+      ),
     )
 
 met-add-met-2 : (t : ℕ) → met-lts.Need-add-met-2 (met-calls t) (met-at t) met.Post
 met-add-met-2 t c =
-    let i = content-inside standard _ _ (c .before .before .before .before .before .before .before .pre .1 .there) .0 in
+    let i = content-inside standard _ _ (c .before .before .before .before .before .before .before .pre .1 .0 .there) .0 in
     omega arith
 
 met-met-requires-2 : (t : ℕ) → met-lts.Need-met-requires-2 (met-calls t) (met-at t) met.Post
 met-met-requires-2 t c κs =
     let start = c .before .before .before .before .before .before .before .before in
+    let a = start .pre .1 .0 in
     let e = c .before .before .wide .ensures .0 in
     let r = c .before .match .rest in
     let n4 = r .0 .1 in
@@ -248,32 +222,34 @@ met-met-requires-2 t c κs =
     let n2 = r .0 .0 .0 .1 in
     let n1 = r .0 .0 .0 .0 .1 in
     let n0 = r .0 .0 .0 .0 .0 .1 in
-    let i = content-inside standard _ _ (start .pre .1 .there) .0 in
+    let i = content-inside standard _ _ (a .there) .0 in
     let m = start .pre .0 in (
       omega arith,
-      record {
-        there = operand-there standard _ _ (start .pre .1 .there) (omega arith);
-        lists = start .pre .1 .lists;
-        once = start .pre .1 .once;
-      },
+      (
+        record {
+          there = operand-there standard _ _ (a .there) (omega arith);
+          lists = a .lists;
+          once = a .once;
+        },
+        start .pre .1 .1,
+      ),
     )
 
 met-returns-2 : (t : ℕ) → met-lts.Need-returns-2 (met-calls t) (met-at t) met.Post
 met-returns-2 t c =
-    none-finds _ _ _ _ _ _ (c .before .before .before .before .before .before .before .pre .1) (sym (c .before .wide .ensures .0) ∙ c .match .keys1)
+    none-finds _ _ _ _ _ _ _ (c .before .before .before .before .before .before .before .pre .1 .0) (c .before .before .before .before .before .before .before .pre .1 .1) (sym (c .before .wide .ensures .0) ∙ c .match .keys1)
 
 met-returns-3 : (t : ℕ) → met-lts.Need-returns-3 (met-calls t) (met-at t) met.Post
 met-returns-3 t c =
-    empty-finds _ _ _ _ _ _ (c .before .before .before .before .before .before .before .pre .1) (sym (c .before .wide .ensures .0) ∙ c .match .keys2)
+    empty-finds _ _ _ _ _ _ _ (c .before .before .before .before .before .before .before .pre .1 .0) (c .before .before .before .before .before .before .before .pre .1 .1) (sym (c .before .wide .ensures .0) ∙ c .match .keys2)
 
 met-same-length-2 : (t : ℕ) → met-lts.Need-same-length-2 (met-calls t) (met-at t) met.Post
 met-same-length-2 t c =
-    c .before .before .append-part .kept .0
+    c .before .before .met-type .kept .1 .1 .1 .0
 
 met-returns-4 : (t : ℕ) → met-lts.Need-returns-4 (met-calls t) (met-at t) met.Post
 met-returns-4 t c =
-    type-finds _ _ _ _ _ _ _ _ _ _ _ (c .before .before .before .before .before .before .before .before .before .before .before .before .before .before .before .before .before .pre .1) (sym (c .before .before .before .before .before .before .before .before .before .before .before .wide .ensures .0) ∙ c .before .before .before .before .before .before .before .before .before .before .match .keys3) (c .before .before .before .before .before .before .before .before .wide2 .ensures .0)
-    (c .before .before .before .before .before .before .wide3 .ensures .0) (c .before .before .before .before .wide4 .ensures .0) (c .before .before .append-part .ensures)
+    type-finds _ _ _ _ _ _ _ _ _ (c .before .before .before .before .before .before .before .before .before .before .before .before .before .pre .1 .0) (sym (c .before .before .before .before .before .before .before .wide .ensures .0) ∙ c .before .before .before .before .before .before .match .keys3) (c .before .before .before .before .wide2 .ensures .0) (c .before .before .met-type .ensures)
 
 met-same-length-3 : (t : ℕ) → met-lts.Need-same-length-3 (met-calls t) (met-at t) met.Post
 met-same-length-3 t c =
@@ -281,19 +257,15 @@ met-same-length-3 t c =
 
 met-returns-5 : (t : ℕ) → met-lts.Need-returns-5 (met-calls t) (met-at t) met.Post
 met-returns-5 t c =
-    let start = c .before .before .before .before .before .before .before .before .before .before .before .before .before .before in
-    sequence-finds-none _ _ _ _ _ _ _ _ _ (start .pre .1) (c .before .before .before .before .before .wide5 .ensures .0) (c .before .before .before .met-row .ensures)
-    (sym (c .before .before .before .before .before .before .before .before .wide .ensures .0) ∙ c .before .before .before .before .before .before .before .match .keys4) (c .if1 .left) (c .before .before .before .met-row .kept .1 .1 .1 .1 .1 .0)
+    sequence-finds-none _ _ _ _ _ _ _ _ _ (c .before .before .before .before .before .before .before .before .before .before .before .before .before .before .pre .1 .0) (c .before .before .before .before .before .wide3 .ensures .0) (c .before .before .before .met-row .ensures) _ (c .before .before .before .before .before .before .before .before .before .before .before .before .before .before .pre .1 .1) (sym (c .before .before .before .before .before .before .before .before .wide .ensures .0) ∙ c .before .before .before .before .before .before .before .match .keys4) (c .if1 .left) (c .before .before .before .met-row .kept .1 .1 .1 .1 .1 .0)
 
 met-same-length-4 : (t : ℕ) → met-lts.Need-same-length-4 (met-calls t) (met-at t) met.Post
 met-same-length-4 t c =
-    c .before .before .met-row2 .kept .1 .1 .1 .1 .1 .0
+    c .before .before .before .met-row2 .kept .1 .1 .1 .1 .1 .0
 
 met-returns-6 : (t : ℕ) → met-lts.Need-returns-6 (met-calls t) (met-at t) met.Post
 met-returns-6 t c =
-    let start = c .before .before .before .before .before .before .before .before .before .before .before .before .before in
-    choice-finds _ _ _ _ _ _ _ _ _ (start .pre .1) (c .before .before .before .before .wide6 .ensures .0) (c .before .before .met-row2 .ensures)
-    (sym (c .before .before .before .before .before .before .before .wide .ensures .0) ∙ c .before .before .before .before .before .before .match .keys5)
+    choice-finds _ _ _ _ _ _ _ _ _ (c .before .before .before .before .before .before .before .before .before .before .before .before .before .before .pre .1 .0) (c .before .before .before .before .before .wide4 .ensures .0) (c .before .before .before .met-row2 .ensures) (sym (c .before .before .before .before .before .before .before .before .wide .ensures .0) ∙ c .before .before .before .before .before .before .before .match .keys5)
 
 met-same-length-5 : (t : ℕ) → met-lts.Need-same-length-5 (met-calls t) (met-at t) met.Post
 met-same-length-5 t c =
@@ -301,34 +273,33 @@ met-same-length-5 t c =
 
 met-returns-7 : (t : ℕ) → met-lts.Need-returns-7 (met-calls t) (met-at t) met.Post
 met-returns-7 t c =
-    one-or-more-finds _ _ _ _ _ _ _ _ (c .before .before .before .before .before .before .before .before .before .before .before .pre .1) (c .before .before .met .ensures) (sym (c .before .before .before .before .before .wide .ensures .0) ∙ c .before .before .before .before .match .keys6)
+    one-or-more-finds _ _ _ _ _ _ _ _ (c .before .before .before .before .before .before .before .before .before .before .before .pre .1 .0) (c .before .before .met .ensures) (sym (c .before .before .before .before .before .wide .ensures .0) ∙ c .before .before .before .before .match .keys6)
 
 met-same-length-6 : (t : ℕ) → met-lts.Need-same-length-6 (met-calls t) (met-at t) met.Post
 met-same-length-6 t c =
-    c .before .before .met2 .kept .1 .1 .1 .1 .0
+    c .before .before .before .met2 .kept .1 .1 .1 .1 .0
 
 met-returns-8 : (t : ℕ) → met-lts.Need-returns-8 (met-calls t) (met-at t) met.Post
 met-returns-8 t c =
-    let start = c .before .before .before .before .before .before .before .before .before .before .before in
-    let e = c .before .before .before .before .before .wide .ensures .0 in
-    let r = c .before .before .before .before .match .rest in
+    let e = c .before .before .before .before .before .before .wide .ensures .0 in
+    let r = c .before .before .before .before .before .match .rest in
     let n6 = r .1 in
     let n4 = r .0 .1 in
     let n3 = r .0 .0 .1 in
     let n2 = r .0 .0 .0 .1 in
     let n1 = r .0 .0 .0 .0 .1 in
     let n0 = r .0 .0 .0 .0 .0 .1 in
-    around-finds _ _ _ _ _ _ _ _ (start .pre .1) (c .before .before .met2 .ensures) (omega arith) (λ q. n6 (e ∙ q))
+    around-finds _ _ _ _ _ _ _ _ (c .before .before .before .before .before .before .before .before .before .before .before .before .pre .1 .0) (c .before .before .before .met2 .ensures) (omega arith) (λ q. n6 (e ∙ q))
 
 met-row-returns : (t : ℕ) → met-row-lts.Need-returns (met-row-calls t) (met-row-at t) met-row.Post
 met-row-returns t c =
-    no-row-finds _ _ _ _ _ _ _ (c .before .before .before .before .before .pre .1) (c .if1 .taken)
+    no-row-finds _ _ _ _ _ _ _ _ (c .before .before .before .before .before .pre .1 .0) (c .before .before .before .before .before .pre .1 .1) (c .if1 .taken)
 
 met-row-met-requires : (t : ℕ) → met-row-lts.Need-met-requires (met-row-calls t) (met-row-at t) met-row.Post
 met-row-met-requires t c κs =
     let start = c .before .before .before .before .before .before in
     let m = start .pre .0 in
-    (omega arith, first-asks _ _ _ _ _ _ _ (start .pre .1) (c .before .if1 .left))
+    (omega arith, (first-asks _ _ _ _ _ _ _ (start .pre .1 .0) (c .before .if1 .left), start .pre .1 .1))
 
 met-row-sub-met-row : (t : ℕ) → met-row-lts.Need-sub-met-row (met-row-calls t) (met-row-at t) met-row.Post
 met-row-sub-met-row t c =
@@ -336,12 +307,12 @@ met-row-sub-met-row t c =
 
 met-row-met-row-requires : (t : ℕ) → met-row-lts.Need-met-row-requires (met-row-calls t) (met-row-at t) met-row.Post
 met-row-met-row-requires t c κs =
-    let start = c .before .before .before .before .before .before .before .before .before .before in
+    let start = c .before .before .before .before .before .before .before .before .before .before .before in
     let m = start .pre .0 in
-    let a = first-asks _ _ _ _ _ _ _ (start .pre .1) (c .before .before .before .before .before .if1 .left) in
+    let a = first-asks _ _ _ _ _ _ _ (start .pre .1 .0) (c .before .before .before .before .before .before .if1 .left) in
     let i = content-inside standard _ _ (a .there) .0 in
-    let o = others-ask _ _ _ _ _ _ _ _ _ (start .pre .1) (c .before .before .before .before .before .if1 .left) (c .before .before .before .met .ensures) (c .before .before .before .met .kept .1 .1 .1 .1 .0) in
-    (omega arith, o .1)
+    let o = others-ask _ _ _ _ _ _ _ _ _ (start .pre .1 .0) (c .before .before .before .before .before .before .if1 .left) (c .before .before .before .before .met .ensures) (c .before .before .before .before .met .kept .1 .1 .1 .1 .0) in
+    (omega arith, (o .1, c .before .before .before .before .met .ensures .known))
 
 met-row-both-requires : (t : ℕ) → met-row-lts.Need-both-requires (met-row-calls t) (met-row-at t) met-row.Post
 met-row-both-requires t c κs =
@@ -353,12 +324,12 @@ met-row-either-requires t c κs =
 
 met-row-same-length : (t : ℕ) → met-row-lts.Need-same-length (met-row-calls t) (met-row-at t) met-row.Post
 met-row-same-length t c =
-    c .before .before .before .before .met-row .kept .1 .1 .1 .1 .1 .0 ∙ c .before .before .before .before .before .before .before .before .met .kept .1 .1 .1 .1 .0
+    c .before .before .before .before .before .met-row .kept .1 .1 .1 .1 .1 .0 ∙ c .before .before .before .before .before .before .before .before .before .before .met .kept .1 .1 .1 .1 .0
 
 met-row-returns-2 : (t : ℕ) → met-row-lts.Need-returns-2 (met-row-calls t) (met-row-at t) met-row.Post
 met-row-returns-2 t c =
-    let args = c .before .before .before .before .before .before .before .before .before .before .before .before .before .before .before .args in
-    row-finds _ _ _ _ (args .list .now) (args .count) _ _ _ _ _ _ _ (c .before .before .before .before .before .before .before .before .before .before .if1 .left) (c .before .before .before .before .before .before .before .before .met .ensures) (c .before .before .before .before .met-row .ensures) (c .before .both .ensures) (c .either .ensures)
+    let args = c .before .before .before .before .before .before .before .before .before .before .before .before .before .before .before .before .before .args in
+    row-finds _ _ _ _ (args .list .now) (args .count) _ _ _ _ _ _ _ (c .before .before .before .before .before .before .before .before .before .before .before .before .if1 .left) (c .before .before .before .before .before .before .before .before .before .before .met .ensures) (c .before .before .before .before .before .met-row .ensures) (c .before .both .ensures) (c .either .ensures)
 
 pub +met+met-row-spec : {M : Type 1} → statement M
 +met+met-row-spec = close μ-met μ-met-row (λ t. met-lts.spec (met-calls t)
@@ -366,28 +337,23 @@ pub +met+met-row-spec : {M : Type 1} → statement M
     met.Post
     (met-shared-slice-read-wide t)
     (met-wide-requires t)
-    (met-add-t20 t)
     (met-add-t21 t)
+    (met-add-t22 t)
     (met-add-wide t)
     (met-shared-slice-read-wide-2 t)
     (met-wide-requires-2 t)
+    (met-add-met-type t)
+    (met-met-type-requires t)
+    (met-add-wide-2 t)
     (met-shared-slice-read-wide-3 t)
     (met-wide-requires-3 t)
-    (met-add-wide-2 t)
-    (met-shared-slice-read-wide-4 t)
-    (met-wide-requires-4 t)
-    (met-append-part-requires t)
-    (met-add-t22 t)
-    (met-add-wide-3 t)
-    (met-shared-slice-read-wide-5 t)
-    (met-wide-requires-5 t)
     (met-add-met-row t)
     (met-met-row-requires t)
     (met-same-length t)
     (met-returns t)
-    (met-add-wide-4 t)
-    (met-shared-slice-read-wide-6 t)
-    (met-wide-requires-6 t)
+    (met-add-wide-3 t)
+    (met-shared-slice-read-wide-4 t)
+    (met-wide-requires-4 t)
     (met-add-met-row-2 t)
     (met-met-row-requires-2 t)
     (met-add-met t)

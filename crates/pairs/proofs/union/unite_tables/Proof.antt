@@ -1,18 +1,14 @@
 -- `unite_tables` meets its contract.
 use native.Mathlib.Omega.{arith}
-use mathlib.Core.Path.{sym, _∙_, subst}
-use Prim.Native.Nat.{ℕ, _≤_}
-use Rattle.grammar.specs.Table.{Table}
-use Rattle.pairs.specs.View.{TableHeld, AddingTo}
-use Rattle.pairs.proofs.UnionLaws.{index-names, united-labels}
+use Rattle.pairs.proofs.UnionLaws.{label-names, united-labels}
 use Rattle.pairs.proofs.union.unite_tables.Statement.{statement}
 use Rattle.pairs.proofs.union.unite_tables.Tie as tie
 
 new-names-requires : tie.Need-new-names-requires
 new-names-requires c κs =
     let start = c .before .before .before .before .before .before in (
-      record { list = _; at = index-names (start .pre .0 .held .indexes) },
-      record { list = _; at = index-names (start .pre .1 .held .indexes) },
+      record { list = _; at = label-names (start .pre .0 .held .indexes) },
+      record { list = _; at = label-names (start .pre .1 .held .indexes) },
     )
 
 old-rules-requires : tie.Need-old-rules-requires
@@ -31,9 +27,9 @@ new-rules-requires c κs =
         second = start .pre .1 .table;
         so =
             record {
-              old-names = index-names (x .indexes);
-              added-names = index-names (y .indexes);
-              new-names = c .before .new-names .ensures _ _ (index-names (x .indexes)) (index-names (y .indexes));
+              old-names = label-names (x .indexes);
+              added-names = label-names (y .indexes);
+              new-names = c .before .new-names .ensures _ _ (label-names (x .indexes)) (label-names (y .indexes));
               addition = y;
             };
       },
@@ -44,18 +40,18 @@ new-rules-requires c κs =
 returns : tie.Need-returns
 returns c =
     λ g h x y.
-    let fresh = c .before .before .new-names .ensures _ _ (index-names (x .indexes)) (index-names (y .indexes)) in
+    let fresh = c .before .before .new-names .ensures _ _ (label-names (x .indexes)) (label-names (y .indexes)) in
     record {
       rules =
           c .new-rules .ensures g h
           (record {
-            old-names = index-names (x .indexes);
-            added-names = index-names (y .indexes);
+            old-names = label-names (x .indexes);
+            added-names = label-names (y .indexes);
             new-names = fresh;
             addition = y;
           })
           (c .before .old-rules .ensures .0 _ _ g x);
-      old-names = index-names (x .indexes);
+      old-names = label-names (x .indexes);
       new-names = fresh;
       labels = united-labels g h;
     }
