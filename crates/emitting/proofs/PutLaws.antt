@@ -116,9 +116,5 @@ put-field before at tag value after h e =
     let l = put-length p in
     put-join p (put-paste (set (set (set before at tag) (at + 1) high) (at + 2) low) (at + 3) value after (omega arith) e)
 
-pub field-length : (tag : ℕ) (value : List ℕ) → length (fieldBytes tag value) ≡ 3 + length value
-unfolding fieldBytes
-field-length tag value = omega arith
-
 pub stored-length : (l : List ℕ) (i a j b k c : ℕ) → length (set (set (set l i a) j b) k c) ≡ length l
 stored-length l i a j b k c = length-set (set (set l i a) j b) k c ∙ length-set (set l i a) j b ∙ length-set l i a

@@ -11,6 +11,7 @@ use mathlib.Core.List.{List, [], _∷_, _++_, List·Memᴰ, List·Memᴰ·head, 
 use mathlib.Core.Option.{some as just}
 use mathlib.Core.Path.{_≡_, refl, sym, _∙_, ap}
 use lib.ListN.{length, getD, getElem?, take, length-append}
+use lib.Seq.{take-suc}
 use borrow.Author.Tests.{leb-false}
 use Rattle.grammar.specs.Lists.{joinedOf}
 use Rattle.grammar.specs.Limits.{standard}
@@ -40,14 +41,15 @@ use Rattle.grammar.specs.declared.Refusal.the-variants.{
   OutputTooShort,
 }
 use Rattle.theory.proofs.FieldBytes.{AreBytes}
-use Rattle.theory.proofs.ListLaws.{below-at, at-mem, just-eq}
+use Rattle.theory.proofs.ListLaws.{below-at, at-below, at-mem, at-else, joined-end}
 use Rattle.theory.proofs.OutcomeLaws.{given-then, was-given, had-no-fault, given-eq}
 use Rattle.theory.proofs.ReadWithin.{read-within}
 use Rattle.reader.specs.declared.tables.TableIndex.{TableIndex}
 use Rattle.reader.specs.TableIndex.{labelFrom, labelTo}
 use Rattle.reader.specs.ReaderCalls.{LabelAnswered, labelIn}
 use Rattle.reader.proofs.AnswerLaws.{never-given}
-use Rattle.reader.proofs.LabelParts.{getD-of, label-part, label-unread, label-past, label-found}
+use Rattle.reader.proofs.FieldReading.{field-length}
+use Rattle.reader.proofs.LabelParts.{label-part, label-unread, label-past, label-found}
 use Rattle.reader.proofs.TableFaults.{part-size}
 use Rattle.reader.proofs.TableFound.{TableFound, label-found-at}
 use Rattle.exports.specs.Exported.{told, nameNumbers, nameBegins, Told}
@@ -64,38 +66,26 @@ summed-next from to i = ap (summed from to) (add-one i)
 -- one element more
 joined-next : {A B : Type 0} (f : A → List B) (xs : List A) (i : ℕ) (x : A) → getElem? xs i ≡ just x
     → length (joinedOf f (take (suc i) xs)) ≡ length (joinedOf f (take i xs)) + length (f x)
-unfolding joinedOf
-joined-next f [] i x e = let z : _≡_ {A = ℕ} 0 1 = cc in absurd (omega arith)
-joined-next {A} f (y ∷ xs) zero x e =
-    let l = length-append (f y) [] in
-    let k : length (f x) ≡ length (f y) = ap (λ (z : A). length (f z)) (just-eq e) in
-    omega arith
-joined-next f (y ∷ xs) (suc i) x e =
-    let a = length-append (f y) (joinedOf f (take (suc i) xs)) in
-    let b = length-append (f y) (joinedOf f (take i xs)) in
-    let n = joined-next f xs i x e in
-    omega arith
-
-field-size : (m : Name) → length (fieldBytes labelTag m) ≡ 3 + length m
-unfolding fieldBytes
-field-size m = omega arith
+joined-next {A} f xs i x e =
+    let more = take-suc xs i x (at-below xs i e) ∙ ap (λ (y : A). take i xs ++ (y ∷ [])) (at-else xs i x e) in
+    ap length (ap (joinedOf f) more ∙ joined-end f (take i xs) x) ∙ length-append (joinedOf f (take i xs)) (f x)
 
 begins-next : (labels : List Name) (i : ℕ) (n : Name) → getElem? labels i ≡ just n
     → nameBegins labels (suc i) ≡ nameBegins labels i + (3 + length n)
 unfolding nameBegins partOfLabel
-begins-next labels i n e = let j = joined-next (fieldBytes labelTag) labels i n e in let l = field-size n in omega arith
+begins-next labels i n e = let j = joined-next (fieldBytes labelTag) labels i n e in let l = field-length labelTag n in omega arith
 
 module _ {s : List ℕ} {index : TableIndex} (f : TableFound s index) where
   label-size : (i : ℕ) → i < index .labels
       → (n : Name) × (getElem? (f .table .labels) i ≡ just n) × (labelTo index i - labelFrom index i ≡ length n) × (length n ≤ 63)
   unfolding standard
   label-size i h =
-      let p = label-found-at f i h in
+      let p = label-found-at (f .indexes) (f .within) i h in
       let w = p .3 .size in
       (p .0, p .1, sym (part-size s (labelFrom index i) (labelTo index i) (p .2 .inside)) ∙ ap length (p .2 .bytes-are), omega arith)
 
   pub label-short : (i : ℕ) → i < index .labels → (labelFrom index i ≤ labelTo index i) × (labelTo index i - labelFrom index i ≤ 63)
-  label-short i h = let p = label-size i h in let q = label-found-at f i h in let e = p .2 in let w = p .3 in (q .2 .inside .order, omega arith)
+  label-short i h = let p = label-size i h in let q = label-found-at (f .indexes) (f .within) i h in let e = p .2 in let w = p .3 in (q .2 .inside .order, omega arith)
 
   pub begins-at : (i : ℕ) → i ≤ index .labels
       → summed (index .«label_from») (index .«label_to») i ≡ nameBegins (f .table .labels) i
@@ -117,7 +107,7 @@ joined-short [] h (suc i) = omega arith
 joined-short (n ∷ labels) h zero = omega arith
 joined-short (n ∷ labels) h (suc i) =
     let l = length-append (fieldBytes labelTag n) (joinedOf (fieldBytes labelTag) (take i labels)) in
-    let f = field-size n in
+    let f = field-length labelTag n in
     let short = h n (List·Memᴰ·head refl) in
     let rest = joined-short labels (λ m k. h m (List·Memᴰ·tail k)) i in
     omega arith
@@ -179,7 +169,7 @@ module _ (s : List ℕ) (label : ℕ) (work : List ℕ) where
       let few = within .labels in
       let begins = joined-short (g .labels) (λ m k. within .names m k .size) label in
       let from : p .from ≡ length (joinedOf (fieldBytes labelTag) (take label (g .labels))) + 3 = ap (λ (r : Part). r .from) (sym q) in
-      let size : p .size ≡ length (n .0) = ap (λ (r : Part). r .size) (sym q) ∙ ap length (getD-of (g .labels) label (n .0) [] (n .1)) in
+      let size : p .size ≡ length (n .0) = ap (λ (r : Part). r .size) (sym q) ∙ ap length (at-else (g .labels) label [] (n .1)) in
       let short = within .names (n .0) (at-mem (g .labels) label (n .1)) .size in
       (omega arith, omega arith)
 
@@ -207,7 +197,7 @@ module _ (s : List ℕ) (label : ℕ) (work : List ℕ) where
         let q : partOfLabel (g .labels) label ≡ p = given-eq (b .1) in
         let bytes = label-part standard asciiClasses s g small (a .1) label (n .0) (n .1) in
         let size : p .size ≡ length (n .0) =
-        ap (λ (r : Part). r .size) (sym q) ∙ ap length (getD-of (g .labels) label (n .0) [] (n .1)) in
+        ap (λ (r : Part). r .size) (sym q) ∙ ap length (at-else (g .labels) label [] (n .1)) in
         ap (λ (r : Part). length (partBytes (given r) s)) (sym q) ∙ ap length bytes ∙ sym size
 
     module _ (left : List ℕ) (refusal : ℕ) (name : List ℕ) (so : LabelAnswered s label work left refusal name) where

@@ -2,7 +2,6 @@
 --   map-itself                        a function that leaves each element of a list
 --   keep-nothing                      nothing is kept where nothing passes the test
 --   any-map                           some image passes a test
---   some-mem, mem-some                a list that is not empty has an element
 --   in-kept                           a number is kept of a list that has it just where it passes the test
 -- Of lists by places: same-at, numbered, past-nothing; kept-below. Of distinct elements:
 --   first-itself     an element of the distinct ones stands at its own place
@@ -10,7 +9,7 @@
 --   distinct-all, distinct-image, distinct-longer
 use Prim.Native.Nat.{ℕ, zero, suc, _+_, _-_, _≤_}
 use native.Mathlib.Omega.{arith}
-use mathlib.Core.Bool.{Bool, true, false, not, _||_, false≢true}
+use mathlib.Core.Bool.{Bool, true, false, not, _||_}
 use mathlib.Core.List.{
   List,
   [],
@@ -31,7 +30,6 @@ use mathlib.Core.Path.{_≡_, refl, sym, _∙_, ap, ap₂}
 use lib.ListN.{length, length-append, getElem?, getD}
 use borrow.Author.Tests.{not-true}
 use Rattle.grammar.specs.Lists.{any, keep, distinct, allDistinct, place, isIn, numbersFrom, numbersBelow}
-use Rattle.grammar.specs.ReadTable.{isEmpty}
 use Rattle.theory.proofs.BoolLaws.{and-left, and-right, same-test, false-of, not-both, or-false}
 use Rattle.theory.proofs.ListLaws.{
   any-of,
@@ -52,6 +50,7 @@ use Rattle.theory.proofs.ListLaws.{
   numbers-joined,
 }
 use Rattle.theory.proofs.DistinctLaws.{keep-append, keep-within, distinct-grows, distinct-finer}
+-- passed on to crates above
 pub use Rattle.theory.proofs.ListLaws.{keep-on}
 
 module _ {A : Type 0} where
@@ -60,14 +59,6 @@ module _ {A : Type 0} where
   keep-nothing test [] h = refl
   keep-nothing test (x ∷ xs) h =
       keep-no test x xs (h x (List·Memᴰ·head refl)) ∙ keep-nothing test xs (λ y m. h y (List·Memᴰ·tail m))
-
-  pub some-mem : (xs : List A) → not (isEmpty xs) ≡ true → (x : A) × List·Memᴰ x xs
-  some-mem [] e = absurd (false≢true e)
-  some-mem (x ∷ xs) e = (x, List·Memᴰ·head refl)
-
-  pub mem-some : {x : A} {xs : List A} → List·Memᴰ x xs → not (isEmpty xs) ≡ true
-  mem-some (List·Memᴰ·head e) = refl
-  mem-some (List·Memᴰ·tail m) = refl
 
   -- past the end nothing stands
   pub past-nothing : (xs : List A) (i : ℕ) → length xs ≤ i → getElem? xs i ≡ nothing

@@ -31,6 +31,8 @@ use Rattle.theory.proofs.ListLaws.{
   eqb-decides,
   in-mem,
   numbers-below,
+  some-mem,
+  mem-some,
 }
 use Rattle.theory.proofs.PlaceLaws.{place-of, place-image}
 use Rattle.theory.proofs.Alternatives.{alts, written, resultsOf}
@@ -49,7 +51,7 @@ use Rattle.forms.specs.SetForms.{
   localTable,
   tableBySets,
 }
-use Rattle.forms.proofs.KeptLists.{some-mem, mem-some, in-kept}
+use Rattle.forms.proofs.KeptLists.{in-kept}
 use Rattle.forms.proofs.UnionFit.{UnionFit}
 use Rattle.forms.proofs.StandingPairs.{left-pair, left-label, rule-left, left-rule, set-contents}
 use Rattle.forms.proofs.SetsFound.{

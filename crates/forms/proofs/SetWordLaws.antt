@@ -19,7 +19,7 @@ use Rattle.grammar.specs.Lists.{any, keep, distinct, place, isIn, sameNumbers, 
 use Rattle.grammar.specs.ReadTable.{isEmpty}
 use Rattle.grammar.specs.SingleTypeForm.{TypeSet}
 use Rattle.theory.proofs.BoolLaws.{false-of}
-use Rattle.theory.proofs.ListLaws.{at-below, below-at, at-joined, at-mem, just-eq, same-numbers, same-numbers-refl, numbers-decide, keep-yes, decided-sym}
+use Rattle.theory.proofs.ListLaws.{at-below, below-at, at-joined, at-mem, just-eq, same-numbers, same-numbers-refl, numbers-decide, keep-yes, decided-sym, mem-some, in-mem}
 use Rattle.theory.proofs.PlaceLaws.{place-found, place-some}
 use Rattle.theory.proofs.DistinctLaws.{one-more-new, one-more-old}
 use Rattle.sets.specs.Sets.{member, storeAt, Empties}
@@ -121,11 +121,9 @@ module _ {words : List ℕ} {sets : List TypeSet} (held : SetsHeld words sets) (
   some-put r is empties =
       let k = empties .one is in
       ap (λ (l : List TypeSet). sets ++ l)
-      (sym (keep-yes (λ t. not (isEmpty t)) s [] (ap not (filled s (k .0) (sym (ap (λ (f : ℕ → Bool). f (k .0)) (x .is)) ∙ k .2)))))
-    where
-      filled : (t : TypeSet) (k : ℕ) → isIn k t ≡ true → isEmpty t ≡ false
-      filled [] k e = sym e
-      filled (y ∷ t) k e = refl
+      (sym
+      (keep-yes (λ t. not (isEmpty t)) s []
+      (mem-some (in-mem (k .0) s (sym (ap (λ (f : ℕ → Bool). f (k .0)) (x .is)) ∙ k .2)))))
 
   -- a set that is there, or not
   module _ (once : distinct sameNumbers sets ≡ sets) where

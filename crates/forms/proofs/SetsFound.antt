@@ -50,18 +50,18 @@ use Rattle.theory.proofs.ListLaws.{
   numbers-decide,
   eqb-decides,
   map-on,
+  some-mem,
 }
+use Rattle.theory.proofs.Reached.{start-reached}
 use Rattle.theory.proofs.SetsClosed.{starts-first, newSets, more-end, more-next}
 use Rattle.theory.proofs.SingleTypeMerge.{first-member}
 use Rattle.theory.proofs.DistinctLaws.{keep-distinct, distinct-again, distinct-on}
 use Rattle.pairs.specs.PairNumbers.{ruleAt, isLeft, isStart, metIn}
-use Rattle.pairs.proofs.ReachedLaws.{start-reached}
 use Rattle.forms.specs.SetForms.{labelled, labelSets, labelLeft, setLabel, singleTypeSets, metWithin}
 use Rattle.forms.specs.SetWords.{Ascending}
 use Rattle.forms.specs.Worklist.{setsWithin}
 use Rattle.forms.proofs.KeptLists.{
   past-nothing,
-  some-mem,
   distinct-append,
   distinct-all,
   distinct-image,
@@ -197,7 +197,7 @@ pub record Found (u : Table) (next : ℕ) (sets : List TypeSet) : Type 0 where
 
 module _ (u : Table) where
   pub start-left : AllLeft u (withoutUnfruitful (normalise u) .starts)
-  start-left p m = mem-in (start-reached u p m)
+  start-left p m = mem-in (start-reached (withoutUnfruitful (normalise u)) p m)
 
   pub start-sets : startSets (reduce (normalise u)) ≡ labelSets u (isStart u)
   unfolding startSets labelSets reduce withoutUnreached withoutUnfruitful normalise

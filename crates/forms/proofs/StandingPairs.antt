@@ -18,7 +18,7 @@ use Rattle.grammar.specs.Content.{Content, none}
 use Rattle.grammar.specs.Table.{Rule, Table}
 use Rattle.grammar.specs.KindTests.{samePair}
 use Rattle.grammar.specs.Normalise.{pairOf, pairsOf, normalise}
-use Rattle.grammar.specs.Reduce.{fruitful, reduce}
+use Rattle.grammar.specs.Reduce.{fruitful, reduce, withoutUnfruitful}
 use Rattle.grammar.specs.LocalForm.{labelOf}
 use Rattle.grammar.specs.SingleTypeForm.{TypeSet, ofLabel, typesMet}
 use Rattle.theory.proofs.BoolLaws.{and-left, and-right, and-intro, same-test, not-both}
@@ -40,6 +40,7 @@ use Rattle.theory.proofs.ListLaws.{
   keep-on,
   joined-on,
 }
+use Rattle.theory.proofs.Reached.{start-reached}
 use Rattle.theory.proofs.PlaceLaws.{place-found}
 use Rattle.theory.proofs.DistinctLaws.{keep-within}
 use Rattle.theory.proofs.KindTests.{same-pair-sym}
@@ -51,7 +52,7 @@ use Rattle.pairs.specs.Rounds.{contentOf}
 use Rattle.pairs.specs.PairNumbers.{ruleAt, fruitfulOf, isLeft, contentsOfPair, contentsIn, metIn}
 use Rattle.pairs.proofs.PairLists.{firsts-are}
 use Rattle.pairs.proofs.MetLaws.{met-hold}
-use Rattle.pairs.proofs.ReachedLaws.{start-pairs, start-reached, met-reached, reached-set}
+use Rattle.pairs.proofs.ReachedLaws.{start-pairs, met-reached, reached-set}
 use Rattle.forms.specs.SetForms.{labelled, labelLeft}
 use Rattle.forms.proofs.KeptLists.{map-itself, numbered, first-itself}
 
@@ -105,7 +106,7 @@ module _ (u : Table) where
   left-is-pair =
       reached-set u (λ p. isLeft u p && isPair p)
       (λ p m.
-      and-intro (isLeft u p) (isPair p) (mem-in (start-reached u p m))
+      and-intro (isLeft u p) (isPair p) (mem-in (start-reached (withoutUnfruitful (normalise u)) p m))
       (let (k, s, n) = start-pairs u p .0 m in fruitful-pair k p n))
       (λ r p m f s n.
       and-intro (isLeft u p) (isPair p)

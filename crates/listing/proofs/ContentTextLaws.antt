@@ -1,14 +1,12 @@
 -- The text of a content as its bytes are walked:
 --   none-text, empty-text, type-text, list-text, suffix-text : operator by operator ; row-text : of so many, the first and the others
-use Prim.Native.Nat.{ℕ, zero, suc, _+_, _-_, _≤_, _<_}
+use Prim.Native.Nat.{ℕ, zero, suc, _+_, _-_, _≤_}
 use native.Mathlib.Omega.{arith}
-use mathlib.Core.Bool.{true, _&&_}
+use mathlib.Core.Bool.{true}
 use mathlib.Core.List.{List, [], _∷_, _++_}
 use mathlib.Core.Option.{some as just}
-use mathlib.Core.Path.{_≡_, refl, sym, _∙_, ap, subst}
-use lib.ListN.{length, getD, getElem?, length-append}
-use lib.Dec.{leb}
-use borrow.Author.Tests.{leb-true}
+use mathlib.Core.Path.{_≡_, refl, sym, _∙_, ap}
+use lib.ListN.{getD, getElem?}
 use Rattle.grammar.specs.Limits.{standard}
 use Rattle.grammar.specs.Content.{
   Content,
@@ -25,19 +23,15 @@ use Rattle.grammar.specs.Content.{
   _∷ᶜ_,
   count,
 }
-use Rattle.grammar.specs.ReadContent.{single, counted, operators, isProper, areProper}
+use Rattle.grammar.specs.ReadContent.{single, counted, operators, isProper}
 use Rattle.grammar.specs.Listing.{Text, typeText, contentText, separated, continued}
-use Rattle.theory.proofs.BoolLaws.{and-left, and-right}
-use Rattle.reader.specs.ExprAt.{_upTo_, exprAt, exprsAt}
+use Rattle.reader.specs.ExprAt.{exprsAt}
 use Rattle.reader.proofs.ExprLaws.{
   same-placed,
-  expr-forward,
   alone-was,
   numbered-was,
   counted-was,
   single-was,
-  exprs-first,
-  exprs-end,
   operator-none,
   operator-empty,
   operator-type,
@@ -47,8 +41,10 @@ use Rattle.reader.proofs.ExprLaws.{
   operator-one-or-more,
   operator-optional,
 }
+use Rattle.reader.proofs.ExtentLaws.{proper-sequence, proper-choice}
 use Rattle.pairs.specs.ContentAt.{ContentAt, ContentsAt}
 use Rattle.pairs.proofs.ContentAtLaws.{content-inside}
+use Rattle.emitting.proofs.SourceLaws.{FirstThere}
 use Rattle.listing.specs.Printing.{markOf, rowText}
 
 -- the first operand apart
@@ -93,37 +89,34 @@ module _ {s : List ℕ} {at : ℕ} (q : ContentAt standard s at) where
   module _ {n : ℕ} (o : ContentsAt standard s (at + 2) n) (counts : n ≡ getD s (at + 1) 0) where
     bracketed : (f : Contents → Content) (mark : ℕ) → getElem? operators b ≡ just (counted f)
         → ((cs : Contents) → contentText (f cs) ≡ (0x28 ∷ separated (mark ∷ []) cs) ++ (0x29 ∷ []))
-        → ((cs : Contents) → isProper standard (f cs) ≡ (leb 2 (count cs) && leb (count cs) (standard .operands) && areProper standard cs))
+        → ((cs : Contents) → isProper standard (f cs) ≡ true → 2 ≤ count cs)
         → (contentText (q .content) ≡ rowText 0x28 mark (o .contents) ++ (0x29 ∷ [])) × (o .next ≡ q .next)
-    bracketed f mark i text proper =
+    bracketed f mark i text two =
         let w = counted-was s at (q .content) (q .next) (q .stands) f i in
         let cs = w .0 in
         let p = same-placed (sym (w .1) ∙ ap (exprsAt s (at + 2)) (sym counts) ∙ o .stand) in
-        let all = sym (proper cs) ∙ ap (isProper standard) (w .2) ∙ q .proper in
-        let two =
-        and-left (leb 2 (count cs)) (leb (count cs) (standard .operands))
-        (and-left (leb 2 (count cs) && leb (count cs) (standard .operands)) (areProper standard cs) all) in (
+        let some = two cs (ap (isProper standard) (w .2) ∙ q .proper) in (
           ap contentText (sym (w .2))
               ∙ text cs
-              ∙ ap (λ (x : Text). x ++ (0x29 ∷ [])) (row-separated 0x28 mark cs (leb-true 2 (count cs) two))
+              ∙ ap (λ (x : Text). x ++ (0x29 ∷ [])) (row-separated 0x28 mark cs some)
               ∙ ap (λ (ds : Contents). rowText 0x28 mark ds ++ (0x29 ∷ [])) (p .0),
           sym (p .1),
         )
 
     pub list-text : 3 ≤ b → b ≤ 4
         → (contentText (q .content) ≡ rowText 0x28 (markOf b) (o .contents) ++ (0x29 ∷ [])) × (o .next ≡ q .next)
-    unfolding contentText isProper markOf
+    unfolding contentText markOf
     list-text low high = go (b - 3) refl
       where
         go : (k : ℕ) → b - 3 ≡ k
             → (contentText (q .content) ≡ rowText 0x28 (markOf b) (o .contents) ++ (0x29 ∷ [])) × (o .next ≡ q .next)
         go zero e =
             let z : b ≡ 3 = omega arith in
-            let r = bracketed sequence 0x2C (ap (getElem? operators) z ∙ operator-sequence) (λ cs. refl) (λ cs. refl) in
+            let r = bracketed sequence 0x2C (ap (getElem? operators) z ∙ operator-sequence) (λ cs. refl) (λ cs p. proper-sequence standard cs p .0) in
             (r .0 ∙ ap (λ (m : ℕ). rowText 0x28 m (o .contents) ++ (0x29 ∷ [])) (sym (ap markOf z)), r .1)
         go (suc zero) e =
             let z : b ≡ 4 = omega arith in
-            let r = bracketed choice 0x7C (ap (getElem? operators) z ∙ operator-choice) (λ cs. refl) (λ cs. refl) in
+            let r = bracketed choice 0x7C (ap (getElem? operators) z ∙ operator-choice) (λ cs. refl) (λ cs p. proper-choice standard cs p .0) in
             (r .0 ∙ ap (λ (m : ℕ). rowText 0x28 m (o .contents) ++ (0x29 ∷ [])) (sym (ap markOf z)), r .1)
         go (suc (suc k)) e = absurd (omega arith)
 
@@ -163,51 +156,6 @@ module _ {s : List ℕ} {at : ℕ} (q : ContentAt standard s at) where
             suffixed optional 0x3F (ap (getElem? operators) z ∙ operator-optional) (λ c. refl) (ap markOf z)
 
 -- of so many contents, the first and the others
-pub record RowParts (s : List ℕ) (at n : ℕ) (cs : Contents) (next : ℕ) : Type 0 where
-  pub first : ContentAt standard s at
-  pub others : ContentsAt standard s (first .next) (n - 1)
-  pub both : cs ≡ first .content ∷ᶜ others .contents
-  pub last : others .next ≡ next
-  pub forward : at < first .next
-  pub inside : first .next ≤ length s
-
-pub row-parts : {s : List ℕ} {at n : ℕ} (q : ContentsAt standard s at n) → (n ≡ 0 → ⊥) → RowParts s at n (q .contents) (q .next)
-unfolding areProper
-row-parts {s} {at} {n} q some =
-    let e : suc (n - 1) ≡ n = omega arith in
-    let f = exprs-first s at (n - 1) (q .contents) (q .next) (ap (exprsAt s at) e ∙ q .stand) in
-    let p : (isProper standard (f .first) && areProper standard (f .others)) ≡ true =
-    ap (areProper standard) (sym (f .both)) ∙ q .proper in
-    let w = expr-forward s at (f .first) (f .middle) (f .first-at) in
-    record {
-      first =
-          record {
-            content = f .first;
-            next = f .middle;
-            stands = f .first-at;
-            proper = and-left (isProper standard (f .first)) (areProper standard (f .others)) p;
-          };
-      others =
-          record {
-            contents = f .others;
-            next = q .next;
-            inside = w .1;
-            stand = f .others-at;
-            proper = and-right (isProper standard (f .first)) (areProper standard (f .others)) p;
-          };
-      both = f .both;
-      last = refl;
-      forward = w .0;
-      inside = w .1;
-    }
-
-pub row-text : {s : List ℕ} {at n : ℕ} {cs : Contents} {next : ℕ} (first mark : ℕ) (p : RowParts s at n cs next)
-    → rowText first mark cs ≡ ((first ∷ []) ++ contentText (p .first .content)) ++ rowText mark mark (p .others .contents)
+pub row-text : {s : List ℕ} {at n : ℕ} {q : ContentsAt standard s at n} (first mark : ℕ) (p : FirstThere standard s at n q)
+    → rowText first mark (q .contents) ≡ ((first ∷ []) ++ contentText (p .first .content)) ++ rowText mark mark (p .others .contents)
 row-text first mark p = ap (rowText first mark) (p .both) ∙ row-cons first mark (p .first .content) (p .others .contents)
-
-pub no-row : {s : List ℕ} {at n : ℕ} (first mark : ℕ) (q : ContentsAt standard s at n) → n ≡ 0
-    → (rowText first mark (q .contents) ≡ []) × (q .next ≡ at)
-unfolding rowText
-no-row {s} {at} {n} first mark q e =
-    let w = exprs-end s at (q .contents) (q .next) (ap (exprsAt s at) (sym e) ∙ q .stand) in
-    (ap (rowText first mark) (w .0), w .1)

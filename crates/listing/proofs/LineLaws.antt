@@ -4,8 +4,8 @@
 use Prim.Native.Nat.{ℕ, _+_, _-_, _≤_, _<_}
 use native.Mathlib.Omega.{arith}
 use native.Mathlib.Numerals.{add-one}
-use mathlib.Core.List.{List, [], _∷_, _++_, List·Memᴰ}
-use mathlib.Core.Path.{_≡_, refl, sym, _∙_, ap, subst}
+use mathlib.Core.List.{List, [], _∷_, _++_}
+use mathlib.Core.Path.{_≡_, sym, _∙_, ap, subst}
 use lib.ListN.{length, getD, take, length-append}
 use lib.Seq.{take-suc}
 use Rattle.grammar.specs.Lists.{joinedOf}
@@ -16,10 +16,10 @@ use Rattle.grammar.specs.Table.{Rule, Table}
 use Rattle.grammar.specs.ReadContent.{contentBytes}
 use Rattle.grammar.specs.WithinLimits.{ContentWithin}
 use Rattle.grammar.specs.Listing.{Text, typeText, contentText, startLine, ruleLine}
-use Rattle.theory.proofs.ListLaws.{at-mem, at-else, joined-end}
+use Rattle.theory.proofs.ListLaws.{at-else, joined-end}
 use Rattle.reader.specs.declared.tables.TableIndex.{TableIndex}
 use Rattle.reader.specs.TableIndex.{labelFrom, labelTo, ruleType, ruleLabel, contentFrom, contentTo, part, Stands, RuleAt}
-use Rattle.reader.proofs.TableFound.{TableFound, label-found-at, rule-found-at, content-in-part}
+use Rattle.reader.proofs.TableFound.{TableFound, RuleFound, label-found-at, rule-found-at, content-in-part}
 use Rattle.pairs.specs.ContentAt.{ContentAt}
 use Rattle.emitting.specs.Writing.{Put}
 use Rattle.listing.specs.declared.contents.Ends.{Ends}
@@ -39,30 +39,31 @@ module _ {s : List ℕ} {index : TableIndex} (f : TableFound s index) where
   module _ (l : ℕ) (h : l < index .labels) where
     pub name-stands : Stands s (labelFrom index l) (labelTo index l) (getD (g .labels) l [])
     name-stands =
-        let a = label-found-at f l h in
+        let a = label-found-at (f .indexes) (f .within) l h in
         subst (λ (n : Name). Stands s (labelFrom index l) (labelTo index l) n) (sym (at-else (g .labels) l [] (a .1))) (a .2)
 
     pub name-size : length (getD (g .labels) l []) ≤ 63
     unfolding standard
     name-size =
-        let a = label-found-at f l h in
+        let a = label-found-at (f .indexes) (f .within) l h in
         let e = ap length (at-else (g .labels) l [] (a .1)) in
         let b = a .3 .size in
         omega arith
 
   -- a rule
   module _ (i : ℕ) (h : i < index .rules) where
-    rule-is : rule-found-at f i h .rule ≡ ruleOf g i
+    found : RuleFound s index g i
+    found = rule-found-at (f .indexes) (f .within) i h
+
+    rule-is : found .rule ≡ ruleOf g i
     unfolding ruleOf
-    rule-is = sym (at-else (g .rules) i (record { type = 0; label = 0; content = none }) (rule-found-at f i h .listed))
+    rule-is = sym (at-else (g .rules) i (record { type = 0; label = 0; content = none }) (found .listed))
 
     rule-stands : RuleAt s index i (ruleOf g i)
-    rule-stands = subst (RuleAt s index i) rule-is (rule-found-at f i h .at)
+    rule-stands = subst (RuleAt s index i) rule-is (found .at)
 
     content-within : ContentWithin standard (ruleOf g i .content)
-    content-within =
-        f .within .each-rule (ruleOf g i)
-        (subst (λ (r : Rule). List·Memᴰ r (g .rules)) rule-is (at-mem (g .rules) i (rule-found-at f i h .listed))) .content
+    content-within = subst (λ (r : Rule). ContentWithin standard (r .content)) rule-is (found .within .content)
 
     pub rule-type-is : ruleType index i ≡ ruleOf g i .type
     rule-type-is = rule-stands .type

@@ -15,17 +15,17 @@ use Rattle.grammar.specs.Tree.{Tree}
 use Rattle.grammar.specs.Table.{Table}
 use Rattle.grammar.specs.Kinds.{local}
 use Rattle.grammar.specs.Least.{byDocument}
-use Rattle.grammar.specs.Outcome.{Outcome, given, refused, _>>=_, _>>_, turnBack}
+use Rattle.grammar.specs.Outcome.{Outcome, given, refused, _>>=_}
 use Rattle.grammar.specs.ReadTable.{readTable}
 use Rattle.grammar.specs.ReadDocument.{readDocument}
 use Rattle.grammar.specs.WriteTable.{tableBytes}
 use Rattle.grammar.specs.WithinLimits.{TableWithin}
 use Rattle.grammar.specs.Widen.{widen}
-use Rattle.grammar.specs.Calls.{workTooShort, tableReads, outAfter, writtenTo, widenedByDocument}
+use Rattle.grammar.specs.Calls.{tableReads, outAfter, writtenTo, widenedByDocument}
 use Rattle.grammar.specs.Answers.{written}
 use Rattle.grammar.specs.Listing.{outcomeText, listing}
 use Rattle.grammar.specs.declared.Refusal.{Refusal}
-use Rattle.grammar.specs.declared.Refusal.the-variants.{WorkTooShort, OutputTooShort}
+use Rattle.grammar.specs.declared.Refusal.the-variants.{OutputTooShort}
 use Rattle.grammar.specs.declared.Written.{Written}
 use Rattle.grammar.specs.declared.Written.the-variants.{Length, Refused as Unwritten}
 use Rattle.theory.proofs.OutcomeLaws.{no-fault, was-given, given-eq}
@@ -33,31 +33,13 @@ use Rattle.theory.proofs.NumberedTable.{standard-agree}
 use Rattle.theory.proofs.ReadWithin.{read-within}
 use Rattle.theory.proofs.DocumentWithin.{document-within}
 use Rattle.theory.proofs.ResultWithin.{document-result-within, document-result-read-back}
-use Rattle.reader.proofs.AnswerLaws.{never-given}
-use Rattle.reader.proofs.WorkLaws.{enough}
+use Rattle.reader.proofs.AnswerLaws.{never-given, was-written, was-unwritten, both-then-last}
+use Rattle.reader.proofs.WorkLaws.{lent-enough}
 use Rattle.emitting.specs.Writing.{Put}
 use Rattle.listing.proofs.PrintSteps.{put-as}
 
--- two inputs, a table of them, and what is done with it
-grouped : {A B C D : Type 0} (a : Outcome A) (b : Outcome B) (f : A → B → Outcome C) (k : C → Outcome D)
-    → (a >>= λ x. b >>= λ y. f x y >>= k) ≡ ((a >>= λ x. b >>= λ y. f x y) >>= k)
-grouped (refused r) b f k = refl
-grouped (given x) (refused r) f k = refl
-grouped (given x) (given y) f k = refl
-
 refused-eq : {A : Type 0} {q r : Refusal} → _≡_ {A = Outcome A} (refused q) (refused r) → q ≡ r
 refused-eq e = cc
-
--- the outcome that an answer is of
-was-written : (o : Outcome (List ℕ)) (n : ℕ) → written o ≡ Length n → (bytes : List ℕ) × (o ≡ given bytes) × (n ≡ length bytes)
-unfolding written
-was-written (given bytes) n e = (bytes, refl, cc)
-was-written (refused r) n e = let z : _≡_ {A = ℕ} 0 1 = cc in absurd (omega arith)
-
-was-unwritten : (o : Outcome (List ℕ)) (r : Refusal) → written o ≡ Unwritten r → o ≡ refused r
-unfolding written
-was-unwritten (given bytes) r e = let z : _≡_ {A = ℕ} 0 1 = cc in absurd (omega arith)
-was-unwritten (refused q) r e = cc
 
 module _ (old document out work : List ℕ) (words : 16384 ≤ length work) (room : 32768 ≤ length out) where
   abbrev result : Outcome Table
@@ -74,8 +56,8 @@ module _ (old document out work : List ℕ) (words : 16384 ≤ length work) (roo
       ap
       (λ (o : Outcome Table).
       o >>= λ g. readDocument standard asciiClasses document >>= λ d. widen standard local g (byDocument d) >>= writtenTo out)
-      (no-fault (workTooShort standard work) WorkTooShort (readTable standard asciiClasses old) (enough work words))
-      ∙ grouped (readTable standard asciiClasses old) (readDocument standard asciiClasses document)
+      (lent-enough work (readTable standard asciiClasses old) words)
+      ∙ both-then-last (readTable standard asciiClasses old) (readDocument standard asciiClasses document)
       (λ g d. widen standard local g (byDocument d)) (writtenTo out)
 
   module _ (g : Table) (e : result ≡ given g) where

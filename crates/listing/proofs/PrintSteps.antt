@@ -1,6 +1,6 @@
 -- What each step of the printers asks and leaves: for an operator's byte the room that its text takes and the text that is then written,
 -- for a row its first content and the others.
-use Prim.Native.Nat.{ℕ, zero, _+_, _-_, _≤_, _<_}
+use Prim.Native.Nat.{ℕ, _+_, _-_, _≤_, _<_}
 use native.Mathlib.Omega.{arith}
 use mathlib.Core.List.{List, [], _∷_, _++_}
 use mathlib.Core.Path.{_≡_, refl, sym, _∙_, ap, subst}
@@ -12,6 +12,7 @@ use Rattle.pairs.specs.ContentAt.{ContentAt, ContentsAt}
 use Rattle.pairs.proofs.ContentAtLaws.{type-there, operands-there, operand-there}
 use Rattle.emitting.specs.Writing.{Put}
 use Rattle.emitting.proofs.PutLaws.{put-length, put-join, put-none}
+use Rattle.emitting.proofs.SourceLaws.{FirstThere, first-of, none-there}
 use Rattle.listing.specs.declared.contents.Ends.{Ends}
 use Rattle.listing.specs.Printing.{markOf, rowText, Printable, RowPrintable, Printed}
 use Rattle.listing.proofs.ContentTextLaws.{
@@ -20,10 +21,7 @@ use Rattle.listing.proofs.ContentTextLaws.{
   type-text,
   list-text,
   suffix-text,
-  RowParts,
-  row-parts,
   row-text,
-  no-row,
 }
 
 -- other words for the bytes that were written
@@ -167,14 +165,15 @@ module _ {s : List ℕ} {at : ℕ} {text : List ℕ} {end : ℕ} (q : Printable 
 module _ {s : List ℕ} {at n first mark : ℕ} {text : List ℕ} {end : ℕ} (q : RowPrintable s at n first mark text end) where
   pub row-end : n ≡ 0
       → Printed text end (rowText first mark (q .there .contents)) (q .there .next) text (record { content = at; text = end })
+  unfolding rowText
   row-end e =
-      let w = no-row first mark (q .there) e in
+      let w = none-there standard s at n (q .there) e in
       let h = q .room in
-      record { content = sym (w .1); put = put-as (sym (w .0)) (put-none text end (omega arith)) }
+      record { content = w .1; put = put-as (sym (ap (rowText first mark) (w .0))) (put-none text end (omega arith)) }
 
   module _ (some : n ≡ 0 → ⊥) where
-    parts : RowParts s at n (q .there .contents) (q .there .next)
-    parts = row-parts (q .there) some
+    parts : FirstThere standard s at n (q .there)
+    parts = first-of standard s at n (q .there) some
 
     row-room : end + 1 + length (contentText (parts .first .content)) + length (rowText mark mark (parts .others .contents)) ≤ length text
     row-room =
@@ -217,7 +216,7 @@ module _ {s : List ℕ} {at n first mark : ℕ} {text : List ℕ} {end : ℕ} (q
         row-forward =
             let e = first-done .content in
             let f = parts .forward in
-            let i = parts .inside in
+            let i = parts .others .inside in
             (omega arith, omega arith)
 
         pub others-ask : RowPrintable s (ends .content) (n - 1) mark mark text₂ (ends .text)
@@ -230,6 +229,6 @@ module _ {s : List ℕ} {at n first mark : ℕ} {text : List ℕ} {end : ℕ} (q
         row-done rest =
             let o = rest (record { there = moved (sym (first-done .content)) refl (parts .others); room = others-room }) in
             record {
-              content = o .content ∙ parts .last;
+              content = o .content ∙ parts .ends;
               put = put-as (sym (row-text first mark parts)) (put-join (put-join p (first-done .put)) (o .put));
             }

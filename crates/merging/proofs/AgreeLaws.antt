@@ -2,12 +2,10 @@
 --   alts-agree       lists that agree on the types in range give the same alternatives
 --   nesting-renamed  other types do not change the nesting; union-shallow : the union of two tables that were read nests no deeper
 use Prim.Native.Nat.{ℕ, suc, max, _≤_, _<_}
-use mathlib.Core.Bool.{true, _&&_}
+use mathlib.Core.Bool.{true}
 use mathlib.Core.List.{List, [], _∷_, map, List·Memᴰ·append-cases, Memᴰ·of-map}
 use mathlib.Core.Logic.{⊎-elim}
 use mathlib.Core.Path.{_≡_, refl, sym, ap, ap₂, subst}
-use lib.Dec.{leb}
-use borrow.Author.Tests.{ltb-true}
 use Rattle.grammar.specs.Lists.{joinedOf}
 use Rattle.grammar.specs.Limits.{Limits, standard}
 use Rattle.grammar.specs.Names.{Classes}
@@ -24,7 +22,6 @@ use Rattle.grammar.specs.Content.{
   Contents,
   []ᶜ,
   _∷ᶜ_,
-  count,
   nesting,
   deepest,
   replace,
@@ -34,8 +31,8 @@ use Rattle.grammar.specs.Table.{Rule, Table}
 use Rattle.grammar.specs.ReadContent.{isProper, areProper}
 use Rattle.grammar.specs.WithinLimits.{TableWithin}
 use Rattle.grammar.specs.Unite.{shifted, added, unite}
-use Rattle.theory.proofs.BoolLaws.{and-left, and-right}
 use Rattle.theory.proofs.Alternatives.{alts, altsOfEach, around, inSequence}
+use Rattle.reader.proofs.ExtentLaws.{proper-number, proper-sequence, proper-choice, proper-first}
 use Rattle.merging.specs.Merging.{Shallow}
 
 module _ (lim : Limits) (f g : ℕ → List ℕ) (agree : (k : ℕ) → k < lim .types → f k ≡ g k) where
@@ -45,11 +42,9 @@ module _ (lim : Limits) (f g : ℕ → List ℕ) (agree : (k : ℕ) → k < lim 
     pub alts-agree : (c : Content) → isProper lim c ≡ true → alts f c ≡ alts g c
     alts-agree none p = refl
     alts-agree empty p = refl
-    alts-agree (type k) p = ap (map type) (agree k (ltb-true k (lim .types) p))
-    alts-agree (sequence cs) p =
-        ap inSequence (each-agree cs (and-right (leb 2 (count cs) && leb (count cs) (lim .operands)) (areProper lim cs) p))
-    alts-agree (choice cs) p =
-        ap (joinedOf (λ xs. xs)) (each-agree cs (and-right (leb 2 (count cs) && leb (count cs) (lim .operands)) (areProper lim cs) p))
+    alts-agree (type k) p = ap (map type) (agree k (proper-number lim k p))
+    alts-agree (sequence cs) p = ap inSequence (each-agree cs (proper-sequence lim cs p .2))
+    alts-agree (choice cs) p = ap (joinedOf (λ xs. xs)) (each-agree cs (proper-choice lim cs p .2))
     alts-agree (anyNumber c) p = ap (around anyNumber (empty ∷ [])) (alts-agree c p)
     alts-agree (oneOrMore c) p = ap (around oneOrMore []) (alts-agree c p)
     alts-agree (optional c) p = ap (around optional (empty ∷ [])) (alts-agree c p)
@@ -57,8 +52,8 @@ module _ (lim : Limits) (f g : ℕ → List ℕ) (agree : (k : ℕ) → k < lim 
     each-agree : (cs : Contents) → areProper lim cs ≡ true → altsOfEach f cs ≡ altsOfEach g cs
     each-agree []ᶜ p = refl
     each-agree (c ∷ᶜ cs) p =
-        ap₂ _∷_ (alts-agree c (and-left (isProper lim c) (areProper lim cs) p))
-        (each-agree cs (and-right (isProper lim c) (areProper lim cs) p))
+        let (first, others) = proper-first lim c cs p in
+        ap₂ _∷_ (alts-agree c first) (each-agree cs others)
 
 module _ (f : ℕ → ℕ) where
   mutual

@@ -7,7 +7,7 @@
 use Prim.Native.Nat.{ℕ, suc, _+_, _-_, _≤_, _<_}
 use native.Mathlib.Omega.{arith}
 use mathlib.Core.Bool.{Bool, true, false}
-use mathlib.Core.List.{List, [], _∷_, _++_, map, append-assoc, append-nil}
+use mathlib.Core.List.{List, [], _∷_, _++_, append-assoc, append-nil}
 use mathlib.Core.Path.{_≡_, refl, sym, _∙_, ap, subst}
 use lib.ListN.{length}
 use lib.Dec.{eqb}
@@ -17,8 +17,9 @@ use Rattle.grammar.specs.Content.{Content, choiceOf}
 use Rattle.grammar.specs.Size.{contentTooLarge}
 use Rattle.grammar.specs.Table.{Table}
 use Rattle.grammar.specs.Normalise.{pairOf}
-use Rattle.theory.proofs.ListLaws.{keep-yes, keep-no, joined-append}
+use Rattle.theory.proofs.ListLaws.{keep-yes, keep-no}
 use Rattle.theory.proofs.Alternatives.{alts, written, onlyIf}
+use Rattle.theory.proofs.EmittedContent.{joined-map, joined-twice}
 use Rattle.theory.proofs.Gathering.{gathered, gather-nothing, gather-more, written-gathered}
 use Rattle.pairs.specs.Rounds.{contentOf}
 use Rattle.pairs.specs.PairNumbers.{ruleAt, contentsOfPair, contentsIn}
@@ -144,18 +145,6 @@ joined-kept {A} {B} f test (x ∷ xs) = go (test x) refl (joined-kept f test xs)
         ∙ ap (λ (b : Bool). onlyIf b (f x) ++ rest) (sym e)
     go false e ih = ap (joinedOf f) (keep-no test x xs e) ∙ ih ∙ ap (λ (b : Bool). onlyIf b (f x) ++ rest) (sym e)
 
-joined-map : {A B C : Type 0} (f : B → List C) (g : A → B) (xs : List A) → joinedOf f (map g xs) ≡ joinedOf (λ x. f (g x)) xs
-unfolding joinedOf
-joined-map f g [] = refl
-joined-map {A} {B} {C} f g (x ∷ xs) = ap (λ (l : List C). f (g x) ++ l) (joined-map f g xs)
-
-joined-joined : {A B C : Type 0} (f : B → List C) (g : A → List B) (xs : List A)
-    → joinedOf f (joinedOf g xs) ≡ joinedOf (λ x. joinedOf f (g x)) xs
-unfolding joinedOf
-joined-joined f g [] = refl
-joined-joined {A} {B} {C} f g (x ∷ xs) =
-    joined-append f (g x) (joinedOf g xs) ∙ ap (λ (l : List C). joinedOf f (g x) ++ l) (joined-joined f g xs)
-
 module _ (of : ℕ → List ℕ) (u : Table) where
   -- what a rule gives to a pair, and a pair to a set
   abbrev pub ruleGives : (p i : ℕ) → List Content
@@ -178,7 +167,7 @@ module _ (of : ℕ → List ℕ) (u : Table) where
   set-gives set n e =
       ap (λ (m : ℕ). joinedOf (pairGives set) (numbersBelow m)) e
       ∙ sym (joined-kept (λ p. joinedOf (alts of) (contentsOfPair u p)) set (numbersBelow (length (u .rules))))
-      ∙ sym (joined-joined (alts of) (contentsOfPair u) (keep set (numbersBelow (length (u .rules)))))
+      ∙ sym (joined-twice (alts of) (contentsOfPair u) (keep set (numbersBelow (length (u .rules)))))
 
 -- the content of all
 module _ (draft : List ℕ) (xs : List Content) (r : Gathering) (g : GathersIn draft (gathered [] xs) r) where

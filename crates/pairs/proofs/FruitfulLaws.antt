@@ -3,25 +3,23 @@
 --   round-sound              from fruitful pairs a round makes fruitful pairs
 --   rounds-fruitful          a set of fruitful pairs to which a round adds nothing is that of all fruitful pairs
 -- and `more-alts`: over a larger set of types, what had alternatives has them.
-use Prim.Native.Nat.{ℕ, _+_, _-_, _≤_, _<_}
-use native.Mathlib.Omega.{arith}
-use mathlib.Core.Bool.{Bool, true, false, _&&_, _||_, false≢true}
+use Prim.Native.Nat.{ℕ}
+use mathlib.Core.Bool.{Bool, true, false≢true}
 use mathlib.Core.List.{List, [], map, List·Memᴰ, List·Memᴰ·not-nil, Memᴰ·cast, Memᴰ·map, Memᴰ·of-map}
 use mathlib.Core.Logic.{⊎-elim}
-use mathlib.Core.Option.{some as just}
 use mathlib.Core.Path.{_≡_, refl, sym, _∙_, ap, subst, fun-ext}
-use lib.ListN.{length, getElem?, length-map}
-use Rattle.grammar.specs.Lists.{any, keep, distinct, isIn}
+use lib.ListN.{length}
+use Rattle.grammar.specs.Lists.{any, keep, isIn}
 use Rattle.grammar.specs.Content.{Content, none, empty, type, sequence, choice, anyNumber, oneOrMore, optional, Contents, []ᶜ, _∷ᶜ_}
 use Rattle.grammar.specs.Table.{Rule, Table}
 use Rattle.grammar.specs.KindTests.{samePair}
 use Rattle.grammar.specs.Normalise.{pairOf, pairsOf, normalise}
-use Rattle.grammar.specs.Reduce.{hasWord, notKnown, newlyFruitful, fruitful}
+use Rattle.grammar.specs.Reduce.{newlyFruitful, fruitful}
 use Rattle.theory.proofs.BoolLaws.{and-left, and-right, and-intro, or-cases, or-left, or-right, same-test}
-use Rattle.theory.proofs.ListLaws.{any-found, any-of, kept, keep-mem, distinct-was, distinct-has, in-mem, mem-in, at-mem}
-use Rattle.theory.proofs.Rounds.{not-known, rounds-hold, rounds-closed, closed-has}
+use Rattle.theory.proofs.ListLaws.{any-found, any-of, kept, keep-mem, distinct-has, in-mem, mem-in, at-mem}
+use Rattle.theory.proofs.Rounds.{not-known, rounds-hold, closed-has}
+use Rattle.theory.proofs.Fruitful.{fruitful-closed}
 use Rattle.theory.proofs.NormaliseDocuments.{pair-refl, pair-trans, pair-same, pairs-of}
-use Rattle.theory.proofs.KindTests.{same-pair-sym}
 use Rattle.theory.proofs.Alternatives.{hasAlts, allHaveAlts, oneHasAlts, hasLeft}
 use Rattle.theory.proofs.EmittedRule.{firstRules, pairContents, newly-fruitful}
 use Rattle.sets.specs.Sets.{nothing}
@@ -102,27 +100,11 @@ module _ (u : Table) where
       (not-known known (map (pairOf u) (keep (pairHas known) (firstRules u))) p .1
       (Memᴰ·cast (sym (w .of-pair) ∙ sym (pair-same u (f .0) (w .rule) (f .2))) k, w .new))
 
-  -- the rounds of the definition end where one adds nothing
-  fruitful-closed : newlyFruitful (normalise u) found ≡ []
-  unfolding fruitful newlyFruitful
-  fruitful-closed =
-      rounds-closed (newlyFruitful (normalise u)) (map (λ (r : Rule). r .type) (normalise u .rules))
-      (λ known k m. newly-was known k m .new)
-      (λ known k m.
-      let types = map (λ (r : Rule). r .type) (keep (λ (r : Rule). hasWord known (r .content)) (normalise u .rules)) in
-      let n = not-known known types k .0 m in
-      let o = Memᴰ·of-map (λ (r : Rule). r .type) (keep (λ (r : Rule). hasWord known (r .content)) (normalise u .rules)) (n .0) in
-      let p = kept (λ (r : Rule). hasWord known (r .content)) (normalise u .rules) (o .1) in
-      Memᴰ·cast (sym (o .2)) (Memᴰ·map (λ (r : Rule). r .type) (p .0)))
-      (length (normalise u .rules))
-      []
-      (rw (length-map (normalise u .rules) (λ (r : Rule). r .type)) (omega arith))
-
-  -- so the pair of a rule that has alternatives over the fruitful pairs is fruitful
+  -- the pair of a rule that has alternatives over the fruitful pairs is fruitful
   pub fruitful-on : (r : Rule) → List·Memᴰ r (u .rules) → hasAlts (hasLeft (pairsOf u) found) (r .content) ≡ true
       → List·Memᴰ (pairOf u r) found
   fruitful-on r m e =
-      closed-has (newlyFruitful (normalise u)) found (pairOf u r) fruitful-closed
+      closed-has (newlyFruitful (normalise u)) found (pairOf u r) (fruitful-closed (normalise u))
       (λ n. was-newly found (pairOf u r) (record { rule = r; of-table = m; of-pair = refl; alts = e; new = n }))
 
 module _ {old add : List ℕ} {v : United} {u : Table} (x : Views old add v u) (known : ℕ → Bool) where

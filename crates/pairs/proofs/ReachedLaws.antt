@@ -1,7 +1,6 @@
 -- The reached pairs of a union's normal form without its unfruitful pairs, by the union's own rules:
 --   start-pairs     the starts are the fruitful pairs of the start types
---   start-reached   they are reached
---   met-reached     and so are the pairs met in the contents of a reached fruitful pair
+--   met-reached     the pairs met in the contents of a reached fruitful pair are reached
 --   reached-set     a set of reached pairs that has the starts, and with a fruitful pair all pairs met in its contents, is that of
 --                   all reached pairs
 use Prim.Native.Nat.{ℕ}
@@ -9,7 +8,7 @@ use native.Mathlib.Omega.{arith}
 use mathlib.Core.Bool.{Bool, true}
 use mathlib.Core.List.{List, [], map, List·Memᴰ, Memᴰ·cast, Memᴰ·map, Memᴰ·of-map}
 use mathlib.Core.Logic.{_↔_}
-use mathlib.Core.Path.{_≡_, refl, sym, _∙_, ap, subst, fun-ext}
+use mathlib.Core.Path.{_≡_, sym, _∙_, ap, subst, fun-ext}
 use lib.ListN.{length, length-map}
 use Rattle.grammar.specs.Lists.{keep, isIn, joinedOf}
 use Rattle.grammar.specs.Content.{Content}
@@ -18,8 +17,8 @@ use Rattle.grammar.specs.KindTests.{samePair}
 use Rattle.grammar.specs.Normalise.{pairOf, pairsOf, normalise}
 use Rattle.grammar.specs.Reduce.{fruitful, withoutUnfruitful, newlyReached, reached}
 use Rattle.theory.proofs.BoolLaws.{same-test}
-use Rattle.theory.proofs.ListLaws.{kept, keep-mem, distinct-has, joined-from, joined-mem, in-mem, mem-in}
-use Rattle.theory.proofs.Rounds.{not-known, rounds-start, rounds-hold, rounds-closed, closed-has}
+use Rattle.theory.proofs.ListLaws.{kept, keep-mem, distinct-has, joined-from, joined-mem, in-mem}
+use Rattle.theory.proofs.Rounds.{not-known, rounds-hold, rounds-closed, closed-has}
 use Rattle.theory.proofs.NormaliseDocuments.{pair-refl, pair-trans, pair-same, pairs-of}
 use Rattle.theory.proofs.Alternatives.{pairsMet, pairsLeft}
 use Rattle.theory.proofs.EmittedRule.{firstRules, pairContents, fruitfulPairs, ruleLeft, fruitful-rules, newly-reached}
@@ -119,10 +118,6 @@ module _ (u : Table) where
         let n = kept (λ q. isIn q found) (pairsOf u (s .0)) (s .2) in
         keep-mem (λ q. isIn q found) (joined-mem (pairsOf u) (s .1) (n .0)) (n .1),
   )
-
-  pub start-reached : (p : ℕ) → List·Memᴰ p (fruits .starts) → List·Memᴰ p (reached fruits)
-  unfolding reached
-  start-reached p m = rounds-start (newlyReached fruits) (length (fruits .rules)) (fruits .starts) p m
 
   pub met-reached : (r : Rule) (p : ℕ) → List·Memᴰ r (u .rules) → isIn (pairOf u r) (fruitful (normalise u)) ≡ true
       → isIn (pairOf u r) (reached (withoutUnfruitful (normalise u))) ≡ true

@@ -1,12 +1,15 @@
--- The answer that an outcome has, and back; and faults in a row: the first one is the refusal.
+-- The answer that an outcome has, and back; faults in a row: the first one is the refusal; and steps in a row.
 use Prim.Native.Nat.{ℕ}
 use native.Mathlib.Omega.{arith}
 use mathlib.Core.Bool.{Bool, true}
+use mathlib.Core.List.{List}
 use mathlib.Core.Path.{_≡_, refl, ap}
-use Rattle.grammar.specs.Outcome.{Outcome, given, refused, _>>_, turnBack}
-use Rattle.grammar.specs.Answers.{reading}
+use lib.ListN.{length}
+use Rattle.grammar.specs.Outcome.{Outcome, given, refused, _>>=_, _>>_, turnBack}
+use Rattle.grammar.specs.Answers.{reading, written}
 use Rattle.grammar.specs.declared.Refusal.{Refusal}
 use Rattle.grammar.specs.declared.Reading.the-variants.{Readable, Refused as Unreadable}
+use Rattle.grammar.specs.declared.Written.the-variants.{Length, Refused as Unwritten}
 
 pub fault : {B : Type 0} (b : Bool) (r : Refusal) (next : Outcome B) → b ≡ true → (turnBack b r >> next) ≡ refused r
 fault b r next e = ap (λ (x : Bool). turnBack x r >> next) e
@@ -33,3 +36,21 @@ module _ {A : Type 0} where
   -- an outcome that was refused gives nothing
   pub never-given : (o : Outcome A) (r : Refusal) (a : A) → o ≡ refused r → o ≡ given a → ⊥
   never-given o r a p q = let z : _≡_ {A = ℕ} 0 1 = cc in omega arith
+
+-- the outcome that an answer about bytes written is of
+pub was-written : (o : Outcome (List ℕ)) (n : ℕ) → written o ≡ Length n → (bytes : List ℕ) × (o ≡ given bytes) × (n ≡ length bytes)
+unfolding written
+was-written (given bytes) n e = (bytes, refl, cc)
+was-written (refused r) n e = let z : _≡_ {A = ℕ} 0 1 = cc in absurd (omega arith)
+
+pub was-unwritten : (o : Outcome (List ℕ)) (r : Refusal) → written o ≡ Unwritten r → o ≡ refused r
+unfolding written
+was-unwritten (given bytes) r e = let z : _≡_ {A = ℕ} 0 1 = cc in absurd (omega arith)
+was-unwritten (refused q) r e = cc
+
+-- two readings, a step with both, and the last step apart
+pub both-then-last : {A B C D : Type 0} (x : Outcome A) (y : Outcome B) (w : A → B → Outcome C) (k : C → Outcome D)
+    → (x >>= λ a. (y >>= λ b. (w a b >>= k))) ≡ ((x >>= λ a. (y >>= λ b. w a b)) >>= k)
+both-then-last (refused r) y w k = refl
+both-then-last (given a) (refused r) w k = refl
+both-then-last (given a) (given b) w k = refl

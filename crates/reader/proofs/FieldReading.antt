@@ -12,7 +12,7 @@ use lib.Dec.{leb}
 use lib.ListN.{length, getD, take, drop, drop-of-length-le, length-drop}
 use lib.Seq.{drop-cons, drop-drop, take-add, drop-at, length-take-le, slice}
 use borrow.Author.Tests.{leb-true, leb-false, le-leb, lt-leb}
-use Rattle.grammar.specs.Fields.{noBytes, pastEnd, _then_, fieldsOf}
+use Rattle.grammar.specs.Fields.{noBytes, pastEnd, _then_, fieldsOf, fieldBytes}
 use Rattle.theory.proofs.FieldBytes.{fields-empty, fields-tag, fields-half, fields-front, fields-past}
 use Rattle.reader.specs.declared.fields.FieldAt.the-variants.{Found, NoBytes, PastEnd}
 use Rattle.reader.specs.FieldAt.{fieldAt, sizeAt}
@@ -34,6 +34,11 @@ module _ (s : List ℕ) (at : ℕ) where
 -- the part of a list that begins at a place, by its length
 pub part-of : {A : Type 0} (f n : ℕ) (l : List A) → f ≤ length l → slice f (f + n) l ≡ take n (drop f l)
 part-of f n l h = ap (drop f) (take-add f n l) ∙ drop-at (take f l) (take n (drop f l)) f (length-take-le f l h)
+
+-- the bytes of a field
+pub field-length : (tag : ℕ) (value : List ℕ) → length (fieldBytes tag value) ≡ 3 + length value
+unfolding fieldBytes
+field-length tag value = omega arith
 
 -- the bytes from a place on, the first of them apart
 pub from-place : (s : List ℕ) (at : ℕ) → at < length s → drop at s ≡ getD s at 0 ∷ drop (at + 1) s

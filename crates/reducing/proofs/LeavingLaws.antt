@@ -3,13 +3,13 @@
 --   starts-small   the start types of a table that was read
 --   start-set      the pairs in the lists of the start types are the starts
 --   seen-*         the loop that makes rounds
-use Prim.Native.Nat.{ℕ, _+_, _-_, _≤_, _<_}
+use Prim.Native.Nat.{ℕ, _+_, _<_}
 use native.Mathlib.Omega.{arith}
 use mathlib.Core.Bool.{Bool, true, false, _||_, false≢true}
-use mathlib.Core.List.{List, [], _∷_, _++_, map, List·Memᴰ, List·Memᴰ·append-cases, Memᴰ·append-left, Memᴰ·append-right, Memᴰ·map, Memᴰ·of-map}
+use mathlib.Core.List.{List, map, List·Memᴰ, List·Memᴰ·append-cases, Memᴰ·append-left, Memᴰ·append-right, Memᴰ·map, Memᴰ·of-map}
 use mathlib.Core.Logic.{_⊎_, ⊎-elim}
 use mathlib.Core.Path.{_≡_, sym, _∙_, ap, subst, fun-ext}
-use lib.ListN.{length, getD, take, drop}
+use lib.ListN.{getD}
 use Rattle.grammar.specs.Lists.{isIn, joinedOf, numbersBelow}
 use Rattle.grammar.specs.Limits.{standard}
 use Rattle.grammar.specs.Table.{Table}
@@ -20,17 +20,16 @@ use Rattle.reader.specs.declared.tables.TableIndex.{TableIndex}
 use Rattle.reader.specs.TableIndex.{startType}
 use Rattle.theory.proofs.BoolLaws.{same-test, or-cases, or-left, or-right}
 use Rattle.theory.proofs.ListLaws.{kept, joined-from, joined-mem, numbers-below, at-mem, mem-at, at-below, below-at, in-mem, mem-in}
-use Rattle.sets.specs.Sets.{member, putAt, nothing, both}
+use Rattle.theory.proofs.Reached.{start-reached}
+use Rattle.sets.specs.Sets.{nothing, both}
 use Rattle.pairs.specs.declared.lists.TypeLists.{TypeLists}
 use Rattle.pairs.specs.View.{TableHeld}
 use Rattle.pairs.specs.Walks.{listOf, Listed}
 use Rattle.pairs.specs.PairNumbers.{fruitfulOf, isStart, isLeft, metIn}
 use Rattle.pairs.specs.TypeLists.{ListsOf}
-use Rattle.pairs.proofs.OnceLaws.{part-more}
 use Rattle.pairs.proofs.MetLaws.{met-hold}
-use Rattle.pairs.proofs.ReachedLaws.{start-pairs, start-reached, met-reached, reached-set}
+use Rattle.pairs.proofs.ReachedLaws.{start-pairs, met-reached, reached-set}
 use Rattle.reducing.specs.PairsListed.{PartBelow, StartsSmall}
-use Rattle.reducing.proofs.NumberLaws.{put-next}
 use Rattle.reducing.proofs.MeetingLaws.{MetBy, met-was, met-has}
 
 -- the list of a type
@@ -174,7 +173,7 @@ module _ (u : Table) where
       λ p t. in-mem p (withoutUnfruitful (normalise u) .starts) (sym (ap (λ s. s p) e) ∙ t) in
       record {
         starts = λ p t. ap (λ s. s p) e ∙ t;
-        left = λ p t. mem-in (start-reached u p (start p t));
+        left = λ p t. mem-in (start-reached (withoutUnfruitful (normalise u)) p (start p t));
         fruitful-pair = λ p t. let k = start-pairs u p .0 (start p t) in list-fruitful (k .0) p (k .2);
       }
 

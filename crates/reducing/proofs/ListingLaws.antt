@@ -24,7 +24,7 @@ use Rattle.grammar.specs.Unite.{shifted}
 use Rattle.grammar.specs.Normalise.{pairOf, normalise}
 use Rattle.grammar.specs.Reduce.{fruitful}
 use Rattle.theory.proofs.BoolLaws.{and-left, false-of, same-test}
-use Rattle.theory.proofs.ListLaws.{kept, joined-from, in-mem, numbers-below, at-else, keep-on, keep-both, set-all}
+use Rattle.theory.proofs.ListLaws.{kept, joined-from, in-mem, numbers-below, at-else, keep-on, keep-both, set-all, joined-next}
 use Rattle.theory.proofs.Alternatives.{onlyIf, someLeft}
 use Rattle.sets.specs.Sets.{nothing}
 use Rattle.pairs.specs.declared.union.United.{United}
@@ -41,7 +41,7 @@ use Rattle.pairs.proofs.PutsLaws.{puts-was, puts-has}
 use Rattle.pairs.proofs.ViewLaws.{seen}
 use Rattle.pairs.proofs.PairLists.{pairs-are}
 use Rattle.reducing.specs.PairsListed.{isPair, pairsIn, pairsFrom, Filled, Appends, Earlier, ListsEach}
-use Rattle.reducing.proofs.NumberLaws.{joined-next, joined-start}
+use Rattle.reducing.proofs.NumberLaws.{joined-start}
 
 -- numbers after others
 pub appends-same : {front xs ys list : List ℕ} {count : ℕ} → xs ≡ ys → Appends front xs list count → Appends front ys list count

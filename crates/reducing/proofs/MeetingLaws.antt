@@ -22,7 +22,7 @@ use Rattle.grammar.specs.KindTests.{samePair}
 use Rattle.grammar.specs.Unite.{shifted}
 use Rattle.grammar.specs.Normalise.{pairOf}
 use Rattle.theory.proofs.BoolLaws.{and-left, and-right}
-use Rattle.theory.proofs.ListLaws.{kept, keep-mem, joined-from, joined-mem, numbers-below, at-mem, mem-at, at-below, at-else, at-or-else, any-of, taken-mem, eqb-decides, keep-on, eqb-sym, decided-trans}
+use Rattle.theory.proofs.ListLaws.{kept, keep-mem, joined-from, joined-mem, numbers-below, at-mem, mem-at, at-below, at-else, at-or-else, any-of, eqb-decides, keep-on, taken-mem, eqb-sym, decided-trans, joined-next}
 use Rattle.theory.proofs.PlaceLaws.{place-found}
 use Rattle.theory.proofs.DistinctLaws.{among-distinct}
 use Rattle.theory.proofs.NormaliseDocuments.{pair-refl}
@@ -43,7 +43,7 @@ use Rattle.pairs.proofs.OnceLaws.{part-more, adds-none, adds-join, adds-same}
 use Rattle.reducing.specs.declared.meeting.Met.{Met}
 use Rattle.reducing.specs.PairsListed.{PartBelow}
 use Rattle.reducing.specs.PairsMet.{MetHeld, ContentMet, metInRule, metInPair, Meets}
-use Rattle.reducing.proofs.NumberLaws.{put-next, joined-only, joined-next, joined-start}
+use Rattle.reducing.proofs.NumberLaws.{put-next, joined-only, joined-start}
 use Rattle.reducing.proofs.ListingLaws.{rule-at}
 
 -- lists that agree on the types of a proper content

@@ -8,7 +8,7 @@ use lib.ListN.{length}
 use lib.Dec.{eqb}
 use Rattle.grammar.specs.Lists.{keep, joinedOf, isIn, numbersBelow}
 use Rattle.theory.proofs.BoolLaws.{or-turn}
-use Rattle.theory.proofs.ListLaws.{keep-yes, keep-no, joined-end, in-append, numbers-end}
+use Rattle.theory.proofs.ListLaws.{keep-yes, keep-no, in-append, numbers-end}
 use Rattle.theory.proofs.DistinctLaws.{keep-append}
 use Rattle.theory.proofs.Alternatives.{onlyIf}
 use Rattle.sets.specs.Sets.{member, putAt, both}
@@ -52,13 +52,9 @@ pub keep-start : (test : ℕ → Bool) → keep test (numbersBelow 0) ≡ []
 unfolding keep numbersBelow
 keep-start test = refl
 
-module _ {B : Type 0} (f : ℕ → List B) where
-  pub joined-next : (n : ℕ) → joinedOf f (numbersBelow (n + 1)) ≡ joinedOf f (numbersBelow n) ++ f n
-  joined-next n = ap (joinedOf f) (numbers-end n) ∙ joined-end f (numbersBelow n) n
-
-  pub joined-start : joinedOf f (numbersBelow 0) ≡ []
-  unfolding joinedOf numbersBelow
-  joined-start = refl
+pub joined-start : {B : Type 0} (f : ℕ → List B) → joinedOf f (numbersBelow 0) ≡ []
+unfolding joinedOf numbersBelow
+joined-start f = refl
 
 -- sets with the numbers of a list
 pub both-next : (xs ys : List ℕ) (base : ℕ → Bool)

@@ -1,5 +1,5 @@
 -- What a reduced union gives to the writing of a result:
---   labels-sized, names-few, starts-small    the numbers of the union are small
+--   names-few, labels-few                    the numbers of the union are small
 --   result-from                              the sets of a kind in the words, and all that the result is written from
 --   widens-many, widens-put                  what is answered then, of either kind
 use Prim.Native.Nat.{ℕ, _+_, _≤_, _<_}
@@ -16,25 +16,24 @@ use Rattle.grammar.specs.Kinds.{Kind, local, singleType}
 use Rattle.grammar.specs.SingleTypeForm.{TypeSet}
 use Rattle.grammar.specs.Unite.{unite}
 use Rattle.grammar.specs.WriteTable.{tableBytes}
-use Rattle.theory.proofs.ListLaws.{at-mem, mem-at, at-below}
+use Rattle.theory.proofs.ListLaws.{mem-at, at-below}
 use Rattle.sets.specs.Sets.{member, nothing}
 use Rattle.sets.specs.declared.four.Set4.{Set4}
 use Rattle.pairs.specs.declared.lists.TypeLists.{TypeLists}
 use Rattle.pairs.specs.declared.union.Union.{Union}
-use Rattle.pairs.specs.View.{Viewed, labelIn}
+use Rattle.pairs.specs.View.{labelIn}
 use Rattle.pairs.specs.Rounds.{puts}
 use Rattle.pairs.specs.PairNumbers.{isStart, isLeft}
 use Rattle.pairs.proofs.ViewLaws.{seen}
 use Rattle.emitting.specs.declared.writing.Drafted.{Drafted}
 use Rattle.emitting.specs.Completing.{Regular}
 use Rattle.sampling.specs.SampleTable.{TablePut}
-use Rattle.reducing.specs.PairsListed.{BothListed}
 use Rattle.merging.proofs.AgreeLaws.{union-shallow}
 use Rattle.forms.specs.SetForms.{labelled, labelSets, ruleBySet, tableBySets, metWithin, localSets, localStarts, localTable, singleTypeSets, singleTypeTable}
 use Rattle.forms.specs.declared.set_words.Counted.{Counted}
 use Rattle.forms.specs.declared.set_words.Counted.the-variants.{TooMany, Count}
 use Rattle.forms.specs.SetWords.{SetsHeld, SetsCounted}
-use Rattle.forms.specs.Worklist.{LabelsSized, NumbersOf}
+use Rattle.forms.specs.Worklist.{NumbersOf}
 use Rattle.forms.proofs.StandingPairs.{left-pair}
 use Rattle.forms.proofs.SetsFound.{start-sets-first}
 use Rattle.forms.proofs.UnionFit.{UnionFit, union-fit}
@@ -61,14 +60,6 @@ module _ {old add : List ℕ} {union : Union} {lists : TypeLists} {starts left :
   pub fit : UnionFit u
   fit = union-fit g h (r .first-within) (r .second-within)
 
-  pub labels-sized : LabelsSized (union .rules)
-  labels-sized i b =
-      let s = seen (r .seen .rules) i b in
-      let small = fit .labelled (s .0) (at-mem (u .rules) i (s .1)) in
-      let few = union-few (r .seen) in
-      let e = s .2 .label in
-      omega arith
-
   pub names-few : (union .«old_names» .count ≤ 64) × (union .«new_names» .count ≤ 64)
   names-few = (r .seen .old-names .few, r .seen .new-names .few)
 
@@ -77,12 +68,6 @@ module _ {old add : List ℕ} {union : Union} {lists : TypeLists} {starts left :
 
   pub labels-few : length (u .labels) ≤ 128
   labels-few = union-few (r .seen)
-
-  pub both-listed : BothListed lists
-  both-listed = record { old = r .lists-are .old-listed; added = r .lists-are .added-listed }
-
-  pub viewed : Viewed old add (union .rules)
-  viewed = record { table = u; views = r .seen .rules }
 
   module _ (kind : Kind) (single : Bool) (same : by-sets.pairsWithin kind u ≡ pairsWithin u single) (words : List ℕ) (count : ℕ)
       (held : SetsHeld words (by-sets.setsOf kind u)) (many : count ≡ length (by-sets.setsOf kind u)) where

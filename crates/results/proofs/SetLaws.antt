@@ -2,9 +2,9 @@
 use Prim.Native.Nat.{ℕ, _+_, _*_, _≤_, _<_}
 use native.Mathlib.Omega.{arith}
 use mathlib.Core.Bool.{Bool, true, false}
-use mathlib.Core.List.{List, [], _∷_, List·Memᴰ}
+use mathlib.Core.List.{List, [], List·Memᴰ}
 use mathlib.Core.Option.{some as just}
-use mathlib.Core.Path.{_≡_, refl, sym, _∙_, ap}
+use mathlib.Core.Path.{_≡_, sym, _∙_, ap}
 use lib.Dec.{eqb}
 use lib.ListN.{length, getD, getElem?}
 use borrow.Author.Tests.{eq-eqb}
@@ -17,32 +17,31 @@ use Rattle.grammar.specs.Reduce.{fruitful}
 use Rattle.grammar.specs.SingleTypeForm.{TypeSet}
 use Rattle.theory.proofs.Alternatives.{alts, written, resultsOf}
 use Rattle.theory.proofs.ListLaws.{any-of, at-mem, at-or-else}
+use Rattle.theory.proofs.TableConditions.{Labelled}
 use Rattle.sets.specs.Sets.{member, wordsAt}
 use Rattle.sets.proofs.SetLaws.{length-words}
+use Rattle.reader.proofs.TableFaults.{is-some}
 use Rattle.pairs.specs.declared.union.United.{United}
 use Rattle.pairs.specs.PairNumbers.{ruleAt, contentsIn}
+use Rattle.pairs.specs.View.{Views}
 use Rattle.pairs.proofs.ViewLaws.{seen}
 use Rattle.forms.specs.SetForms.{labelled, setLabel, labelsOf, setNumber, contentBySet, ruleBySet}
 use Rattle.forms.specs.SetWords.{Ascending}
 use Rattle.forms.specs.Worklist.{LabelsSized}
 use Rattle.results.specs.Results.{pairsWithin, resultRule, isUsed, SetsIn}
 
-not-empty : (s : List ℕ) → 0 < length s → isEmpty s ≡ false
-not-empty [] h = absurd (omega arith)
-not-empty (p ∷ ps) h = refl
-
 first-there : (s : List ℕ) → 0 < length s → List·Memᴰ (getD s 0 0) s
 first-there s h = at-mem s 0 (at-or-else s 0 0 h)
 
-module _ {old add : List ℕ} {v : United} {words : List ℕ} {count : ℕ} (q : SetsIn old add v words count) where
-  pub labels-sized : LabelsSized v
-  labels-sized i h =
-      let (r, at, s) = seen (q .views) i h in
-      let b = q .labelled r (at-mem (q .table .rules) i at) in
-      let c = q .labels-few in
-      let e = s .label in
-      omega arith
+-- the labels of the rules in a view are small numbers
+pub labels-sized : {old add : List ℕ} {v : United} {u : Table} → Views old add v u → Labelled u → length (u .labels) ≤ 128 → LabelsSized v
+labels-sized {u = u} views labels few i h =
+    let (r, at, s) = seen views i h in
+    let b = labels r (at-mem (u .rules) i at) in
+    let e = s .label in
+    omega arith
 
+module _ {old add : List ℕ} {v : United} {words : List ℕ} {count : ℕ} (q : SetsIn old add v words count) where
   module _ (i : ℕ) (h : i < count) where
     there : getElem? (q .sets) i ≡ just (getD (q .sets) i [])
     there = let e = q .count-is in at-or-else (q .sets) i [] (omega arith)
@@ -67,7 +66,7 @@ module _ {old add : List ℕ} {v : United} {words : List ℕ} {count : ℕ} (q :
     set-ascending = q .held .ascending (getD (q .sets) i []) among
 
     pub set-some : isEmpty (getD (q .sets) i []) ≡ false
-    set-some = not-empty (getD (q .sets) i []) (q .some (getD (q .sets) i []) among)
+    set-some = is-some (getD (q .sets) i []) (q .some (getD (q .sets) i []) among)
 
     pub set-labelled : setLabel (q .table) (getD (q .sets) i []) < length (q .table .labels)
     unfolding setLabel

@@ -14,12 +14,10 @@ use Rattle.grammar.specs.Outcome.{refused}
 use Rattle.grammar.specs.Unite.{unite}
 use Rattle.grammar.specs.Widen.{widenByTable}
 use Rattle.grammar.specs.declared.Refusal.the-variants.{NoDocument}
-use Rattle.theory.proofs.ListLaws.{at-mem}
 use Rattle.sets.specs.Sets.{member, Empties}
 use Rattle.sets.specs.declared.four.Set4.{Set4}
 use Rattle.reader.specs.declared.tables.TableIndex.{TableIndex}
-use Rattle.reader.specs.TableIndex.{startType}
-use Rattle.reader.proofs.TableIndexLaws.{start-at}
+use Rattle.reader.proofs.TableFound.{start-small}
 use Rattle.pairs.specs.declared.lists.TypeLists.{TypeLists}
 use Rattle.pairs.specs.declared.union.Union.{Union}
 use Rattle.pairs.specs.View.{Viewed, TableHeld, UnionSeen}
@@ -38,14 +36,7 @@ pub listed-both : {of : ℕ → List ℕ} {lists : TypeLists} → ListsOf of lis
 listed-both l = record { old = l .old-listed; added = l .added-listed }
 
 pub starts-small : {s : List ℕ} {index : TableIndex} {g : Table} → TableHeld s index g → StartsSmall index
-unfolding standard
-starts-small {s} {index} {g} held =
-    record {
-      few = held .indexes .few-starts;
-      small =
-          λ i b.
-          held .within .start-types (startType index i) (at-mem (g .starts) i (start-at (held .indexes) i b));
-    }
+starts-small held = record { few = held .indexes .few-starts; small = start-small (held .indexes) (held .within) }
 
 module _ {old add : List ℕ} {index addition : TableIndex} {g h : Table} (p : TableHeld old index g) (q : TableHeld add addition h) where
   pub none-started : (kind : Kind) {starts : Set4} {empty : Bool} → member (starts .words) 0 ≡ isStart (unite standard g h)

@@ -4,25 +4,25 @@
 --   put-widens     where the table by sets is drafted, it is the result; where it cannot be, the result is too large
 --   local-starts   the start types of the local form, from the start pairs and the numbers of the labels
 --   first-starts   those of the single-type form: the numbers of the first sets
-use Prim.Native.Nat.{ℕ, zero, suc, _+_, _≤_, _<_}
+use Prim.Native.Nat.{ℕ, _+_, _≤_, _<_}
 use native.Mathlib.Omega.{arith}
 use mathlib.Core.Bool.{Bool, true, false}
-use mathlib.Core.List.{List, [], _∷_, _++_, map, List·Memᴰ, Memᴰ·map, Memᴰ·of-map}
+use mathlib.Core.List.{List, [], _∷_, List·Memᴰ, Memᴰ·map, Memᴰ·of-map}
 use mathlib.Core.Logic.{inl, inr}
 use mathlib.Core.Path.{_≡_, refl, sym, _∙_, ap, subst}
-use lib.Dec.{eqb, ltb}
+use lib.Dec.{eqb}
 use borrow.Author.Tests.{eq-eqb}
-use lib.ListN.{length, drop}
+use lib.ListN.{length}
 use Rattle.grammar.specs.Lists.{isIn, numbersBelow}
 use Rattle.grammar.specs.Limits.{standard}
 use Rattle.grammar.specs.Names.{asciiClasses}
 use Rattle.grammar.specs.Table.{Rule, Table}
 use Rattle.grammar.specs.Kinds.{Kind}
-use Rattle.grammar.specs.Outcome.{given, refused, _>>_, turnBack}
+use Rattle.grammar.specs.Outcome.{refused}
 use Rattle.grammar.specs.ReadTable.{isEmpty}
 use Rattle.grammar.specs.WithinLimits.{TableWithin}
 use Rattle.grammar.specs.WriteTable.{tableBytes}
-use Rattle.grammar.specs.Size.{contentTooLarge, tooLarge}
+use Rattle.grammar.specs.Size.{contentTooLarge}
 use Rattle.grammar.specs.Unite.{unite}
 use Rattle.grammar.specs.Normalise.{normalise}
 use Rattle.grammar.specs.Reduce.{withoutUnfruitful, withoutUnreached, reduce}

@@ -13,11 +13,10 @@ use Rattle.grammar.specs.Lists.{keep, joinedOf, numbersFrom}
 use Rattle.grammar.specs.Content.{type, operands}
 use Rattle.grammar.specs.ReadContent.{contentBytes, operandBytes}
 use Rattle.grammar.specs.Sample.{sequenceOf}
-use Rattle.theory.proofs.ListLaws.{keep-yes, keep-no, joined-end}
+use Rattle.theory.proofs.ListLaws.{keep-yes, keep-no, joined-end, numbers-next}
 use Rattle.theory.proofs.DistinctLaws.{keep-append}
 use Rattle.emitting.specs.Writing.{Put}
 use Rattle.sampling.specs.SampleContents.{kidTypes, kidBytes, kidsBytes, Kids}
-use Rattle.sampling.proofs.NumberingLaws.{numbers-next}
 use Rattle.emitting.proofs.RowLaws.{count-list}
 use Rattle.emitting.proofs.PutLaws.{put-none, put-one, put-two, put-join, put-length}
 

@@ -20,29 +20,25 @@ use Rattle.grammar.specs.Table.{Rule}
 use Rattle.grammar.specs.Fields.{fieldBytes}
 use Rattle.grammar.specs.WriteTable.{ruleBytes}
 use Rattle.grammar.specs.Size.{contentTooLarge}
-use Rattle.theory.proofs.ListLaws.{joined-end}
 use Rattle.reader.specs.ExprAt.{_upTo_, exprAt}
 use Rattle.reader.proofs.ExprLaws.{expr-forward, expr-bytes}
+use Rattle.theory.proofs.ListLaws.{joined-next}
 use Rattle.emitting.specs.declared.writing.Drafted.{Drafted}
 use Rattle.emitting.specs.declared.writing.Drafted.the-variants.{Length, TooLarge}
 use Rattle.emitting.specs.Writing.{Put, Puts}
 use Rattle.sampling.specs.SampleTable.{ContentMade, RulePuts, ruleField, RulesPut, TablePut}
-use Rattle.sampling.proofs.NumberingLaws.{numbers-end}
 use Rattle.emitting.proofs.PutLaws.{put-none, put-join}
 
 module _ (f : ℕ → List ℕ) where
   abbrev first : ℕ → List ℕ
   first n = joinedOf f (numbersBelow n)
 
-  up-next : (t : ℕ) → first (t + 1) ≡ first t ++ f t
-  up-next t = ap (joinedOf f) (numbers-end t) ∙ joined-end f (numbersBelow t) t
-
   up-over : (t n : ℕ) → t < n → length (first t) + length (f t) ≤ length (first n)
   up-over t zero h = absurd (omega arith)
   up-over t (suc n) h = go (ltb t n) refl (λ k. up-over t n k)
     where
       next : length (first (suc n)) ≡ length (first n) + length (f n)
-      next = ap (λ (m : ℕ). length (first m)) (sym (add-one n)) ∙ ap length (up-next n) ∙ length-append (first n) (f n)
+      next = ap (λ (m : ℕ). length (first m)) (sym (add-one n)) ∙ ap length (joined-next f n) ∙ length-append (first n) (f n)
 
       go : (b : Bool) → ltb t n ≡ b → (t < n → length (first t) + length (f t) ≤ length (first n))
           → length (first t) + length (f t) ≤ length (first (suc n))
@@ -58,7 +54,7 @@ module _ (f : ℕ → List ℕ) where
 
   module _ (t : ℕ) {before : List ℕ} {at : ℕ} {draft : List ℕ} {end : ℕ} (p : Put before at (joinedOf f (numbersBelow t)) draft end) where
     pub up-more : {after : List ℕ} {m : ℕ} → Put draft end (f t) after m → Put before at (first (t + 1)) after m
-    up-more {after} {m} q = subst (λ (l : List ℕ). Put before at l after m) (sym (up-next t)) (put-join p q)
+    up-more {after} {m} q = subst (λ (l : List ℕ). Put before at l after m) (sym (joined-next f t)) (put-join p q)
 
     pub up-stop : (n : ℕ) → 32768 < end + length (f t) → t < n → 32768 < at + length (first n)
     up-stop n h k = let o = up-over t n k in let e = p .next-is in omega arith

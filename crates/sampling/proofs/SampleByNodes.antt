@@ -5,7 +5,7 @@
 use Prim.Native.Nat.{ℕ, zero, suc, _+_, _-_, _≤_, _<_}
 use native.Mathlib.Omega.{arith}
 use mathlib.Core.Bool.{Bool, true, false, _&&_, false≢true}
-use mathlib.Core.List.{List, [], _∷_, _++_, map, List·Memᴰ, List·Memᴰ·head, List·Memᴰ·tail, Memᴰ·map, map-map}
+use mathlib.Core.List.{List, [], _∷_, _++_, map, List·Memᴰ, Memᴰ·map, map-map}
 use mathlib.Core.Logic.{_↔_}
 use mathlib.Core.Path.{_≡_, refl, sym, _∙_, ap, subst}
 use lib.Dec.{eqb, ltb}
@@ -21,13 +21,14 @@ use Rattle.grammar.specs.Tree.{Tree}
 use Rattle.grammar.specs.ReadDocument.{Node, forestOf, treeOf}
 use Rattle.grammar.specs.Sample.{Visit, visits, samePath, pathsOf, namesOf, sequenceOf, childSequence, contentAt, ruleAt, sample}
 use Rattle.theory.proofs.BoolLaws.{and-left, and-right, and-intro, same-test}
-use Rattle.theory.proofs.ListLaws.{keep-map, kept, distinct-map, distinct-was, numbers-below}
+use Rattle.theory.proofs.ListLaws.{keep-map, kept, distinct-map, distinct-was, numbers-below, keep-on, map-on, listed-from, numbers-within}
+use Rattle.theory.proofs.DistinctLaws.{distinct-finer}
 use Rattle.theory.proofs.NameLaws.{name-refl, name-sym, name-trans}
-use Rattle.theory.proofs.PathLaws.{SamePath, path-refl, path-sym, path-trans, path-parts}
+use Rattle.theory.proofs.PathLaws.{SamePath, path-refl, path-sym, path-trans, path-parts, path-append}
 use Rattle.theory.proofs.SampleRules.{pathType, path-types}
 use Rattle.reader.proofs.DocumentTrees.{treeCount, Enough}
 use Rattle.sampling.specs.SampleNodes.{parentsFrom, parentsOf, visitsFrom, pathsIn, childrenIn, namesIn, found, nameAt, pathAt, parentAt, visitAt, kidsOf, typeAt, aboveAt, sameAt, sameNamed, firstsOf, labelled, sequenceAt, ofType, contentOf, ruleOf, sampleOf}
-use Rattle.sampling.proofs.NumberingLaws.{listed-from, place-map, distinct-finer, numbers-within, numbers-split, number-stays}
+use Rattle.sampling.proofs.NumberingLaws.{place-map, numbers-split, number-stays}
 use Rattle.sampling.proofs.VisitedNodes.{visits-nodes, visit-names, visit-counts, parents-many, path-step, handed-many, handed-below, map-handed, pick, pick-own, pick-roots, child-names}
 
 -- lists by places
@@ -43,33 +44,10 @@ pick-keep f g q a (suc m) = go (eqb (f a) q) refl (pick-keep f g q (suc a) m)
     go true e ih = rw (e, keep) (ap (λ (l : List _). g a ∷ l) ih)
     go false e ih = rw (e, keep) ih
 
-pub keep-same : {A : Type 0} (p q : A → Bool) (xs : List A) → ((x : A) → List·Memᴰ x xs → p x ≡ q x) → keep p xs ≡ keep q xs
-unfolding keep
-keep-same p q [] h = refl
-keep-same p q (x ∷ xs) h = go (q x) refl (keep-same p q xs (λ y m. h y (List·Memᴰ·tail m)))
-  where
-    go : (b : Bool) → q x ≡ b → keep p xs ≡ keep q xs → keep p (x ∷ xs) ≡ keep q (x ∷ xs)
-    go true e ih = rw (h x (List·Memᴰ·head refl) ∙ e, e, keep) (ap (λ (l : List _). x ∷ l) ih)
-    go false e ih = rw (h x (List·Memᴰ·head refl) ∙ e, e, keep) ih
-
-pub map-same : {A B : Type 0} (f g : A → B) (xs : List A) → ((x : A) → List·Memᴰ x xs → f x ≡ g x) → map f xs ≡ map g xs
-map-same f g [] h = refl
-map-same f g (x ∷ xs) h =
-    ap (λ (y : _). y ∷ map f xs) (h x (List·Memᴰ·head refl)) ∙ ap (λ (l : List _). g x ∷ l) (map-same f g xs (λ y m. h y (List·Memᴰ·tail m)))
-
 drop-listed : {A : Type 0} (xs : List A) (a : ℕ) (d : A) → drop a xs ≡ map (λ (j : ℕ). getD xs j d) (numbersFrom a (length xs - a))
 drop-listed xs a d =
     listed-from (λ (j : ℕ). getD xs j d) a (drop a xs) d (λ j h. sym (getD-drop a xs j d))
     ∙ ap (λ (m : ℕ). map (λ (j : ℕ). getD xs j d) (numbersFrom a m)) (length-drop a xs)
-
-path-join : (p q : List Name) (m n : Name) → SamePath p q → SameName m n → SamePath (p ++ (m ∷ [])) (q ++ (n ∷ []))
-unfolding samePath
-path-join [] [] m n e s = and-intro (sameName m n) true s refl
-path-join [] (b ∷ q) m n e s = absurd (false≢true e)
-path-join (a ∷ p) [] m n e s = absurd (false≢true e)
-path-join (a ∷ p) (b ∷ q) m n e s =
-    and-intro (sameName a b) (samePath (p ++ (m ∷ [])) (q ++ (n ∷ []))) (and-left (sameName a b) (samePath p q) e)
-    (path-join p q m n (and-right (sameName a b) (samePath p q) e) s)
 
 some-path : (p : List Name) (m : Name) → SamePath (p ++ (m ∷ [])) [] → ⊥
 unfolding samePath
@@ -228,7 +206,7 @@ module _ (ns : List Node) (one : treeCount ns ≡ 1) (enough : Enough ns) (d : T
             (subst (λ (x : List Name). SamePath (a ++ (m ∷ [])) x) q (subst (λ (x : List Name). SamePath x (pathAt ns (suc j))) p e)),
         λ e.
             subst (λ (x : List Name). SamePath x (pathAt ns (suc j))) (sym p)
-            (subst (λ (x : List Name). SamePath (a ++ (m ∷ [])) x) (sym q) (path-join a b m n (e .0) (e .1))),
+            (subst (λ (x : List Name). SamePath (a ++ (m ∷ [])) x) (sym q) (path-append a b m n (e .0) (e .1))),
       )
 
   pub same-path : (i j : ℕ) → i < length ns → j < length ns
@@ -307,7 +285,7 @@ module _ (ns : List Node) (one : treeCount ns ≡ 1) (enough : Enough ns) (d : T
       ∙ distinct-map (nameAt ns) sameName (numbersBelow (length ns))
       ∙ ap (map (nameAt ns))
       (sym
-      (distinct-finer (sameNamed ns d) (λ i. name-refl (nameAt ns i)) (λ i j. name-sym (nameAt ns i) (nameAt ns j))
+      (distinct-finer (sameNamed ns d) (λ i j. name-sym (nameAt ns i) (nameAt ns j))
       (λ i j k. name-trans (nameAt ns i) (nameAt ns j) (nameAt ns k)) (sameAt ns d) finer (numbersBelow (length ns))))
 
   kid-type : (j m : ℕ) → j < length ns → List·Memᴰ m (kidsOf ns j) → pathType d (pathAt ns j ++ (nameAt ns m ∷ [])) ≡ typeAt ns d m
@@ -324,7 +302,7 @@ module _ (ns : List Node) (one : treeCount ns ≡ 1) (enough : Enough ns) (d : T
       ap sequenceOf
       (ap (map (λ n. pathType d (pathAt ns j ++ (n ∷ [])))) (kids-names ns one enough j h)
       ∙ map-map (λ n. pathType d (pathAt ns j ++ (n ∷ []))) (nameAt ns) (kidsOf ns j)
-      ∙ map-same (λ m. pathType d (pathAt ns j ++ (nameAt ns m ∷ []))) (typeAt ns d) (kidsOf ns j) (λ m o. kid-type j m h o))
+      ∙ map-on (λ m. pathType d (pathAt ns j ++ (nameAt ns m ∷ []))) (typeAt ns d) (kidsOf ns j) (λ m o. kid-type j m h o))
 
   content-is : (i : ℕ) → i < length ns → contentAt (visits d []) (pathAt ns i) ≡ contentOf ns d (typeAt ns d i)
   unfolding contentAt
@@ -335,10 +313,10 @@ module _ (ns : List Node) (one : treeCount ns ≡ 1) (enough : Enough ns) (d : T
       (ap (λ (l : List Visit). map (childSequence (visits d [])) (keep here l)) visits-at
       ∙ ap (map (childSequence (visits d [])))
       (keep-map (visitAt ns) here idx
-      ∙ ap (map (visitAt ns)) (keep-same (λ j. sameAt ns d i j) (λ j. eqb (typeAt ns d j) (typeAt ns d i)) idx
+      ∙ ap (map (visitAt ns)) (keep-on (λ j. sameAt ns d i j) (λ j. eqb (typeAt ns d j) (typeAt ns d i)) idx
       (λ j m. same-type i j h (numbers-below (length ns) j .0 m))))
       ∙ map-map (childSequence (visits d [])) (visitAt ns) (ofType ns d (typeAt ns d i))
-      ∙ map-same (λ j. childSequence (visits d []) (visitAt ns j)) (sequenceAt ns d) (ofType ns d (typeAt ns d i))
+      ∙ map-on (λ j. childSequence (visits d []) (visitAt ns j)) (sequenceAt ns d) (ofType ns d (typeAt ns d i))
       (λ j m.
       sequence-is j (numbers-below (length ns) j .0 (kept (λ k. eqb (typeAt ns d k) (typeAt ns d i)) idx m .0))))
 
@@ -359,7 +337,7 @@ module _ (ns : List Node) (one : treeCount ns ≡ 1) (enough : Enough ns) (d : T
       let rules : map (ruleAt vs) (distinct oneVisit vs) ≡ map (ruleOf ns d) (firstsOf ns d) =
       ap (map (ruleAt vs)) (ap (distinct oneVisit) visits-at ∙ distinct-map (visitAt ns) oneVisit idx)
       ∙ map-map (ruleAt vs) (visitAt ns) (firstsOf ns d)
-      ∙ map-same (λ i. ruleAt vs (visitAt ns i)) (ruleOf ns d) (firstsOf ns d)
+      ∙ map-on (λ i. ruleAt vs (visitAt ns i)) (ruleOf ns d) (firstsOf ns d)
       (λ i m. rule-is i (numbers-below (length ns) i .0 (distinct-was (sameAt ns d) idx m))) in
       let labels = labels-are in
       λ k. record { labels = labels k; starts = zero ∷ []; rules = rules k }

@@ -2,21 +2,21 @@
 --   content-same, rule-same : the content and the rule of a type
 --   table-same : the bytes written are the sample's
 --   sample-drafted : so the sample is written, or is too large ; sample-wide : too many types
-use Prim.Native.Nat.{ℕ, zero, suc, _+_, _-_, _≤_, _<_}
+use Prim.Native.Nat.{ℕ, suc, _+_, _-_, _≤_, _<_}
 use native.Mathlib.Omega.{arith}
-use mathlib.Core.Bool.{Bool, true, false, not}
-use mathlib.Core.List.{List, [], _∷_, _++_, map, append-assoc, append-nil, List·Memᴰ, List·Memᴰ·head, List·Memᴰ·tail, Memᴰ·map, Memᴰ·of-map}
+use mathlib.Core.Bool.{true, false}
+use mathlib.Core.List.{List, [], _∷_, _++_, map, append-assoc, append-nil, List·Memᴰ, Memᴰ·map, Memᴰ·of-map}
 use mathlib.Core.Logic.{⊎-elim}
-use mathlib.Core.Path.{_≡_, refl, sym, _∙_, ap, subst}
-use lib.Dec.{eqb, ltb}
-use lib.ListN.{length, length-map, getD, take, drop, replicate}
+use mathlib.Core.Path.{_≡_, sym, _∙_, ap, subst}
+use lib.Dec.{eqb}
+use lib.ListN.{length, length-map, getD, take, drop}
 use lib.Seq.{length-take-le, getD-take}
-use Rattle.grammar.specs.Lists.{any, keep, distinct, place, joinedOf, numbersFrom, numbersBelow}
+use Rattle.grammar.specs.Lists.{keep, distinct, place, joinedOf, numbersFrom, numbersBelow}
 use Rattle.grammar.specs.Limits.{standard}
 use Rattle.grammar.specs.Names.{Name, sameName}
 use Rattle.grammar.specs.Content.{Content, choiceOf}
 use Rattle.grammar.specs.ReadContent.{sameContent}
-use Rattle.grammar.specs.Outcome.{given, refused, _>>_, turnBack}
+use Rattle.grammar.specs.Outcome.{given, refused}
 use Rattle.grammar.specs.Tree.{Tree}
 use Rattle.grammar.specs.Table.{Rule, Table}
 use Rattle.grammar.specs.Fields.{fieldBytes}
@@ -24,43 +24,22 @@ use Rattle.grammar.specs.ReadDocument.{Node}
 use Rattle.grammar.specs.WriteTable.{ruleBytes, tableBytes}
 use Rattle.grammar.specs.Size.{contentTooLarge, tooLarge}
 use Rattle.grammar.specs.Sample.{sample, sequenceOf}
-use Rattle.grammar.specs.Widen.{ofSize, sampleTable}
+use Rattle.grammar.specs.Widen.{sampleTable}
 use Rattle.grammar.specs.declared.Refusal.the-variants.{ResultTooLarge}
-use Rattle.theory.proofs.ListLaws.{at-else, at-mem, mem-at, at-below, at-or-else, distinct-was, kept, numbers-below}
+use Rattle.theory.proofs.ListLaws.{at-else, mem-at, at-below, distinct-was, kept, numbers-below, keep-on, map-on, joined-on, taken-mem, listed-from, numbers-within}
+use Rattle.theory.proofs.DistinctLaws.{distinct-on}
+use Rattle.theory.proofs.EmittedContent.{joined-map}
 use Rattle.theory.proofs.Gathering.{gathered}
 use Rattle.emitting.specs.declared.writing.Drafted.{Drafted}
 use Rattle.emitting.specs.declared.writing.Drafted.the-variants.{Length, TooLarge}
 use Rattle.sampling.specs.SampleNodes.{KeyAt, KeysAt, LabelledTo, nameIn, sameNameIn, nameAt, parentAt, kidsOf, typeAt, sameAt, sameNamed, firstsOf, labelled, sequenceAt, ofType, contentOf, ruleOf, sampleOf}
 use Rattle.sampling.specs.SampleContents.{kidTypes, sequenceIn, sequencesAmong}
 use Rattle.sampling.specs.SampleTable.{contentIn, ruleIn, labelField, ruleField, rulesBytes, startBytes, TablePut, SampleHeld, SampleReady, NodesHeld, RulesHeld, SampleDrafted}
-use Rattle.sampling.proofs.NumberingLaws.{listed-from, place-agree, numbers-within}
+use Rattle.sampling.proofs.NumberingLaws.{place-agree}
 use Rattle.sampling.proofs.TableSize.{size-over, size-fits, content-over, bytes-over, all-fit, types-over}
-use Rattle.sampling.proofs.SampleByNodes.{keep-same, map-same, sample-nodes, kids-count}
+use Rattle.sampling.proofs.SampleByNodes.{sample-nodes, kids-count}
 
--- lists by places, and what agrees on their elements
-module _ {A : Type 0} where
-  joined-map : (f : A → List ℕ) (h : ℕ → A) (xs : List ℕ) → joinedOf f (map h xs) ≡ joinedOf (λ x. f (h x)) xs
-  unfolding joinedOf
-  joined-map f h [] = refl
-  joined-map f h (x ∷ xs) = ap (λ (l : List ℕ). f (h x) ++ l) (joined-map f h xs)
-
-  joined-same : (f g : A → List ℕ) (xs : List A) → ((x : A) → List·Memᴰ x xs → f x ≡ g x) → joinedOf f xs ≡ joinedOf g xs
-  unfolding joinedOf
-  joined-same f g [] h = refl
-  joined-same f g (x ∷ xs) h =
-      ap (λ (l : List ℕ). l ++ joinedOf f xs) (h x (List·Memᴰ·head refl))
-      ∙ ap (λ (l : List ℕ). g x ++ l) (joined-same f g xs (λ y m. h y (List·Memᴰ·tail m)))
-
-  distinct-agree : (p q : A → A → Bool) (xs : List A) → ((x y : A) → List·Memᴰ x xs → List·Memᴰ y xs → p x y ≡ q x y)
-      → distinct p xs ≡ distinct q xs
-  unfolding distinct
-  distinct-agree p q [] h = refl
-  distinct-agree p q (x ∷ xs) h =
-      ap (λ (l : List A). x ∷ l)
-      (keep-same (λ y. not (p x y)) (λ y. not (q x y)) (distinct p xs)
-      (λ y m. ap not (h x y (List·Memᴰ·head refl) (List·Memᴰ·tail (distinct-was p xs m))))
-      ∙ ap (keep (λ y. not (q x y))) (distinct-agree p q xs (λ y z m o. h y z (List·Memᴰ·tail m) (List·Memᴰ·tail o))))
-
+-- lists by places
 taken-at : (l : List ℕ) (c : ℕ) → c ≤ length l → take c l ≡ map (λ (t : ℕ). getD l t 0) (numbersBelow c)
 unfolding numbersBelow
 taken-at l c h =
@@ -71,11 +50,6 @@ taken-at l c h =
 
 joined-at : (f : ℕ → List ℕ) (l : List ℕ) (c : ℕ) → c ≤ length l → joinedOf (λ t. f (getD l t 0)) (numbersBelow c) ≡ joinedOf f (take c l)
 joined-at f l c h = sym (ap (joinedOf f) (taken-at l c h) ∙ joined-map f (λ (t : ℕ). getD l t 0) (numbersBelow c))
-
-in-taken : (l : List ℕ) (c t : ℕ) → c ≤ length l → t < c → List·Memᴰ (getD l t 0) (take c l)
-in-taken l c t h b =
-    let k = length-take-le c l h in
-    subst (λ (x : ℕ). List·Memᴰ x (take c l)) (getD-take c l t 0 b) (at-mem (take c l) t (at-or-else (take c l) t 0 (omega arith)))
 
 taken-place : (l : List ℕ) (c : ℕ) {x : ℕ} → c ≤ length l → List·Memᴰ x (take c l) → (t : ℕ) × (t < c) × (getD l t 0 ≡ x)
 taken-place l c h m =
@@ -109,7 +83,7 @@ module _ {s names sizes parents types firsts : List ℕ} {n count : ℕ} (q : Sa
   first-below t h =
       numbers-below n (getD firsts t 0) .0
       (distinct-was (sameAt ns d) (numbersBelow n)
-      (subst (List·Memᴰ (getD firsts t 0)) (q .typed .firsts-are) (in-taken firsts count t (q .firsts-held) h)))
+      (subst (List·Memᴰ (getD firsts t 0)) (q .typed .firsts-are) (taken-mem firsts t count h (omega (arith, q .firsts-held)))))
 
   parent-same : (j : ℕ) → j < n → getD parents j 0 ≡ parentAt ns j
   parent-same j h = sym (getD-take n parents j 0 h) ∙ ap (λ (l : List ℕ). getD l j 0) (q .whole .parents-are)
@@ -118,18 +92,18 @@ module _ {s names sizes parents types firsts : List ℕ} {n count : ℕ} (q : Sa
   kids-same i =
       let later = numbersFrom (suc i) (n - suc i) in
       let below : (j : ℕ) → List·Memᴰ j later → j < n = λ j m. let w = numbers-within (suc i) (n - suc i) m in omega arith in
-      map-same (λ (j : ℕ). getD types j 0) (typeAt ns d) (keep (λ (j : ℕ). eqb (getD parents j 0) i) later)
+      map-on (λ (j : ℕ). getD types j 0) (typeAt ns d) (keep (λ (j : ℕ). eqb (getD parents j 0) i) later)
       (λ j m. q .typed .types-are j (below j (kept (λ (j : ℕ). eqb (getD parents j 0) i) later m .0)))
       ∙ ap (map (typeAt ns d))
-      (keep-same (λ (j : ℕ). eqb (getD parents j 0) i) (λ j. eqb (parentAt ns j) i) later (λ j m. ap (λ (x : ℕ). eqb x i) (parent-same j (below j m)))
+      (keep-on (λ (j : ℕ). eqb (getD parents j 0) i) (λ j. eqb (parentAt ns j) i) later (λ j m. ap (λ (x : ℕ). eqb x i) (parent-same j (below j m)))
       ∙ ap (λ (m : ℕ). keep (λ j. eqb (parentAt ns j) i) (numbersFrom (suc i) (m - suc i))) (sym (q .whole .many)))
 
   among-same : (k : ℕ) → sequencesAmong parents types n k (numbersBelow n) ≡ map (sequenceAt ns d) (ofType ns d k)
   among-same k =
-      map-same (sequenceIn parents types n) (sequenceAt ns d) (keep (λ (j : ℕ). eqb (getD types j 0) k) (numbersBelow n))
+      map-on (sequenceIn parents types n) (sequenceAt ns d) (keep (λ (j : ℕ). eqb (getD types j 0) k) (numbersBelow n))
       (λ i m. ap sequenceOf (kids-same i))
       ∙ ap (map (sequenceAt ns d))
-      (keep-same (λ (j : ℕ). eqb (getD types j 0) k) (λ j. eqb (typeAt ns d j) k) (numbersBelow n)
+      (keep-on (λ (j : ℕ). eqb (getD types j 0) k) (λ j. eqb (typeAt ns d j) k) (numbersBelow n)
       (λ j m. ap (λ (x : ℕ). eqb x k) (q .typed .types-are j (numbers-below n j .0 m)))
       ∙ ap (λ (m : ℕ). keep (λ j. eqb (typeAt ns d j) k) (numbersBelow m)) (sym (q .whole .many)))
 
@@ -162,7 +136,7 @@ module _ {s names sizes parents types firsts : List ℕ} {n count : ℕ} (q : Sa
   module _ {labels lfirsts : List ℕ} {lcount : ℕ} (l : LabelledTo s names sizes firsts labels lfirsts lcount count) (held : lcount ≤ length lfirsts) where
     labels-distinct : distinct (sameNameIn s names sizes) (take count firsts) ≡ labelled ns d
     labels-distinct =
-        distinct-agree (sameNameIn s names sizes) (sameNamed ns d) (take count firsts)
+        distinct-on (sameNameIn s names sizes) (sameNamed ns d) (take count firsts)
         (λ x y m o. names-same x y (taken-below x m) (taken-below y o))
         ∙ ap (distinct (sameNamed ns d)) firsts-same
 
@@ -189,13 +163,13 @@ module _ {s names sizes parents types firsts : List ℕ} {n count : ℕ} (q : Sa
     labels-same =
         joined-at (λ i. fieldBytes 0x10 (nameIn s names sizes i)) lfirsts lcount held
         ∙ ap (joinedOf (λ i. fieldBytes 0x10 (nameIn s names sizes i))) (l .firsts-are ∙ labels-distinct)
-        ∙ joined-same (λ i. fieldBytes 0x10 (nameIn s names sizes i)) (λ i. fieldBytes 0x10 (nameAt ns i)) (labelled ns d)
+        ∙ joined-on (λ i. fieldBytes 0x10 (nameIn s names sizes i)) (λ i. fieldBytes 0x10 (nameAt ns i)) (labelled ns d)
         (λ i m. ap (fieldBytes 0x10) (q .whole .names-are i (labelled-below i m)))
         ∙ sym (joined-map (fieldBytes 0x10) (nameAt ns) (labelled ns d))
 
     rules-same : rulesBytes rule count ≡ joinedOf (λ r. fieldBytes 0x12 (ruleBytes r)) (map (ruleOf ns d) (firstsOf ns d))
     rules-same =
-        joined-same (ruleField rule) (λ t. fieldBytes 0x12 (ruleBytes (ruleOf ns d (getD firsts t 0)))) (numbersBelow count)
+        joined-on (ruleField rule) (λ t. fieldBytes 0x12 (ruleBytes (ruleOf ns d (getD firsts t 0)))) (numbersBelow count)
         (λ t m. ap (λ (r : Rule). fieldBytes 0x12 (ruleBytes r)) (rule-same t (numbers-below count t .0 m)))
         ∙ joined-at (λ i. fieldBytes 0x12 (ruleBytes (ruleOf ns d i))) firsts count (q .firsts-held)
         ∙ ap (joinedOf (λ i. fieldBytes 0x12 (ruleBytes (ruleOf ns d i)))) firsts-same
@@ -224,7 +198,7 @@ module _ {s names sizes parents types firsts : List ℕ} {n count : ℕ} (q : Sa
     in-sample t h =
         subst (λ (g : Table). List·Memᴰ (rule t) (g .rules)) (sym sample-is)
         (subst (λ (r : Rule). List·Memᴰ r (map (ruleOf ns d) (firstsOf ns d))) (sym (rule-same t h))
-        (Memᴰ·map (ruleOf ns d) (subst (List·Memᴰ (getD firsts t 0)) firsts-same (in-taken firsts count t (q .firsts-held) h))))
+        (Memᴰ·map (ruleOf ns d) (subst (List·Memᴰ (getD firsts t 0)) firsts-same (taken-mem firsts t count h (omega (arith, q .firsts-held))))))
 
     from-sample : (r : Rule) → List·Memᴰ r (sample d .rules) → (t : ℕ) × (t < count) × (rule t ≡ r)
     from-sample r m =
@@ -302,7 +276,7 @@ module _ {s names sizes children parents types firsts : List ℕ} {n count : ℕ
               keys-held long (getD lfirsts t 0)
               (taken-below (r .held) (getD lfirsts t 0)
               (distinct-was (sameNameIn s names sizes) (take count firsts)
-              (subst (List·Memᴰ (getD lfirsts t 0)) (l .firsts-are) (in-taken lfirsts lcount t held h))));
+              (subst (List·Memᴰ (getD lfirsts t 0)) (l .firsts-are) (taken-mem lfirsts t lcount h (omega arith)))));
         }
 
     pub rules-held : count ≤ length labels → RulesHeld types firsts labels n count
@@ -318,8 +292,3 @@ module _ {s names sizes children parents types firsts : List ℕ} {n count : ℕ
           type-bytes = λ t h. let b = r .held .typed .small (getD firsts t 0) (first-below (r .held) t h) in omega arith;
           label-bytes = λ t h. let b = l .small t h in let c = l .few in omega arith;
         }
-
-pub zeros-at : (n i : ℕ) → _≡_ {A = ℕ} (getD (replicate n 0) i 0) 0
-zeros-at zero i = refl
-zeros-at (suc n) zero = refl
-zeros-at (suc n) (suc i) = zeros-at n i

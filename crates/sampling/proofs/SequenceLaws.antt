@@ -12,7 +12,7 @@ use lib.ListN.{length, getD, drop}
 use Rattle.grammar.specs.Lists.{keep, distinct, numbersBelow}
 use Rattle.grammar.specs.Content.{Content, operands}
 use Rattle.grammar.specs.ReadContent.{contentBytes}
-use Rattle.theory.proofs.ListLaws.{keep-yes, keep-no}
+use Rattle.theory.proofs.ListLaws.{keep-yes, keep-no, numbers-end}
 use Rattle.theory.proofs.DistinctLaws.{keep-append}
 use Rattle.theory.proofs.Gathering.{gathered, gathered-so, gather-nothing, gather-more}
 use Rattle.reader.specs.ExprAt.{_upTo_}
@@ -23,7 +23,7 @@ use Rattle.emitting.specs.Drafts.{Row, Kept, Newest, TooWide, Gathers}
 use Rattle.emitting.specs.Writing.{Put}
 use Rattle.sampling.specs.SampleContents.{sequenceIn, sequencesAmong, GathersIn}
 use Rattle.emitting.proofs.WideLaws.{wide-gathered}
-use Rattle.sampling.proofs.NumberingLaws.{numbers-end, numbers-split}
+use Rattle.sampling.proofs.NumberingLaws.{numbers-split}
 use Rattle.emitting.proofs.PutLaws.{put-length, put-kept, put-there}
 
 module _ (parents types : List ℕ) (n k : ℕ) where

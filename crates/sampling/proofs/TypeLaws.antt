@@ -2,40 +2,28 @@
 use Prim.Native.Nat.{ℕ, zero, suc, _+_, _≤_, _<_}
 use native.Mathlib.Omega.{arith}
 use native.Mathlib.Numerals.{add-one}
-use mathlib.Core.Bool.{Bool, true, false, _&&_}
+use mathlib.Core.Bool.{Bool, _&&_}
 use mathlib.Core.List.{List, [], _∷_, _++_, List·Memᴰ}
 use mathlib.Core.Logic.{_⊎_}
 use mathlib.Core.Path.{_≡_, refl, sym, _∙_, ap, subst}
-use lib.Dec.{eqb, ltb}
+use lib.Dec.{eqb}
 use lib.ListN.{length, length-set, getD, set, take}
-use lib.Seq.{getD-take, getD-set-same, getD-set-other, length-take-le, take-suc}
-use borrow.Author.Tests.{ltb-true, ltb-false, eq-eqb}
+use lib.Seq.{getD-take, length-take-le, take-suc}
+use borrow.Author.Tests.{eq-eqb}
 use Rattle.grammar.specs.Lists.{distinct, place, numbersBelow}
 use Rattle.grammar.specs.Names.{Name, sameName}
 use Rattle.grammar.specs.Tree.{Tree}
 use Rattle.grammar.specs.ReadDocument.{Node}
-use Rattle.theory.proofs.ListLaws.{at-else, any-of, at-mem, mem-at, at-below, at-or-else, distinct-was, distinct-has, numbers-below}
+use Rattle.theory.proofs.ListLaws.{at-else, any-of, at-mem, mem-at, at-below, at-or-else, distinct-was, distinct-has, numbers-below, numbers-end, taken-mem, set-up-to}
+use Rattle.theory.proofs.PlaceLaws.{place-front}
+use Rattle.theory.proofs.DistinctLaws.{distinct-grows}
 use Rattle.theory.proofs.NameLaws.{name-refl, name-sym, name-trans}
 use Rattle.theory.proofs.PathLaws.{path-refl, path-sym, path-trans}
 use Rattle.sampling.specs.SampleNodes.{Whole, TypedTo, KeyAt, KeysAt, aboveIn, nameIn, sameKey, nameAt, pathAt, parentAt, typeAt, aboveAt, sameAt, sameNameIn, LabelledTo}
-use Rattle.sampling.proofs.NumberingLaws.{place-agree, place-front, distinct-more, number-stays, one-more, numbers-end}
+use Rattle.sampling.proofs.NumberingLaws.{place-agree, number-stays, one-more}
 use Rattle.sampling.proofs.SampleByNodes.{below-path, same-path, type-place}
-
--- what holds below, and here, holds up to here
-pub up-to : (P : ℕ → Type 0) (i : ℕ) → ((j : ℕ) → j < i → P j) → P i → (j : ℕ) → j < i + 1 → P j
-up-to P i h p j l = go (ltb j i) refl
-  where
-    go : (b : Bool) → ltb j i ≡ b → P j
-    go true e = h j (ltb-true j i e)
-    go false e = let k = ltb-false j i e in let z : i ≡ j = omega arith in subst P z p
-
--- an array with one more
-pub set-up-to : (P : ℕ → ℕ → Type 0) (l : List ℕ) (i v : ℕ) → i < length l → ((j : ℕ) → j < i → P j (getD l j 0)) → P i v → (j : ℕ)
-    → j < i + 1 → P j (getD (set l i v) j 0)
-set-up-to P l i v h old new =
-    up-to (λ j. P j (getD (set l i v) j 0)) i
-    (λ j k. subst (P j) (sym (getD-set-other l i j v 0 (omega arith))) (old j k))
-    (subst (P i) (sym (getD-set-same l i v 0 h)) new)
+-- passed on to crates above
+pub use borrow.Author.Count.{below-more as up-to}
 
 pub record Typing (ns : List Node) (d : Tree) (types aboves firsts : List ℕ) (count i : ℕ) : Type 0 where
   pub typed : TypedTo ns d types firsts count i
@@ -101,7 +89,7 @@ module _ {s names sizes parents : List ℕ} {n : ℕ} (q : Whole s names sizes p
     pub aboves-next : (j : ℕ) → j < i + 1 → getD more j 0 ≡ aboveAt ns d j
     aboves-next =
         let f = q .few in
-        set-up-to (λ j x. x ≡ aboveAt ns d j) aboves i a (omega arith) (t .aboves-are) (ea ∙ above-is)
+        set-up-to aboves i a (omega arith) (λ j x. x ≡ aboveAt ns d j) (t .aboves-are) (ea ∙ above-is)
 
     key-at : (j : ℕ) → j < n → KeyAt s names sizes more j
     key-at j k =
@@ -115,10 +103,7 @@ module _ {s names sizes parents : List ℕ} {n : ℕ} (q : Whole s names sizes p
     firsts-below u k =
         let f = t .typed .few in
         let g = q .few in
-        let l = length-take-le count firsts (omega arith) in
-        let at = at-or-else (take count firsts) u 0 (omega arith) in
-        let m =
-        subst (λ (x : ℕ). List·Memᴰ x (take count firsts)) (getD-take count firsts u 0 k) (at-mem (take count firsts) u at) in
+        let m = taken-mem firsts u count k (omega arith) in
         numbers-below i (getD firsts u 0) .0
         (distinct-was (sameAt ns d) (numbersBelow i) (subst (List·Memᴰ (getD firsts u 0)) (t .typed .firsts-are) m))
 
@@ -161,10 +146,10 @@ module _ {s names sizes parents : List ℕ} {n : ℕ} (q : Whole s names sizes p
             typed =
                 record {
                   types-are =
-                      set-up-to (λ j x. x ≡ typeAt ns d j) types i r (omega arith) (t .typed .types-are)
+                      set-up-to types i r (omega arith) (λ j x. x ≡ typeAt ns d j) (t .typed .types-are)
                       (found-is ∙ sym (type-place ns (q .one) (q .enough) d (q .is-tree) i (omega arith)));
                   small =
-                      set-up-to (λ j x. x < c) types i r (omega arith) (λ j k. let b = t .typed .small j k in omega arith) (o .placed);
+                      set-up-to types i r (omega arith) (λ j x. x < c) (λ j k. let b = t .typed .small j k in omega arith) (o .placed);
                   firsts-are = o .listed ∙ ap (distinct (sameAt ns d)) (sym (numbers-end i));
                   few = omega arith;
                 };
@@ -231,10 +216,8 @@ module _ {s names sizes keys nodes : List ℕ} {types : ℕ} (held : KeysAt s na
       → place same (getD nodes j 0) (distinct same listed) ≡ place same (getD nodes j 0) (distinct same (take (t + 1) nodes))
   label-stays j b =
       let f = held .few in
-      let (more, e) = distinct-more same listed (getD nodes t 0 ∷ []) in
-      let w = length-take-le t nodes (omega arith) in
-      let at = at-or-else listed j 0 (omega arith) in
-      let m = subst (λ (x : ℕ). List·Memᴰ x listed) (getD-take t nodes j 0 b) (at-mem listed j at) in
+      let (more, e) = distinct-grows same listed (getD nodes t 0 ∷ []) in
+      let m = taken-mem nodes j t b (omega arith) in
       let (y, o, r) = distinct-has same (λ x. name-refl (nameIn s names sizes x)) (λ x y z. name-trans (nameIn s names sizes x) (nameIn s names sizes y) (nameIn s names sizes z)) m in
       sym
       (ap (λ (k : List ℕ). place same (getD nodes j 0) (distinct same k)) listed-next
@@ -265,14 +248,14 @@ module _ {s names sizes keys nodes : List ℕ} {types : ℕ} (held : KeysAt s na
         let most = o .most in
         record {
           labels-are =
-              set-up-to (λ j v. v ≡ place same (getD nodes j 0) (distinct same (take (t + 1) nodes))) labels t r lt
+              set-up-to labels t r lt (λ j v. v ≡ place same (getD nodes j 0) (distinct same (take (t + 1) nodes)))
               (λ j b. l .labels-are j b ∙ label-stays j b)
               (label-is
               ∙ sym
               (number-stays same (λ x. name-refl (nameIn s names sizes x)) (λ x y. name-sym (nameIn s names sizes x) (nameIn s names sizes y))
               (λ x y z. name-trans (nameIn s names sizes x) (nameIn s names sizes y) (nameIn s names sizes z)) listed x [])
               ∙ ap (λ (k : List ℕ). place same x (distinct same k)) (sym listed-next));
-          small = set-up-to (λ j v. v < c) labels t r lt (λ j k. let b = l .small j k in omega arith) (o .placed);
+          small = set-up-to labels t r lt (λ j v. v < c) (λ j k. let b = l .small j k in omega arith) (o .placed);
           firsts-are = o .listed ∙ ap (distinct same) (sym listed-next);
           few = omega arith;
         }

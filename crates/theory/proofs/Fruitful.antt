@@ -160,7 +160,7 @@ module _ (g : Table) where
       not-known known (map (λ (r : Rule). r .type) (keep (λ (r : Rule). hasWord known (r .content)) (g .rules))) k .1
       (Memᴰ·cast (sym (f .of-type)) (Memᴰ·map (λ (r : Rule). r .type) m), f .new)
 
-  fruitful-closed : newlyFruitful g (fruitful g) ≡ []
+  pub fruitful-closed : newlyFruitful g (fruitful g) ≡ []
   unfolding fruitful
   fruitful-closed =
       rounds-closed (newlyFruitful g) (map (λ (r : Rule). r .type) (g .rules)) (λ known k m. newly-found known k m .new)

@@ -8,7 +8,7 @@
 --     map-on, map-at, at-map                                  images
 --     related-map, related-at, related-mem                    lists related element by element
 -- Of numbers: in-mem, mem-in, in-append, taken-mem, set-all, set-up-to, same-numbers, and AllIn (all of one list are in another);
--- numbers-below, numbers-joined, numbers-next, numbers-end, listed-from, one-place.
+-- numbers-below, numbers-joined, numbers-next, numbers-end, joined-next, listed-from, one-place.
 use Prim.Native.Nat.{ℕ, zero, suc, _+_, _≤_, _<_}
 use native.Mathlib.Omega.{arith}
 use native.Mathlib.Numerals.{add-one}
@@ -53,6 +53,7 @@ use Rattle.grammar.specs.Lists.{
   numbersFrom,
   numbersBelow,
 }
+use Rattle.grammar.specs.ReadTable.{isEmpty}
 use Rattle.theory.proofs.BoolLaws.{
   and-left,
   and-right,
@@ -194,6 +195,15 @@ module _ {A : Type 0} where
   distinct-mem same decides {x} m =
       let r = distinct-has same (λ y. decides y y .1 refl) (decided-trans same decides) m in
       Memᴰ·cast (sym (decides (r .0) x .0 (r .2))) (r .1)
+
+  -- a list that is not empty has an element
+  pub some-mem : (xs : List A) → not (isEmpty xs) ≡ true → (x : A) × List·Memᴰ x xs
+  some-mem [] e = absurd (false≢true e)
+  some-mem (x ∷ xs) e = (x, List·Memᴰ·head refl)
+
+  pub mem-some : {x : A} {xs : List A} → List·Memᴰ x xs → not (isEmpty xs) ≡ true
+  mem-some (List·Memᴰ·head e) = refl
+  mem-some (List·Memᴰ·tail m) = refl
 
   -- positions
   pub at-mem : (xs : List A) (i : ℕ) {x : A} → getElem? xs i ≡ just x → List·Memᴰ x xs
@@ -630,6 +640,10 @@ unfolding numbersBelow
 numbers-end n =
     let z : zero + n ≡ n = omega arith in
     ap (numbersFrom zero) (add-one n) ∙ numbers-next zero n ∙ ap (λ (k : ℕ). numbersFrom zero n ++ (k ∷ [])) z
+
+pub joined-next : {B : Type 0} (f : ℕ → List B) (n : ℕ)
+    → joinedOf f (numbersBelow (n + 1)) ≡ joinedOf f (numbersBelow n) ++ f n
+joined-next f n = ap (joinedOf f) (numbers-end n) ∙ joined-end f (numbersBelow n) n
 
 -- a list is what stands at its places
 pub listed-from : {A : Type 0} (f : ℕ → A) (a : ℕ) (xs : List A) (d : A) → ((j : ℕ) → j < length xs → f (a + j) ≡ getD xs j d)

@@ -64,6 +64,11 @@ module _ (g : Table) where
   unfolding withoutUnreached
   labels-remain = refl
 
+  -- the start types are reached
+  pub start-reached : (k : ℕ) → List·Memᴰ k (g .starts) → List·Memᴰ k (reached g)
+  unfolding reached
+  start-reached k m = rounds-start (newlyReached g) (length (g .rules)) (g .starts) k m
+
   module _ (ruled : AllRuled g) where
     reached-closed : newlyReached g (reached g) ≡ []
     unfolding reached
@@ -86,7 +91,7 @@ module _ (g : Table) where
 
     reached-there : {k : ℕ} → Reaches g k → List·Memᴰ k (reached g)
     unfolding reached
-    reached-there (from-start {k = k} m) = rounds-start (newlyReached g) (length (g .rules)) (g .starts) k m
+    reached-there (from-start {k = k} m) = start-reached k m
     reached-there (through {r = r} {k = k} m p s) = reached-on r k m (reached-there p) s
 
     pub reached-is : (k : ℕ) → List·Memᴰ k (reached g) ↔ Reaches g k

@@ -29,8 +29,8 @@ use Rattle.theory.proofs.NoTwo.{no-two-keep, no-two-map}
 use Rattle.theory.proofs.SimplifyWords.{prune-words, prune-standing}
 use Rattle.theory.proofs.Fruitful.{tree-fruitful, forest-fruitful, fruitful-is}
 use Rattle.theory.proofs.CarryDerivations.{carry-tree}
-use Rattle.theory.proofs.Reached.{reached-is, reached-on, rule-remains, rule-was, reached-remains, reached-trees}
-use Rattle.theory.proofs.TableConditions.{Labelled, HasRule, Reaches, from-start, SomeTree, AllRuled, OneRuleEach}
+use Rattle.theory.proofs.Reached.{reached-is, reached-on, rule-remains, rule-was, reached-remains, reached-trees, start-reached}
+use Rattle.theory.proofs.TableConditions.{Labelled, HasRule, Reaches, SomeTree, AllRuled, OneRuleEach}
 use Rattle.theory.proofs.Standing.{StandsIn, WordWith}
 use Rattle.theory.proofs.NamedLabels.{same-labels-named}
 
@@ -130,9 +130,6 @@ module _ (g : Table) where
     unfolding reduce
     reduce-trees k t p = Iff·trans (fruitful-trees k t) (reached-trees (withoutUnfruitful g) fruitful-ruled k t p)
 
-    start-reached : (k : ℕ) → List·Memᴰ k (withoutUnfruitful g .starts) → List·Memᴰ k (reached (withoutUnfruitful g))
-    start-reached k m = reached-is (withoutUnfruitful g) fruitful-ruled k .1 (from-start m)
-
     same-starts : withoutUnfruitful g .starts ≡ reduce g .starts
     unfolding reduce withoutUnreached
     same-starts = refl
@@ -146,7 +143,7 @@ module _ (g : Table) where
             record {
               start = l .start;
               of-table = fruitful-start (l .start) .0 m .0;
-              derived = reduce-trees (l .start) d (start-reached (l .start) m) .1 (l .derived);
+              derived = reduce-trees (l .start) d (start-reached (withoutUnfruitful g) (l .start) m) .1 (l .derived);
             }
 
         back : LetsIn g d → LetsIn (reduce g) d
@@ -155,7 +152,7 @@ module _ (g : Table) where
             record {
               start = l .start;
               of-table = rw (← same-starts) m;
-              derived = reduce-trees (l .start) d (start-reached (l .start) m) .0 (l .derived);
+              derived = reduce-trees (l .start) d (start-reached (withoutUnfruitful g) (l .start) m) .0 (l .derived);
             }
 
     reduce-tree : (k : ℕ) → List·Memᴰ k (fruitful g) → List·Memᴰ k (reached (withoutUnfruitful g)) → SomeTree (reduce g) k
@@ -166,7 +163,7 @@ module _ (g : Table) where
     pub reduce-starts : (k : ℕ) → List·Memᴰ k (reduce g .starts) → SomeTree (reduce g) k
     reduce-starts k m =
         let n : List·Memᴰ k (withoutUnfruitful g .starts) = rw same-starts m in
-        reduce-tree k (fruitful-start k .0 n .1) (start-reached k n)
+        reduce-tree k (fruitful-start k .0 n .1) (start-reached (withoutUnfruitful g) k n)
 
     -- the rule without the unfruitful types, and the one of g
     reduce-was : (r : Rule) → List·Memᴰ r (reduce g .rules)

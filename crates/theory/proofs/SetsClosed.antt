@@ -7,18 +7,15 @@
 use Prim.Native.Nat.{ℕ, zero, suc, _+_, _≤_, _<_}
 use native.Mathlib.Omega.{arith}
 use native.Mathlib.Nat.{eq-or-lt-of-le}
-use mathlib.Core.Bool.{Bool, true, not, _&&_, false≢true}
+use mathlib.Core.Bool.{Bool, true, not, _&&_}
 use mathlib.Core.List.{
   List,
   [],
-  _∷_,
   _++_,
   append-assoc,
   append-nil,
   map,
   List·Memᴰ,
-  List·Memᴰ·head,
-  List·Memᴰ·tail,
   Memᴰ·append-left,
   Memᴰ·append-right,
   List·Memᴰ·append-cases,
@@ -63,6 +60,8 @@ use Rattle.theory.proofs.ListLaws.{
   at-joined,
   distinct-mem,
   eqb-decides,
+  some-mem,
+  mem-some,
 }
 use Rattle.theory.proofs.TableAutomaton.{label-rule}
 use Rattle.theory.proofs.ReducedTable.{ReducedTable}
@@ -273,14 +272,6 @@ module _ (g : Table) (reduced : ReducedTable g) where
           (of-label (typesMet g s) x k .1 (record { has-rule = met-rules s k n; listed = n; label = d })) e
 
   -- the start sets
-  has-member : (s : TypeSet) → not (isEmpty s) ≡ true → (k : ℕ) × List·Memᴰ k s
-  has-member [] e = absurd (false≢true e)
-  has-member (k ∷ s) e = (k, List·Memᴰ·head refl)
-
-  not-empty : {s : TypeSet} {k : ℕ} → List·Memᴰ k s → not (isEmpty s) ≡ true
-  not-empty (List·Memᴰ·head e) = refl
-  not-empty (List·Memᴰ·tail m) = refl
-
   abbrev pub start-founded : {s : TypeSet} → OneLabelSet g (g .starts) s → Founded g s
   start-founded o = record { types = g .starts; have-rules = reduced .start-rules; one-label = o }
 
@@ -292,7 +283,7 @@ module _ (g : Table) (reduced : ReducedTable g) where
       there m =
           let (n, e) = kept (λ t. not (isEmpty t)) (map (ofLabel g (g .starts)) (numbersBelow (length (g .labels)))) m in
           let (l, p, d) = Memᴰ·of-map (ofLabel g (g .starts)) (numbersBelow (length (g .labels))) n in
-          let (k, q) = has-member s e in
+          let (k, q) = some-mem s e in
           let h = of-label (g .starts) l k .0 (subst (λ (t : TypeSet). List·Memᴰ k t) (sym d) q) in
           record { type = k; listed = h .listed; alike = sym d ∙ ap (ofLabel g (g .starts)) (sym (h .label)) }
 
@@ -303,7 +294,7 @@ module _ (g : Table) (reduced : ReducedTable g) where
           (Memᴰ·map (ofLabel g (g .starts))
           (numbers-below (length (g .labels)) (labelOf g (o .type)) .1
           (label-below (reduced .start-rules (o .type) (o .listed))))))
-          (not-empty (founded-member (start-founded o)))
+          (mem-some (founded-member (start-founded o)))
 
   start-distinct : NoTwo (λ t u. t ≡ u) (startSets g)
   unfolding startSets
@@ -313,7 +304,7 @@ module _ (g : Table) (reduced : ReducedTable g) where
       (no-two-weaken (λ x y. ofLabel g (g .starts) x ≡ ofLabel g (g .starts) y) (λ x y. x ≡ y) labels
       (no-two-keep (λ x y. x ≡ y) used below ascending)
       (λ x y m n e.
-      let (k, q) = has-member (ofLabel g (g .starts) x) (kept used below m .1) in
+      let (k, q) = some-mem (ofLabel g (g .starts) x) (kept used below m .1) in
       label-told (g .starts) x y k q e)))
     where
       below : List ℕ

@@ -15,10 +15,10 @@ use Rattle.grammar.specs.Table.{Table}
 use Rattle.grammar.specs.Tree.{Tree}
 use Rattle.grammar.specs.Kinds.{Kind}
 use Rattle.grammar.specs.Least.{Addition, byTable, byDocument}
-use Rattle.grammar.specs.Outcome.{Outcome, given, refused, _>>=_, _>>_, turnBack}
+use Rattle.grammar.specs.Outcome.{Outcome, given, refused, _>>=_}
 use Rattle.grammar.specs.Answers.{written}
 use Rattle.grammar.specs.ReadTable.{readTable}
-use Rattle.grammar.specs.ReadDocument.{readNodes, readDocument, treeOf}
+use Rattle.grammar.specs.ReadDocument.{readDocument, treeOf}
 use Rattle.grammar.specs.WriteTable.{tableBytes}
 use Rattle.grammar.specs.Sample.{sample}
 use Rattle.grammar.specs.Widen.{widen, widenByTable, sampleTable}
@@ -46,14 +46,14 @@ use Rattle.theory.proofs.ResultWithin.{sample-read-back}
 use Rattle.theory.proofs.WidenLeast.{sampled}
 use Rattle.theory.proofs.WideningTheorem.{widening-theorem}
 use Rattle.reader.specs.TableIndex.{Reads}
-use Rattle.reader.specs.DocumentNodes.{DocumentReads, nodesIn, outcomeOf}
+use Rattle.reader.specs.DocumentNodes.{DocumentReads, nodesIn}
 use Rattle.reader.specs.declared.tables.TableIndex.{TableIndex}
 use Rattle.reader.specs.declared.tables.TableRead.{TableRead}
 use Rattle.reader.specs.declared.documents.DocumentRead.{DocumentRead}
-use Rattle.reader.proofs.AnswerLaws.{fault, never-given}
-use Rattle.reader.proofs.WorkLaws.{enough, too-short, work-kept, work-cleared}
+use Rattle.reader.proofs.AnswerLaws.{fault, never-given, was-written, was-unwritten, both-then-last}
+use Rattle.reader.proofs.WorkLaws.{work-kept, work-cleared, lent, lent-short, lent-enough}
 use Rattle.reader.proofs.TableFound.{TableFound, table-found, table-refused}
-use Rattle.reader.proofs.DocumentAnswers.{document-tree, document-refused}
+use Rattle.reader.proofs.DocumentAnswers.{document-tree, nodes-read, document-unread}
 use Rattle.pairs.specs.View.{TableHeld, Held}
 use Rattle.emitting.specs.declared.writing.Drafted.{Drafted}
 use Rattle.emitting.specs.declared.writing.Drafted.the-variants.{Length as DraftedTo, TooLarge as Undrafted}
@@ -76,19 +76,16 @@ use Rattle.widening.specs.WideningCalls.{
   WidenedByDocument,
 }
 
--- answers are equal when what they hold is
-length-eq : {m n : ℕ} → _≡_ {A = Written} (Length m) (Length n) → m ≡ n
-length-eq e = cc
+-- the bytes of an outcome, and its answer, before the output is looked at
+abbrev bytesOf : Outcome Table → Outcome (List ℕ)
+bytesOf o = o >>= λ g. given (tableBytes g)
 
-refusal-eq : {p q : Refusal} → _≡_ {A = Written} (Refused p) (Refused q) → p ≡ q
-refusal-eq e = cc
-
-length-not-refused : {n : ℕ} {q : Refusal} → _≡_ {A = Written} (Length n) (Refused q) → ⊥
-length-not-refused e = let z : _≡_ {A = ℕ} 0 1 = cc in omega arith
-
--- the answer to an outcome, before the output is looked at
 abbrev answerOf : Outcome Table → Written
-answerOf o = written (o >>= λ g. given (tableBytes g))
+answerOf o = written (bytesOf o)
+
+bytes-refused : (o : Outcome Table) (q : Refusal) → bytesOf o ≡ refused q → o ≡ refused q
+bytes-refused (refused r) q e = cc
+bytes-refused (given g) q e = let z : _≡_ {A = ℕ} 0 1 = cc in absurd (omega arith)
 
 -- a table in a draft, or why there is none
 module _ (o : Outcome Table) (draft : List ℕ) where
@@ -120,20 +117,13 @@ module _ (o : Outcome Table) (draft : List ℕ) where
   -- and back
   module _ (answer : Written) (i : InDraft o draft answer) where
     pub was-made : (n : ℕ) → answer ≡ Length n → (g : Table) × (o ≡ given g) × (n ≡ length (tableBytes g))
-    unfolding written
-    was-made n e = go o refl
-      where
-        go : (x : Outcome Table) → o ≡ x → (g : Table) × (o ≡ given g) × (n ≡ length (tableBytes g))
-        go (refused q) p = absurd (length-not-refused (sym e ∙ i .made-is ∙ ap answerOf p))
-        go (given g) p = (g, p, length-eq (sym e ∙ i .made-is ∙ ap answerOf p))
+    was-made n e =
+        let (bytes, p, size) = was-written (bytesOf o) n (sym (i .made-is) ∙ e) in
+        let (g, q, same) = was-given o (λ g. given (tableBytes g)) bytes p in
+        (g, q, size ∙ ap length (sym (given-eq same)))
 
     pub was-unmade : (q : Refusal) → answer ≡ Refused q → o ≡ refused q
-    unfolding written
-    was-unmade q e = go o refl
-      where
-        go : (x : Outcome Table) → o ≡ x → o ≡ refused q
-        go (refused p) s = s ∙ ap (λ (r : Refusal). refused r) (refusal-eq (sym (ap answerOf s) ∙ sym (i .made-is) ∙ e))
-        go (given g) s = absurd (length-not-refused (sym (ap answerOf s) ∙ sym (i .made-is) ∙ e))
+    was-unmade q e = bytes-refused o q (was-unwritten (bytesOf o) q (sym (i .made-is) ∙ e))
 
     pub made-fits : (n : ℕ) → answer ≡ Length n → n ≤ length draft
     made-fits n e =
@@ -270,21 +260,16 @@ module _ (document : List ℕ) (f : DocumentRead) (reads : DocumentReads documen
   unfolding sampleOf
   document-refuses draft q e =
       unmade (sampleOf document) draft q
-      (ap (λ (o : Outcome Tree). o >>= λ d. sampleTable standard d)
-      (document-refused standard asciiClasses document q
-      (reads .outcome ∙ ap (λ a. outcomeOf a (nodesIn document (f .index))) e)))
+      (ap (λ (o : Outcome Tree). o >>= λ d. sampleTable standard d) (document-unread document f reads q e))
 
   module _ (e : f .answer ≡ Readable) where
-    nodes-read : readNodes standard asciiClasses document ≡ given (nodesIn document (f .index))
-    nodes-read = reads .outcome ∙ ap (λ a. outcomeOf a (nodesIn document (f .index))) e
-
     pub nodes-indexed : Indexes document (f .index)
-    nodes-indexed = record { reads = nodes-read; indexed = reads .indexed }
+    nodes-indexed = record { reads = nodes-read document f reads e; indexed = reads .indexed }
 
     module _ (before draft : List ℕ) (m : Drafted)
         (s : (d : Tree) → treeOf (nodesIn document (f .index)) ≡ given d → SampleDrafted d before draft m) where
       abbrev tree-read : (t : Tree) × (treeOf (nodesIn document (f .index)) ≡ given t) × (readDocument standard asciiClasses document ≡ given t)
-      tree-read = document-tree standard asciiClasses document (nodesIn document (f .index)) nodes-read
+      tree-read = document-tree standard asciiClasses document (nodesIn document (f .index)) (nodes-read document f reads e)
 
       sample-is : sampleOf document ≡ sampleTable standard (tree-read .0)
       unfolding sampleOf
@@ -335,12 +320,6 @@ then-last : {A B C : Type 0} (x : Outcome A) (f : A → Outcome B) (k : B → Ou
 then-last (refused r) f k = refl
 then-last (given a) f k = refl
 
-both-then-last : {A B C D : Type 0} (x : Outcome A) (y : Outcome B) (w : A → B → Outcome C) (k : C → Outcome D)
-    → (x >>= λ a. (y >>= λ b. (w a b >>= k))) ≡ ((x >>= λ a. (y >>= λ b. w a b)) >>= k)
-both-then-last (refused r) y w k = refl
-both-then-last (given a) (refused r) w k = refl
-both-then-last (given a) (given b) w k = refl
-
 through-then-last : {A B C D E : Type 0} (x : Outcome A) (y : Outcome B) (s : B → Outcome C) (w : A → C → Outcome D) (k : D → Outcome E)
     → (x >>= λ a. (y >>= λ b. ((s b >>= λ c. w a c) >>= k))) ≡ ((x >>= λ a. ((y >>= s) >>= λ c. w a c)) >>= k)
 through-then-last (refused r) y s w k = refl
@@ -349,19 +328,10 @@ through-then-last (given a) (given b) s w k = refl
 
 -- reading with the working memory lent
 module _ {A : Type 0} (work : List ℕ) (o : Outcome A) where
-  abbrev lent : Outcome A
-  lent = turnBack (workTooShort standard work) WorkTooShort >> o
-
-  lent-short : length work < 16384 → lent ≡ refused WorkTooShort
-  lent-short h = fault (workTooShort standard work) WorkTooShort o (too-short work h)
-
-  lent-enough : 16384 ≤ length work → lent ≡ o
-  lent-enough h = no-fault (workTooShort standard work) WorkTooShort o (enough work h)
-
   -- what was given in the end was read
-  lent-given : {B : Type 0} (next : A → Outcome B) (b : B) → (lent >>= next) ≡ given b → (a : A) → o ≡ given a → next a ≡ given b
+  lent-given : {B : Type 0} (next : A → Outcome B) (b : B) → (lent work o >>= next) ≡ given b → (a : A) → o ≡ given a → next a ≡ given b
   lent-given next b e a p =
-      let (x, q, n) = was-given lent next b e in
+      let (x, q, n) = was-given (lent work o) next b e in
       let same = given-eq (sym (had-no-fault (workTooShort standard work) WorkTooShort o x q .1) ∙ p) in
       subst (λ (y : A). next y ≡ given b) same n
 

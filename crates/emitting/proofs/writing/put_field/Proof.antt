@@ -2,7 +2,8 @@
 use Prim.Native.Nat.{_+_, _/_, _%_}
 use native.Mathlib.Omega.{arith}
 use lib.ListN.{length, length-set, set}
-use Rattle.emitting.proofs.PutLaws.{put-field, put-length, field-length, stored-length}
+use Rattle.reader.proofs.FieldReading.{field-length}
+use Rattle.emitting.proofs.PutLaws.{put-field, put-length, stored-length}
 use borrow.Author.Needs.{needs}
 use Rattle.emitting.proofs.writing.put_field.Statement.{statement}
 use Rattle.emitting.proofs.writing.put_field.Tie as tie

@@ -13,30 +13,34 @@ use Rattle.listing.proofs.lines.put_rule_line.Tie as tie
 
 put-type-requires : tie.Need-put-type-requires
 put-type-requires c κs =
-    let small = rule-found-at (c .before .before .before .before .before .before .pre .0) _ (c .before .before .before .before .before .before .pre .1) .type-below in
+    let pre = c .before .before .before .before .before .before .pre in
+    let small = rule-found-at (pre .0 .indexes) (pre .0 .within) _ (pre .1) .type-below in
     let e = c .wide .ensures .0 in
     let n = type-size (c .wide .result) (omega arith) in
-    let h = c .before .before .before .before .before .before .pre .2 in
+    let h = pre .2 in
     (omega arith, omega arith)
 
 put-byte-requires : tie.Need-put-byte-requires
 put-byte-requires c κs =
-    let small = rule-found-at (c .before .before .before .before .before .before .before .before .before .before .pre .0) _ (c .before .before .before .before .before .before .before .before .before .before .pre .1) .type-below in
+    let pre = c .before .before .before .before .before .before .before .before .before .before .pre in
+    let small = rule-found-at (pre .0 .indexes) (pre .0 .within) _ (pre .1) .type-below in
     let e = c .before .before .before .before .wide .ensures .0 in
     let n = type-size (c .before .before .before .before .wide .result) (omega arith) in
-    let h = c .before .before .before .before .before .before .before .before .before .before .pre .2 in
+    let h = pre .2 in
     let a = c .before .before .before .put-type .ensures .next-is in
     let b = c .before .before .before .put-type .kept .0 in
     omega arith
 
 put-name-requires : tie.Need-put-name-requires
 put-name-requires c κs =
-    let small = rule-found-at (c .before .before .before .before .before .before .before .before .before .before .before .before .before .before .before .pre .0) _ (c .before .before .before .before .before .before .before .before .before .before .before .before .before .before .before .pre .1) .type-below in
-    let label = rule-found-at (c .before .before .before .before .before .before .before .before .before .before .before .before .before .before .before .pre .0) _ (c .before .before .before .before .before .before .before .before .before .before .before .before .before .before .before .pre .1) .label-below in
+    let pre = c .before .before .before .before .before .before .before .before .before .before .before .before .before .before .before .pre in
+    let rule = rule-found-at (pre .0 .indexes) (pre .0 .within) _ (pre .1) in
+    let small = rule .type-below in
+    let label = rule .label-below in
     let e = c .before .before .before .before .before .before .before .before .before .wide .ensures .0 in
     let m = c .before .wide2 .ensures .0 in
     let n = type-size (c .before .before .before .before .before .before .before .before .before .wide .result) (omega arith) in
-    let h = c .before .before .before .before .before .before .before .before .before .before .before .before .before .before .before .pre .2 in
+    let h = pre .2 in
     let a1 = c .before .before .before .before .before .before .before .before .put-type .ensures .next-is in
     let b1 = c .before .before .before .before .before .before .before .before .put-type .kept .0 in
     let a2 = c .before .before .before .before .put-byte .ensures .next-is in
@@ -45,10 +49,11 @@ put-name-requires c κs =
 
 put-byte-requires-2 : tie.Need-put-byte-requires-2
 put-byte-requires-2 c κs =
-    let small = rule-found-at (c .before .before .before .before .before .before .before .before .before .before .before .before .before .before .before .before .before .before .before .pre .0) _ (c .before .before .before .before .before .before .before .before .before .before .before .before .before .before .before .before .before .before .before .pre .1) .type-below in
+    let pre = c .before .before .before .before .before .before .before .before .before .before .before .before .before .before .before .before .before .before .before .pre in
+    let small = rule-found-at (pre .0 .indexes) (pre .0 .within) _ (pre .1) .type-below in
     let e = c .before .before .before .before .before .before .before .before .before .before .before .before .before .wide .ensures .0 in
     let n = type-size (c .before .before .before .before .before .before .before .before .before .before .before .before .before .wide .result) (omega arith) in
-    let h = c .before .before .before .before .before .before .before .before .before .before .before .before .before .before .before .before .before .before .before .pre .2 in
+    let h = pre .2 in
     let a1 = c .before .before .before .before .before .before .before .before .before .before .before .before .put-type .ensures .next-is in
     let b1 = c .before .before .before .before .before .before .before .before .before .before .before .before .put-type .kept .0 in
     let a2 = c .before .before .before .before .before .before .before .before .put-byte .ensures .next-is in
@@ -59,10 +64,11 @@ put-byte-requires-2 c κs =
 
 put-rule-content-requires : tie.Need-put-rule-content-requires
 put-rule-content-requires c κs =
-    let small = rule-found-at (c .before .before .before .before .before .before .before .before .before .before .before .before .before .before .before .before .before .before .before .before .before .before .before .pre .0) _ (c .before .before .before .before .before .before .before .before .before .before .before .before .before .before .before .before .before .before .before .before .before .before .before .pre .1) .type-below in
+    let pre = c .before .before .before .before .before .before .before .before .before .before .before .before .before .before .before .before .before .before .before .before .before .before .before .pre in
+    let small = rule-found-at (pre .0 .indexes) (pre .0 .within) _ (pre .1) .type-below in
     let e = c .before .before .before .before .before .before .before .before .before .before .before .before .before .before .before .before .before .wide .ensures .0 in
     let n = type-size (c .before .before .before .before .before .before .before .before .before .before .before .before .before .before .before .before .before .wide .result) (omega arith) in
-    let h = c .before .before .before .before .before .before .before .before .before .before .before .before .before .before .before .before .before .before .before .before .before .before .before .pre .2 in
+    let h = pre .2 in
     let a1 = c .before .before .before .before .before .before .before .before .before .before .before .before .before .before .before .before .put-type .ensures .next-is in
     let b1 = c .before .before .before .before .before .before .before .before .before .before .before .before .before .before .before .before .put-type .kept .0 in
     let a2 = c .before .before .before .before .before .before .before .before .before .before .before .before .put-byte .ensures .next-is in
@@ -75,10 +81,11 @@ put-rule-content-requires c κs =
 
 put-byte-requires-3 : tie.Need-put-byte-requires-3
 put-byte-requires-3 c κs =
-    let small = rule-found-at (c .before .before .before .before .before .before .before .before .before .before .before .before .before .before .before .before .before .before .before .before .before .before .before .before .before .before .before .pre .0) _ (c .before .before .before .before .before .before .before .before .before .before .before .before .before .before .before .before .before .before .before .before .before .before .before .before .before .before .before .pre .1) .type-below in
+    let pre = c .before .before .before .before .before .before .before .before .before .before .before .before .before .before .before .before .before .before .before .before .before .before .before .before .before .before .before .pre in
+    let small = rule-found-at (pre .0 .indexes) (pre .0 .within) _ (pre .1) .type-below in
     let e = c .before .before .before .before .before .before .before .before .before .before .before .before .before .before .before .before .before .before .before .before .before .wide .ensures .0 in
     let n = type-size (c .before .before .before .before .before .before .before .before .before .before .before .before .before .before .before .before .before .before .before .before .before .wide .result) (omega arith) in
-    let h = c .before .before .before .before .before .before .before .before .before .before .before .before .before .before .before .before .before .before .before .before .before .before .before .before .before .before .before .pre .2 in
+    let h = pre .2 in
     let a1 = c .before .before .before .before .before .before .before .before .before .before .before .before .before .before .before .before .before .before .before .before .put-type .ensures .next-is in
     let b1 = c .before .before .before .before .before .before .before .before .before .before .before .before .before .before .before .before .before .before .before .before .put-type .kept .0 in
     let a2 = c .before .before .before .before .before .before .before .before .before .before .before .before .before .before .before .before .put-byte .ensures .next-is in
@@ -95,7 +102,7 @@ returns : tie.Need-returns
 returns c =
     let start = c .before .before .before .before .before .before .before .before .before .before .before .before .before .before .before .before .before .before .before .before .before .before .before .before .before .before .before .before .before .before in
     let h = start .pre .1 in
-    let small = rule-found-at (start .pre .0) _ h .type-below in
+    let small = rule-found-at (start .pre .0 .indexes) (start .pre .0 .within) _ h .type-below in
     let e = c .before .before .before .before .before .before .before .before .before .before .before .before .before .before .before .before .before .before .before .before .before .before .before .before .wide .ensures .0 in
     let m = c .before .before .before .before .before .before .before .before .before .before .before .before .before .before .before .before .wide2 .ensures .0 in
     let n = type-size (c .before .before .before .before .before .before .before .before .before .before .before .before .before .before .before .before .before .before .before .before .before .before .before .before .wide .result) (omega arith) in

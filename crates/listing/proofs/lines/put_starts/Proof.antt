@@ -7,7 +7,7 @@ use lib.ListN.{length, take}
 use borrow.Author.Needs.{needs}
 use Rattle.grammar.specs.Lists.{joinedOf}
 use Rattle.grammar.specs.Listing.{startLine}
-use Rattle.reader.proofs.TableFound.{starts-are, start-found-at}
+use Rattle.reader.proofs.TableFound.{starts-are, start-small}
 use Rattle.emitting.specs.Writing.{Put}
 use Rattle.emitting.proofs.PutLaws.{put-join, put-none}
 use Rattle.listing.proofs.PrintSteps.{put-as}
@@ -38,9 +38,10 @@ array-read-wide c =
 
 put-start-line-requires : tie.Need-put-start-line-requires Inv-loop μ-loop
 put-start-line-requires c κs =
-    let k = start-found-at (c .before .before .before .before .before .before .before .pre .0) (c .before .before .before .loop .i) (c .before .before .loop-test .taken) .1 in
+    let table = c .before .before .before .before .before .before .before .pre .0 in
+    let k = start-small (table .indexes) (table .within) (c .before .before .before .loop .i) (c .before .before .loop-test .taken) in
     let e = c .wide .ensures .0 in
-    let few = c .before .before .before .before .before .before .before .pre .0 .indexes .few-starts in
+    let few = table .indexes .few-starts in
     let h = c .before .before .before .before .before .before .before .pre .1 in
     (omega arith, omega arith)
 
@@ -56,7 +57,7 @@ loop-again c =
     let types = start .args .index .«start_type» in
     let few = start .pre .0 .indexes .few-starts in
     let rooms = start .pre .0 .indexes .rooms .start-type in
-    let small = start-found-at (start .pre .0) (l .i) (c .before .before .before .before .before .loop-test .taken) .1 in
+    let small = start-small (start .pre .0 .indexes) (start .pre .0 .within) (l .i) (c .before .before .before .before .before .loop-test .taken) in
     let e = c .before .before .before .wide .ensures .0 in
     let p = c .before .before .put-start-line .ensures in
     let size = start-line-size (c .before .before .before .wide .result) (omega arith) in
@@ -80,7 +81,7 @@ returns c =
     record {
       put =
           λ f.
-          put-as (ap (λ (n : ℕ). joinedOf startLine (take n (start .args .index .«start_type»))) z ∙ ap (joinedOf startLine) (starts-are f))
+          put-as (ap (λ (n : ℕ). joinedOf startLine (take n (start .args .index .«start_type»))) z ∙ ap (joinedOf startLine) (starts-are (f .indexes)))
           (l .inv .3);
       short = omega arith;
     }

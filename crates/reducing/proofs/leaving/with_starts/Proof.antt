@@ -6,10 +6,11 @@ use mathlib.Core.Path.{_≡_, sym, _∙_, ap, subst}
 use lib.ListN.{length, getD}
 use borrow.Author.Needs.{needs}
 use Rattle.grammar.specs.Lists.{isIn, joinedOf, numbersBelow}
+use Rattle.theory.proofs.ListLaws.{joined-next}
 use Rattle.sets.specs.Sets.{member, both}
 use Rattle.pairs.specs.Walks.{listOf}
 use Rattle.pairs.specs.declared.lists.Lists.{Lists}
-use Rattle.reducing.proofs.NumberLaws.{both-start, both-next, joined-start, joined-next}
+use Rattle.reducing.proofs.NumberLaws.{both-start, both-next, joined-start}
 use Rattle.reducing.proofs.leaving.with_starts.Statement.{statement}
 use Rattle.reducing.proofs.leaving.with_starts.Tie as tie
 

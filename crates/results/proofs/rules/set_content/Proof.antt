@@ -37,7 +37,7 @@ result-lists-requires : tie.Need-result-lists-requires
 result-lists-requires c κs =
     let q = c .before .before .before .before .before .before .pre .3 in (
       views-sized (q .in-words .views),
-      labels-sized (q .in-words),
+      labels-sized (q .in-words .views) (q .in-words .labelled) (q .in-words .labels-few),
       q .left-room,
       c .label-numbers .ensures .1,
       q .lists-are .old-listed .below,

@@ -3,6 +3,7 @@ use native.Mathlib.Omega.{arith}
 use borrow.Author.Needs.{needs}
 use Rattle.grammar.specs.Kinds.{singleType}
 use Rattle.results.proofs.ReducedLaws as laws
+use Rattle.results.proofs.UnionLaws.{seen-viewed, listed-both}
 use Rattle.results.proofs.widen.widen_from_starts.Statement.{statement}
 use Rattle.results.proofs.widen.widen_from_starts.Tie as tie
 
@@ -11,7 +12,7 @@ more-sets-requires c κs =
     let q = c .before .before .before .before .before .before .pre .0 in
     let few = q .held .few in
     let many = q .many in
-    (laws.viewed (q .reduced), laws.both-listed (q .reduced), omega arith, q .held .room)
+    (seen-viewed (q .reduced .seen), listed-both (q .reduced .lists-are), omega arith, q .held .room)
 
 first-numbers-requires : tie.Need-first-numbers-requires
 first-numbers-requires c κs =

@@ -10,6 +10,7 @@ use Rattle.pairs.proofs.ViewLaws.{views-sized}
 use Rattle.forms.specs.SetForms.{localSets}
 use Rattle.forms.proofs.WidenedBySets.{setsOf}
 use Rattle.results.proofs.ReducedLaws as laws
+use Rattle.results.proofs.SetLaws.{labels-sized}
 use Rattle.results.proofs.widen.widen_local.Statement.{statement}
 use Rattle.results.proofs.widen.widen_local.Tie as tie
 
@@ -35,7 +36,7 @@ label-numbers-requires c κs =
 start-numbers-requires : tie.Need-start-numbers-requires
 start-numbers-requires c κs =
     let r = c .before .before .before .before .before .before .before .before .before .before .before .before .before .before .before .pre .0 .reduced in
-    (views-sized (r .seen .rules), laws.labels-sized r, r .starts-room, c .label-numbers .ensures .1)
+    (views-sized (r .seen .rules), labels-sized (r .seen .rules) (laws.fit r .labelled) (laws.labels-few r), r .starts-room, c .label-numbers .ensures .1)
 
 put-result-requires : tie.Need-put-result-requires
 put-result-requires c κs =

@@ -5,12 +5,12 @@ use mathlib.Core.Bool.{false}
 use mathlib.Core.Path.{_≡_, refl, subst}
 use lib.ListN.{length}
 use borrow.Author.Needs.{needs}
+use borrow.Author.Count.{below-more}
 use Rattle.grammar.specs.Lists.{joinedOf, numbersBelow}
 use Rattle.grammar.specs.Limits.{standard}
 use Rattle.grammar.specs.Size.{contentTooLarge}
 use Rattle.emitting.specs.Writing.{Put}
 use Rattle.sampling.specs.SampleTable.{ruleIn, ruleField}
-use Rattle.sampling.proofs.TypeLaws.{up-to}
 use Rattle.sampling.proofs.RuleLaws.{up-start, rules-stop, rules-more}
 use Rattle.sampling.proofs.sample.put_rules.Statement.{statement}
 use Rattle.sampling.proofs.sample.put_rules.Tie as tie
@@ -148,7 +148,7 @@ loop-again c =
       search needs,
       search needs,
       r .0,
-      up-to (λ j. contentTooLarge standard (rule j .content) ≡ false) (l .t) (l .inv .5) (r .2),
+      below-more (λ j. contentTooLarge standard (rule j .content) ≡ false) (l .t) (l .inv .5) (r .2),
     )
 
 same-length-3 : tie.Need-same-length-3 Inv-loop μ-loop

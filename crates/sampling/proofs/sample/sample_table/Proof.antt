@@ -2,7 +2,7 @@
 use native.Mathlib.Omega.{arith}
 use mathlib.Core.Path.{_≡_}
 use lib.ListN.{length}
-use Rattle.sampling.proofs.SampleWritten.{zeros-at}
+use Rattle.theory.proofs.ListLaws.{zeros-at}
 use Rattle.sampling.proofs.SampleIndexed.{index-counted, index-tree, index-whole, index-held, index-ready}
 use borrow.Author.Needs.{needs}
 use Rattle.sampling.proofs.sample.sample_table.Statement.{statement}
