@@ -5,7 +5,7 @@ use sets::words::store;
 ghost use mathlib.Core.Bool.{not};
 ghost use mathlib.Core.List.{List, [], _∷_, _++_};
 ghost use mathlib.Core.Path.{_≡_};
-ghost use Prim.Native.Nat.{ℕ, _≤_};
+ghost use Prim.Native.Nat.{_≤_};
 ghost use lib.ListN.{length};
 ghost use Rattle.grammar.specs.Lists.{keep, distinct, place, isIn, sameNumbers};
 ghost use Rattle.grammar.specs.ReadTable.{isEmpty};

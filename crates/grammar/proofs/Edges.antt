@@ -6,7 +6,7 @@ use lib.ListN.{replicate}
 use Rattle.grammar.specs.Ascii.{ascii}
 use Rattle.grammar.specs.Lists.{joinedOf, numbersBelow}
 use Rattle.grammar.specs.Limits.{standard}
-use Rattle.grammar.specs.Names.{Name, asciiClasses}
+use Rattle.grammar.specs.Names.{asciiClasses}
 use Rattle.grammar.specs.Content.{Content, empty, anyNumber}
 use Rattle.grammar.specs.Table.{Table}
 use Rattle.grammar.specs.Outcome.{Outcome, given, refused}

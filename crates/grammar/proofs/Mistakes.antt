@@ -1,10 +1,8 @@
 -- The three mistakes of earlier wideners, computed: what each would give, beside what the definition gives (PaperCases).
-use Prim.Native.Nat.{ℕ}
 use mathlib.Core.Bool.{true, false}
 use mathlib.Core.List.{List, [], _∷_, map}
 use mathlib.Core.Path.{_≡_, refl}
 use Rattle.grammar.specs.Ascii.{ascii}
-use Rattle.grammar.specs.Limits.{standard}
 use Rattle.grammar.specs.Names.{Name}
 use Rattle.grammar.specs.Table.{Table}
 use Rattle.grammar.specs.Membership.{letsIn}

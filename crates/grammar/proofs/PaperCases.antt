@@ -1,7 +1,6 @@
 -- The paper's cases P1 to P8, computed. (crates/theory states them as instances of the written meaning.)
-use Prim.Native.Nat.{ℕ}
 use mathlib.Core.Bool.{true, false}
-use mathlib.Core.List.{List, []}
+use mathlib.Core.List.{[]}
 use mathlib.Core.Path.{_≡_, refl}
 use lib.ListN.{length}
 use Rattle.grammar.specs.Limits.{standard}

@@ -1,7 +1,7 @@
 -- The tables and documents of the paper's cases P1 to P8.
 use Prim.Native.Nat.{ℕ}
 use mathlib.Core.List.{List, [], _∷_}
-use Rattle.grammar.specs.Content.{Content, empty, type, sequence, choice, []ᶜ, _∷ᶜ_}
+use Rattle.grammar.specs.Content.{empty, type, sequence, choice, []ᶜ, _∷ᶜ_}
 use Rattle.grammar.specs.Tree.{Tree}
 use Rattle.grammar.specs.Table.{Table}
 use Rattle.grammar.proofs.Builders.{rule, startingAt0, tree}

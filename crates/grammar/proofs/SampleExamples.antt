@@ -1,9 +1,8 @@
 -- Samples of documents, computed: the order of types and labels, distinct child sequences, one name on several paths.
-use mathlib.Core.List.{List, [], _∷_}
+use mathlib.Core.List.{[], _∷_}
 use mathlib.Core.Path.{_≡_, refl}
 use Rattle.grammar.specs.Content.{empty, type, sequence, choice, []ᶜ, _∷ᶜ_}
 use Rattle.grammar.specs.Tree.{Tree}
-use Rattle.grammar.specs.Table.{Table}
 use Rattle.grammar.specs.Sample.{sample}
 use Rattle.grammar.proofs.Builders.{rule, startingAt0, tree}
 

@@ -1,13 +1,12 @@
 -- Two tenants, widened to both kinds: a zone beside each name, and staff groups nested in groups; and a table with two start labels.
-use Prim.Native.Nat.{ℕ}
-use mathlib.Core.List.{List, [], _∷_, map}
+use mathlib.Core.List.{[], _∷_, map}
 use mathlib.Core.Path.{_≡_, refl}
 use Rattle.grammar.specs.Ascii.{ascii}
 use Rattle.grammar.specs.Limits.{standard}
 use Rattle.grammar.specs.Content.{empty, type, sequence, choice, anyNumber, oneOrMore, optional, []ᶜ, _∷ᶜ_}
 use Rattle.grammar.specs.Tree.{Tree}
 use Rattle.grammar.specs.Table.{Table, emptyTable}
-use Rattle.grammar.specs.Kinds.{Kind, local, singleType}
+use Rattle.grammar.specs.Kinds.{local, singleType}
 use Rattle.grammar.specs.Least.{byTable, byDocument}
 use Rattle.grammar.specs.Outcome.{given}
 use Rattle.grammar.specs.Widen.{widen}

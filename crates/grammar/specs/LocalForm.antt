@@ -1,6 +1,6 @@
 -- Local: one type for each label left, numbered in label order.
 use Prim.Native.Nat.{ℕ, zero}
-use mathlib.Core.List.{List, [], _∷_, map}
+use mathlib.Core.List.{[], _∷_, map}
 use lib.ListN.{length}
 use lib.Dec.{eqb}
 use Rattle.grammar.specs.Lists.{any, keep, place, numbersBelow}

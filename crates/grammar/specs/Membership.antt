@@ -4,7 +4,6 @@ use mathlib.Core.Bool.{Bool, true, false, _&&_, _||_}
 use mathlib.Core.List.{List, [], _∷_, map}
 use mathlib.Core.Option.{none as nothing, some as just}
 use lib.ListN.{length, getElem?}
-use lib.Dec.{eqb}
 use Rattle.grammar.specs.Lists.{any, keep, isIn}
 use Rattle.grammar.specs.Names.{Name, sameName}
 use Rattle.grammar.specs.Content.{

@@ -2,7 +2,6 @@
 use Prim.Native.Nat.{ℕ}
 use mathlib.Core.Bool.{Bool, true, false, _&&_, _||_, not}
 use mathlib.Core.List.{List, [], _∷_, _++_}
-use mathlib.Core.Option.{none as nothing, some as just}
 use lib.ListN.{length}
 use lib.Dec.{eqb, leb, ltb}
 use Rattle.grammar.specs.Lists.{any, isIn}

@@ -1,7 +1,6 @@
 -- When a sample or a result is too large for a table file.
 use Prim.Native.Nat.{ℕ, zero, max}
 use mathlib.Core.Bool.{Bool, _||_}
-use mathlib.Core.List.{List}
 use lib.ListN.{length}
 use lib.Dec.{ltb}
 use Rattle.grammar.specs.Lists.{any}

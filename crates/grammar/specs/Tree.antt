@@ -1,6 +1,5 @@
 -- Documents: finite trees of named nodes, of any size.
-use Prim.Native.Nat.{ℕ, zero, suc}
-use mathlib.Core.List.{List, [], _∷_}
+use mathlib.Core.List.{[], _∷_}
 use Rattle.grammar.specs.Names.{Name}
 
 infixr 40 _∷ᵗ_

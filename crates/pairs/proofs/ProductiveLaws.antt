@@ -6,8 +6,8 @@ use mathlib.Core.List.{List}
 use mathlib.Core.Option.{Option, some as just}
 use mathlib.Core.Path.{_≡_, refl, sym, _∙_, ap, ap₂}
 use lib.ListN.{length, getD, getElem?}
-use Rattle.grammar.specs.Content.{Content, none, empty, type, sequence, choice, anyNumber, oneOrMore, optional, Contents, _∷ᶜ_}
-use Rattle.grammar.specs.ReadContent.{alone, numbered, counted, single, operators}
+use Rattle.grammar.specs.Content.{none, empty, type, sequence, choice, anyNumber, oneOrMore, optional, _∷ᶜ_}
+use Rattle.grammar.specs.ReadContent.{operators}
 use Rattle.theory.proofs.Alternatives.{hasAlts, allHaveAlts, oneHasAlts}
 use Rattle.reader.specs.ExprAt.{Placed, _upTo_, placed, exprAt, exprsAt}
 use Rattle.reader.proofs.ExprLaws.{

@@ -3,12 +3,12 @@
 -- `addition-has`).
 use Prim.Native.Nat.{ℕ, _+_, _-_, _/_, _%_, _≤_, _<_}
 use native.Mathlib.Omega.{arith}
-use mathlib.Core.Bool.{Bool, true}
+use mathlib.Core.Bool.{Bool}
 use mathlib.Core.List.{List, List·Memᴰ}
 use mathlib.Core.Option.{some as just}
-use mathlib.Core.Path.{_≡_, refl, sym, _∙_, ap, ap₂, subst, fun-ext}
-use lib.ListN.{length, getD, getElem?, take, drop}
-use Rattle.grammar.specs.Lists.{place, any}
+use mathlib.Core.Path.{_≡_, sym, _∙_, ap, ap₂, subst, fun-ext}
+use lib.ListN.{getD, getElem?, take, drop}
+use Rattle.grammar.specs.Lists.{place}
 use Rattle.grammar.specs.Limits.{standard}
 use Rattle.grammar.specs.Content.{Content}
 use Rattle.grammar.specs.Table.{Rule, Table}
@@ -20,14 +20,13 @@ use Rattle.theory.proofs.PlaceLaws.{place-found}
 use Rattle.theory.proofs.NormaliseDocuments.{pair-refl}
 use Rattle.theory.proofs.Alternatives.{hasAlts, has-renamed}
 use Rattle.sets.specs.Sets.{bitOf, member}
-use Rattle.reader.specs.ExprAt.{_upTo_}
+use Rattle.reader.specs.ExprAt.{_upTo_, exprAt}
 use Rattle.pairs.specs.declared.union.United.{United}
 use Rattle.pairs.specs.ContentAt.{ContentAt}
 use Rattle.pairs.specs.Walks.{hasAt}
-use Rattle.pairs.specs.View.{SourceContent, shiftedContent, RuleSeen, Views, ViewSized, typeIn, firstIn}
+use Rattle.pairs.specs.View.{SourceContent, shiftedContent, RuleSeen, Views, ViewSized}
 use Rattle.pairs.specs.Rounds.{contentOf}
 use Rattle.pairs.proofs.ContentAtLaws.{placed-of}
-use Rattle.reader.specs.ExprAt.{exprAt}
 
 pub content-is : (u : Table) (i : ℕ) (r : Rule) → getElem? (u .rules) i ≡ just r → contentOf u i ≡ r .content
 unfolding contentOf

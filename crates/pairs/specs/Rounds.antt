@@ -1,11 +1,10 @@
 -- A round of finding fruitful pairs, on sets as tests.
 use Prim.Native.Nat.{ℕ, zero, suc}
 use mathlib.Core.Bool.{Bool, true, false}
-use mathlib.Core.List.{List}
 use mathlib.Core.Option.{none as nowhere, some as just}
 use lib.ListN.{getElem?}
 use Rattle.grammar.specs.Content.{Content, none}
-use Rattle.grammar.specs.Table.{Rule, Table}
+use Rattle.grammar.specs.Table.{Table}
 use Rattle.theory.proofs.Alternatives.{hasAlts}
 use Rattle.sets.specs.Sets.{nothing, add}
 use Rattle.pairs.specs.declared.union.United.{United}

@@ -14,7 +14,6 @@ ghost use Rattle.grammar.specs.Limits.{standard};
 ghost use Rattle.grammar.specs.Table.{Rule, Table};
 ghost use Rattle.grammar.specs.KindTests.{samePair};
 ghost use Rattle.grammar.specs.Unite.{added, unite};
-ghost use Rattle.pairs.specs.UnitedLabels.{NamesAt, Named, newNames};
 ghost use Rattle.pairs.specs.View.{Views, rulesOnly, NextRule, TableHeld, Held, Grown, Adding, AddingTo, UnionSeen};
 
 // Old rules come first. A type of the addition counts from 64 on. `firsts` has the number of the first rule of each rule's pair; the

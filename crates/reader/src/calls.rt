@@ -4,7 +4,6 @@ ghost use mathlib.Core.Path.{_≡_};
 ghost use Prim.Native.Nat.{_≤_};
 ghost use lib.ListN.{length, replicate};
 ghost use Rattle.grammar.specs.Limits.{standard};
-ghost use Rattle.grammar.specs.Names.{asciiClasses};
 ghost use Rattle.grammar.specs.Outcome.{number};
 ghost use Rattle.grammar.specs.Calls.{workAfter};
 ghost use Rattle.reader.specs.ReaderCalls.{TableAnswered, DocumentAnswered, LabelAnswered, LabelSought, labelIn};

@@ -2,7 +2,7 @@
 --   types-over, content-over, bytes-over : it is, by its types, by a content, by its bytes
 --   all-fit                              : it is not
 --   size-over, size-fits                 : what 14 looks at
-use Prim.Native.Nat.{ℕ, _≤_, _<_}
+use Prim.Native.Nat.{_≤_, _<_}
 use mathlib.Core.Bool.{Bool, true, false, _||_}
 use mathlib.Core.List.{List·Memᴰ}
 use mathlib.Core.Path.{_≡_, ap}

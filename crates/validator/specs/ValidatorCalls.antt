@@ -13,7 +13,6 @@ use Rattle.grammar.specs.Calls.{workAfter}
 use Rattle.grammar.specs.ReadTable.{readTable}
 use Rattle.grammar.specs.ReadDocument.{readDocument}
 use Rattle.grammar.specs.Membership.{letsIn}
-use Rattle.grammar.specs.KindTests.{isLocal, isSingleType}
 use Rattle.grammar.specs.declared.Verdict.{Verdict}
 
 -- a call whose outcome is this: its answer, and the working memory as it came and as it is left

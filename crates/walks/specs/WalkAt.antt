@@ -1,6 +1,6 @@
 -- The walk of one child over the bytes of a content, and of all children: crates/theory/proofs/MarkedPass.antt has the walks by
 -- contents, here they go by the content that stands at a place.
-use Prim.Native.Nat.{ℕ, zero, suc, _+_, _≤_}
+use Prim.Native.Nat.{ℕ, _+_, _≤_}
 use mathlib.Core.Bool.{Bool, true, false}
 use mathlib.Core.List.{List, [], _∷_}
 use mathlib.Core.Option.{none as nothing, some as just}

@@ -1,10 +1,9 @@
 -- `put_rules` meets its contract. The loop's invariant: the lines of the rules before `i` are written.
-use Prim.Native.Nat.{ℕ, _+_, _-_, _*_, _≤_}
+use Prim.Native.Nat.{_+_, _-_, _*_, _≤_}
 use native.Mathlib.Omega.{arith}
-use mathlib.Core.Path.{_≡_, refl, sym, _∙_, ap}
+use mathlib.Core.Path.{_≡_, refl, _∙_, ap}
 use lib.ListN.{length, take}
 use lib.Seq.{take-all}
-use borrow.Author.Needs.{needs}
 use Rattle.grammar.specs.Lists.{joinedOf}
 use Rattle.grammar.specs.Listing.{ruleLine}
 use Rattle.reader.proofs.TableFound.{TableFound}

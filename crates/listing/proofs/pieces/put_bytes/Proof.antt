@@ -1,6 +1,5 @@
 -- `put_bytes` meets its contract.
 use borrow.Author.Needs.{needs}
-use native.Mathlib.Omega.{arith}
 use Rattle.emitting.proofs.PutLaws.{put-paste}
 use Rattle.listing.proofs.pieces.put_bytes.Statement.{statement}
 use Rattle.listing.proofs.pieces.put_bytes.Tie as tie

@@ -3,14 +3,13 @@
 use Prim.Native.Nat.{ℕ, _-_, _≤_}
 use native.Mathlib.Omega.{arith}
 use mathlib.Core.Bool.{Bool}
-use mathlib.Core.Path.{_≡_, refl, sym, _∙_, ap}
+use mathlib.Core.Path.{_≡_, refl, _∙_, ap}
 use lib.ListN.{length, getD}
-use borrow.Author.Needs.{needs}
 use Rattle.grammar.specs.Table.{Table}
 use Rattle.theory.proofs.Alternatives.{hasAlts}
 use Rattle.sets.specs.Sets.{member}
 use Rattle.pairs.specs.View.{Views, firstIn}
-use Rattle.pairs.specs.Rounds.{puts, contentOf, typesWith, afterRound}
+use Rattle.pairs.specs.Rounds.{puts, contentOf, afterRound}
 use Rattle.pairs.proofs.PutsLaws.{puts-start, puts-step}
 use Rattle.pairs.proofs.ViewLaws.{views-sized}
 use Rattle.pairs.proofs.fruitful.round.Statement.{statement}

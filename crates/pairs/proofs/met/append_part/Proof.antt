@@ -1,11 +1,10 @@
 -- `append_part` meets its contract. The loop's invariant: the numbers of the part before `i` are added.
 use Prim.Native.Nat.{_-_, _≤_}
 use native.Mathlib.Omega.{arith}
-use mathlib.Core.List.{List, []}
-use mathlib.Core.Path.{_≡_, refl, sym, _∙_, ap, subst}
+use mathlib.Core.List.{[]}
+use mathlib.Core.Path.{_≡_, refl, sym, _∙_, ap}
 use lib.ListN.{length, take, drop}
 use Prim.Native.Nat.{ℕ}
-use borrow.Author.Needs.{needs}
 use Rattle.pairs.specs.Walks.{Adds}
 use Rattle.pairs.proofs.OnceLaws.{adds-none, adds-same, adds-join, adds-once, part-more, part-below}
 use Rattle.pairs.proofs.met.append_part.Statement.{statement}

@@ -1,9 +1,8 @@
 -- `new_rules` meets its contract. The loop's invariant: the addition's rules before `i` are put down after the old ones.
-use Prim.Native.Nat.{ℕ, _+_, _-_, _≤_}
+use Prim.Native.Nat.{_+_, _-_, _≤_}
 use native.Mathlib.Omega.{arith}
-use borrow.Author.Needs.{needs}
-use mathlib.Core.List.{List, map, _++_}
-use mathlib.Core.Path.{_≡_, refl, _∙_, ap}
+use mathlib.Core.List.{map, _++_}
+use mathlib.Core.Path.{_≡_, _∙_}
 use lib.ListN.{take}
 use Rattle.grammar.specs.Limits.{standard}
 use Rattle.grammar.specs.Table.{Table}

@@ -6,7 +6,7 @@ use mathlib.Core.Path.{_≡_, _∙_, ap}
 use lib.ListN.{length, length-replicate, take}
 use borrow.Author.Needs.{needs}
 use Rattle.grammar.specs.Lists.{isIn}
-use Rattle.sets.specs.Sets.{member, nothing, both}
+use Rattle.sets.specs.Sets.{member, both}
 use Rattle.sets.proofs.SetLaws.{member-zeros}
 use Rattle.reducing.proofs.NumberLaws.{both-nothing}
 use Rattle.reducing.proofs.MeetingLaws.{met-part}

@@ -1,5 +1,4 @@
 -- `widen_local` meets its contract: too many labels, or the result as it is drafted.
-use Prim.Native.Nat.{ℕ}
 use native.Mathlib.Omega.{arith}
 use mathlib.Core.Path.{_∙_}
 use borrow.Author.Needs.{needs}

@@ -1,7 +1,6 @@
 -- `answers::of_reading` meets its contract.
 use mathlib.Core.Path.{refl, sym, _∙_, ap}
 use Rattle.grammar.specs.Answers.{readingNumbers}
-use Rattle.grammar.specs.Outcome.{number}
 use borrow.Author.Needs.{needs}
 use Rattle.vectors.proofs.answers.of_reading.Statement.{statement}
 use Rattle.vectors.proofs.answers.of_reading.Tie as tie

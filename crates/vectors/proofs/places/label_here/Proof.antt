@@ -2,7 +2,6 @@
 use native.Mathlib.Omega.{arith}
 use mathlib.Core.Path.{refl, sym, _∙_}
 use Rattle.theory.proofs.BoolLaws.{not-both}
-use Rattle.vectors.specs.CaseFile.{NameAt}
 use borrow.Author.Needs.{needs}
 use Rattle.vectors.proofs.places.label_here.Statement.{statement}
 use Rattle.vectors.proofs.places.label_here.Tie as tie

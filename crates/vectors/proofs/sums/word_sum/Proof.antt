@@ -1,9 +1,9 @@
 -- `sums::word_sum` meets its contract. The loop's invariant: what is left, summed from here, is the whole.
 use Prim.Native.Nat.{_+_, _-_, _≤_}
 use native.Mathlib.Omega.{arith}
-use mathlib.Core.Path.{_≡_, sym, _∙_, ap}
+use mathlib.Core.Path.{_≡_, _∙_, ap}
 use lib.ListN.{length, drop}
-use Rattle.vectors.specs.Checksum.{next, sumFrom, checksum}
+use Rattle.vectors.specs.Checksum.{sumFrom, checksum}
 use Rattle.vectors.proofs.ChecksumLaws.{sum-next, sum-all, sum-start}
 use Rattle.vectors.proofs.sums.word_sum.Statement.{statement}
 use Rattle.vectors.proofs.sums.word_sum.Tie as tie

@@ -1,5 +1,5 @@
 -- `allowed` meets its contract: the set is asked where the child may come.
-use mathlib.Core.Bool.{Bool, true, false, _&&_}
+use mathlib.Core.Bool.{Bool, true, _&&_}
 use mathlib.Core.Path.{_≡_, sym, _∙_, ap}
 use Prim.Native.Nat.{_/_, _<_}
 use native.Mathlib.Omega.{arith}

@@ -2,7 +2,7 @@
 use Prim.Native.Nat.{ℕ, _-_, _≤_}
 use native.Mathlib.Omega.{arith}
 use mathlib.Core.List.{List, _++_}
-use mathlib.Core.Path.{_≡_, sym, _∙_, ap}
+use mathlib.Core.Path.{_≡_, _∙_, ap}
 use lib.ListN.{length, set, replicate, drop, length-set}
 use borrow.Author.Fill.{fill-none, fill-more}
 use Rattle.walks.proofs.matching.clear.Statement.{statement}
