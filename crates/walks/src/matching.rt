@@ -147,16 +147,16 @@ pub fn pass(
         }
         5 => {
             let begins = either(incoming, marks[at + 1] == 1);
-            let part = pass(content, at + 1, marks, begins, words, base);
+            let part = operand(content, at + 1, marks, begins, words, base);
             sealed(marks, at, or_none(part))
         }
         6 => {
             let begins = either(incoming, marks[at + 1] == 1);
-            let part = pass(content, at + 1, marks, begins, words, base);
+            let part = operand(content, at + 1, marks, begins, words, base);
             sealed(marks, at, part)
         }
         _ => {
-            let part = pass(content, at + 1, marks, incoming, words, base);
+            let part = operand(content, at + 1, marks, incoming, words, base);
             sealed(marks, at, or_none(part))
         }
     }

@@ -83,7 +83,7 @@ abbrev operand-calls : ℕ → operand-lts.Claims
 operand-calls t = (typed-reads.Asked, typed-reads.Learnt, pass-below t, pass.Post)
 
 abbrev pass-calls : ℕ → pass-lts.Claims
-pass-calls t = (wide-reads.Asked, wide-reads.Learnt, typed-reads.Asked, typed-reads.Learnt, in-turn-below t, in-turn.Post, sealed-reads.Asked, sealed-reads.Learnt, each-below t, each.Post, either-reads.Asked, either-reads.Learnt, pass-below t, pass.Post, or-none-reads.Asked, or-none-reads.Learnt)
+pass-calls t = (wide-reads.Asked, wide-reads.Learnt, typed-reads.Asked, typed-reads.Learnt, in-turn-below t, in-turn.Post, sealed-reads.Asked, sealed-reads.Learnt, each-below t, each.Post, either-reads.Asked, either-reads.Learnt, operand-below t, operand.Post, or-none-reads.Asked, or-none-reads.Learnt)
 
 abbrev each-Inv-loop : each-lts.InvT-loop
 each-Inv-loop content count from marks₀ incoming words base left₀ at₀ nullable₀ ends₀ marks left at nullable ends =
@@ -335,11 +335,11 @@ pass-slice-read-either t c =
     let operand = laws.byte-inside standard s (at + 1) (laws.any-number-operand standard s at stands (byte ∙ c .before .match .keys6)) in
     omega arith
 
-pass-add-pass : (t : ℕ) → pass-lts.Need-add-pass (pass-calls t) (pass-at t) pass.Post
-pass-add-pass t c = omega (arith, laws.byte-inside standard _ _ (c .before .before .before .before .before .before .before .before .pre .1 .0))
+pass-add-operand : (t : ℕ) → pass-lts.Need-add-operand (pass-calls t) (pass-at t) pass.Post
+pass-add-operand t c = omega (arith, laws.byte-inside standard _ _ (c .before .before .before .before .before .before .before .before .pre .1 .0))
 
-pass-pass-requires : (t : ℕ) → pass-lts.Need-pass-requires (pass-calls t) (pass-at t) pass.Post
-pass-pass-requires t c κs =
+pass-operand-requires : (t : ℕ) → pass-lts.Need-operand-requires (pass-calls t) (pass-at t) pass.Post
+pass-operand-requires t c κs =
     let start = c .before .before .before .before .before .before .before .before .before in
     let s = start .args .content .now in
     let at = start .args .at in
@@ -369,11 +369,11 @@ pass-slice-read-either-2 t c =
     let operand = laws.byte-inside standard s (at + 1) (laws.one-or-more-operand standard s at stands (byte ∙ c .before .match .keys7)) in
     omega arith
 
-pass-add-pass-2 : (t : ℕ) → pass-lts.Need-add-pass-2 (pass-calls t) (pass-at t) pass.Post
-pass-add-pass-2 t c = omega (arith, laws.byte-inside standard _ _ (c .before .before .before .before .before .before .before .before .pre .1 .0))
+pass-add-operand-2 : (t : ℕ) → pass-lts.Need-add-operand-2 (pass-calls t) (pass-at t) pass.Post
+pass-add-operand-2 t c = omega (arith, laws.byte-inside standard _ _ (c .before .before .before .before .before .before .before .before .pre .1 .0))
 
-pass-pass-requires-2 : (t : ℕ) → pass-lts.Need-pass-requires-2 (pass-calls t) (pass-at t) pass.Post
-pass-pass-requires-2 t c κs =
+pass-operand-requires-2 : (t : ℕ) → pass-lts.Need-operand-requires-2 (pass-calls t) (pass-at t) pass.Post
+pass-operand-requires-2 t c κs =
     let start = c .before .before .before .before .before .before .before .before .before in
     let s = start .args .content .now in
     let at = start .args .at in
@@ -388,11 +388,11 @@ pass-pass-requires-2 t c κs =
 pass-sealed-requires-4 : (t : ℕ) → pass-lts.Need-sealed-requires-4 (pass-calls t) (pass-at t) pass.Post
 pass-sealed-requires-4 t c κs = omega (arith, laws.byte-inside standard _ _ (c .before .before .before .before .before .before .before .before .before .before .before .before .before .pre .1 .0))
 
-pass-add-pass-3 : (t : ℕ) → pass-lts.Need-add-pass-3 (pass-calls t) (pass-at t) pass.Post
-pass-add-pass-3 t c = omega (arith, laws.byte-inside standard _ _ (c .before .before .before .before .before .before .pre .1 .0))
+pass-add-operand-3 : (t : ℕ) → pass-lts.Need-add-operand-3 (pass-calls t) (pass-at t) pass.Post
+pass-add-operand-3 t c = omega (arith, laws.byte-inside standard _ _ (c .before .before .before .before .before .before .pre .1 .0))
 
-pass-pass-requires-3 : (t : ℕ) → pass-lts.Need-pass-requires-3 (pass-calls t) (pass-at t) pass.Post
-pass-pass-requires-3 t c κs =
+pass-operand-requires-3 : (t : ℕ) → pass-lts.Need-operand-requires-3 (pass-calls t) (pass-at t) pass.Post
+pass-operand-requires-3 t c κs =
     let start = c .before .before .before .before .before .before .before in
     let s = start .args .content .now in
     let at = start .args .at in
@@ -489,8 +489,8 @@ pass-returns-6 t c =
     let marks = start .args .marks .now in
     let b = start .args .incoming in
     c .before .before .sealed3 .ensures
-    ∙ ap (λ (p : Passed). ended at (walked (c .before .before .before .before .before .before .before .pass .last .1 .1 .0) p)) (c .before .before .before .or-none .ensures)
-    ∙ ap (λ (w : Walked). ended at (laws.orNone w)) (c .before .before .before .before .before .before .before .pass .ensures ∙ ap (λ (x : Bool). walkAt s (at + 1) marks x has) (c .before .before .before .before .before .before .before .before .before .either .ensures))
+    ∙ ap (λ (p : Passed). ended at (walked (c .before .before .before .before .before .before .before .operand .last .1 .1 .0) p)) (c .before .before .before .or-none .ensures)
+    ∙ ap (λ (w : Walked). ended at (laws.orNone w)) (c .before .before .before .before .before .before .before .operand .ensures ∙ ap (λ (x : Bool). walkAt s (at + 1) marks x has) (c .before .before .before .before .before .before .before .before .before .either .ensures))
     ∙ sym (laws.walk-any-number standard s at stands marks b has (byte ∙ c .before .before .before .before .before .before .before .before .before .before .before .match .keys6))
 
 pass-returns-7 : (t : ℕ) → pass-lts.Need-returns-7 (pass-calls t) (pass-at t) pass.Post
@@ -505,7 +505,7 @@ pass-returns-7 t c =
     let marks = start .args .marks .now in
     let b = start .args .incoming in
     c .before .before .sealed4 .ensures
-    ∙ ap (ended at) (c .before .before .before .before .before .before .pass2 .ensures ∙ ap (λ (x : Bool). walkAt s (at + 1) marks x has) (c .before .before .before .before .before .before .before .before .either2 .ensures))
+    ∙ ap (ended at) (c .before .before .before .before .before .before .operand2 .ensures ∙ ap (λ (x : Bool). walkAt s (at + 1) marks x has) (c .before .before .before .before .before .before .before .before .either2 .ensures))
     ∙ sym (laws.walk-one-or-more standard s at stands marks b has (byte ∙ c .before .before .before .before .before .before .before .before .before .before .match .keys7))
 
 pass-returns-8 : (t : ℕ) → pass-lts.Need-returns-8 (pass-calls t) (pass-at t) pass.Post
@@ -525,8 +525,8 @@ pass-returns-8 t c =
     (rest .0 .0 .0 .0 .1) (rest .0 .0 .0 .1) (rest .0 .0 .1) (rest .0 .1) (rest .1) in
     let op = byte ∙ last in
     c .before .before .sealed5 .ensures
-    ∙ ap (λ (p : Passed). ended at (walked (c .before .before .before .before .before .before .before .pass3 .last .1 .1 .0) p)) (c .before .before .before .or-none2 .ensures)
-    ∙ ap (λ (w : Walked). ended at (laws.orNone w)) (c .before .before .before .before .before .before .before .pass3 .ensures)
+    ∙ ap (λ (p : Passed). ended at (walked (c .before .before .before .before .before .before .before .operand3 .last .1 .1 .0) p)) (c .before .before .before .or-none2 .ensures)
+    ∙ ap (λ (w : Walked). ended at (laws.orNone w)) (c .before .before .before .before .before .before .before .operand3 .ensures)
     ∙ sym (laws.walk-optional standard s at stands marks b has op)
 
 pub +each+in-turn+operand+pass-spec : {M : Type 1} → statement M
@@ -595,18 +595,18 @@ pub +each+in-turn+operand+pass-spec : {M : Type 1} → statement M
     (pass-add-either t)
     (pass-slice-read-either t)
     (λ c κs. search needs)
-    (pass-add-pass t)
-    (pass-pass-requires t)
+    (pass-add-operand t)
+    (pass-operand-requires t)
     (λ c κs. search needs)
     (pass-sealed-requires-3 t)
     (pass-add-either-2 t)
     (pass-slice-read-either-2 t)
     (λ c κs. search needs)
-    (pass-add-pass-2 t)
-    (pass-pass-requires-2 t)
+    (pass-add-operand-2 t)
+    (pass-operand-requires-2 t)
     (pass-sealed-requires-4 t)
-    (pass-add-pass-3 t)
-    (pass-pass-requires-3 t)
+    (pass-add-operand-3 t)
+    (pass-operand-requires-3 t)
     (λ c κs. search needs)
     (pass-sealed-requires-5 t)
     (pass-returns t)
