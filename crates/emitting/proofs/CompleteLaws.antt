@@ -27,7 +27,6 @@ use Rattle.grammar.specs.Content.{
   Contents,
   []ᶜ,
   _∷ᶜ_,
-  count,
   nesting,
 }
 use Rattle.grammar.specs.ReadContent.{contentBytes, isProper, areProper}
@@ -39,7 +38,7 @@ use Rattle.reader.specs.Extents.{properAt}
 use Rattle.reader.specs.declared.contents.Extent.the-variants.{Nowhere, Upto}
 use Rattle.reader.proofs.ExprLaws.{same-placed, expr-kept, expr-written, expr-bytes, expr-forward}
 use Rattle.reader.proofs.ExtentLaws.{proper-yes, proper-no, proper-sequence, proper-choice, proper-first}
-use Rattle.emitting.specs.Drafts.{Kept, Added}
+use Rattle.emitting.specs.Drafts.{Kept}
 use Rattle.emitting.specs.Completing.{Regular, Stored}
 use Rattle.emitting.proofs.WideLaws.{one-long, one-wide, unfit-large}
 use Rattle.emitting.proofs.EmitLaws.{fresh-row}
@@ -134,8 +133,3 @@ module _ (d : List ℕ) (c : Content) (last : ℕ) (stands : exprAt d 0 ≡ just
 -- where a caller starts
 abbrev pub start-kept : (d : List ℕ) → 2 ≤ length d → Kept d 2 0 2
 start-kept d h = record { list = []; row = fresh-row d 2 h }
-
--- the operands after a gathering, for the next one
-abbrev pub kept-after : (before after : List ℕ) (base old : ℕ) (ds : List Content) (limit count end : ℕ)
-    → Added before after base old ds limit count end → Kept after base count end
-kept-after before after base old ds limit count end a = record { list = ds; row = a .row }

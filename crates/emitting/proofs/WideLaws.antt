@@ -202,8 +202,3 @@ too-large xs ys h =
     unfit-large (written (xs ++ ys))
     (subst (λ (c : Content). Unfit 1024 (c ∷ᶜ []ᶜ)) (sym (written-gathered (xs ++ ys)))
     (wide-choice 1024 (gathered [] (xs ++ ys)) (wide-gathered 1024 [] xs ys h)))
-
--- so too where some were gathered before, from other source contents
-pub too-large-then : (before xs after : List Content) → TooWide 1024 (gathered (gathered [] before) xs)
-    → contentTooLarge standard (written (before ++ xs ++ after)) ≡ true
-too-large-then before xs after h = too-large (before ++ xs) after (subst (TooWide 1024) (gather-more [] before xs) h)

@@ -48,10 +48,9 @@ use Rattle.theory.proofs.ListLaws.{
   decided-trans,
   listed-from,
   numbers-joined,
+  keep-on,
 }
 use Rattle.theory.proofs.DistinctLaws.{keep-append, keep-within, distinct-grows, distinct-finer}
--- passed on to crates above
-pub use Rattle.theory.proofs.ListLaws.{keep-on}
 
 module _ {A : Type 0} where
   pub keep-nothing : (test : A → Bool) (xs : List A) → ((x : A) → List·Memᴰ x xs → test x ≡ false) → keep test xs ≡ []

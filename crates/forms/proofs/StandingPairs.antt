@@ -179,12 +179,6 @@ module _ (u : Table) where
   pub left-rule : (q : ℕ) → isLeft u q ≡ true → List·Memᴰ (ruleLeft u (ruleAt u q)) (reduce (normalise u) .rules)
   left-rule q e = subst (λ (l : List Rule). List·Memᴰ (ruleOf q) l) (sym left-rules-are) (Memᴰ·map ruleOf (number-left q e))
 
-  -- a type of a rule that is left
-  pub type-left : (r : Rule) → List·Memᴰ r (reduce (normalise u) .rules) → isLeft u (r .type) ≡ true
-  type-left r m =
-      let (q, e, f) = rule-left r m in
-      subst (λ (i : ℕ). isLeft u i ≡ true) (sym (left-pair q e .first) ∙ ap (λ (s : Rule). s .type) f) e
-
   pub left-label : (p : ℕ) → labelOf (reduce (normalise u)) p ≡ labelLeft u p
   unfolding labelOf labelLeft
   left-label p = go (isLeft u p) refl (keep of-type (reduce (normalise u) .rules)) refl

@@ -22,7 +22,6 @@ use Rattle.theory.proofs.BoolLaws.{and-left, and-right, passes-or-fails}
 use Rattle.reader.specs.ExprAt.{Placed, _upTo_, placed, exprAt, exprsAt}
 use Rattle.reader.proofs.ExprLaws.{
   same-placed,
-  placed-from,
   expr-forward,
   known-operator,
   single-was,
@@ -31,7 +30,6 @@ use Rattle.reader.proofs.ExprLaws.{
   numbered-was,
   numbered-more,
   exprs-first,
-  exprs-forward,
   operator-type,
   operator-sequence,
   operator-choice,

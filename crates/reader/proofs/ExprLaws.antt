@@ -5,7 +5,7 @@
 --   `written-expr`); what its operator's byte says (`operator-known`, `alone-was`, `numbered-was`, `counted-was`, `single-was`), and
 --   that a number or a count is there (`number-inside`, `count-inside`); its parts by cases of
 --   the content (`expr-parts`); the first of so many (`exprs-first`, `exprs-end`).
--- * The same bytes elsewhere are the same content: `expr-kept`, `exprs-kept`, `expr-in`.
+-- * The same bytes elsewhere are the same content: `expr-kept`, `exprs-kept`.
 use Prim.Native.Nat.{ℕ, zero, suc, _+_, _-_, _≤_, _<_}
 use native.Mathlib.Omega.{arith}
 use mathlib.Core.Bool.{true, false}
@@ -15,7 +15,7 @@ use mathlib.Core.Option.{Option, none as nothing, some as just}
 use mathlib.Core.Path.{_≡_, refl, sym, _∙_, ap, subst}
 use lib.ListN.{length, getD, getElem?, take, drop, length-append, length-take, length-drop, drop-of-length-le, take-append-drop}
 use lib.Dec.{ltb}
-use lib.Seq.{drop-drop, drop-append-seam, drop-append-le, drop-append-add, take-append-add, take-at, length-take-le}
+use lib.Seq.{drop-drop, drop-append-seam, drop-append-le, take-append-add, take-at}
 use borrow.Author.Tests.{ltb-true, ltb-false}
 use Rattle.grammar.specs.Content.{
   Content,
@@ -271,12 +271,6 @@ module _ (s : List ℕ) (at : ℕ) where
       → (at ≤ next) × (next ≤ length s)
   exprs-forward n cs next h e = let w = exprs-written n cs next h e .1 in omega arith
 
-  pub exprs-bytes : (n : ℕ) (cs : Contents) (next : ℕ) → at ≤ length s → exprsAt s at n ≡ just (cs upTo next)
-      → take (next - at) (drop at s) ≡ operandBytes cs
-  exprs-bytes n cs next h e =
-      let w = exprs-written n cs next h e .1 in
-      ap (take (next - at)) (w .bytes-from) ∙ take-at (operandBytes cs) (drop next s) (next - at) (omega arith)
-
 -- the operators by their numbers
 pub operator-none : getElem? operators 0 ≡ just (alone none)
 unfolding operators
@@ -487,19 +481,6 @@ written-longer p q at bytes next w =
       inside = omega arith;
     }
 
-written-shifted : (q p : List ℕ) (at : ℕ) (bytes : List ℕ) (next : ℕ) → Written p at bytes next
-    → Written (q ++ p) (length q + at) bytes (length q + next)
-written-shifted q p at bytes next w =
-    let l = length-append q p in
-    let n = w .next-is in
-    let h = w .inside in
-    record {
-      bytes-from =
-          drop-append-add q p at ∙ w .bytes-from ∙ ap (λ (x : List ℕ). bytes ++ x) (sym (drop-append-add q p next));
-      next-is = omega arith;
-      inside = omega arith;
-    }
-
 written-cut : (k : ℕ) (s : List ℕ) (at : ℕ) (bytes : List ℕ) (next : ℕ) → Written s at bytes next → next ≤ k
     → Written (take k s) at bytes next
 written-cut k s at bytes next w h =
@@ -529,18 +510,6 @@ written-kept s t at bytes next w e =
     (written-longer (take next t) (drop next t) at bytes next
     (subst (λ (l : List ℕ). Written l at bytes next) e (written-cut next s at bytes next w (omega arith))))
 
-written-in : (t : List ℕ) (a k : ℕ) (at : ℕ) (bytes : List ℕ) (next : ℕ) → a ≤ length t → Written (take k (drop a t)) at bytes next
-    → Written t (a + at) bytes (a + next)
-written-in t a k at bytes next h w =
-    let all = take-append-drop a t in
-    let l = length-take-le a t h in
-    let v =
-    written-shifted (take a t) (drop a t) at bytes next
-    (subst (λ (x : List ℕ). Written x at bytes next) (take-append-drop k (drop a t))
-    (written-longer (take k (drop a t)) (drop k (drop a t)) at bytes next w)) in
-    subst (λ (x : List ℕ). Written x (a + at) bytes (a + next)) all
-    (subst (λ (n : ℕ). Written (take a t ++ drop a t) (n + at) bytes (n + next)) l v)
-
 module _ (s : List ℕ) (at : ℕ) where
   pub written-expr : (c : Content) (next : ℕ) → Written s at (contentBytes c) next → exprAt s at ≡ just (c upTo next)
   written-expr c next w = expr-of s at c (drop next s) (w .bytes-from) ∙ ap (λ (n : ℕ). just (c upTo n)) (sym (w .next-is))
@@ -562,9 +531,3 @@ pub exprs-kept : (s t : List ℕ) (at n : ℕ) (cs : Contents) (next : ℕ) → 
 exprs-kept s t at n cs next h same e =
     let w = exprs-written s at n cs next h e in
     ap (exprsAt t at) (w .0) ∙ written-exprs t at cs next (written-kept s t at (operandBytes cs) next (w .1) same)
-
-pub expr-in : (t : List ℕ) (a k at : ℕ) (c : Content) (next : ℕ) → a ≤ length t → exprAt (take k (drop a t)) at ≡ just (c upTo next)
-    → exprAt t (a + at) ≡ just (c upTo (a + next))
-expr-in t a k at c next h e =
-    let w = expr-written (take k (drop a t)) at c next e in
-    written-expr t (a + at) c (a + next) (written-in t a k at (contentBytes c) next h w)

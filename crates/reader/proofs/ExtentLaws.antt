@@ -9,7 +9,7 @@ use mathlib.Core.Bool.{Bool, true, false, _&&_, not}
 use mathlib.Core.List.{List, [], _∷_}
 use mathlib.Core.Logic.{_⊎_, inl, inr}
 use mathlib.Core.Option.{Option, none as nothing, some as just}
-use mathlib.Core.Path.{_≡_, refl, sym, _∙_, ap, ap₂, subst}
+use mathlib.Core.Path.{_≡_, refl, sym, _∙_, ap, ap₂}
 use lib.ListN.{length, getD, getElem?, length-append}
 use lib.Dec.{leb, ltb}
 use borrow.Author.Tests.{leb-true, le-leb, lt-leb, lt-ltb, le-ltb, ltb-true, ltb-false}
@@ -51,12 +51,6 @@ module _ {A : Type 0} (proper : A → Bool) (deep : A → ℕ) where
 
   extent-no : (a : A) (n : ℕ) → proper a ≡ false → extentBy proper deep (just (a upTo n)) ≡ Nowhere
   extent-no a n e = rw (e, extentBy)
-
-  -- nothing proper stands there
-  extent-never : (p : Option (Placed A)) → ((a : A) (n : ℕ) → p ≡ just (a upTo n) → proper a ≡ false)
-      → extentBy proper deep p ≡ Nowhere
-  extent-never nothing h = refl
-  extent-never (just e) h = extent-no (e .content) (e .next) (h (e .content) (e .next) refl)
 
   yes-means : (p : Option (Placed A)) (next d : ℕ) → extentBy proper deep p ≡ Upto next d
       → (a : A) × (p ≡ just (a upTo next)) × (proper a ≡ true) × (deep a ≡ d)
@@ -182,11 +176,6 @@ module _ (lim : Limits) (s : List ℕ) (at : ℕ) where
       → (cs : Contents) × (exprsAt s at n ≡ just (cs upTo next)) × (areProper lim cs ≡ true) × (deepest cs ≡ d)
   unfolding properRowAt
   row-yes n next d h = yes-means (areProper lim) deepest (exprsAt s at n) next d h
-
-  pub row-no : (n : ℕ) → properRowAt lim s at n ≡ Nowhere
-      → (cs : Contents) (next : ℕ) → exprsAt s at n ≡ just (cs upTo next) → areProper lim cs ≡ false
-  unfolding properRowAt
-  row-no n h cs next e = no-means (areProper lim) deepest (exprsAt s at n) h cs next e
 
   -- the place after, and the nesting, are within the bytes
   pub proper-within : (next d : ℕ) → properAt lim s at ≡ Upto next d → (at < next) × (next ≤ length s) × (d ≤ length s)
@@ -511,28 +500,6 @@ module _ (lim : Limits) (s : List ℕ) where
           read-whole f all ∙ asked-fine (f .content) (f .proper) small,
           record { stands = f .stands ∙ ap (λ (n : ℕ). just (f .content upTo n)) end; proper = f .proper; shallow = small },
         )
-
-pub read-as : (lim : Limits) (s : List ℕ) (c : Content) → readContent lim s ≡ given c → ReadAs lim s c
-read-as lim s c r = go (properAt lim s 0) refl
-  where
-    go : (x : Extent) → properAt lim s 0 ≡ x → ReadAs lim s c
-    go Nowhere e = let z : _≡_ {A = ℕ} 0 1 = cc (read-none lim s e) in absurd (omega arith)
-    go (Upto next d) e = by (passes-or-fails (ltb next (length s))) (passes-or-fails (ltb (lim .nesting) d))
-      where
-        by : (ltb next (length s) ≡ true) ⊎ (ltb next (length s) ≡ false)
-            → (ltb (lim .nesting) d ≡ true) ⊎ (ltb (lim .nesting) d ≡ false)
-            → ReadAs lim s c
-        by (inl p) q =
-            let z : _≡_ {A = ℕ} 0 1 = cc (read-left lim s next d e (ltb-true next (length s) p)) in
-            absurd (omega arith)
-        by (inr p) (inl q) =
-            let all = ltb-false next (length s) p in
-            let z : _≡_ {A = ℕ} 0 1 = cc (read-deep lim s next d e all (ltb-true (lim .nesting) d q)) in
-            absurd (omega arith)
-        by (inr p) (inr q) =
-            let f = read-fine lim s next d e (ltb-false next (length s) p) (ltb-false (lim .nesting) d q) in
-            let same : f .0 ≡ c = cc in
-            subst (ReadAs lim s) same (f .2)
 
 -- what a caller learns from the answer
 pub fine-given : (o : Outcome Content) → contentAnswer o ≡ Fine → (c : Content) × (o ≡ given c)

@@ -17,6 +17,7 @@ use Rattle.grammar.specs.Table.{Table}
 use Rattle.grammar.specs.SingleTypeForm.{TypeSet}
 use Rattle.theory.proofs.Alternatives.{onlyIf}
 use Rattle.theory.proofs.BoolLaws.{false-of, same-test}
+use Rattle.theory.proofs.PlaceLaws.{place-yes, place-past}
 use Rattle.theory.proofs.ListLaws.{any-found, any-of, keep-yes, kept, keep-shorter, at-mem, mem-at, at-below, at-else, at-or-else, numbers-below, numbers-length}
 use Rattle.theory.proofs.DistinctLaws.{keep-append}
 use Rattle.sets.specs.Sets.{nothing}
@@ -28,7 +29,7 @@ use Rattle.emitting.specs.declared.writing.Drafted.the-variants.{Length}
 use Rattle.emitting.specs.Writing.{Puts}
 use Rattle.emitting.proofs.PutLaws.{put-none}
 use Rattle.reducing.proofs.NumberLaws.{keep-next, keep-start}
-use Rattle.sampling.proofs.NumberingLaws.{numbers-split, place-yes, place-past}
+use Rattle.sampling.proofs.NumberingLaws.{numbers-split}
 use Rattle.forms.specs.SetForms.{setLabel}
 use Rattle.results.specs.Results.{isUsed}
 

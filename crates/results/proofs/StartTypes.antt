@@ -15,7 +15,7 @@ use Rattle.grammar.specs.Table.{Table}
 use Rattle.grammar.specs.Normalise.{normalise}
 use Rattle.grammar.specs.Reduce.{withoutUnfruitful}
 use Rattle.theory.proofs.BoolLaws.{same-test}
-use Rattle.theory.proofs.ListLaws.{any-of, any-found, in-mem, mem-in, keep-all, numbers-below, at-or-else, at-mem}
+use Rattle.theory.proofs.ListLaws.{any-of, any-found, in-mem, mem-in, keep-all, keep-on, numbers-below, at-or-else, at-mem}
 use Rattle.sets.specs.Sets.{nothing}
 use Rattle.pairs.specs.declared.union.United.{United}
 use Rattle.pairs.specs.View.{Views, labelIn}
@@ -23,7 +23,7 @@ use Rattle.pairs.specs.Rounds.{puts}
 use Rattle.pairs.specs.PairNumbers.{ruleAt, isLeft, isStart}
 use Rattle.pairs.proofs.PutsLaws.{puts-was, puts-has}
 use Rattle.forms.specs.SetForms.{labelled, setNumber, localSets, localStarts}
-use Rattle.forms.proofs.KeptLists.{keep-on, kept-below}
+use Rattle.forms.proofs.KeptLists.{kept-below}
 use Rattle.forms.proofs.StandingPairs.{left-pair, left-label}
 use Rattle.forms.proofs.SetsFound.{start-left, label-of-left}
 use Rattle.forms.proofs.UnionFit.{UnionFit}

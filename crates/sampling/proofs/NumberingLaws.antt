@@ -17,8 +17,6 @@ use Rattle.grammar.specs.Lists.{any, distinct, place, numbersFrom, numbersBelow
 use Rattle.theory.proofs.ListLaws.{any-of, numbers-joined}
 use Rattle.theory.proofs.PlaceLaws.{place-some, place-none, place-most, place-front, place-end, place-image}
 use Rattle.theory.proofs.DistinctLaws.{distinct-grows, one-more-new, one-more-old, among-distinct}
--- passed on to crates above
-pub use Rattle.theory.proofs.PlaceLaws.{place-yes, place-past}
 
 module _ {A : Type 0} (same : A → A → Bool) (same-refl : (x : A) → same x x ≡ true)
     (same-sym : (x y : A) → same x y ≡ true → same y x ≡ true)

@@ -22,8 +22,6 @@ use Rattle.theory.proofs.PathLaws.{path-refl, path-sym, path-trans}
 use Rattle.sampling.specs.SampleNodes.{Whole, TypedTo, KeyAt, KeysAt, aboveIn, nameIn, sameKey, nameAt, pathAt, parentAt, typeAt, aboveAt, sameAt, sameNameIn, LabelledTo}
 use Rattle.sampling.proofs.NumberingLaws.{place-agree, number-stays, one-more}
 use Rattle.sampling.proofs.SampleByNodes.{below-path, same-path, type-place}
--- passed on to crates above
-pub use borrow.Author.Count.{below-more as up-to}
 
 pub record Typing (ns : List Node) (d : Tree) (types aboves firsts : List ℕ) (count i : ℕ) : Type 0 where
   pub typed : TypedTo ns d types firsts count i

@@ -4,13 +4,13 @@ use native.Mathlib.Omega.{arith}
 use mathlib.Core.Bool.{false}
 use mathlib.Core.Path.{_≡_, refl, subst}
 use lib.ListN.{length}
+use borrow.Author.Count.{below-more}
 use borrow.Author.Needs.{needs}
 use Rattle.grammar.specs.Lists.{joinedOf, numbersBelow}
 use Rattle.grammar.specs.Limits.{standard}
 use Rattle.grammar.specs.Size.{contentTooLarge}
 use Rattle.emitting.specs.Writing.{Put}
 use Rattle.sampling.specs.SampleTable.{ruleField}
-use Rattle.sampling.proofs.TypeLaws.{up-to}
 use Rattle.sampling.proofs.RuleLaws.{up-start, rules-stop, rules-more}
 use Rattle.results.specs.Results.{RulesWith, ruleFrom}
 use Rattle.results.proofs.rules.put_rules.Statement.{statement}
@@ -86,7 +86,7 @@ loop-again c =
       search needs,
       λ q. rules-more (ruleFrom (q .rules)) (c .before .before .before .before .before .before .before .before .before .before .before .loop .i) (c .before .before .before .before .before .before .before .before .before .before .before .loop .inv .4 q) (c .before .before .before .before .before .before .before .put-rule .last .0) (c .before .before .before .before .before .before .before .put-rule .result) (c .before .before .before .before .before .before .before .put-rule .ensures q) (c .before .more .given .1) .0,
       λ q.
-          up-to (λ j. contentTooLarge standard (ruleFrom (q .rules) j .content) ≡ false) (c .before .before .before .before .before .before .before .before .before .before .before .loop .i) (c .before .before .before .before .before .before .before .before .before .before .before .loop .inv .5 q)
+          below-more (λ j. contentTooLarge standard (ruleFrom (q .rules) j .content) ≡ false) (c .before .before .before .before .before .before .before .before .before .before .before .loop .i) (c .before .before .before .before .before .before .before .before .before .before .before .loop .inv .5 q)
           (rules-more (ruleFrom (q .rules)) (c .before .before .before .before .before .before .before .before .before .before .before .loop .i) (c .before .before .before .before .before .before .before .before .before .before .before .loop .inv .4 q) (c .before .before .before .before .before .before .before .put-rule .last .0) (c .before .before .before .before .before .before .before .put-rule .result) (c .before .before .before .before .before .before .before .put-rule .ensures q) (c .before .more .given .1) .2),
     )
 
