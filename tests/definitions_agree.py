@@ -130,10 +130,13 @@ def main():
             (proofs / f"Cases{number}.antt").write_text(HEAD + "\n" + "\n".join(file))
         (proofs / "Lib.antt").write_text("".join(f"pub mod Cases{n}\n" for n in range(len(files))))
         run = subprocess.run(["rt", "check"], cwd=copy, capture_output=True, text=True)
-        wrong = [line for line in (run.stdout + run.stderr).split("\n") if "error:" in line]
+        refused = [line for line in (run.stdout + run.stderr).split("\n") if "error:" in line]
+        unfinished = [line for line in refused if "stopped at the step limit" in line]
+        wrong = [line for line in refused if line not in unfinished]
         print("\n".join(line[:300] for line in wrong))
-        print(f"{count} cases computed by the definitions, {len(wrong)} differ from the second validator")
-        sys.exit(run.returncode)
+        print(f"{count - len(unfinished)} cases computed by the definitions, {len(wrong)} differ from the second validator; "
+              f"{len(unfinished)} more are too long for the checker's step limit")
+        sys.exit(bool(wrong) or (run.returncode != 0 and not unfinished))
 
 
 main()
