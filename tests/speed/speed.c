@@ -5,9 +5,10 @@
  *
  * Each FILE holds four parts, each a number of bytes in decimal, a line feed and the bytes: table, document, schema, XML. For each one
  * line of numbers goes to standard output: answer of lets_in, answer of libxml2 (1 yes, 0 no), and seconds a call of
- *     lets_in whole; reading the table; reading the document; the least call (the three bytes of an empty table);
- *     libxml2's validation alone; parsing the schema; parsing the document.
- * The seven are measured in turn, round after round, and the least of the rounds counts, so that load on the machine tells little. */
+ *     lets_in whole; reading the table; reading the document; the least call (the three bytes of an empty table), which clears the
+ *     working words and does next to nothing else; libxml2's validation alone.
+ * The five are measured in turn in short rounds, for so many seconds in all; of all rounds of a measure the one counts that a tenth of
+ * them undercut, so that load on the machine and errors of its clock tell little. */
 #include <libxml/parser.h>
 #include <libxml/relaxng.h>
 #include <stdarg.h>
@@ -18,7 +19,7 @@
 #include "../../include/cogarrune.h"
 
 enum { TABLE, DOCUMENT, SCHEMA, XML, PARTS };
-enum { WHOLE, READ_TABLE, READ_DOCUMENT, LEAST, VALIDATE, PARSE_SCHEMA, PARSE_DOCUMENT, MEASURES };
+enum { WHOLE, READ_TABLE, READ_DOCUMENT, LEAST, VALIDATE, MEASURES };
 
 struct part {
     unsigned char *bytes;
@@ -38,7 +39,7 @@ static void silent(void *data, xmlErrorPtr error) { (void)data, (void)error; }
 
 static double now(void) {
     struct timespec at;
-    clock_gettime(CLOCK_THREAD_CPUTIME_ID, &at);
+    clock_gettime(CLOCK_MONOTONIC, &at);
     return at.tv_sec + at.tv_nsec * 1e-9;
 }
 
@@ -80,12 +81,6 @@ static void once(int measure) {
     case VALIDATE:
         sink = (uint64_t)xmlRelaxNGValidateDoc(context, document);
         break;
-    case PARSE_SCHEMA:
-        xmlRelaxNGFree(parse_schema());
-        break;
-    case PARSE_DOCUMENT:
-        xmlFreeDoc(parse_document());
-        break;
     }
 }
 
@@ -95,25 +90,32 @@ static double timed(int measure, long repeats) {
     return (now() - begin) / repeats;
 }
 
+static int ascending(const void *a, const void *b) {
+    double x = *(const double *)a, y = *(const double *)b;
+    return (x > y) - (x < y);
+}
+
 static void measure_file(double seconds) {
-    enum { ROUNDS = 8 };
-    double least[MEASURES];
+    const double round_seconds = 150e-6;
+    size_t rounds = (size_t)(seconds / MEASURES / round_seconds) + 1;
     long repeats[MEASURES];
+    double *spent[MEASURES];
     for (int measure = 0; measure < MEASURES; measure++) {
-        least[measure] = timed(measure, 1);
-        repeats[measure] = (long)(seconds / ROUNDS / MEASURES / (least[measure] + 1e-9)) + 1;
+        repeats[measure] = (long)(round_seconds / (timed(measure, 100) + 1e-9)) + 1;
+        spent[measure] = malloc(rounds * sizeof *spent[measure]);
+        if (spent[measure] == NULL) exit(2);
     }
-    for (int round = 0; round < ROUNDS; round++) {
-        for (int measure = 0; measure < MEASURES; measure++) {
-            double spent = timed(measure, repeats[measure]);
-            if (spent < least[measure]) least[measure] = spent;
-        }
-    }
+    for (size_t round = 0; round < rounds; round++)
+        for (int measure = 0; measure < MEASURES; measure++) spent[measure][round] = timed(measure, repeats[measure]);
     once(WHOLE);
     uint64_t ours = sink;
     once(VALIDATE);
     printf("%u %d", cogarrune_value_of(ours), sink == 0);
-    for (int measure = 0; measure < MEASURES; measure++) printf(" %.9f", least[measure]);
+    for (int measure = 0; measure < MEASURES; measure++) {
+        qsort(spent[measure], rounds, sizeof *spent[measure], ascending);
+        printf(" %.9f", spent[measure][rounds / 10]);
+        free(spent[measure]);
+    }
     printf("\n");
     fflush(stdout);
 }
