@@ -7,7 +7,7 @@ pub mod set_words;
 pub mod label_sets;
 
 // The numbers of the sets in place of pairs.
-pub mod results;
+pub mod set_numbers;
 
 // The sets of the single-type form.
 pub mod worklist;

@@ -15,7 +15,7 @@ use pairs::union::unite_tables;
 use reader::tables::TableIndex;
 use reducing::leaving::pairs_left;
 use reducing::leaving::start_pairs;
-use reducing::listing::fruitful_lists;
+use reducing::type_lists::fruitful_lists;
 use sets::four::Set4;
 ghost use mathlib.Core.Bool.{false, true};
 ghost use mathlib.Core.Path.{_≡_};

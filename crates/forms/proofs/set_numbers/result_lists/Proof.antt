@@ -2,8 +2,8 @@
 use borrow.Author.Needs.{needs}
 use Rattle.forms.specs.SetForms.{setNumber}
 use Rattle.forms.proofs.ResultLaws.{numbers-left, result-lists}
-use Rattle.forms.proofs.results.result_lists.Statement.{statement}
-use Rattle.forms.proofs.results.result_lists.Tie as tie
+use Rattle.forms.proofs.set_numbers.result_lists.Statement.{statement}
+use Rattle.forms.proofs.set_numbers.result_lists.Tie as tie
 
 returns : tie.Need-returns
 returns c =

@@ -8,8 +8,8 @@ use Rattle.sets.specs.Sets.{member}
 use Rattle.reducing.specs.PairsListed.{isPair, Appends}
 use Rattle.reducing.proofs.NumberLaws.{keep-start, keep-next}
 use Rattle.reducing.proofs.ListingLaws.{appends-same, appends-none, appends-join, pair-new, pairs-in}
-use Rattle.reducing.proofs.listing.append_pairs.Statement.{statement}
-use Rattle.reducing.proofs.listing.append_pairs.Tie as tie
+use Rattle.reducing.proofs.type_lists.append_pairs.Statement.{statement}
+use Rattle.reducing.proofs.type_lists.append_pairs.Tie as tie
 
 abbrev Inv-loop : tie.InvT-loop
 Inv-loop v known kind numbers₀ count rules more₀ p₀ numbers more p =

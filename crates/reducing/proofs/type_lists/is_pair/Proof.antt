@@ -3,8 +3,8 @@ use mathlib.Core.Path.{_∙_}
 use borrow.Author.Needs.{needs}
 use Rattle.sets.specs.Sets.{member}
 use Rattle.reducing.proofs.ListingLaws.{pair-other, pair-later, pair-known}
-use Rattle.reducing.proofs.listing.is_pair.Statement.{statement}
-use Rattle.reducing.proofs.listing.is_pair.Tie as tie
+use Rattle.reducing.proofs.type_lists.is_pair.Statement.{statement}
+use Rattle.reducing.proofs.type_lists.is_pair.Tie as tie
 
 returns : tie.Need-returns
 returns c =

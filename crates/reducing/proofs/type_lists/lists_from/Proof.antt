@@ -11,8 +11,8 @@ use Rattle.reducing.proofs.ListingLaws.{
   filling-next,
   filling-end,
 }
-use Rattle.reducing.proofs.listing.lists_from.Statement.{statement}
-use Rattle.reducing.proofs.listing.lists_from.Tie as tie
+use Rattle.reducing.proofs.type_lists.lists_from.Statement.{statement}
+use Rattle.reducing.proofs.type_lists.lists_from.Tie as tie
 
 abbrev Inv-loop : tie.InvT-loop
 Inv-loop v known base from₀ numbers₀ count₀ k₀ from numbers count k =

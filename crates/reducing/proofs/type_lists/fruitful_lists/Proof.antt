@@ -7,8 +7,8 @@ use Rattle.reducing.specs.PairsListed.{pairsIn}
 use Rattle.reducing.proofs.ListingLaws.{lists-both, pairs-fruitful}
 use Prim.Native.Nat.{_+_}
 use mathlib.Core.Path.{_≡_, _∙_, ap}
-use Rattle.reducing.proofs.listing.fruitful_lists.Statement.{statement}
-use Rattle.reducing.proofs.listing.fruitful_lists.Tie as tie
+use Rattle.reducing.proofs.type_lists.fruitful_lists.Statement.{statement}
+use Rattle.reducing.proofs.type_lists.fruitful_lists.Tie as tie
 
 returns : tie.Need-returns
 returns c =

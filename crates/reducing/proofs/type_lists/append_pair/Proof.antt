@@ -2,8 +2,8 @@
 use mathlib.Core.Path.{sym, _∙_}
 use borrow.Author.Needs.{needs}
 use Rattle.reducing.proofs.ListingLaws.{append-room, append-new, append-off}
-use Rattle.reducing.proofs.listing.append_pair.Statement.{statement}
-use Rattle.reducing.proofs.listing.append_pair.Tie as tie
+use Rattle.reducing.proofs.type_lists.append_pair.Statement.{statement}
+use Rattle.reducing.proofs.type_lists.append_pair.Tie as tie
 
 slice-write-numbers : tie.Need-slice-write-numbers
 slice-write-numbers c =

@@ -6,8 +6,8 @@ use mathlib.Core.Path.{_∙_, ap}
 use borrow.Author.Needs.{needs}
 use Rattle.forms.proofs.LabelLaws.{label-at}
 use Rattle.forms.proofs.ResultLaws.{label-if-left, label-if-gone}
-use Rattle.forms.proofs.results.label_left.Statement.{statement}
-use Rattle.forms.proofs.results.label_left.Tie as tie
+use Rattle.forms.proofs.set_numbers.label_left.Statement.{statement}
+use Rattle.forms.proofs.set_numbers.label_left.Tie as tie
 
 returns : tie.Need-returns
 returns c =

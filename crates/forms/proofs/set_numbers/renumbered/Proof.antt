@@ -6,8 +6,8 @@ use lib.ListN.{length, getD, length-set, length-replicate}
 use borrow.Author.Needs.{needs}
 use Rattle.forms.specs.Worklist.{NumbersOf}
 use Rattle.forms.proofs.ResultLaws.{numbers-more, all-numbers}
-use Rattle.forms.proofs.results.renumbered.Statement.{statement}
-use Rattle.forms.proofs.results.renumbered.Tie as tie
+use Rattle.forms.proofs.set_numbers.renumbered.Statement.{statement}
+use Rattle.forms.proofs.set_numbers.renumbered.Tie as tie
 
 abbrev Inv-loop : tie.InvT-loop
 Inv-loop from before of after₀ i₀ after i =

@@ -1,8 +1,8 @@
 -- `is_listed` meets its contract: a list is empty where the next begins at its own place.
 use borrow.Author.Needs.{needs}
 use Rattle.reducing.proofs.ListingLaws.{listed-old, listed-added}
-use Rattle.reducing.proofs.listing.is_listed.Statement.{statement}
-use Rattle.reducing.proofs.listing.is_listed.Tie as tie
+use Rattle.reducing.proofs.type_lists.is_listed.Statement.{statement}
+use Rattle.reducing.proofs.type_lists.is_listed.Tie as tie
 
 returns : tie.Need-returns
 returns c = λ of x. listed-old x _ (c .before .before .if1 .taken)

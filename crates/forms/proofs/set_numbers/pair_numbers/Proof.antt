@@ -13,8 +13,8 @@ use Rattle.pairs.specs.PairNumbers.{isLeft}
 use Rattle.forms.specs.SetForms.{labelLeft}
 use Rattle.forms.specs.Worklist.{NumbersOf}
 use Rattle.forms.proofs.ResultLaws.{numbers-more, none-small}
-use Rattle.forms.proofs.results.pair_numbers.Statement.{statement}
-use Rattle.forms.proofs.results.pair_numbers.Tie as tie
+use Rattle.forms.proofs.set_numbers.pair_numbers.Statement.{statement}
+use Rattle.forms.proofs.set_numbers.pair_numbers.Tie as tie
 
 abbrev Inv-loop : tie.InvT-loop
 Inv-loop v left by-label rules of₀ p₀ of p =

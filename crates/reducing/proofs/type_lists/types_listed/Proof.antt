@@ -13,8 +13,8 @@ use Rattle.pairs.specs.Rounds.{puts}
 use Rattle.pairs.specs.TypeLists.{ListsOf}
 use Rattle.pairs.proofs.PutsLaws.{puts-start, puts-step}
 use Rattle.reducing.proofs.ListingLaws.{types-all}
-use Rattle.reducing.proofs.listing.types_listed.Statement.{statement}
-use Rattle.reducing.proofs.listing.types_listed.Tie as tie
+use Rattle.reducing.proofs.type_lists.types_listed.Statement.{statement}
+use Rattle.reducing.proofs.type_lists.types_listed.Tie as tie
 
 abbrev Inv-loop : tie.InvT-loop
 Inv-loop lists set₀ k₀ set k =
