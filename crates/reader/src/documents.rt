@@ -34,9 +34,9 @@ enum Step {
 
 // The nodes of a document in file order: where each name stands, and how many children each has.
 pub struct DocumentIndex {
-    pub names: [usize; 1024],
-    pub sizes: [usize; 1024],
-    pub children: [usize; 1024],
+    pub names: [u16; 1024],
+    pub sizes: [u16; 1024],
+    pub children: [u16; 1024],
     pub nodes: usize,
 }
 
@@ -158,13 +158,8 @@ fn after_node(coming: &mut [usize], depth: usize, children: usize) -> usize
 }
 
 // The fields of a document, front to back.
-fn read_fields(
-    s: &[u8],
-    names: &mut [usize],
-    sizes: &mut [usize],
-    children: &mut [usize],
-) -> NodesRead
-    requires { ⌜ (1024 ≤ length (now names)) × (1024 ≤ length (now sizes)) × (1024 ≤ length (now children)) ⌝ }
+fn read_fields(s: &[u8], names: &mut [u16], sizes: &mut [u16], children: &mut [u16]) -> NodesRead
+    requires { ⌜ (length (now s) ≤ 32768) × (1024 ≤ length (now names)) × (1024 ≤ length (now sizes)) × (1024 ≤ length (now children)) ⌝ }
     ensures answer { λ r. ⌜ restOf nothingRead (fieldsOf (now (s .entry))) ≡ outcomeOf (r .answer) (firstNodes (now (s .entry)) (now (names .exit)) (now (sizes .exit)) (now (children .exit)) (r .nodes)) ⌝ }
     ensures index { λ r. ⌜ Indexed (now (s .entry)) (now (names .exit)) (now (sizes .exit)) (now (children .exit)) (r .nodes) ⌝ }
 {
@@ -176,9 +171,9 @@ fn read_fields(
     loop {
         match step_at(s, at, nodes, depth) {
             Step::Node(from, to, count) => {
-                names[nodes] = from;
-                sizes[nodes] = to - from;
-                children[nodes] = count;
+                names[nodes] = from as u16;
+                sizes[nodes] = (to - from) as u16;
+                children[nodes] = count as u16;
                 nodes += 1;
                 at = to;
                 let more = after_node(&mut coming, depth, count);
@@ -195,12 +190,7 @@ fn read_fields(
 }
 
 // The nodes of a document, into lent arrays.
-pub fn read_nodes(
-    s: &[u8],
-    names: &mut [usize],
-    sizes: &mut [usize],
-    children: &mut [usize],
-) -> NodesRead
+pub fn read_nodes(s: &[u8], names: &mut [u16], sizes: &mut [u16], children: &mut [u16]) -> NodesRead
     requires { ⌜ (1024 ≤ length (now names)) × (1024 ≤ length (now sizes)) × (1024 ≤ length (now children)) ⌝ }
     ensures { λ r. ⌜ NodesFound (now (s .entry)) (now (names .exit)) (now (sizes .exit)) (now (children .exit)) r ⌝ }
 {
@@ -217,9 +207,9 @@ pub fn read_nodes(
 pub fn read_document(s: &[u8]) -> DocumentRead
     ensures { λ r. ⌜ DocumentReads (now (s .entry)) r ⌝ }
 {
-    let mut names = [0usize; 1024];
-    let mut sizes = [0usize; 1024];
-    let mut children = [0usize; 1024];
+    let mut names = [0u16; 1024];
+    let mut sizes = [0u16; 1024];
+    let mut children = [0u16; 1024];
     let read = read_nodes(s, &mut names, &mut sizes, &mut children);
     let answer = read.answer;
     DocumentRead {

@@ -86,7 +86,7 @@ fn leave(pending: &mut [usize], from: usize, to: usize, number: usize)
 }
 
 // The parent of each node; the root counts as its own. What the parents left for the nodes to come stands at the end, nearest first.
-fn parents_of(children: &[usize], nodes: usize) -> [usize; 1024]
+fn parents_of(children: &[u16], nodes: usize) -> [usize; 1024]
     requires { ⌜ (nodes ≤ 1024) × (nodes ≤ length (now children)) × CountedTree (now children) nodes ⌝ }
     ensures { λ r. ⌜ ((q : CountedTree (now (children .entry)) nodes) → take nodes r ≡ parentsOf (q .list)) ⌝ }
 {
@@ -96,7 +96,7 @@ fn parents_of(children: &[usize], nodes: usize) -> [usize; 1024]
     let mut i: usize = 0;
     while i < nodes {
         parents[i] = pending[top];
-        let rest = top + 1 - children[i];
+        let rest = top + 1 - children[i] as usize;
         leave(&mut pending, rest, top + 1, i);
         top = rest;
         i += 1;
@@ -105,25 +105,25 @@ fn parents_of(children: &[usize], nodes: usize) -> [usize; 1024]
 }
 
 // Equal keys and equal names.
-fn same_key(s: &[u8], names: &[usize], sizes: &[usize], keys: &[usize], i: usize, j: usize) -> bool
+fn same_key(s: &[u8], names: &[u16], sizes: &[u16], keys: &[usize], i: usize, j: usize) -> bool
     requires { ⌜ KeyAt (now s) (now names) (now sizes) (now keys) i × KeyAt (now s) (now names) (now sizes) (now keys) j ⌝ }
     ensures { λ r. ⌜ r ≡ sameKey (now (s .entry)) (now (names .entry)) (now (sizes .entry)) (now (keys .entry)) i j ⌝ }
 {
     if keys[i] != keys[j] {
         return false;
     }
-    let a = names[i];
-    let b = names[j];
-    let a_end = a + sizes[i];
-    let b_end = b + sizes[j];
+    let a = names[i] as usize;
+    let b = names[j] as usize;
+    let a_end = a + sizes[i] as usize;
+    let b_end = b + sizes[j] as usize;
     same_name(&s[a..a_end], &s[b..b_end])
 }
 
 // The place of the first of the listed nodes with an equal key and name, or past them.
 fn find(
     s: &[u8],
-    names: &[usize],
-    sizes: &[usize],
+    names: &[u16],
+    sizes: &[u16],
     keys: &[usize],
     firsts: &[usize],
     count: usize,
@@ -165,7 +165,7 @@ fn above_type(types: &[usize], parent: usize, i: usize) -> usize
 }
 
 // The type of each node by first visit: nodes have one type if their parents have and their names are equal.
-fn types_of(s: &[u8], names: &[usize], sizes: &[usize], parents: &[usize], nodes: usize) -> Types
+fn types_of(s: &[u8], names: &[u16], sizes: &[u16], parents: &[usize], nodes: usize) -> Types
     requires { ⌜ Whole (now s) (now names) (now sizes) (now parents) nodes ⌝ }
     ensures { λ r. ⌜ ((q : Whole (now (s .entry)) (now (names .entry)) (now (sizes .entry)) (now (parents .entry)) nodes)
         → TypedTo (q .list) (q .tree) (r .of) (r .firsts) (r .count) nodes) ⌝ }
@@ -193,8 +193,8 @@ fn types_of(s: &[u8], names: &[usize], sizes: &[usize], parents: &[usize], nodes
 // The label of each listed node by first sight. All keys are alike, so that names alone tell nodes apart.
 fn labels_of(
     s: &[u8],
-    names: &[usize],
-    sizes: &[usize],
+    names: &[u16],
+    sizes: &[u16],
     keys: &[usize],
     nodes: &[usize],
     types: usize,
@@ -313,7 +313,7 @@ fn gather(
     scratch: &mut [u8],
     parents: &[usize],
     types: &[usize],
-    children: &[usize],
+    children: &[u16],
     nodes: usize,
     k: usize,
 ) -> Gathering
@@ -331,7 +331,7 @@ fn gather(
             parents,
             types,
             nodes,
-            children[i],
+            children[i] as usize,
             k,
             i,
             count,
@@ -363,7 +363,7 @@ fn make_content(
     scratch: &mut [u8],
     parents: &[usize],
     types: &[usize],
-    children: &[usize],
+    children: &[u16],
     nodes: usize,
     k: usize,
 ) -> Drafted
@@ -389,7 +389,7 @@ fn put_rule(
     scratch: &mut [u8],
     parents: &[usize],
     types: &[usize],
-    children: &[usize],
+    children: &[u16],
     nodes: usize,
     k: usize,
     label: usize,
@@ -413,8 +413,8 @@ fn put_rule(
 fn put_labels(
     draft: &mut [u8],
     s: &[u8],
-    names: &[usize],
-    sizes: &[usize],
+    names: &[u16],
+    sizes: &[u16],
     keys: &[usize],
     firsts: &[usize],
     count: usize,
@@ -427,8 +427,8 @@ fn put_labels(
     let mut l: usize = 0;
     while l < count {
         let i = firsts[l];
-        let from = names[i];
-        let to = from + sizes[i];
+        let from = names[i] as usize;
+        let to = from + sizes[i] as usize;
         match put_field(draft, end, 0x10, &s[from..to]) {
             Drafted::TooLarge => {
                 return Drafted::TooLarge;
@@ -449,7 +449,7 @@ fn put_rules(
     scratch: &mut [u8],
     parents: &[usize],
     types: &[usize],
-    children: &[usize],
+    children: &[u16],
     nodes: usize,
     firsts: &[usize],
     labels: &[usize],
@@ -494,7 +494,7 @@ fn put_rest(
     scratch: &mut [u8],
     parents: &[usize],
     types: &[usize],
-    children: &[usize],
+    children: &[u16],
     nodes: usize,
     firsts: &[usize],
     labels: &[usize],
@@ -529,7 +529,7 @@ fn put_start(
     scratch: &mut [u8],
     parents: &[usize],
     types: &[usize],
-    children: &[usize],
+    children: &[u16],
     nodes: usize,
     firsts: &[usize],
     labels: &[usize],
@@ -562,15 +562,15 @@ fn put_start(
 fn put_table(
     draft: &mut [u8],
     s: &[u8],
-    names: &[usize],
-    sizes: &[usize],
+    names: &[u16],
+    sizes: &[u16],
     keys: &[usize],
     named: &[usize],
     total: usize,
     scratch: &mut [u8],
     parents: &[usize],
     types: &[usize],
-    children: &[usize],
+    children: &[u16],
     nodes: usize,
     firsts: &[usize],
     labels: &[usize],
@@ -604,9 +604,9 @@ fn put_table(
 fn write_sample(
     draft: &mut [u8],
     s: &[u8],
-    names: &[usize],
-    sizes: &[usize],
-    children: &[usize],
+    names: &[u16],
+    sizes: &[u16],
+    children: &[u16],
     parents: &[usize],
     types: &[usize],
     firsts: &[usize],

@@ -42,9 +42,9 @@ fn read_and_decide(table: &[u8], document: &[u8], words: &mut [u32]) -> Verdict
     if let Reading::Refused(r) = readable {
         return Verdict::Refused(r);
     }
-    let mut names = [0usize; 1024];
-    let mut sizes = [0usize; 1024];
-    let mut children = [0usize; 1024];
+    let mut names = [0u16; 1024];
+    let mut sizes = [0u16; 1024];
+    let mut children = [0u16; 1024];
     let found = read_nodes(document, &mut names, &mut sizes, &mut children);
     let complete = found.answer;
     if let Reading::Refused(r) = complete {

@@ -111,9 +111,9 @@ fn root_types(
     table: &[u8],
     index: TableIndex,
     document: &[u8],
-    names: &[usize],
-    sizes: &[usize],
-    children: &[usize],
+    names: &[u16],
+    sizes: &[u16],
+    children: &[u16],
     nodes: usize,
     marks: &mut [u8],
     words: &mut [u32],
@@ -136,9 +136,9 @@ fn root_types(
     let mut top = 4 * nodes;
     while 0 < i {
         let at = i - 1;
-        let from = names[at];
-        let to = from + sizes[at];
-        let count = children[at];
+        let from = names[at] as usize;
+        let to = from + sizes[at] as usize;
+        let count = children[at] as usize;
         let label = name_place(&document[from..to], table, &label_from, &label_to, labels);
         let types = types_of(
             table,
@@ -181,9 +181,9 @@ pub fn lets_in_read(
     table: &[u8],
     index: TableIndex,
     document: &[u8],
-    names: &[usize],
-    sizes: &[usize],
-    children: &[usize],
+    names: &[u16],
+    sizes: &[u16],
+    children: &[u16],
     nodes: usize,
     words: &mut [u32],
 ) -> bool

@@ -48,13 +48,22 @@ step c =
 loop-holds : tie.Need-loop-holds Inv-loop μ-loop
 loop-holds c =
     let p = c .before .before .before .before .pre in
-    (so-far-none (c .before .before .before .before .args .s .now) _ _ _ _ (p .0) (p .1) (p .2) refl, refl, refl, refl, refl)
+    (so-far-none (c .before .before .before .before .args .s .now) _ _ _ _ (p .1) (p .2) (p .3) refl, refl, refl, refl, refl)
+
+cast-names : tie.Need-cast-names Inv-loop μ-loop
+cast-names c = let order = step c .order in let within = step c .within in omega arith
 
 slice-write-names : tie.Need-slice-write-names Inv-loop μ-loop
 slice-write-names c = let r = step c .room in let room = c .before .before .before .before .loop .inv .0 .names-room in omega arith
 
+cast-sizes : tie.Need-cast-sizes Inv-loop μ-loop
+cast-sizes c = let within = step c .within in omega arith
+
 slice-write-sizes : tie.Need-slice-write-sizes Inv-loop μ-loop
 slice-write-sizes c = let r = step c .room in let room = c .before .before .before .before .loop .inv .0 .sizes-room in omega arith
+
+cast-children : tie.Need-cast-children Inv-loop μ-loop
+cast-children c = let few = step c .few in omega arith
 
 slice-write-children : tie.Need-slice-write-children Inv-loop μ-loop
 slice-write-children c = let r = step c .room in let room = c .before .before .before .before .loop .inv .0 .children-room in omega arith
@@ -134,11 +143,14 @@ read-fields-spec =
     loop-holds
     (λ c κs. tt)
     (λ c. search needs)
+    cast-names
     (λ c. let r = step c .room in omega arith)
     slice-write-names
     (λ c. step c .order)
+    cast-sizes
     (λ c. let r = step c .room in omega arith)
     slice-write-sizes
+    cast-children
     (λ c. let r = step c .room in omega arith)
     slice-write-children
     (λ c. let r = step c .room in omega arith)

@@ -34,6 +34,9 @@ mul-one-more c = let h = c .before .before .before .before .before .before .befo
 shared-slice-read-one-more : tie.Need-shared-slice-read-one-more Inv-loop μ-loop
 shared-slice-read-one-more c = omega arith
 
+cast-one-more : tie.Need-cast-one-more Inv-loop μ-loop
+cast-one-more c = omega (arith, c .shared-slice-known4 .given (c .before .before .before .loop .i))
+
 one-more-requires : tie.Need-one-more-requires Inv-loop μ-loop
 one-more-requires c κs =
     let l = c .before .before .before .loop .inv in
@@ -88,6 +91,7 @@ gather-spec =
     loop-holds
     mul-one-more
     shared-slice-read-one-more
+    cast-one-more
     one-more-requires
     enum-told
     same-length

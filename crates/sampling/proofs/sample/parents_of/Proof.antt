@@ -39,6 +39,9 @@ add-rest c =
     let r = step-room (c .before .before .before .pre .2) (l .0) (l .1) (c .before .before .before .pre .0) (omega arith) (l .3 (c .before .before .before .pre .2)) .1 in
     omega arith
 
+cast-rest : tie.Need-cast-rest Inv-loop μ-loop
+cast-rest c = omega (arith, c .shared-slice-known2 .given (c .before .before .loop .i))
+
 sub-rest : tie.Need-sub-rest Inv-loop μ-loop
 sub-rest c =
     let l = c .before .before .loop .inv in
@@ -89,6 +92,7 @@ parents-of-spec =
     add-rest
     (λ c. omega arith)
     (λ c. omega arith)
+    cast-rest
     sub-rest
     (λ c. search needs)
     add-leave

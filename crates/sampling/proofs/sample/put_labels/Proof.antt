@@ -67,6 +67,9 @@ shared-slice-read-from c =
     let h = c .before .before .before .before .before .before .before .before .before .before .pre .1 in
     omega arith
 
+cast-from : tie.Need-cast-from Inv-loop μ-loop
+cast-from c = omega (arith, c .shared-slice-known7 .given (getD (c .before .before .before .before .before .before .before .before .before .before .args .firsts .now) (c .before .before .before .loop .l) 0))
+
 mul-to : tie.Need-mul-to Inv-loop μ-loop
 mul-to c =
     let f = c .before .before .before .before .before .before .before .before .before .before .pre .2 .few in
@@ -86,6 +89,9 @@ shared-slice-read-to c =
     let w = k .within in
     let h = c .before .before .before .before .before .before .before .before .before .before .before .pre .1 in
     omega arith
+
+cast-to : tie.Need-cast-to Inv-loop μ-loop
+cast-to c = omega (arith, c .shared-slice-known8 .given (getD (c .before .before .before .before .before .before .before .before .before .before .before .args .firsts .now) (c .before .before .before .before .loop .l) 0))
 
 add-to : tie.Need-add-to Inv-loop μ-loop
 add-to c =
@@ -188,8 +194,10 @@ put-labels-spec =
     shared-slice-read-i
     mul-from
     shared-slice-read-from
+    cast-from
     mul-to
     shared-slice-read-to
+    cast-to
     add-to
     sub-put-field
     part-put-field-start

@@ -27,17 +27,26 @@ mul-a c = search needs
 shared-slice-read-a : tie.Need-shared-slice-read-a
 shared-slice-read-a c = search needs
 
+cast-a : tie.Need-cast-a
+cast-a c = search needs
+
 mul-b : tie.Need-mul-b
 mul-b c = search needs
 
 shared-slice-read-b : tie.Need-shared-slice-read-b
 shared-slice-read-b c = search needs
 
+cast-b : tie.Need-cast-b
+cast-b c = search needs
+
 mul-a-end : tie.Need-mul-a-end
 mul-a-end c = search needs
 
 shared-slice-read-a-end : tie.Need-shared-slice-read-a-end
 shared-slice-read-a-end c = search needs
+
+cast-a-end : tie.Need-cast-a-end
+cast-a-end c = search needs
 
 add-a-end : tie.Need-add-a-end
 add-a-end c = search needs
@@ -47,6 +56,9 @@ mul-b-end c = search needs
 
 shared-slice-read-b-end : tie.Need-shared-slice-read-b-end
 shared-slice-read-b-end c = search needs
+
+cast-b-end : tie.Need-cast-b-end
+cast-b-end c = search needs
 
 add-b-end : tie.Need-add-b-end
 add-b-end c = search needs
@@ -90,13 +102,17 @@ same-key-spec =
     returns
     mul-a
     shared-slice-read-a
+    cast-a
     mul-b
     shared-slice-read-b
+    cast-b
     mul-a-end
     shared-slice-read-a-end
+    cast-a-end
     add-a-end
     mul-b-end
     shared-slice-read-b-end
+    cast-b-end
     add-b-end
     sub-same-name
     part-same-name-start

@@ -78,6 +78,9 @@ shared-slice-read-from c =
     let some = c .before .loop-test .taken in
     omega arith
 
+cast-from : tie.Need-cast-from Inv-loop μ-loop
+cast-from c = omega (arith, c .shared-slice-known6 .given (c .before .before .loop .i - 1))
+
 mul-to : tie.Need-mul-to Inv-loop μ-loop
 mul-to c =
     let few = c .before .before .before .before .before .before .before .before .before .before .before .before .before .before .before .before .before .before .before .before .before .pre .1 .indexed .few in
@@ -92,6 +95,9 @@ shared-slice-read-to c =
     let inv = c .before .before .before .loop .inv .0 in
     let some = c .before .before .loop-test .taken in
     omega arith
+
+cast-to : tie.Need-cast-to Inv-loop μ-loop
+cast-to c = omega (arith, c .shared-slice-known7 .given (c .before .before .before .loop .i - 1))
 
 add-to : tie.Need-add-to Inv-loop μ-loop
 add-to c =
@@ -112,6 +118,9 @@ shared-slice-read-count c =
     let inv = c .before .before .before .before .loop .inv .0 in
     let some = c .before .before .before .loop-test .taken in
     omega arith
+
+cast-count : tie.Need-cast-count Inv-loop μ-loop
+cast-count c = omega (arith, c .shared-slice-known8 .given (c .before .before .before .before .loop .i - 1))
 
 sub-name-place : tie.Need-sub-name-place Inv-loop μ-loop
 sub-name-place c =
@@ -324,11 +333,14 @@ root-types-spec =
     (λ c. omega arith)
     mul-from
     shared-slice-read-from
+    cast-from
     mul-to
     shared-slice-read-to
+    cast-to
     add-to
     mul-count
     shared-slice-read-count
+    cast-count
     sub-name-place
     part-name-place-start
     part-name-place-end
