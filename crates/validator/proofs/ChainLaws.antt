@@ -5,7 +5,7 @@ use native.Mathlib.Nat.{eq-or-lt-of-le}
 use native.Mathlib.Omega.{arith}
 use mathlib.Core.List.{List}
 use mathlib.Core.Logic.{⊎-elim}
-use mathlib.Core.Path.{_≡_, refl, sym, _∙_, ap, subst}
+use mathlib.Core.Path.{_≡_, sym, _∙_, ap, subst}
 use lib.Dec.{eqb, ltb}
 use lib.ListN.{length, getD, set, replicate, length-set, length-replicate, getD-replicate, List·getD-eq-default}
 use lib.Seq.{getD-set-same, getD-set-other}
@@ -26,7 +26,7 @@ module _ {keys : List ℕ} {count : ℕ} where
       record { onward = omega arith; within = omega arith; passed = λ j l m q. absurd (omega arith); found = λ b. e }
 
   place-passed : {key at p : ℕ} → (getD keys at 0 ≡ key → ⊥) → PlaceFrom keys count key (at + 1) p → PlaceFrom keys count key at p
-  place-passed {key} {at} {p} other x =
+  place-passed other x =
       record {
         onward = let o = x .onward in omega arith;
         within = x .within;
@@ -52,7 +52,8 @@ module _ {keys : List ℕ} {count : ℕ} where
       }
 
   -- the key of the place before `from`
-  pub key-small : {from key : ℕ} {next : List ℕ} → Keyed keys count → ChainFrom keys count from next → 0 < from → key ≡ getD keys (from - 1) 0 → key ≤ 64
+  pub key-small : {from key : ℕ} {next : List ℕ} → Keyed keys count → ChainFrom keys count from next → 0 < from → key ≡ getD keys (from - 1) 0
+      → key ≤ 64
   key-small {from} k x h e = let w = x .within in let small = k .small (from - 1) (omega arith) in omega arith
 
   pub chain-from : {i j : ℕ} {next : List ℕ} → i ≡ j → ChainFrom keys count i next → ChainFrom keys count j next
