@@ -1,3 +1,5 @@
+pub mod ChainLaws
+pub mod LabelKeyLaws
 pub mod TypeLaws
 pub mod StackLaws
 pub mod VerdictLaws

@@ -14,6 +14,7 @@ use Rattle.sets.specs.Sets.{member, add}
 use Rattle.theory.proofs.MarkedRun.{run, holds}
 use Rattle.reader.specs.TableIndex.{part, Indexes}
 use Rattle.reader.specs.declared.tables.TableIndex.{TableIndex}
+use Rattle.validator.specs.Chains.{ChainAre}
 use Rattle.walks.specs.WalkAt.{runAt}
 
 pub record Known (s : List ℕ) (index : TableIndex) (g : Table) : Type 0 where
@@ -52,10 +53,16 @@ pub record RulesAt (s ruleTypes ruleLabels from to : List ℕ) (nullable : List 
   pub known : Known s (withRules index ruleTypes ruleLabels from to rules) g
   pub nullables : NullableAre s from to rules nullable
 
+-- the same, with the rules chained by their labels in place of the labels themselves
+pub record RulesChained (s ruleTypes next from to : List ℕ) (nullable : List Bool) (rules : ℕ) (g : Table) : Type 0 where
+  pub labels : List ℕ
+  pub at : RulesAt s ruleTypes labels from to nullable rules g
+  pub chain : ChainAre labels rules next
+
 -- of some table
-pub record SomeRules (s ruleTypes ruleLabels from to : List ℕ) (nullable : List Bool) (rules : ℕ) : Type 0 where
+pub record SomeRules (s ruleTypes next from to : List ℕ) (nullable : List Bool) (rules : ℕ) : Type 0 where
   pub table : Table
-  pub at : RulesAt s ruleTypes ruleLabels from to nullable rules table
+  pub at : RulesChained s ruleTypes next from to nullable rules table
 
 -- the rule fits a node of this name, with children that are given by tests of types
 unfoldable pub ruleFits : Table → Name → List (ℕ → Bool) → Rule → Bool
@@ -74,7 +81,7 @@ pub record WithIf (old : List ℕ) (flag : Bool) (k : ℕ) (new : List ℕ) : Ty
 
 -- a set of four words has the types of the rules that fit a node, the place of whose name among the labels is `label`, whatever table the rules
 -- are of
-pub record TypesAre (s ruleTypes ruleLabels from to : List ℕ) (nullable : List Bool) (rules label : ℕ) (tests : List (ℕ → Bool)) (set : List ℕ) : Type 0 where
-  pub types : (g : Table) → RulesAt s ruleTypes ruleLabels from to nullable rules g → (n : Name) → label ≡ place sameName n (g .labels)
+pub record TypesAre (s ruleTypes next from to : List ℕ) (nullable : List Bool) (rules label : ℕ) (tests : List (ℕ → Bool)) (set : List ℕ) : Type 0 where
+  pub types : (g : Table) → RulesChained s ruleTypes next from to nullable rules g → (n : Name) → label ≡ place sameName n (g .labels)
       → member set 0 ≡ holds (typesFor g n tests (g .rules))
   pub size : length set ≡ 4

@@ -1,3 +1,5 @@
 pub mod KnownTable
 pub mod KnownDocument
 pub mod ValidatorCalls
+pub mod Chains
+pub mod LabelKeys

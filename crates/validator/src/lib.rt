@@ -1,3 +1,5 @@
 // Membership and kind of tables and documents, over their readers.
 pub mod calls;
+mod chains;
+mod label_search;
 pub mod membership;

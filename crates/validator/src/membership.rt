@@ -2,7 +2,9 @@
 //
 // The nodes are gone through from the last to the first, with a stack of type sets in the lent words: a node takes the sets of its
 // children from the top, in order, and leaves its own.
-use reader::labels::name_place;
+use crate::chains::chained;
+use crate::label_search::chained_labels;
+use crate::label_search::label_of;
 use reader::numbers::wide;
 use reader::tables::TableIndex;
 use sets::four::Set4;
@@ -75,7 +77,7 @@ fn with_if(types: Set4, fits: bool, k: usize) -> Set4
 fn types_of(
     table: &[u8],
     rule_type: &[u8],
-    rule_label: &[u8],
+    next: &[u8],
     content_from: &[usize],
     content_to: &[usize],
     nullable: &[bool],
@@ -86,22 +88,20 @@ fn types_of(
     top: usize,
     count: usize,
 ) -> Set4
-    requires { ⌜ (SomeRules (now table) (now «rule_type») (now «rule_label») (now «content_from») (now «content_to») (now nullable) rules)
+    requires { ⌜ (SomeRules (now table) (now «rule_type») (now next) (now «content_from») (now «content_to») (now nullable) rules) × (label ≤ 64)
         × (1024 ≤ length (now marks)) × (4 ≤ length (now words)) × (top + 4 * count ≤ length (now words)) ⌝ }
-    ensures { λ r. ⌜ TypesAre (now (table .entry)) (now («rule_type» .entry)) (now («rule_label» .entry)) (now («content_from» .entry)) (now («content_to» .entry))
+    ensures { λ r. ⌜ TypesAre (now (table .entry)) (now («rule_type» .entry)) (now (next .entry)) (now («content_from» .entry)) (now («content_to» .entry))
         (now (nullable .entry)) rules label (testsAt (now (words .entry)) top count) (r .words) ⌝ }
 {
     let mut types = Set4::empty();
-    let mut i: usize = 0;
+    let mut i = wide(next[64 + label]);
     while i < rules {
-        if wide(rule_label[i]) == label {
-            let from = content_from[i];
-            let to = content_to[i];
-            let fits = content_fits(&table[from..to], nullable[i], marks, words, top, count);
-            let more = with_if(types, fits, wide(rule_type[i]));
-            types = more;
-        }
-        i += 1;
+        let from = content_from[i];
+        let to = content_to[i];
+        let fits = content_fits(&table[from..to], nullable[i], marks, words, top, count);
+        let more = with_if(types, fits, wide(rule_type[i]));
+        types = more;
+        i = wide(next[i]);
     }
     types
 }
@@ -126,12 +126,14 @@ fn root_types(
     let nullable = nullable_contents(table, index, marks, words);
     let label_from = index.label_from;
     let label_to = index.label_to;
+    let labels = index.labels;
+    let by_key = chained_labels(table, &label_from, &label_to, labels);
     let rule_type = index.rule_type;
     let rule_label = index.rule_label;
+    let rules = index.rules;
+    let by_label = chained(&rule_label, rules);
     let content_from = index.content_from;
     let content_to = index.content_to;
-    let labels = index.labels;
-    let rules = index.rules;
     let mut i = nodes;
     let mut top = 4 * nodes;
     while 0 < i {
@@ -139,11 +141,12 @@ fn root_types(
         let from = names[at] as usize;
         let to = from + sizes[at] as usize;
         let count = children[at] as usize;
-        let label = name_place(&document[from..to], table, &label_from, &label_to, labels);
+        let name = &document[from..to];
+        let label = label_of(name, table, &label_from, &label_to, &by_key, labels);
         let types = types_of(
             table,
             &rule_type,
-            &rule_label,
+            &by_label,
             &content_from,
             &content_to,
             &nullable,
