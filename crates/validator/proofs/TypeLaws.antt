@@ -1,7 +1,7 @@
 -- The types of a node, rule by rule. A rule is named as the node exactly if its label is the place of the node's name (`named-by-place`), so
 -- what the code asks of a rule is what the table says of it (`asked-is`, `not-asked`). A set that has the types of the first rules has, with
--- the next rule's if it fits, those of one rule more (`types-step`).
-use Prim.Native.Nat.{ℕ, _+_, _-_, _/_, _≤_, _<_}
+-- the next rule's if it fits, those of one rule more (`types-step`), and those of all rules up to the next one of the label (`types-passed`).
+use Prim.Native.Nat.{ℕ, zero, suc, _+_, _-_, _/_, _≤_, _<_}
 use native.Mathlib.Omega.{arith}
 use native.Mathlib.Numerals.{add-one}
 use mathlib.Core.Bool.{Bool, true, false, _&&_, _||_, or-comm, or-false}
@@ -34,6 +34,7 @@ use Rattle.reader.proofs.TableFaults.{part-size}
 use Rattle.reader.proofs.TableFound.{RuleFound, rule-found-at, content-in-part}
 use Rattle.walks.specs.TypeSets.{setAt}
 use Rattle.walks.specs.WalkAt.{runAt, WholeAt}
+use Rattle.validator.specs.Chains.{PlaceFrom}
 use Rattle.validator.specs.KnownTable.{Known, ruleFits, typesFor, WithIf}
 use Rattle.walks.proofs.WalkLaws.{run-at}
 
@@ -171,6 +172,35 @@ module _ (g : Table) (n : Name) (tests : List (ℕ → Bool)) where
           ∙ o
           ∙ sym (ap holds (types-more i r e ∙ ap (λ (l : List ℕ). typesFor g n tests (take i (g .rules)) ++ l) (types-not r (sym f ∙ p))
           ∙ append-nil (typesFor g n tests (take i (g .rules)))))
+
+-- the rules up to the next one of the node's label, too: they have other labels, so none of them fits
+module _ {s : List ℕ} {index : TableIndex} {g : Table} (known : Known s index g) (n : Name) (tests : List (ℕ → Bool)) (label : ℕ)
+    (named : label ≡ place sameName n (g .labels)) where
+  abbrev of-first : ℕ → List ℕ
+  of-first i = typesFor g n tests (take i (g .rules))
+
+  rule-passed : (i : ℕ) → i < index .rules → (ruleLabel index i ≡ label → ⊥) → of-first (i + 1) ≡ of-first i
+  rule-passed i below other =
+      let rule = known-rule known i below in
+      types-more g n tests i (rule .rule) (rule .listed)
+      ∙ ap (λ (l : List ℕ). of-first i ++ l) (types-not g n tests (rule .rule) (sym (not-asked known i below n tests label named other)))
+      ∙ append-nil (of-first i)
+
+  pub types-passed : (from at : ℕ) → PlaceFrom (index .«rule_label») (index .rules) label from at
+      → holds (typesFor g n tests (take from (g .rules))) ≡ holds (typesFor g n tests (take at (g .rules)))
+  types-passed from at p =
+      let order = p .onward in
+      let whole : from + (at - from) ≡ at = omega arith in
+      ap holds (sym (go (at - from) (omega arith)) ∙ ap of-first whole)
+    where
+      go : (more : ℕ) → from + more ≤ at → of-first (from + more) ≡ of-first from
+      go zero h = let e : from + 0 ≡ from = omega arith in ap of-first e
+      go (suc more) h =
+          let within = p .within in
+          let e : from + suc more ≡ from + more + 1 = omega arith in
+          ap of-first e
+          ∙ rule-passed (from + more) (omega arith) (p .passed (from + more) (omega arith) (omega arith))
+          ∙ go more (omega arith)
 
 -- a set with one more number, if the flag says so
 module _ (old new : List ℕ) (k : ℕ) (small : k < 64) (size : length old ≡ 4) where
