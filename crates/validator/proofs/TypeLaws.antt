@@ -25,7 +25,7 @@ use Rattle.theory.proofs.BoolLaws.{same-test}
 use Rattle.theory.proofs.ListLaws.{any-of, at-mem, at-below, at-else, below-at, differ-at, in-append, just-eq, keep-yes, keep-no}
 use Rattle.theory.proofs.DistinctLaws.{keep-append}
 use Rattle.theory.proofs.NameLaws.{name-sym, name-trans}
-use Rattle.theory.proofs.PlaceLaws.{place-found, place-some}
+use Rattle.theory.proofs.PlaceLaws.{place-found, place-most, place-some}
 use Rattle.theory.proofs.MarkedRun.{holds}
 use Rattle.reader.specs.ExprAt.{_upTo_, exprAt}
 use Rattle.reader.specs.TableIndex.{part, ruleLabel, contentFrom, contentTo}
@@ -34,7 +34,7 @@ use Rattle.reader.proofs.TableFaults.{part-size}
 use Rattle.reader.proofs.TableFound.{RuleFound, rule-found-at, content-in-part}
 use Rattle.walks.specs.TypeSets.{setAt}
 use Rattle.walks.specs.WalkAt.{runAt, WholeAt}
-use Rattle.validator.specs.Chains.{PlaceFrom}
+use Rattle.validator.specs.Chains.{Keyed, PlaceFrom}
 use Rattle.validator.specs.KnownTable.{Known, ruleFits, typesFor, WithIf}
 use Rattle.walks.proofs.WalkLaws.{run-at}
 
@@ -109,6 +109,32 @@ module _ {s : List ℕ} {index : TableIndex} {g : Table} (known : Known s index 
     pub not-asked : (ruleLabel index i ≡ label → ⊥) → false ≡ ruleFits g n tests (known-rule .rule)
     not-asked h =
         sym (rule-fits-is ∙ ap (λ (b : Bool). b && runAt (part s (contentFrom index i) (contentTo index i)) tests) (ne-eqb (ruleLabel index i) label h))
+
+-- Labels of a table that is known are few enough to be keys.
+module _ {s : List ℕ} {index : TableIndex} {g : Table} (known : Known s index g) where
+  pub rules-keyed : Keyed (index .«rule_label») (index .rules)
+  rules-keyed =
+      let x = known .indexes in
+      let few = x .few-rules in
+      record {
+        few = few;
+        room = let room = x .rooms .rule-label in omega arith;
+        small =
+            λ i below.
+            let rule = known-rule known i below in
+            let here = rule .at .label in
+            let inside = rule .within .label in
+            let labels = x .labels in
+            let few = x .few-labels in
+            omega arith;
+      }
+
+  pub label-few : (n : Name) {label : ℕ} → label ≡ place sameName n (g .labels) → label ≤ 64
+  label-few n e =
+      let most = place-most sameName n (g .labels) in
+      let labels = known .indexes .labels in
+      let few = known .indexes .few-labels in
+      omega arith
 
 -- flags that are right for the first numbers, and one more
 pub flags-more : (flags : List Bool) (i : ℕ) (flag : Bool) (right : ℕ → Bool) → i < length flags
