@@ -106,7 +106,7 @@ module _ {s : List ℕ} {index : TableIndex} {g : Table} (known : Known s index 
     asked-is h =
         sym (rule-fits-is ∙ ap (λ (b : Bool). b && runAt (part s (contentFrom index i) (contentTo index i)) tests) (eq-eqb (ruleLabel index i) label h))
 
-    pub not-asked : (ruleLabel index i ≡ label → ⊥) → false ≡ ruleFits g n tests (known-rule .rule)
+    not-asked : (ruleLabel index i ≡ label → ⊥) → false ≡ ruleFits g n tests (known-rule .rule)
     not-asked h =
         sym (rule-fits-is ∙ ap (λ (b : Bool). b && runAt (part s (contentFrom index i) (contentTo index i)) tests) (ne-eqb (ruleLabel index i) label h))
 

@@ -31,9 +31,6 @@ abbrev μ-loop : tie.MeasureT-loop
 μ-loop table rule-type next content-from content-to nullable rules label marks₀ words top count types₀ i₀ marks types i =
     rules - i
 
-add-wide : tie.Need-add-wide Inv-loop μ-loop
-add-wide c = omega (arith, c .before .before .before .before .before .before .before .before .before .pre .1)
-
 shared-slice-read-wide : tie.Need-shared-slice-read-wide Inv-loop μ-loop
 shared-slice-read-wide c =
     let small = c .before .before .before .before .before .before .before .before .before .before .pre .1 in
@@ -138,13 +135,6 @@ shared-slice-read-wide-3 c =
     let below = c .before .before .before .before .before .before .before .before .before .before .before .before .loop-test .taken in
     omega arith
 
-loop-less : tie.Need-loop-less Inv-loop μ-loop
-loop-less c =
-    let below = c .before .before .before .before .before .before .before .before .before .before .before .before .before .loop-test .taken in
-    let onward = c .before .before .before .before .before .before .before .before .before .before .before .before .before .before .before .before .before .before .before .before .before .before .before .before .before .before .pre .0 .at .chain .after (c .before .before .before .before .before .before .before .before .before .before .before .before .before .before .loop .i) below .onward in
-    let read = c .wide3 .ensures .0 in
-    omega arith
-
 loop-again : tie.Need-loop-again Inv-loop μ-loop
 loop-again c =
     let a = c .before .before .before .before .before .before .before .before .before .before .before .before .before .before .before .before .before .before .before .before .before .before .before .before .before .before .args in
@@ -194,7 +184,7 @@ types-of-spec =
     Inv-loop
     μ-loop
     (λ c κs. search needs)
-    add-wide
+    (λ c. omega (arith, c .before .before .before .before .before .before .before .before .before .pre .1))
     shared-slice-read-wide
     (λ c κs. search needs)
     loop-holds
@@ -212,7 +202,7 @@ types-of-spec =
     with-if-requires
     shared-slice-read-wide-3
     (λ c κs. search needs)
-    loop-less
+    (λ c. let onward = c .before .before .before .before .before .before .before .before .before .before .before .before .before .before .before .before .before .before .before .before .before .before .before .before .before .before .pre .0 .at .chain .after (c .before .before .before .before .before .before .before .before .before .before .before .before .before .before .loop .i) (c .before .before .before .before .before .before .before .before .before .before .before .before .before .loop-test .taken) .onward in let read = c .wide3 .ensures .0 in omega arith)
     loop-again
     (λ c. c .before .loop .inv .1)
     returns)
