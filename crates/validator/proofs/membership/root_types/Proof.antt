@@ -17,7 +17,7 @@ use Rattle.validator.proofs.membership.root_types.Statement.{statement}
 use Rattle.validator.proofs.membership.root_types.Tie as tie
 
 abbrev Inv-loop : tie.InvT-loop
-Inv-loop table document names sizes children nodes marks₀ words₀ nullable label-from label-to labels by-key rule-type rules by-label content-from content-to i₀ top₀ marks words i top =
+Inv-loop table document names sizes children nodes marks₀ words₀ label-from label-to labels by-key rule-type rules by-label content-from content-to nullable i₀ top₀ marks words i top =
     (i ≤ nodes)
     × (length marks ≡ length marks₀)
     × (length words ≡ length words₀)
@@ -27,7 +27,7 @@ Inv-loop table document names sizes children nodes marks₀ words₀ nullable la
     → laws.Stacked g (drop i (nodesIn document (indexOf names sizes children nodes))) words top)
 
 abbrev μ-loop : tie.MeasureT-loop
-μ-loop table document names sizes children nodes marks₀ words₀ nullable label-from label-to labels by-key rule-type rules by-label content-from content-to i₀ top₀ marks words i top =
+μ-loop table document names sizes children nodes marks₀ words₀ label-from label-to labels by-key rule-type rules by-label content-from content-to nullable i₀ top₀ marks words i top =
     i
 
 -- the node before a place, and its name
@@ -39,42 +39,51 @@ same-size d from size =
     let e : from + size - from ≡ size = omega arith in
     ap (λ (n : ℕ). take n (drop from d)) e
 
-nullable-contents-requires : tie.Need-nullable-contents-requires Inv-loop μ-loop
-nullable-contents-requires c κs =
-    let pre = c .before .before .before .before .before .before .before .before .before .pre in
-    (pre .0, pre .3, omega arith)
-
 slice-aggregate-chained-labels : tie.Need-slice-aggregate-chained-labels Inv-loop μ-loop
 slice-aggregate-chained-labels c =
-    sym (c .before .before .before .before .before .before .before .before .before .before .before .before .before .before .before .pre .0 .known .indexes .rooms .label-from)
+    sym (c .before .before .before .before .before .before .before .before .before .before .pre .0 .known .indexes .rooms .label-from)
 
 slice-aggregate-chained-labels-2 : tie.Need-slice-aggregate-chained-labels-2 Inv-loop μ-loop
 slice-aggregate-chained-labels-2 c =
-    sym (c .before .before .before .before .before .before .before .before .before .before .before .before .before .before .before .before .pre .0 .known .indexes .rooms .label-to)
+    sym (c .before .before .before .before .before .before .before .before .before .before .before .pre .0 .known .indexes .rooms .label-to)
 
 chained-labels-requires : tie.Need-chained-labels-requires Inv-loop μ-loop
 chained-labels-requires c κs =
-    let table = c .before .before .before .before .before .before .before .before .before .before .before .before .before .before .before .before .pre .0 in
+    let table = c .before .before .before .before .before .before .before .before .before .before .before .pre .0 in
     (record { list = table .table .labels; at = index-names (table .known .indexes) }, table .known .indexes .few-labels)
 
 slice-aggregate-chained : tie.Need-slice-aggregate-chained Inv-loop μ-loop
 slice-aggregate-chained c =
-    sym (c .before .before .before .before .before .before .before .before .before .before .before .before .before .before .before .before .before .before .before .before .pre .0 .known .indexes .rooms .rule-label)
+    sym (c .before .before .before .before .before .before .before .before .before .before .before .before .before .before .before .pre .0 .known .indexes .rooms .rule-label)
 
 chained-requires : tie.Need-chained-requires Inv-loop μ-loop
 chained-requires c κs =
-    rules-keyed (c .before .before .before .before .before .before .before .before .before .before .before .before .before .before .before .before .before .before .before .before .pre .0 .known)
+    rules-keyed (c .before .before .before .before .before .before .before .before .before .before .before .before .before .before .before .pre .0 .known)
+
+slice-aggregate-nullable-contents : tie.Need-slice-aggregate-nullable-contents Inv-loop μ-loop
+slice-aggregate-nullable-contents c =
+    sym (c .before .before .before .before .before .before .before .before .before .before .before .before .before .before .before .before .before .before .before .pre .0 .known .indexes .rooms .content-from)
+
+slice-aggregate-nullable-contents-2 : tie.Need-slice-aggregate-nullable-contents-2 Inv-loop μ-loop
+slice-aggregate-nullable-contents-2 c =
+    sym (c .before .before .before .before .before .before .before .before .before .before .before .before .before .before .before .before .before .before .before .before .pre .0 .known .indexes .rooms .content-to)
+
+nullable-contents-requires : tie.Need-nullable-contents-requires Inv-loop μ-loop
+nullable-contents-requires c κs =
+    let pre = c .before .before .before .before .before .before .before .before .before .before .before .before .before .before .before .before .before .before .before .before .before .before .pre in
+    let room = pre .4 in
+    (record { index = c .before .before .before .before .before .before .before .before .before .before .before .before .before .before .before .before .before .before .before .before .before .before .args .index; at = pre .0 }, pre .3, omega arith)
 
 mul-top : tie.Need-mul-top Inv-loop μ-loop
 mul-top c =
-    omega (arith, c .before .before .before .before .before .before .before .before .before .before .before .before .before .before .before .before .before .before .before .before .before .before .before .pre .1 .indexed .few)
+    omega (arith, c .before .before .before .before .before .before .before .before .before .before .before .before .before .before .before .before .before .before .before .before .before .before .before .before .before .pre .1 .indexed .few)
 
 loop-holds : tie.Need-loop-holds Inv-loop μ-loop
 loop-holds c =
-    let a = c .before .before .before .before .before .before .before .before .before .before .before .before .before .before .before .before .before .before .before .before .before .before .before .args in
+    let a = c .before .before .before .before .before .before .before .before .before .before .before .before .before .before .before .before .before .before .before .before .before .before .before .before .before .args in
     let d = a .document .now in
     let nodes = indexOf (a .names .now) (a .sizes .now) (a .children .now) (a .nodes) in
-    let known = c .before .before .before .before .before .before .before .before .before .before .before .before .before .before .before .before .before .before .before .before .before .before .before .pre .1 in
+    let known = c .before .before .before .before .before .before .before .before .before .before .before .before .before .before .before .before .before .before .before .before .before .before .before .before .before .pre .1 in
     let few = known .indexed .few in
     let none = laws.none-count d nodes in (
       omega arith,
@@ -86,113 +95,113 @@ loop-holds c =
 
 mul-from : tie.Need-mul-from Inv-loop μ-loop
 mul-from c =
-    let few = c .before .before .before .before .before .before .before .before .before .before .before .before .before .before .before .before .before .before .before .before .before .before .before .before .before .pre .1 .indexed .few in
+    let few = c .before .before .before .before .before .before .before .before .before .before .before .before .before .before .before .before .before .before .before .before .before .before .before .before .before .before .before .pre .1 .indexed .few in
     let inv = c .before .loop .inv .0 in
     let some = c .loop-test .taken in
     omega arith
 
 shared-slice-read-from : tie.Need-shared-slice-read-from Inv-loop μ-loop
 shared-slice-read-from c =
-    let few = c .before .before .before .before .before .before .before .before .before .before .before .before .before .before .before .before .before .before .before .before .before .before .before .before .before .before .pre .1 .indexed .few in
-    let room = c .before .before .before .before .before .before .before .before .before .before .before .before .before .before .before .before .before .before .before .before .before .before .before .before .before .before .pre .2 .for-names in
+    let few = c .before .before .before .before .before .before .before .before .before .before .before .before .before .before .before .before .before .before .before .before .before .before .before .before .before .before .before .before .pre .1 .indexed .few in
+    let room = c .before .before .before .before .before .before .before .before .before .before .before .before .before .before .before .before .before .before .before .before .before .before .before .before .before .before .before .before .pre .2 .for-names in
     let inv = c .before .before .loop .inv .0 in
     let some = c .before .loop-test .taken in
     omega arith
 
 mul-to : tie.Need-mul-to Inv-loop μ-loop
 mul-to c =
-    let few = c .before .before .before .before .before .before .before .before .before .before .before .before .before .before .before .before .before .before .before .before .before .before .before .before .before .before .pre .1 .indexed .few in
+    let few = c .before .before .before .before .before .before .before .before .before .before .before .before .before .before .before .before .before .before .before .before .before .before .before .before .before .before .before .before .pre .1 .indexed .few in
     let inv = c .before .before .loop .inv .0 in
     let some = c .before .loop-test .taken in
     omega arith
 
 shared-slice-read-to : tie.Need-shared-slice-read-to Inv-loop μ-loop
 shared-slice-read-to c =
-    let few = c .before .before .before .before .before .before .before .before .before .before .before .before .before .before .before .before .before .before .before .before .before .before .before .before .before .before .before .pre .1 .indexed .few in
-    let room = c .before .before .before .before .before .before .before .before .before .before .before .before .before .before .before .before .before .before .before .before .before .before .before .before .before .before .before .pre .2 .for-sizes in
+    let few = c .before .before .before .before .before .before .before .before .before .before .before .before .before .before .before .before .before .before .before .before .before .before .before .before .before .before .before .before .before .pre .1 .indexed .few in
+    let room = c .before .before .before .before .before .before .before .before .before .before .before .before .before .before .before .before .before .before .before .before .before .before .before .before .before .before .before .before .before .pre .2 .for-sizes in
     let inv = c .before .before .before .loop .inv .0 in
     let some = c .before .before .loop-test .taken in
     omega arith
 
 add-to : tie.Need-add-to Inv-loop μ-loop
 add-to c =
-    let within = c .before .before .before .before .before .before .before .before .before .before .before .before .before .before .before .before .before .before .before .before .before .before .before .before .before .before .before .pre .1 .indexed .within (c .before .before .before .loop .i - 1) (inside (c .before .before .before .loop .i) _ (c .before .before .before .loop .inv .0) (c .before .before .loop-test .taken)) in
-    let small = c .before .before .before .before .before .before .before .before .before .before .before .before .before .before .before .before .before .before .before .before .before .before .before .before .before .before .before .good .1 .1 .0 in
+    let within = c .before .before .before .before .before .before .before .before .before .before .before .before .before .before .before .before .before .before .before .before .before .before .before .before .before .before .before .before .before .pre .1 .indexed .within (c .before .before .before .loop .i - 1) (inside (c .before .before .before .loop .i) _ (c .before .before .before .loop .inv .0) (c .before .before .loop-test .taken)) in
+    let small = c .before .before .before .before .before .before .before .before .before .before .before .before .before .before .before .before .before .before .before .before .before .before .before .before .before .before .before .before .before .good .1 .1 .0 in
     omega arith
 
 mul-count : tie.Need-mul-count Inv-loop μ-loop
 mul-count c =
-    let few = c .before .before .before .before .before .before .before .before .before .before .before .before .before .before .before .before .before .before .before .before .before .before .before .before .before .before .before .pre .1 .indexed .few in
+    let few = c .before .before .before .before .before .before .before .before .before .before .before .before .before .before .before .before .before .before .before .before .before .before .before .before .before .before .before .before .before .pre .1 .indexed .few in
     let inv = c .before .before .before .loop .inv .0 in
     let some = c .before .before .loop-test .taken in
     omega arith
 
 shared-slice-read-count : tie.Need-shared-slice-read-count Inv-loop μ-loop
 shared-slice-read-count c =
-    let few = c .before .before .before .before .before .before .before .before .before .before .before .before .before .before .before .before .before .before .before .before .before .before .before .before .before .before .before .before .pre .1 .indexed .few in
-    let room = c .before .before .before .before .before .before .before .before .before .before .before .before .before .before .before .before .before .before .before .before .before .before .before .before .before .before .before .before .pre .2 .for-children in
+    let few = c .before .before .before .before .before .before .before .before .before .before .before .before .before .before .before .before .before .before .before .before .before .before .before .before .before .before .before .before .before .before .pre .1 .indexed .few in
+    let room = c .before .before .before .before .before .before .before .before .before .before .before .before .before .before .before .before .before .before .before .before .before .before .before .before .before .before .before .before .before .before .pre .2 .for-children in
     let inv = c .before .before .before .before .loop .inv .0 in
     let some = c .before .before .before .loop-test .taken in
     omega arith
 
 sub-name : tie.Need-sub-name Inv-loop μ-loop
 sub-name c =
-    let within = c .before .before .before .before .before .before .before .before .before .before .before .before .before .before .before .before .before .before .before .before .before .before .before .before .before .before .before .before .pre .1 .indexed .within (c .before .before .before .before .loop .i - 1) (inside (c .before .before .before .before .loop .i) _ (c .before .before .before .before .loop .inv .0) (c .before .before .before .loop-test .taken)) in
+    let within = c .before .before .before .before .before .before .before .before .before .before .before .before .before .before .before .before .before .before .before .before .before .before .before .before .before .before .before .before .before .before .pre .1 .indexed .within (c .before .before .before .before .loop .i - 1) (inside (c .before .before .before .before .loop .i) _ (c .before .before .before .before .loop .inv .0) (c .before .before .before .loop-test .taken)) in
     omega arith
 
 part-name-start : tie.Need-part-name-start Inv-loop μ-loop
 part-name-start c =
-    let within = c .before .before .before .before .before .before .before .before .before .before .before .before .before .before .before .before .before .before .before .before .before .before .before .before .before .before .before .before .pre .1 .indexed .within (c .before .before .before .before .loop .i - 1) (inside (c .before .before .before .before .loop .i) _ (c .before .before .before .before .loop .inv .0) (c .before .before .before .loop-test .taken)) in
+    let within = c .before .before .before .before .before .before .before .before .before .before .before .before .before .before .before .before .before .before .before .before .before .before .before .before .before .before .before .before .before .before .pre .1 .indexed .within (c .before .before .before .before .loop .i - 1) (inside (c .before .before .before .before .loop .i) _ (c .before .before .before .before .loop .inv .0) (c .before .before .before .loop-test .taken)) in
     omega arith
 
 part-name-end : tie.Need-part-name-end Inv-loop μ-loop
 part-name-end c =
-    let within = c .before .before .before .before .before .before .before .before .before .before .before .before .before .before .before .before .before .before .before .before .before .before .before .before .before .before .before .before .pre .1 .indexed .within (c .before .before .before .before .loop .i - 1) (inside (c .before .before .before .before .loop .i) _ (c .before .before .before .before .loop .inv .0) (c .before .before .before .loop-test .taken)) in
+    let within = c .before .before .before .before .before .before .before .before .before .before .before .before .before .before .before .before .before .before .before .before .before .before .before .before .before .before .before .before .before .before .pre .1 .indexed .within (c .before .before .before .before .loop .i - 1) (inside (c .before .before .before .before .loop .i) _ (c .before .before .before .before .loop .inv .0) (c .before .before .before .loop-test .taken)) in
     omega arith
 
 slice-aggregate-label-of : tie.Need-slice-aggregate-label-of Inv-loop μ-loop
 slice-aggregate-label-of c =
-    sym (c .before .before .before .before .before .before .before .before .before .before .before .before .before .before .before .before .before .before .before .before .before .before .before .before .before .before .before .before .before .before .pre .0 .known .indexes .rooms .label-from)
+    sym (c .before .before .before .before .before .before .before .before .before .before .before .before .before .before .before .before .before .before .before .before .before .before .before .before .before .before .before .before .before .before .before .before .pre .0 .known .indexes .rooms .label-from)
 
 slice-aggregate-label-of-2 : tie.Need-slice-aggregate-label-of-2 Inv-loop μ-loop
 slice-aggregate-label-of-2 c =
-    sym (c .before .before .before .before .before .before .before .before .before .before .before .before .before .before .before .before .before .before .before .before .before .before .before .before .before .before .before .before .before .before .before .pre .0 .known .indexes .rooms .label-to)
+    sym (c .before .before .before .before .before .before .before .before .before .before .before .before .before .before .before .before .before .before .before .before .before .before .before .before .before .before .before .before .before .before .before .before .before .pre .0 .known .indexes .rooms .label-to)
 
 slice-aggregate-label-of-3 : tie.Need-slice-aggregate-label-of-3 Inv-loop μ-loop
 slice-aggregate-label-of-3 c =
-    sym (c .before .before .before .before .before .before .before .before .before .before .before .before .before .before .before .chained-labels .ensures .chain .room)
+    sym (c .before .before .before .before .before .before .before .before .before .before .before .before .before .before .before .before .before .before .before .before .before .before .chained-labels .ensures .chain .room)
 
 slice-aggregate-types-of : tie.Need-slice-aggregate-types-of Inv-loop μ-loop
 slice-aggregate-types-of c =
-    sym (c .before .before .before .before .before .before .before .before .before .before .before .before .before .before .before .before .before .before .before .before .before .before .before .before .before .before .before .before .before .before .before .before .before .before .pre .0 .known .indexes .rooms .rule-type)
+    sym (c .before .before .before .before .before .before .before .before .before .before .before .before .before .before .before .before .before .before .before .before .before .before .before .before .before .before .before .before .before .before .before .before .before .before .before .before .pre .0 .known .indexes .rooms .rule-type)
 
 slice-aggregate-types-of-2 : tie.Need-slice-aggregate-types-of-2 Inv-loop μ-loop
 slice-aggregate-types-of-2 c =
-    sym (c .before .before .before .before .before .before .before .before .before .before .before .before .before .before .chained .ensures .room)
+    sym (c .before .before .before .before .before .before .before .before .before .before .before .before .before .before .before .before .before .before .before .before .before .chained .ensures .room)
 
 slice-aggregate-types-of-3 : tie.Need-slice-aggregate-types-of-3 Inv-loop μ-loop
 slice-aggregate-types-of-3 c =
-    sym (c .before .before .before .before .before .before .before .before .before .before .before .before .before .before .before .before .before .before .before .before .before .before .before .before .before .before .before .before .before .before .before .before .before .before .before .before .pre .0 .known .indexes .rooms .content-from)
+    sym (c .before .before .before .before .before .before .before .before .before .before .before .before .before .before .before .before .before .before .before .before .before .before .before .before .before .before .before .before .before .before .before .before .before .before .before .before .before .before .pre .0 .known .indexes .rooms .content-from)
 
 slice-aggregate-types-of-4 : tie.Need-slice-aggregate-types-of-4 Inv-loop μ-loop
 slice-aggregate-types-of-4 c =
-    sym (c .before .before .before .before .before .before .before .before .before .before .before .before .before .before .before .before .before .before .before .before .before .before .before .before .before .before .before .before .before .before .before .before .before .before .before .before .before .pre .0 .known .indexes .rooms .content-to)
+    sym (c .before .before .before .before .before .before .before .before .before .before .before .before .before .before .before .before .before .before .before .before .before .before .before .before .before .before .before .before .before .before .before .before .before .before .before .before .before .before .before .pre .0 .known .indexes .rooms .content-to)
 
 label-of-requires : tie.Need-label-of-requires Inv-loop μ-loop
 label-of-requires c κs =
-    let table = c .before .before .before .before .before .before .before .before .before .before .before .before .before .before .before .before .before .before .before .before .before .before .before .before .before .before .before .before .before .before .before .before .pre .0 in
-    record { list = table .table .labels; at = index-names (table .known .indexes); chained = c .before .before .before .before .before .before .before .before .before .before .before .before .before .before .before .chained-labels .ensures }
+    let table = c .before .before .before .before .before .before .before .before .before .before .before .before .before .before .before .before .before .before .before .before .before .before .before .before .before .before .before .before .before .before .before .before .before .before .pre .0 in
+    record { list = table .table .labels; at = index-names (table .known .indexes); chained = c .before .before .before .before .before .before .before .before .before .before .before .before .before .before .before .before .before .before .before .before .before .before .chained-labels .ensures }
 
 slice-aggregate-types-of-5 : tie.Need-slice-aggregate-types-of-5 Inv-loop μ-loop
 slice-aggregate-types-of-5 c =
-    sym (c .before .before .before .before .before .before .before .before .before .before .before .before .before .before .before .before .before .before .before .before .before .before .before .before .before .before .before .before .nullable-contents .ok .1 .0 .1)
+    sym (c .before .before .before .before .before .before .before .before .before .before .before .before .before .before .before .before .before .nullable-contents .ok .1 .0 .1)
 
 types-of-requires : tie.Need-types-of-requires Inv-loop μ-loop
 types-of-requires c κs =
-    let a = c .before .before .before .before .before .before .before .before .before .before .before .before .before .before .before .before .before .before .before .before .before .before .before .before .before .before .before .before .before .before .before .before .before .before .before .before .before .before .before .before .args in
+    let a = c .before .before .before .before .before .before .before .before .before .before .before .before .before .before .before .before .before .before .before .before .before .before .before .before .before .before .before .before .before .before .before .before .before .before .before .before .before .before .before .before .before .before .args in
     let d = a .document .now in
     let nodes = indexOf (a .names .now) (a .sizes .now) (a .children .now) (a .nodes) in
-    let known = c .before .before .before .before .before .before .before .before .before .before .before .before .before .before .before .before .before .before .before .before .before .before .before .before .before .before .before .before .before .before .before .before .before .before .before .before .before .before .before .before .pre .1 in
+    let known = c .before .before .before .before .before .before .before .before .before .before .before .before .before .before .before .before .before .before .before .before .before .before .before .before .before .before .before .before .before .before .before .before .before .before .before .before .before .before .before .before .before .before .pre .1 in
     let few = known .indexed .few in
     let i = c .before .before .before .before .before .before .before .before .before .before .before .before .before .before .before .before .loop .i in
     let inv = c .before .before .before .before .before .before .before .before .before .before .before .before .before .before .before .before .loop .inv in
@@ -200,17 +209,17 @@ types-of-requires c κs =
     let before : i - 1 + 1 ≡ i = omega arith in
     let enough = laws.round-enough d nodes known i (i - 1) before (inv .0) in
     let trees = laws.round-few d nodes known i (i - 1) before (inv .0) in
-    let room = c .before .before .before .before .before .before .before .before .before .before .before .before .before .before .before .before .before .before .before .before .before .before .before .before .before .before .before .before .before .before .before .before .before .before .before .before .before .before .before .before .pre .4 in
-    let marks = c .before .before .before .before .before .before .before .before .before .before .before .before .before .before .before .before .before .before .before .before .before .before .before .before .before .before .before .before .before .before .before .before .before .before .before .before .before .before .before .before .pre .3 in
-    let kept = c .before .before .before .before .before .before .before .before .before .before .before .before .before .before .before .before .before .before .before .before .before .before .before .before .before .before .before .before .before .before .nullable-contents .kept .1 .1 .0 in
-    let table = c .before .before .before .before .before .before .before .before .before .before .before .before .before .before .before .before .before .before .before .before .before .before .before .before .before .before .before .before .before .before .before .before .before .before .before .before .before .before .before .before .pre .0 in (
+    let room = c .before .before .before .before .before .before .before .before .before .before .before .before .before .before .before .before .before .before .before .before .before .before .before .before .before .before .before .before .before .before .before .before .before .before .before .before .before .before .before .before .before .before .pre .4 in
+    let marks = c .before .before .before .before .before .before .before .before .before .before .before .before .before .before .before .before .before .before .before .before .before .before .before .before .before .before .before .before .before .before .before .before .before .before .before .before .before .before .before .before .before .before .pre .3 in
+    let kept = c .before .before .before .before .before .before .before .before .before .before .before .before .before .before .before .before .before .before .before .nullable-contents .kept .1 .1 .1 .1 .0 in
+    let table = c .before .before .before .before .before .before .before .before .before .before .before .before .before .before .before .before .before .before .before .before .before .before .before .before .before .before .before .before .before .before .before .before .before .before .before .before .before .before .before .before .before .before .pre .0 in (
       record {
         table = table .table;
         at =
             record {
               labels = a .index .«rule_label»;
-              at = record { index = a .index; known = table .known; nullables = c .before .before .before .before .before .before .before .before .before .before .before .before .before .before .before .before .before .before .before .before .before .before .before .before .before .before .before .before .before .before .nullable-contents .ensures };
-              chain = c .before .before .before .before .before .before .before .before .before .before .before .before .before .before .before .before .before .before .before .chained .ensures;
+              at = record { index = a .index; known = table .known; nullables = c .before .before .before .before .before .before .before .before .before .before .before .before .before .before .before .before .before .before .before .nullable-contents .ensures };
+              chain = c .before .before .before .before .before .before .before .before .before .before .before .before .before .before .before .before .before .before .before .before .before .before .before .before .before .before .chained .ensures;
             };
       },
       label-few (table .known) _ (c .before .before .before .before .before .before .before .label-of .ensures (table .table .labels) (index-names (table .known .indexes))),
@@ -221,10 +230,10 @@ types-of-requires c κs =
 
 mul-top-2 : tie.Need-mul-top-2 Inv-loop μ-loop
 mul-top-2 c =
-    let a = c .before .before .before .before .before .before .before .before .before .before .before .before .before .before .before .before .before .before .before .before .before .before .before .before .before .before .before .before .before .before .before .before .before .before .before .before .before .before .before .before .before .before .before .args in
+    let a = c .before .before .before .before .before .before .before .before .before .before .before .before .before .before .before .before .before .before .before .before .before .before .before .before .before .before .before .before .before .before .before .before .before .before .before .before .before .before .before .before .before .before .before .before .before .args in
     let d = a .document .now in
     let nodes = indexOf (a .names .now) (a .sizes .now) (a .children .now) (a .nodes) in
-    let known = c .before .before .before .before .before .before .before .before .before .before .before .before .before .before .before .before .before .before .before .before .before .before .before .before .before .before .before .before .before .before .before .before .before .before .before .before .before .before .before .before .before .before .before .pre .1 in
+    let known = c .before .before .before .before .before .before .before .before .before .before .before .before .before .before .before .before .before .before .before .before .before .before .before .before .before .before .before .before .before .before .before .before .before .before .before .before .before .before .before .before .before .before .before .before .before .pre .1 in
     let few = known .indexed .few in
     let i = c .before .before .before .before .before .before .before .before .before .before .before .before .before .before .before .before .before .before .before .loop .i in
     let inv = c .before .before .before .before .before .before .before .before .before .before .before .before .before .before .before .before .before .before .before .loop .inv in
@@ -236,10 +245,10 @@ mul-top-2 c =
 
 add-top : tie.Need-add-top Inv-loop μ-loop
 add-top c =
-    let a = c .before .before .before .before .before .before .before .before .before .before .before .before .before .before .before .before .before .before .before .before .before .before .before .before .before .before .before .before .before .before .before .before .before .before .before .before .before .before .before .before .before .before .before .args in
+    let a = c .before .before .before .before .before .before .before .before .before .before .before .before .before .before .before .before .before .before .before .before .before .before .before .before .before .before .before .before .before .before .before .before .before .before .before .before .before .before .before .before .before .before .before .before .before .args in
     let d = a .document .now in
     let nodes = indexOf (a .names .now) (a .sizes .now) (a .children .now) (a .nodes) in
-    let known = c .before .before .before .before .before .before .before .before .before .before .before .before .before .before .before .before .before .before .before .before .before .before .before .before .before .before .before .before .before .before .before .before .before .before .before .before .before .before .before .before .before .before .before .pre .1 in
+    let known = c .before .before .before .before .before .before .before .before .before .before .before .before .before .before .before .before .before .before .before .before .before .before .before .before .before .before .before .before .before .before .before .before .before .before .before .before .before .before .before .before .before .before .before .before .before .pre .1 in
     let few = known .indexed .few in
     let i = c .before .before .before .before .before .before .before .before .before .before .before .before .before .before .before .before .before .before .before .loop .i in
     let inv = c .before .before .before .before .before .before .before .before .before .before .before .before .before .before .before .before .before .before .before .loop .inv in
@@ -251,10 +260,10 @@ add-top c =
 
 sub-top : tie.Need-sub-top Inv-loop μ-loop
 sub-top c =
-    let a = c .before .before .before .before .before .before .before .before .before .before .before .before .before .before .before .before .before .before .before .before .before .before .before .before .before .before .before .before .before .before .before .before .before .before .before .before .before .before .before .before .before .before .before .args in
+    let a = c .before .before .before .before .before .before .before .before .before .before .before .before .before .before .before .before .before .before .before .before .before .before .before .before .before .before .before .before .before .before .before .before .before .before .before .before .before .before .before .before .before .before .before .before .before .args in
     let d = a .document .now in
     let nodes = indexOf (a .names .now) (a .sizes .now) (a .children .now) (a .nodes) in
-    let known = c .before .before .before .before .before .before .before .before .before .before .before .before .before .before .before .before .before .before .before .before .before .before .before .before .before .before .before .before .before .before .before .before .before .before .before .before .before .before .before .before .before .before .before .pre .1 in
+    let known = c .before .before .before .before .before .before .before .before .before .before .before .before .before .before .before .before .before .before .before .before .before .before .before .before .before .before .before .before .before .before .before .before .before .before .before .before .before .before .before .before .before .before .before .before .before .pre .1 in
     let few = known .indexed .few in
     let i = c .before .before .before .before .before .before .before .before .before .before .before .before .before .before .before .before .before .before .before .loop .i in
     let inv = c .before .before .before .before .before .before .before .before .before .before .before .before .before .before .before .before .before .before .before .loop .inv in
@@ -266,10 +275,10 @@ sub-top c =
 
 store-requires : tie.Need-store-requires Inv-loop μ-loop
 store-requires c κs =
-    let a = c .before .before .before .before .before .before .before .before .before .before .before .before .before .before .before .before .before .before .before .before .before .before .before .before .before .before .before .before .before .before .before .before .before .before .before .before .before .before .before .before .before .before .before .before .args in
+    let a = c .before .before .before .before .before .before .before .before .before .before .before .before .before .before .before .before .before .before .before .before .before .before .before .before .before .before .before .before .before .before .before .before .before .before .before .before .before .before .before .before .before .before .before .before .before .before .args in
     let d = a .document .now in
     let nodes = indexOf (a .names .now) (a .sizes .now) (a .children .now) (a .nodes) in
-    let known = c .before .before .before .before .before .before .before .before .before .before .before .before .before .before .before .before .before .before .before .before .before .before .before .before .before .before .before .before .before .before .before .before .before .before .before .before .before .before .before .before .before .before .before .before .pre .1 in
+    let known = c .before .before .before .before .before .before .before .before .before .before .before .before .before .before .before .before .before .before .before .before .before .before .before .before .before .before .before .before .before .before .before .before .before .before .before .before .before .before .before .before .before .before .before .before .before .before .pre .1 in
     let few = known .indexed .few in
     let i = c .before .before .before .before .before .before .before .before .before .before .before .before .before .before .before .before .before .before .before .before .loop .i in
     let inv = c .before .before .before .before .before .before .before .before .before .before .before .before .before .before .before .before .before .before .before .before .loop .inv in
@@ -277,7 +286,7 @@ store-requires c κs =
     let before : i - 1 + 1 ≡ i = omega arith in
     let enough = laws.round-enough d nodes known i (i - 1) before (inv .0) in
     let trees = laws.round-few d nodes known i (i - 1) before (inv .0) in
-    let room = c .before .before .before .before .before .before .before .before .before .before .before .before .before .before .before .before .before .before .before .before .before .before .before .before .before .before .before .before .before .before .before .before .before .before .before .before .before .before .before .before .before .before .before .before .pre .4 in
+    let room = c .before .before .before .before .before .before .before .before .before .before .before .before .before .before .before .before .before .before .before .before .before .before .before .before .before .before .before .before .before .before .before .before .before .before .before .before .before .before .before .before .before .before .before .before .before .before .pre .4 in
     omega arith
 
 loop-less : tie.Need-loop-less Inv-loop μ-loop
@@ -287,10 +296,10 @@ loop-less c =
 
 loop-again : tie.Need-loop-again Inv-loop μ-loop
 loop-again c =
-    let a = c .before .before .before .before .before .before .before .before .before .before .before .before .before .before .before .before .before .before .before .before .before .before .before .before .before .before .before .before .before .before .before .before .before .before .before .before .before .before .before .before .before .before .before .before .before .before .before .args in
+    let a = c .before .before .before .before .before .before .before .before .before .before .before .before .before .before .before .before .before .before .before .before .before .before .before .before .before .before .before .before .before .before .before .before .before .before .before .before .before .before .before .before .before .before .before .before .before .before .before .before .before .args in
     let d = a .document .now in
     let nodes = indexOf (a .names .now) (a .sizes .now) (a .children .now) (a .nodes) in
-    let known = c .before .before .before .before .before .before .before .before .before .before .before .before .before .before .before .before .before .before .before .before .before .before .before .before .before .before .before .before .before .before .before .before .before .before .before .before .before .before .before .before .before .before .before .before .before .before .before .pre .1 in
+    let known = c .before .before .before .before .before .before .before .before .before .before .before .before .before .before .before .before .before .before .before .before .before .before .before .before .before .before .before .before .before .before .before .before .before .before .before .before .before .before .before .before .before .before .before .before .before .before .before .before .before .pre .1 in
     let few = known .indexed .few in
     let i = c .before .before .before .before .before .before .before .before .before .before .before .before .before .before .before .before .before .before .before .before .before .before .before .loop .i in
     let inv = c .before .before .before .before .before .before .before .before .before .before .before .before .before .before .before .before .before .before .before .before .before .before .before .loop .inv in
@@ -298,7 +307,7 @@ loop-again c =
     let before : i - 1 + 1 ≡ i = omega arith in
     let enough = laws.round-enough d nodes known i (i - 1) before (inv .0) in
     let trees = laws.round-few d nodes known i (i - 1) before (inv .0) in
-    let room = c .before .before .before .before .before .before .before .before .before .before .before .before .before .before .before .before .before .before .before .before .before .before .before .before .before .before .before .before .before .before .before .before .before .before .before .before .before .before .before .before .before .before .before .before .before .before .before .pre .4 in
+    let room = c .before .before .before .before .before .before .before .before .before .before .before .before .before .before .before .before .before .before .before .before .before .before .before .before .before .before .before .before .before .before .before .before .before .before .before .before .before .before .before .before .before .before .before .before .before .before .before .before .before .pre .4 in
     let count = laws.round-count d nodes known i (i - 1) before (inv .0) in
     let top = c .before .before .before .before .before .before .before .before .before .before .before .before .before .before .before .before .before .before .before .before .before .before .before .loop .top in
     let place : top + 4 * getD (nodes .children) (i - 1) 0 - 4 + 4 ≡ top + 4 * getD (nodes .children) (i - 1) 0 = omega arith in
@@ -324,20 +333,20 @@ loop-again c =
 
 same-length : tie.Need-same-length Inv-loop μ-loop
 same-length c =
-    c .before .loop .inv .1 ∙ c .before .before .before .before .before .before .before .before .before .before .before .before .before .before .before .nullable-contents .kept .1 .1 .0
+    c .before .loop .inv .1 ∙ c .before .before .before .before .nullable-contents .kept .1 .1 .1 .1 .0
 
 returns : tie.Need-returns Inv-loop μ-loop
 returns c =
-    let a = c .before .before .before .before .before .before .before .before .before .before .before .before .before .before .before .before .before .before .before .before .before .before .before .before .before .args in
+    let a = c .before .before .before .before .before .before .before .before .before .before .before .before .before .before .before .before .before .before .before .before .before .before .before .before .before .before .before .args in
     let d = a .document .now in
     let nodes = indexOf (a .names .now) (a .sizes .now) (a .children .now) (a .nodes) in
-    let known = c .before .before .before .before .before .before .before .before .before .before .before .before .before .before .before .before .before .before .before .before .before .before .before .before .before .pre .1 in
+    let known = c .before .before .before .before .before .before .before .before .before .before .before .before .before .before .before .before .before .before .before .before .before .before .before .before .before .before .before .pre .1 in
     let few = known .indexed .few in
     let inv = c .before .loop .inv in
     let last : c .before .loop .i ≡ 0 = omega arith in
     let one = known .one-tree in
     let whole = subst (λ (n : ℕ). c .before .loop .top + 4 * treeCount (drop n (nodesIn d nodes)) ≡ 4 * a .nodes) last (inv .3) in
-    let room = c .before .before .before .before .before .before .before .before .before .before .before .before .before .before .before .before .before .before .before .before .before .before .before .before .before .pre .4 in
+    let room = c .before .before .before .before .before .before .before .before .before .before .before .before .before .before .before .before .before .before .before .before .before .before .before .before .before .before .before .pre .4 in
     record {
       inside = omega arith;
       types =
@@ -347,8 +356,8 @@ returns c =
           (inv .4 g (index-names (k .indexes))
           (record {
             labels = a .index .«rule_label»;
-            at = record { index = a .index; known = k; nullables = c .before .before .before .before .before .before .before .before .before .before .before .before .before .before .before .nullable-contents .ensures };
-            chain = c .before .before .before .before .chained .ensures;
+            at = record { index = a .index; known = k; nullables = c .before .before .before .before .nullable-contents .ensures };
+            chain = c .before .before .before .before .before .before .before .before .before .before .before .chained .ensures;
           })))
           t
           e;
@@ -360,12 +369,14 @@ root-types-spec =
     (tie.spec
     Inv-loop
     μ-loop
-    nullable-contents-requires
     slice-aggregate-chained-labels
     slice-aggregate-chained-labels-2
     chained-labels-requires
     slice-aggregate-chained
     chained-requires
+    slice-aggregate-nullable-contents
+    slice-aggregate-nullable-contents-2
+    nullable-contents-requires
     mul-top
     loop-holds
     (λ c. omega arith)
