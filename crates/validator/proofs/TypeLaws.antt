@@ -212,12 +212,12 @@ module _ {s : List ℕ} {index : TableIndex} {g : Table} (known : Known s index 
       ∙ ap (λ (l : List ℕ). of-first i ++ l) (types-not g n tests (rule .rule) (sym (not-asked known i below n tests label named other)))
       ∙ append-nil (of-first i)
 
-  pub types-passed : (from at : ℕ) → PlaceFrom (index .«rule_label») (index .rules) label from at
-      → holds (typesFor g n tests (take from (g .rules))) ≡ holds (typesFor g n tests (take at (g .rules)))
-  types-passed from at p =
+  pub types-passed : (set : ℕ → Bool) (from at : ℕ) → PlaceFrom (index .«rule_label») (index .rules) label from at
+      → set ≡ holds (typesFor g n tests (take from (g .rules))) → set ≡ holds (typesFor g n tests (take at (g .rules)))
+  types-passed set from at p so =
       let order = p .onward in
       let whole : from + (at - from) ≡ at = omega arith in
-      ap holds (sym (go (at - from) (omega arith)) ∙ ap of-first whole)
+      so ∙ ap holds (sym (go (at - from) (omega arith)) ∙ ap of-first whole)
     where
       go : (more : ℕ) → from + more ≤ at → of-first (from + more) ≡ of-first from
       go zero h = let e : from + 0 ≡ from = omega arith in ap of-first e

@@ -50,11 +50,9 @@ loop-holds c =
       λ g x h.
           subst (λ (k : ℕ). k < a .rules → getD (x .labels) k 0 ≡ a .label) (sym at) (x .chain .first (a .label) (pre .1) .found) h,
       λ g x n named.
-          ap (λ (l : List ℕ). member l 0) empty
-          ∙ member-zeros 4 0
-          ∙ sym (laws.types-none g n tests)
-          ∙ laws.types-passed (x .at .known) n tests (a .label) named 0 (c .wide .result)
-          (subst (PlaceFrom (x .labels) (a .rules) (a .label) 0) (sym at) (x .chain .first (a .label) (pre .1))),
+          laws.types-passed (x .at .known) n tests (a .label) named _ 0 (c .wide .result)
+          (subst (PlaceFrom (x .labels) (a .rules) (a .label) 0) (sym at) (x .chain .first (a .label) (pre .1)))
+          (ap (λ (l : List ℕ). member l 0) empty ∙ member-zeros 4 0 ∙ sym (laws.types-none g n tests)),
     )
 
 mul-from : tie.Need-mul-from Inv-loop μ-loop
@@ -156,12 +154,12 @@ loop-again c =
       λ g x. onward g x .found,
       λ g x n named.
           let rule = laws.known-rule (x .at .known) i below in
-          laws.types-step g n tests i (rule .rule) (rule .listed) (old .words) (c .before .before .with-if .result .words) (c .before .before .before .before .before .before .before .content-fits .result) (c .before .before .before .wide2 .result)
+          laws.types-passed (x .at .known) n tests (a .label) named _ (i + 1) (c .wide3 .result) (onward g x)
+          (laws.types-step g n tests i (rule .rule) (rule .listed) (old .words) (c .before .before .with-if .result .words) (c .before .before .before .before .before .before .before .content-fits .result) (c .before .before .before .wide2 .result)
           (c .before .before .before .before .before .before .before .content-fits .ensures ∙ laws.asked-is (x .at .known) i below n tests (a .label) named (inv .3 g x below))
           (c .before .before .before .wide2 .ensures .0 ∙ rule .at .type)
           (c .before .before .with-if .ensures)
-          (inv .4 g x n named)
-          ∙ laws.types-passed (x .at .known) n tests (a .label) named (i + 1) (c .wide3 .result) (onward g x),
+          (inv .4 g x n named)),
     )
 
 returns : tie.Need-returns Inv-loop μ-loop
