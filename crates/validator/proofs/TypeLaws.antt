@@ -1,7 +1,7 @@
 -- The types of a node, rule by rule. A rule is named as the node exactly if its label is the place of the node's name (`named-by-place`), so
 -- what the code asks of a rule is what the table says of it (`asked-is`, `not-asked`). A set that has the types of the first rules has, with
--- the next rule's if it fits, those of one rule more (`types-step`).
-use Prim.Native.Nat.{ℕ, _+_, _-_, _/_, _≤_, _<_}
+-- the next rule's if it fits, those of one rule more (`types-step`), and those of all rules up to the next one of the label (`types-passed`).
+use Prim.Native.Nat.{ℕ, zero, suc, _+_, _-_, _/_, _≤_, _<_}
 use native.Mathlib.Omega.{arith}
 use native.Mathlib.Numerals.{add-one}
 use mathlib.Core.Bool.{Bool, true, false, _&&_, _||_, or-comm, or-false}
@@ -25,7 +25,7 @@ use Rattle.theory.proofs.BoolLaws.{same-test}
 use Rattle.theory.proofs.ListLaws.{any-of, at-mem, at-below, at-else, below-at, differ-at, in-append, just-eq, keep-yes, keep-no}
 use Rattle.theory.proofs.DistinctLaws.{keep-append}
 use Rattle.theory.proofs.NameLaws.{name-sym, name-trans}
-use Rattle.theory.proofs.PlaceLaws.{place-found, place-some}
+use Rattle.theory.proofs.PlaceLaws.{place-found, place-most, place-some}
 use Rattle.theory.proofs.MarkedRun.{holds}
 use Rattle.reader.specs.ExprAt.{_upTo_, exprAt}
 use Rattle.reader.specs.TableIndex.{part, ruleLabel, contentFrom, contentTo}
@@ -34,6 +34,7 @@ use Rattle.reader.proofs.TableFaults.{part-size}
 use Rattle.reader.proofs.TableFound.{RuleFound, rule-found-at, content-in-part}
 use Rattle.walks.specs.TypeSets.{setAt}
 use Rattle.walks.specs.WalkAt.{runAt, WholeAt}
+use Rattle.validator.specs.Chains.{Keyed, PlaceFrom}
 use Rattle.validator.specs.KnownTable.{Known, ruleFits, typesFor, WithIf}
 use Rattle.walks.proofs.WalkLaws.{run-at}
 
@@ -105,9 +106,35 @@ module _ {s : List ℕ} {index : TableIndex} {g : Table} (known : Known s index 
     asked-is h =
         sym (rule-fits-is ∙ ap (λ (b : Bool). b && runAt (part s (contentFrom index i) (contentTo index i)) tests) (eq-eqb (ruleLabel index i) label h))
 
-    pub not-asked : (ruleLabel index i ≡ label → ⊥) → false ≡ ruleFits g n tests (known-rule .rule)
+    not-asked : (ruleLabel index i ≡ label → ⊥) → false ≡ ruleFits g n tests (known-rule .rule)
     not-asked h =
         sym (rule-fits-is ∙ ap (λ (b : Bool). b && runAt (part s (contentFrom index i) (contentTo index i)) tests) (ne-eqb (ruleLabel index i) label h))
+
+-- Labels of a table that is known are few enough to be keys.
+module _ {s : List ℕ} {index : TableIndex} {g : Table} (known : Known s index g) where
+  pub rules-keyed : Keyed (index .«rule_label») (index .rules)
+  rules-keyed =
+      let x = known .indexes in
+      let few = x .few-rules in
+      record {
+        few = few;
+        room = let room = x .rooms .rule-label in omega arith;
+        small =
+            λ i below.
+            let rule = known-rule known i below in
+            let here = rule .at .label in
+            let inside = rule .within .label in
+            let labels = x .labels in
+            let few = x .few-labels in
+            omega arith;
+      }
+
+  pub label-few : (n : Name) {label : ℕ} → label ≡ place sameName n (g .labels) → label ≤ 64
+  label-few n e =
+      let most = place-most sameName n (g .labels) in
+      let labels = known .indexes .labels in
+      let few = known .indexes .few-labels in
+      omega arith
 
 -- flags that are right for the first numbers, and one more
 pub flags-more : (flags : List Bool) (i : ℕ) (flag : Bool) (right : ℕ → Bool) → i < length flags
@@ -171,6 +198,35 @@ module _ (g : Table) (n : Name) (tests : List (ℕ → Bool)) where
           ∙ o
           ∙ sym (ap holds (types-more i r e ∙ ap (λ (l : List ℕ). typesFor g n tests (take i (g .rules)) ++ l) (types-not r (sym f ∙ p))
           ∙ append-nil (typesFor g n tests (take i (g .rules)))))
+
+-- the rules up to the next one of the node's label, too: they have other labels, so none of them fits
+module _ {s : List ℕ} {index : TableIndex} {g : Table} (known : Known s index g) (n : Name) (tests : List (ℕ → Bool)) (label : ℕ)
+    (named : label ≡ place sameName n (g .labels)) where
+  abbrev of-first : ℕ → List ℕ
+  of-first i = typesFor g n tests (take i (g .rules))
+
+  rule-passed : (i : ℕ) → i < index .rules → (ruleLabel index i ≡ label → ⊥) → of-first (i + 1) ≡ of-first i
+  rule-passed i below other =
+      let rule = known-rule known i below in
+      types-more g n tests i (rule .rule) (rule .listed)
+      ∙ ap (λ (l : List ℕ). of-first i ++ l) (types-not g n tests (rule .rule) (sym (not-asked known i below n tests label named other)))
+      ∙ append-nil (of-first i)
+
+  pub types-passed : (set : ℕ → Bool) (from at : ℕ) → PlaceFrom (index .«rule_label») (index .rules) label from at
+      → set ≡ holds (typesFor g n tests (take from (g .rules))) → set ≡ holds (typesFor g n tests (take at (g .rules)))
+  types-passed set from at p so =
+      let order = p .onward in
+      let whole : from + (at - from) ≡ at = omega arith in
+      so ∙ ap holds (sym (go (at - from) (omega arith)) ∙ ap of-first whole)
+    where
+      go : (more : ℕ) → from + more ≤ at → of-first (from + more) ≡ of-first from
+      go zero h = let e : from + 0 ≡ from = omega arith in ap of-first e
+      go (suc more) h =
+          let within = p .within in
+          let e : from + suc more ≡ from + more + 1 = omega arith in
+          ap of-first e
+          ∙ rule-passed (from + more) (omega arith) (p .passed (from + more) (omega arith) (omega arith))
+          ∙ go more (omega arith)
 
 -- a set with one more number, if the flag says so
 module _ (old new : List ℕ) (k : ℕ) (small : k < 64) (size : length old ≡ 4) where

@@ -47,6 +47,11 @@ withRules index ruleTypes ruleLabels from to rules =
       rules = rules;
     }
 
+-- the arrays say where the contents of the rules of some table stand
+pub record SomeContents (s from to : List ℕ) (rules : ℕ) : Type 0 where
+  pub index : TableIndex
+  pub at : SomeTable s (withRules index (index .«rule_type») (index .«rule_label») from to rules)
+
 -- the arrays are those of the rules of a table that is known, and tell which contents match no children
 pub record RulesAt (s ruleTypes ruleLabels from to : List ℕ) (nullable : List Bool) (rules : ℕ) (g : Table) : Type 0 where
   pub index : TableIndex
@@ -63,6 +68,33 @@ pub record RulesChained (s ruleTypes next from to : List ℕ) (nullable : List B
 pub record SomeRules (s ruleTypes next from to : List ℕ) (nullable : List Bool) (rules : ℕ) : Type 0 where
   pub table : Table
   pub at : RulesChained s ruleTypes next from to nullable rules table
+
+-- an index, with this array for its starts
+abbrev pub withStarts : TableIndex → (startTypes : List ℕ) → ℕ → TableIndex
+withStarts index startTypes starts =
+    record {
+      «label_from» = index .«label_from»;
+      «label_to» = index .«label_to»;
+      labels = index .labels;
+      «start_type» = startTypes;
+      starts = starts;
+      «rule_type» = index .«rule_type»;
+      «rule_label» = index .«rule_label»;
+      «content_from» = index .«content_from»;
+      «content_to» = index .«content_to»;
+      rules = index .rules;
+    }
+
+-- the array is that of the starts of a table that is known
+pub record StartsAt (startTypes : List ℕ) (starts : ℕ) (g : Table) : Type 0 where
+  pub bytes : List ℕ
+  pub index : TableIndex
+  pub known : Known bytes (withStarts index startTypes starts) g
+
+-- of some table
+pub record SomeStarts (startTypes : List ℕ) (starts : ℕ) : Type 0 where
+  pub table : Table
+  pub at : StartsAt startTypes starts table
 
 -- the rule fits a node of this name, with children that are given by tests of types
 unfoldable pub ruleFits : Table → Name → List (ℕ → Bool) → Rule → Bool

@@ -25,19 +25,26 @@ ghost use Rattle.grammar.specs.Tree.{Tree};
 ghost use Rattle.reader.specs.DocumentNodes.{nodesIn};
 ghost use Rattle.walks.specs.TypeSets.{setAt, testsAt};
 ghost use Rattle.validator.specs.KnownDocument.{indexOf, NodeRoom, KnownNodes, RootTypes};
-ghost use Rattle.validator.specs.KnownTable.{Known, SomeTable, NullableAre, SomeRules, WithIf, TypesAre};
+ghost use Rattle.validator.specs.KnownTable.{Known, SomeTable, SomeContents, NullableAre, SomeRules, StartsAt, SomeStarts, WithIf, TypesAre};
 ghost use Rattle.walks.specs.WalkAt.{runAt, WholeAt, Room};
 
 // Whether the content of each rule matches no children.
-fn nullable_contents(table: &[u8], index: TableIndex, marks: &mut [u8], words: &[u32]) -> [bool; 64]
-    requires { ⌜ (SomeTable (now table) index) × (1024 ≤ length (now marks)) × (4 ≤ length (now words)) ⌝ }
-    ensures { λ r. ⌜ NullableAre (now (table .entry)) (index .«content_from») (index .«content_to») (index .rules) r ⌝ }
+fn nullable_contents(
+    table: &[u8],
+    content_from: &[usize],
+    content_to: &[usize],
+    rules: usize,
+    marks: &mut [u8],
+    words: &[u32],
+) -> [bool; 64]
+    requires { ⌜ (SomeContents (now table) (now «content_from») (now «content_to») rules) × (1024 ≤ length (now marks)) × (4 ≤ length (now words)) ⌝ }
+    ensures { λ r. ⌜ NullableAre (now (table .entry)) (now («content_from» .entry)) (now («content_to» .entry)) rules r ⌝ }
 {
     let mut nullable = [false; 64];
     let mut rule: usize = 0;
-    while rule < index.rules {
-        let from = index.content_from[rule];
-        let to = index.content_to[rule];
+    while rule < rules {
+        let from = content_from[rule];
+        let to = content_to[rule];
         nullable[rule] = matches(&table[from..to], marks, words, 0, 0);
         rule += 1;
     }
@@ -123,7 +130,6 @@ fn root_types(
     ensures { λ r. ⌜ RootTypes (now (table .entry)) index (now (document .entry))
         (indexOf (now (names .entry)) (now (sizes .entry)) (now (children .entry)) nodes) (now (words .exit)) r ⌝ }
 {
-    let nullable = nullable_contents(table, index, marks, words);
     let label_from = index.label_from;
     let label_to = index.label_to;
     let labels = index.labels;
@@ -134,6 +140,7 @@ fn root_types(
     let by_label = chained(&rule_label, rules);
     let content_from = index.content_from;
     let content_to = index.content_to;
+    let nullable = nullable_contents(table, &content_from, &content_to, rules, marks, words);
     let mut i = nodes;
     let mut top = 4 * nodes;
     while 0 < i {
@@ -165,13 +172,13 @@ fn root_types(
 }
 
 // Whether some start type is in the set at a word.
-fn some_start(table: &[u8], index: TableIndex, words: &[u32], at: usize) -> bool
-    requires { ⌜ (SomeTable (now table) index) × (at + 4 ≤ length (now words)) ⌝ }
-    ensures { λ r. ⌜ ((g : Table) → Known (now (table .entry)) index g → r ≡ any (setAt (now (words .entry)) at) (g .starts)) ⌝ }
+fn some_start(start_type: &[u8], starts: usize, words: &[u32], at: usize) -> bool
+    requires { ⌜ (SomeStarts (now «start_type») starts) × (at + 4 ≤ length (now words)) ⌝ }
+    ensures { λ r. ⌜ ((g : Table) → StartsAt (now («start_type» .entry)) starts g → r ≡ any (setAt (now (words .entry)) at) (g .starts)) ⌝ }
 {
     let mut start: usize = 0;
-    while start < index.starts {
-        if has(words, at, wide(index.start_type[start])) {
+    while start < starts {
+        if has(words, at, wide(start_type[start])) {
             return true;
         }
         start += 1;
@@ -208,5 +215,7 @@ pub fn lets_in_read(
         &mut marks,
         words,
     );
-    some_start(table, index, words, at)
+    let start_type = index.start_type;
+    let starts = index.starts;
+    some_start(&start_type, starts, words, at)
 }

@@ -4,30 +4,30 @@ use native.Mathlib.Omega.{arith}
 use mathlib.Core.List.{List}
 use mathlib.Core.Path.{_≡_, refl, sym, _∙_, ap, subst}
 use lib.ListN.{length, getD, take, drop}
-use borrow.Author.Needs.{needs}
 use Rattle.grammar.specs.Table.{Table}
 use Rattle.reader.specs.DocumentNodes.{nodesIn}
 use Rattle.reader.specs.NamePlaces.{NamesAt}
 use Rattle.reader.proofs.LabelSearch.{index-names}
 use Rattle.reader.proofs.DocumentTrees.{treeCount}
 use Rattle.validator.specs.KnownDocument.{indexOf}
-use Rattle.validator.specs.KnownTable.{RulesAt}
+use Rattle.validator.specs.KnownTable.{RulesChained}
 use Rattle.validator.proofs.StackLaws as laws
+use Rattle.validator.proofs.TypeLaws.{rules-keyed, label-few}
 use Rattle.validator.proofs.membership.root_types.Statement.{statement}
 use Rattle.validator.proofs.membership.root_types.Tie as tie
 
 abbrev Inv-loop : tie.InvT-loop
-Inv-loop table document names sizes children nodes marks₀ words₀ nullable label-from label-to rule-type rule-label content-from content-to labels rules i₀ top₀ marks words i top =
+Inv-loop table document names sizes children nodes marks₀ words₀ label-from label-to labels by-key rule-type rules by-label content-from content-to nullable i₀ top₀ marks words i top =
     (i ≤ nodes)
     × (length marks ≡ length marks₀)
     × (length words ≡ length words₀)
     × (top + 4 * treeCount (drop i (nodesIn document (indexOf names sizes children nodes))) ≡ 4 * nodes)
     × ((g : Table) → NamesAt table label-from label-to labels (g .labels)
-    → RulesAt table rule-type rule-label content-from content-to nullable rules g
+    → RulesChained table rule-type by-label content-from content-to nullable rules g
     → laws.Stacked g (drop i (nodesIn document (indexOf names sizes children nodes))) words top)
 
 abbrev μ-loop : tie.MeasureT-loop
-μ-loop table document names sizes children nodes marks₀ words₀ nullable label-from label-to rule-type rule-label content-from content-to labels rules i₀ top₀ marks words i top =
+μ-loop table document names sizes children nodes marks₀ words₀ label-from label-to labels by-key rule-type rules by-label content-from content-to nullable i₀ top₀ marks words i top =
     i
 
 -- the node before a place, and its name
@@ -39,21 +39,51 @@ same-size d from size =
     let e : from + size - from ≡ size = omega arith in
     ap (λ (n : ℕ). take n (drop from d)) e
 
+slice-aggregate-chained-labels : tie.Need-slice-aggregate-chained-labels Inv-loop μ-loop
+slice-aggregate-chained-labels c =
+    sym (c .before .before .before .before .before .before .before .before .before .before .pre .0 .known .indexes .rooms .label-from)
+
+slice-aggregate-chained-labels-2 : tie.Need-slice-aggregate-chained-labels-2 Inv-loop μ-loop
+slice-aggregate-chained-labels-2 c =
+    sym (c .before .before .before .before .before .before .before .before .before .before .before .pre .0 .known .indexes .rooms .label-to)
+
+chained-labels-requires : tie.Need-chained-labels-requires Inv-loop μ-loop
+chained-labels-requires c κs =
+    let table = c .before .before .before .before .before .before .before .before .before .before .before .pre .0 in
+    (record { list = table .table .labels; at = index-names (table .known .indexes) }, table .known .indexes .few-labels)
+
+slice-aggregate-chained : tie.Need-slice-aggregate-chained Inv-loop μ-loop
+slice-aggregate-chained c =
+    sym (c .before .before .before .before .before .before .before .before .before .before .before .before .before .before .before .pre .0 .known .indexes .rooms .rule-label)
+
+chained-requires : tie.Need-chained-requires Inv-loop μ-loop
+chained-requires c κs =
+    rules-keyed (c .before .before .before .before .before .before .before .before .before .before .before .before .before .before .before .pre .0 .known)
+
+slice-aggregate-nullable-contents : tie.Need-slice-aggregate-nullable-contents Inv-loop μ-loop
+slice-aggregate-nullable-contents c =
+    sym (c .before .before .before .before .before .before .before .before .before .before .before .before .before .before .before .before .before .before .before .pre .0 .known .indexes .rooms .content-from)
+
+slice-aggregate-nullable-contents-2 : tie.Need-slice-aggregate-nullable-contents-2 Inv-loop μ-loop
+slice-aggregate-nullable-contents-2 c =
+    sym (c .before .before .before .before .before .before .before .before .before .before .before .before .before .before .before .before .before .before .before .before .pre .0 .known .indexes .rooms .content-to)
+
 nullable-contents-requires : tie.Need-nullable-contents-requires Inv-loop μ-loop
 nullable-contents-requires c κs =
-    let pre = c .before .before .before .before .before .before .before .before .before .pre in
-    (pre .0, pre .3, omega arith)
+    let pre = c .before .before .before .before .before .before .before .before .before .before .before .before .before .before .before .before .before .before .before .before .before .before .pre in
+    let room = pre .4 in
+    (record { index = c .before .before .before .before .before .before .before .before .before .before .before .before .before .before .before .before .before .before .before .before .before .before .args .index; at = pre .0 }, pre .3, omega arith)
 
 mul-top : tie.Need-mul-top Inv-loop μ-loop
 mul-top c =
-    omega (arith, c .before .before .before .before .before .before .before .before .before .before .before .before .before .before .before .before .before .before .pre .1 .indexed .few)
+    omega (arith, c .before .before .before .before .before .before .before .before .before .before .before .before .before .before .before .before .before .before .before .before .before .before .before .before .before .pre .1 .indexed .few)
 
 loop-holds : tie.Need-loop-holds Inv-loop μ-loop
 loop-holds c =
-    let a = c .before .before .before .before .before .before .before .before .before .before .before .before .before .before .before .before .before .before .args in
+    let a = c .before .before .before .before .before .before .before .before .before .before .before .before .before .before .before .before .before .before .before .before .before .before .before .before .before .args in
     let d = a .document .now in
     let nodes = indexOf (a .names .now) (a .sizes .now) (a .children .now) (a .nodes) in
-    let known = c .before .before .before .before .before .before .before .before .before .before .before .before .before .before .before .before .before .before .pre .1 in
+    let known = c .before .before .before .before .before .before .before .before .before .before .before .before .before .before .before .before .before .before .before .before .before .before .before .before .before .pre .1 in
     let few = known .indexed .few in
     let none = laws.none-count d nodes in (
       omega arith,
@@ -65,15 +95,15 @@ loop-holds c =
 
 mul-from : tie.Need-mul-from Inv-loop μ-loop
 mul-from c =
-    let few = c .before .before .before .before .before .before .before .before .before .before .before .before .before .before .before .before .before .before .before .before .pre .1 .indexed .few in
+    let few = c .before .before .before .before .before .before .before .before .before .before .before .before .before .before .before .before .before .before .before .before .before .before .before .before .before .before .before .pre .1 .indexed .few in
     let inv = c .before .loop .inv .0 in
     let some = c .loop-test .taken in
     omega arith
 
 shared-slice-read-from : tie.Need-shared-slice-read-from Inv-loop μ-loop
 shared-slice-read-from c =
-    let few = c .before .before .before .before .before .before .before .before .before .before .before .before .before .before .before .before .before .before .before .before .before .pre .1 .indexed .few in
-    let room = c .before .before .before .before .before .before .before .before .before .before .before .before .before .before .before .before .before .before .before .before .before .pre .2 .for-names in
+    let few = c .before .before .before .before .before .before .before .before .before .before .before .before .before .before .before .before .before .before .before .before .before .before .before .before .before .before .before .before .pre .1 .indexed .few in
+    let room = c .before .before .before .before .before .before .before .before .before .before .before .before .before .before .before .before .before .before .before .before .before .before .before .before .before .before .before .before .pre .2 .for-names in
     let inv = c .before .before .loop .inv .0 in
     let some = c .before .loop-test .taken in
     omega arith
@@ -83,15 +113,15 @@ cast-from c = omega (arith, c .shared-slice-known6 .given (c .before .before .lo
 
 mul-to : tie.Need-mul-to Inv-loop μ-loop
 mul-to c =
-    let few = c .before .before .before .before .before .before .before .before .before .before .before .before .before .before .before .before .before .before .before .before .before .pre .1 .indexed .few in
+    let few = c .before .before .before .before .before .before .before .before .before .before .before .before .before .before .before .before .before .before .before .before .before .before .before .before .before .before .before .before .pre .1 .indexed .few in
     let inv = c .before .before .loop .inv .0 in
     let some = c .before .loop-test .taken in
     omega arith
 
 shared-slice-read-to : tie.Need-shared-slice-read-to Inv-loop μ-loop
 shared-slice-read-to c =
-    let few = c .before .before .before .before .before .before .before .before .before .before .before .before .before .before .before .before .before .before .before .before .before .before .pre .1 .indexed .few in
-    let room = c .before .before .before .before .before .before .before .before .before .before .before .before .before .before .before .before .before .before .before .before .before .before .pre .2 .for-sizes in
+    let few = c .before .before .before .before .before .before .before .before .before .before .before .before .before .before .before .before .before .before .before .before .before .before .before .before .before .before .before .before .before .pre .1 .indexed .few in
+    let room = c .before .before .before .before .before .before .before .before .before .before .before .before .before .before .before .before .before .before .before .before .before .before .before .before .before .before .before .before .before .pre .2 .for-sizes in
     let inv = c .before .before .before .loop .inv .0 in
     let some = c .before .before .loop-test .taken in
     omega arith
@@ -101,20 +131,21 @@ cast-to c = omega (arith, c .shared-slice-known7 .given (c .before .before .befo
 
 add-to : tie.Need-add-to Inv-loop μ-loop
 add-to c =
-    let within = c .before .before .before .before .before .before .before .before .before .before .before .before .before .before .before .before .before .before .before .before .before .before .pre .1 .indexed .within (c .before .before .before .loop .i - 1) (inside (c .before .before .before .loop .i) _ (c .before .before .before .loop .inv .0) (c .before .before .loop-test .taken)) in
+    let within = c .before .before .before .before .before .before .before .before .before .before .before .before .before .before .before .before .before .before .before .before .before .before .before .before .before .before .before .before .before .pre .1 .indexed .within (c .before .before .before .loop .i - 1) (inside (c .before .before .before .loop .i) _ (c .before .before .before .loop .inv .0) (c .before .before .loop-test .taken)) in
+    let small = c .before .before .before .before .before .before .before .before .before .before .before .before .before .before .before .before .before .before .before .before .before .before .before .before .before .before .before .before .before .good .1 .1 .0 in
     omega arith
 
 mul-count : tie.Need-mul-count Inv-loop μ-loop
 mul-count c =
-    let few = c .before .before .before .before .before .before .before .before .before .before .before .before .before .before .before .before .before .before .before .before .before .before .pre .1 .indexed .few in
+    let few = c .before .before .before .before .before .before .before .before .before .before .before .before .before .before .before .before .before .before .before .before .before .before .before .before .before .before .before .before .before .pre .1 .indexed .few in
     let inv = c .before .before .before .loop .inv .0 in
     let some = c .before .before .loop-test .taken in
     omega arith
 
 shared-slice-read-count : tie.Need-shared-slice-read-count Inv-loop μ-loop
 shared-slice-read-count c =
-    let few = c .before .before .before .before .before .before .before .before .before .before .before .before .before .before .before .before .before .before .before .before .before .before .before .pre .1 .indexed .few in
-    let room = c .before .before .before .before .before .before .before .before .before .before .before .before .before .before .before .before .before .before .before .before .before .before .before .pre .2 .for-children in
+    let few = c .before .before .before .before .before .before .before .before .before .before .before .before .before .before .before .before .before .before .before .before .before .before .before .before .before .before .before .before .before .before .pre .1 .indexed .few in
+    let room = c .before .before .before .before .before .before .before .before .before .before .before .before .before .before .before .before .before .before .before .before .before .before .before .before .before .before .before .before .before .before .pre .2 .for-children in
     let inv = c .before .before .before .before .loop .inv .0 in
     let some = c .before .before .before .loop-test .taken in
     omega arith
@@ -122,70 +153,85 @@ shared-slice-read-count c =
 cast-count : tie.Need-cast-count Inv-loop μ-loop
 cast-count c = omega (arith, c .shared-slice-known8 .given (c .before .before .before .before .loop .i - 1))
 
-sub-name-place : tie.Need-sub-name-place Inv-loop μ-loop
-sub-name-place c =
-    let within = c .before .before .before .before .before .before .before .before .before .before .before .before .before .before .before .before .before .before .before .before .before .before .before .pre .1 .indexed .within (c .before .before .before .before .loop .i - 1) (inside (c .before .before .before .before .loop .i) _ (c .before .before .before .before .loop .inv .0) (c .before .before .before .loop-test .taken)) in
+sub-name : tie.Need-sub-name Inv-loop μ-loop
+sub-name c =
+    let within = c .before .before .before .before .before .before .before .before .before .before .before .before .before .before .before .before .before .before .before .before .before .before .before .before .before .before .before .before .before .before .pre .1 .indexed .within (c .before .before .before .before .loop .i - 1) (inside (c .before .before .before .before .loop .i) _ (c .before .before .before .before .loop .inv .0) (c .before .before .before .loop-test .taken)) in
     omega arith
 
-part-name-place-start : tie.Need-part-name-place-start Inv-loop μ-loop
-part-name-place-start c =
-    let within = c .before .before .before .before .before .before .before .before .before .before .before .before .before .before .before .before .before .before .before .before .before .before .before .pre .1 .indexed .within (c .before .before .before .before .loop .i - 1) (inside (c .before .before .before .before .loop .i) _ (c .before .before .before .before .loop .inv .0) (c .before .before .before .loop-test .taken)) in
+part-name-start : tie.Need-part-name-start Inv-loop μ-loop
+part-name-start c =
+    let within = c .before .before .before .before .before .before .before .before .before .before .before .before .before .before .before .before .before .before .before .before .before .before .before .before .before .before .before .before .before .before .pre .1 .indexed .within (c .before .before .before .before .loop .i - 1) (inside (c .before .before .before .before .loop .i) _ (c .before .before .before .before .loop .inv .0) (c .before .before .before .loop-test .taken)) in
     omega arith
 
-part-name-place-end : tie.Need-part-name-place-end Inv-loop μ-loop
-part-name-place-end c =
-    let within = c .before .before .before .before .before .before .before .before .before .before .before .before .before .before .before .before .before .before .before .before .before .before .before .pre .1 .indexed .within (c .before .before .before .before .loop .i - 1) (inside (c .before .before .before .before .loop .i) _ (c .before .before .before .before .loop .inv .0) (c .before .before .before .loop-test .taken)) in
+part-name-end : tie.Need-part-name-end Inv-loop μ-loop
+part-name-end c =
+    let within = c .before .before .before .before .before .before .before .before .before .before .before .before .before .before .before .before .before .before .before .before .before .before .before .before .before .before .before .before .before .before .pre .1 .indexed .within (c .before .before .before .before .loop .i - 1) (inside (c .before .before .before .before .loop .i) _ (c .before .before .before .before .loop .inv .0) (c .before .before .before .loop-test .taken)) in
     omega arith
 
-slice-aggregate-name-place : tie.Need-slice-aggregate-name-place Inv-loop μ-loop
-slice-aggregate-name-place c =
-    sym (c .before .before .before .before .before .before .before .before .before .before .before .before .before .before .before .before .before .before .before .before .before .before .before .before .before .pre .0 .known .indexes .rooms .label-from)
+slice-aggregate-label-of : tie.Need-slice-aggregate-label-of Inv-loop μ-loop
+slice-aggregate-label-of c =
+    sym (c .before .before .before .before .before .before .before .before .before .before .before .before .before .before .before .before .before .before .before .before .before .before .before .before .before .before .before .before .before .before .before .before .pre .0 .known .indexes .rooms .label-from)
 
-slice-aggregate-name-place-2 : tie.Need-slice-aggregate-name-place-2 Inv-loop μ-loop
-slice-aggregate-name-place-2 c =
-    sym (c .before .before .before .before .before .before .before .before .before .before .before .before .before .before .before .before .before .before .before .before .before .before .before .before .before .before .pre .0 .known .indexes .rooms .label-to)
+slice-aggregate-label-of-2 : tie.Need-slice-aggregate-label-of-2 Inv-loop μ-loop
+slice-aggregate-label-of-2 c =
+    sym (c .before .before .before .before .before .before .before .before .before .before .before .before .before .before .before .before .before .before .before .before .before .before .before .before .before .before .before .before .before .before .before .before .before .pre .0 .known .indexes .rooms .label-to)
+
+slice-aggregate-label-of-3 : tie.Need-slice-aggregate-label-of-3 Inv-loop μ-loop
+slice-aggregate-label-of-3 c =
+    sym (c .before .before .before .before .before .before .before .before .before .before .before .before .before .before .before .before .before .before .before .before .before .before .chained-labels .ensures .chain .room)
 
 slice-aggregate-types-of : tie.Need-slice-aggregate-types-of Inv-loop μ-loop
 slice-aggregate-types-of c =
-    sym (c .before .before .before .before .before .before .before .before .before .before .before .before .before .before .before .before .before .before .before .before .before .before .before .before .before .before .before .before .pre .0 .known .indexes .rooms .rule-type)
+    sym (c .before .before .before .before .before .before .before .before .before .before .before .before .before .before .before .before .before .before .before .before .before .before .before .before .before .before .before .before .before .before .before .before .before .before .before .before .pre .0 .known .indexes .rooms .rule-type)
 
 slice-aggregate-types-of-2 : tie.Need-slice-aggregate-types-of-2 Inv-loop μ-loop
 slice-aggregate-types-of-2 c =
-    sym (c .before .before .before .before .before .before .before .before .before .before .before .before .before .before .before .before .before .before .before .before .before .before .before .before .before .before .before .before .before .pre .0 .known .indexes .rooms .rule-label)
+    sym (c .before .before .before .before .before .before .before .before .before .before .before .before .before .before .before .before .before .before .before .before .before .chained .ensures .room)
 
 slice-aggregate-types-of-3 : tie.Need-slice-aggregate-types-of-3 Inv-loop μ-loop
 slice-aggregate-types-of-3 c =
-    sym (c .before .before .before .before .before .before .before .before .before .before .before .before .before .before .before .before .before .before .before .before .before .before .before .before .before .before .before .before .before .before .pre .0 .known .indexes .rooms .content-from)
+    sym (c .before .before .before .before .before .before .before .before .before .before .before .before .before .before .before .before .before .before .before .before .before .before .before .before .before .before .before .before .before .before .before .before .before .before .before .before .before .before .pre .0 .known .indexes .rooms .content-from)
 
 slice-aggregate-types-of-4 : tie.Need-slice-aggregate-types-of-4 Inv-loop μ-loop
 slice-aggregate-types-of-4 c =
-    sym (c .before .before .before .before .before .before .before .before .before .before .before .before .before .before .before .before .before .before .before .before .before .before .before .before .before .before .before .before .before .before .before .pre .0 .known .indexes .rooms .content-to)
+    sym (c .before .before .before .before .before .before .before .before .before .before .before .before .before .before .before .before .before .before .before .before .before .before .before .before .before .before .before .before .before .before .before .before .before .before .before .before .before .before .before .pre .0 .known .indexes .rooms .content-to)
 
-name-place-requires : tie.Need-name-place-requires Inv-loop μ-loop
-name-place-requires c κs =
-    let table = c .before .before .before .before .before .before .before .before .before .before .before .before .before .before .before .before .before .before .before .before .before .before .before .before .before .before .pre .0 in
-    record { list = table .table .labels; at = index-names (table .known .indexes) }
+label-of-requires : tie.Need-label-of-requires Inv-loop μ-loop
+label-of-requires c κs =
+    let table = c .before .before .before .before .before .before .before .before .before .before .before .before .before .before .before .before .before .before .before .before .before .before .before .before .before .before .before .before .before .before .before .before .before .before .pre .0 in
+    record { list = table .table .labels; at = index-names (table .known .indexes); chained = c .before .before .before .before .before .before .before .before .before .before .before .before .before .before .before .before .before .before .before .before .before .before .chained-labels .ensures }
+
+slice-aggregate-types-of-5 : tie.Need-slice-aggregate-types-of-5 Inv-loop μ-loop
+slice-aggregate-types-of-5 c =
+    sym (c .before .before .before .before .before .before .before .before .before .before .before .before .before .before .before .before .before .nullable-contents .ok .1 .0 .1)
 
 types-of-requires : tie.Need-types-of-requires Inv-loop μ-loop
 types-of-requires c κs =
-    let a = c .before .before .before .before .before .before .before .before .before .before .before .before .before .before .before .before .before .before .before .before .before .before .before .before .before .before .before .before .before .before .before .before .before .before .args in
+    let a = c .before .before .before .before .before .before .before .before .before .before .before .before .before .before .before .before .before .before .before .before .before .before .before .before .before .before .before .before .before .before .before .before .before .before .before .before .before .before .before .before .before .before .args in
     let d = a .document .now in
     let nodes = indexOf (a .names .now) (a .sizes .now) (a .children .now) (a .nodes) in
-    let known = c .before .before .before .before .before .before .before .before .before .before .before .before .before .before .before .before .before .before .before .before .before .before .before .before .before .before .before .before .before .before .before .before .before .before .pre .1 in
+    let known = c .before .before .before .before .before .before .before .before .before .before .before .before .before .before .before .before .before .before .before .before .before .before .before .before .before .before .before .before .before .before .before .before .before .before .before .before .before .before .before .before .before .before .pre .1 in
     let few = known .indexed .few in
-    let i = c .before .before .before .before .before .before .before .before .before .before .before .before .before .before .before .loop .i in
-    let inv = c .before .before .before .before .before .before .before .before .before .before .before .before .before .before .before .loop .inv in
-    let some = c .before .before .before .before .before .before .before .before .before .before .before .before .before .before .loop-test .taken in
+    let i = c .before .before .before .before .before .before .before .before .before .before .before .before .before .before .before .before .loop .i in
+    let inv = c .before .before .before .before .before .before .before .before .before .before .before .before .before .before .before .before .loop .inv in
+    let some = c .before .before .before .before .before .before .before .before .before .before .before .before .before .before .before .loop-test .taken in
     let before : i - 1 + 1 ≡ i = omega arith in
     let enough = laws.round-enough d nodes known i (i - 1) before (inv .0) in
     let trees = laws.round-few d nodes known i (i - 1) before (inv .0) in
-    let room = c .before .before .before .before .before .before .before .before .before .before .before .before .before .before .before .before .before .before .before .before .before .before .before .before .before .before .before .before .before .before .before .before .before .before .pre .4 in
-    let marks = c .before .before .before .before .before .before .before .before .before .before .before .before .before .before .before .before .before .before .before .before .before .before .before .before .before .before .before .before .before .before .before .before .before .before .pre .3 in
-    let table = c .before .before .before .before .before .before .before .before .before .before .before .before .before .before .before .before .before .before .before .before .before .before .before .before .before .before .before .before .before .before .before .before .before .before .pre .0 in (
+    let room = c .before .before .before .before .before .before .before .before .before .before .before .before .before .before .before .before .before .before .before .before .before .before .before .before .before .before .before .before .before .before .before .before .before .before .before .before .before .before .before .before .before .before .pre .4 in
+    let marks = c .before .before .before .before .before .before .before .before .before .before .before .before .before .before .before .before .before .before .before .before .before .before .before .before .before .before .before .before .before .before .before .before .before .before .before .before .before .before .before .before .before .before .pre .3 in
+    let kept = c .before .before .before .before .before .before .before .before .before .before .before .before .before .before .before .before .before .before .before .nullable-contents .kept .1 .1 .1 .1 .0 in
+    let table = c .before .before .before .before .before .before .before .before .before .before .before .before .before .before .before .before .before .before .before .before .before .before .before .before .before .before .before .before .before .before .before .before .before .before .before .before .before .before .before .before .before .before .pre .0 in (
       record {
         table = table .table;
-        at = record { index = a .index; known = table .known; nullables = c .before .before .before .before .before .before .before .before .before .before .before .before .before .before .before .before .before .before .before .before .before .before .before .before .nullable-contents .ensures };
+        at =
+            record {
+              labels = a .index .«rule_label»;
+              at = record { index = a .index; known = table .known; nullables = c .before .before .before .before .before .before .before .before .before .before .before .before .before .before .before .before .before .before .before .nullable-contents .ensures };
+              chain = c .before .before .before .before .before .before .before .before .before .before .before .before .before .before .before .before .before .before .before .before .before .before .before .before .before .before .chained .ensures;
+            };
       },
+      label-few (table .known) _ (c .before .before .before .before .before .before .before .label-of .ensures (table .table .labels) (index-names (table .known .indexes))),
       omega arith,
       omega arith,
       omega arith,
@@ -193,55 +239,10 @@ types-of-requires c κs =
 
 mul-top-2 : tie.Need-mul-top-2 Inv-loop μ-loop
 mul-top-2 c =
-    let a = c .before .before .before .before .before .before .before .before .before .before .before .before .before .before .before .before .before .before .before .before .before .before .before .before .before .before .before .before .before .before .before .before .before .before .before .before .before .args in
+    let a = c .before .before .before .before .before .before .before .before .before .before .before .before .before .before .before .before .before .before .before .before .before .before .before .before .before .before .before .before .before .before .before .before .before .before .before .before .before .before .before .before .before .before .before .before .before .args in
     let d = a .document .now in
     let nodes = indexOf (a .names .now) (a .sizes .now) (a .children .now) (a .nodes) in
-    let known = c .before .before .before .before .before .before .before .before .before .before .before .before .before .before .before .before .before .before .before .before .before .before .before .before .before .before .before .before .before .before .before .before .before .before .before .before .before .pre .1 in
-    let few = known .indexed .few in
-    let i = c .before .before .before .before .before .before .before .before .before .before .before .before .before .before .before .before .before .before .loop .i in
-    let inv = c .before .before .before .before .before .before .before .before .before .before .before .before .before .before .before .before .before .before .loop .inv in
-    let some = c .before .before .before .before .before .before .before .before .before .before .before .before .before .before .before .before .before .loop-test .taken in
-    let before : i - 1 + 1 ≡ i = omega arith in
-    let enough = laws.round-enough d nodes known i (i - 1) before (inv .0) in
-    let trees = laws.round-few d nodes known i (i - 1) before (inv .0) in
-    omega arith
-
-add-top : tie.Need-add-top Inv-loop μ-loop
-add-top c =
-    let a = c .before .before .before .before .before .before .before .before .before .before .before .before .before .before .before .before .before .before .before .before .before .before .before .before .before .before .before .before .before .before .before .before .before .before .before .before .before .args in
-    let d = a .document .now in
-    let nodes = indexOf (a .names .now) (a .sizes .now) (a .children .now) (a .nodes) in
-    let known = c .before .before .before .before .before .before .before .before .before .before .before .before .before .before .before .before .before .before .before .before .before .before .before .before .before .before .before .before .before .before .before .before .before .before .before .before .before .pre .1 in
-    let few = known .indexed .few in
-    let i = c .before .before .before .before .before .before .before .before .before .before .before .before .before .before .before .before .before .before .loop .i in
-    let inv = c .before .before .before .before .before .before .before .before .before .before .before .before .before .before .before .before .before .before .loop .inv in
-    let some = c .before .before .before .before .before .before .before .before .before .before .before .before .before .before .before .before .before .loop-test .taken in
-    let before : i - 1 + 1 ≡ i = omega arith in
-    let enough = laws.round-enough d nodes known i (i - 1) before (inv .0) in
-    let trees = laws.round-few d nodes known i (i - 1) before (inv .0) in
-    omega arith
-
-sub-top : tie.Need-sub-top Inv-loop μ-loop
-sub-top c =
-    let a = c .before .before .before .before .before .before .before .before .before .before .before .before .before .before .before .before .before .before .before .before .before .before .before .before .before .before .before .before .before .before .before .before .before .before .before .before .before .args in
-    let d = a .document .now in
-    let nodes = indexOf (a .names .now) (a .sizes .now) (a .children .now) (a .nodes) in
-    let known = c .before .before .before .before .before .before .before .before .before .before .before .before .before .before .before .before .before .before .before .before .before .before .before .before .before .before .before .before .before .before .before .before .before .before .before .before .before .pre .1 in
-    let few = known .indexed .few in
-    let i = c .before .before .before .before .before .before .before .before .before .before .before .before .before .before .before .before .before .before .loop .i in
-    let inv = c .before .before .before .before .before .before .before .before .before .before .before .before .before .before .before .before .before .before .loop .inv in
-    let some = c .before .before .before .before .before .before .before .before .before .before .before .before .before .before .before .before .before .loop-test .taken in
-    let before : i - 1 + 1 ≡ i = omega arith in
-    let enough = laws.round-enough d nodes known i (i - 1) before (inv .0) in
-    let trees = laws.round-few d nodes known i (i - 1) before (inv .0) in
-    omega arith
-
-store-requires : tie.Need-store-requires Inv-loop μ-loop
-store-requires c κs =
-    let a = c .before .before .before .before .before .before .before .before .before .before .before .before .before .before .before .before .before .before .before .before .before .before .before .before .before .before .before .before .before .before .before .before .before .before .before .before .before .before .args in
-    let d = a .document .now in
-    let nodes = indexOf (a .names .now) (a .sizes .now) (a .children .now) (a .nodes) in
-    let known = c .before .before .before .before .before .before .before .before .before .before .before .before .before .before .before .before .before .before .before .before .before .before .before .before .before .before .before .before .before .before .before .before .before .before .before .before .before .before .pre .1 in
+    let known = c .before .before .before .before .before .before .before .before .before .before .before .before .before .before .before .before .before .before .before .before .before .before .before .before .before .before .before .before .before .before .before .before .before .before .before .before .before .before .before .before .before .before .before .before .before .pre .1 in
     let few = known .indexed .few in
     let i = c .before .before .before .before .before .before .before .before .before .before .before .before .before .before .before .before .before .before .before .loop .i in
     let inv = c .before .before .before .before .before .before .before .before .before .before .before .before .before .before .before .before .before .before .before .loop .inv in
@@ -249,30 +250,75 @@ store-requires c κs =
     let before : i - 1 + 1 ≡ i = omega arith in
     let enough = laws.round-enough d nodes known i (i - 1) before (inv .0) in
     let trees = laws.round-few d nodes known i (i - 1) before (inv .0) in
-    let room = c .before .before .before .before .before .before .before .before .before .before .before .before .before .before .before .before .before .before .before .before .before .before .before .before .before .before .before .before .before .before .before .before .before .before .before .before .before .before .pre .4 in
+    omega arith
+
+add-top : tie.Need-add-top Inv-loop μ-loop
+add-top c =
+    let a = c .before .before .before .before .before .before .before .before .before .before .before .before .before .before .before .before .before .before .before .before .before .before .before .before .before .before .before .before .before .before .before .before .before .before .before .before .before .before .before .before .before .before .before .before .before .args in
+    let d = a .document .now in
+    let nodes = indexOf (a .names .now) (a .sizes .now) (a .children .now) (a .nodes) in
+    let known = c .before .before .before .before .before .before .before .before .before .before .before .before .before .before .before .before .before .before .before .before .before .before .before .before .before .before .before .before .before .before .before .before .before .before .before .before .before .before .before .before .before .before .before .before .before .pre .1 in
+    let few = known .indexed .few in
+    let i = c .before .before .before .before .before .before .before .before .before .before .before .before .before .before .before .before .before .before .before .loop .i in
+    let inv = c .before .before .before .before .before .before .before .before .before .before .before .before .before .before .before .before .before .before .before .loop .inv in
+    let some = c .before .before .before .before .before .before .before .before .before .before .before .before .before .before .before .before .before .before .loop-test .taken in
+    let before : i - 1 + 1 ≡ i = omega arith in
+    let enough = laws.round-enough d nodes known i (i - 1) before (inv .0) in
+    let trees = laws.round-few d nodes known i (i - 1) before (inv .0) in
+    omega arith
+
+sub-top : tie.Need-sub-top Inv-loop μ-loop
+sub-top c =
+    let a = c .before .before .before .before .before .before .before .before .before .before .before .before .before .before .before .before .before .before .before .before .before .before .before .before .before .before .before .before .before .before .before .before .before .before .before .before .before .before .before .before .before .before .before .before .before .args in
+    let d = a .document .now in
+    let nodes = indexOf (a .names .now) (a .sizes .now) (a .children .now) (a .nodes) in
+    let known = c .before .before .before .before .before .before .before .before .before .before .before .before .before .before .before .before .before .before .before .before .before .before .before .before .before .before .before .before .before .before .before .before .before .before .before .before .before .before .before .before .before .before .before .before .before .pre .1 in
+    let few = known .indexed .few in
+    let i = c .before .before .before .before .before .before .before .before .before .before .before .before .before .before .before .before .before .before .before .loop .i in
+    let inv = c .before .before .before .before .before .before .before .before .before .before .before .before .before .before .before .before .before .before .before .loop .inv in
+    let some = c .before .before .before .before .before .before .before .before .before .before .before .before .before .before .before .before .before .before .loop-test .taken in
+    let before : i - 1 + 1 ≡ i = omega arith in
+    let enough = laws.round-enough d nodes known i (i - 1) before (inv .0) in
+    let trees = laws.round-few d nodes known i (i - 1) before (inv .0) in
+    omega arith
+
+store-requires : tie.Need-store-requires Inv-loop μ-loop
+store-requires c κs =
+    let a = c .before .before .before .before .before .before .before .before .before .before .before .before .before .before .before .before .before .before .before .before .before .before .before .before .before .before .before .before .before .before .before .before .before .before .before .before .before .before .before .before .before .before .before .before .before .before .args in
+    let d = a .document .now in
+    let nodes = indexOf (a .names .now) (a .sizes .now) (a .children .now) (a .nodes) in
+    let known = c .before .before .before .before .before .before .before .before .before .before .before .before .before .before .before .before .before .before .before .before .before .before .before .before .before .before .before .before .before .before .before .before .before .before .before .before .before .before .before .before .before .before .before .before .before .before .pre .1 in
+    let few = known .indexed .few in
+    let i = c .before .before .before .before .before .before .before .before .before .before .before .before .before .before .before .before .before .before .before .before .loop .i in
+    let inv = c .before .before .before .before .before .before .before .before .before .before .before .before .before .before .before .before .before .before .before .before .loop .inv in
+    let some = c .before .before .before .before .before .before .before .before .before .before .before .before .before .before .before .before .before .before .before .loop-test .taken in
+    let before : i - 1 + 1 ≡ i = omega arith in
+    let enough = laws.round-enough d nodes known i (i - 1) before (inv .0) in
+    let trees = laws.round-few d nodes known i (i - 1) before (inv .0) in
+    let room = c .before .before .before .before .before .before .before .before .before .before .before .before .before .before .before .before .before .before .before .before .before .before .before .before .before .before .before .before .before .before .before .before .before .before .before .before .before .before .before .before .before .before .before .before .before .before .pre .4 in
     omega arith
 
 loop-less : tie.Need-loop-less Inv-loop μ-loop
 loop-less c =
-    let some = c .before .before .before .before .before .before .before .before .before .before .before .before .before .before .before .before .before .before .before .before .before .loop-test .taken in
+    let some = c .before .before .before .before .before .before .before .before .before .before .before .before .before .before .before .before .before .before .before .before .before .before .loop-test .taken in
     omega arith
 
 loop-again : tie.Need-loop-again Inv-loop μ-loop
 loop-again c =
-    let a = c .before .before .before .before .before .before .before .before .before .before .before .before .before .before .before .before .before .before .before .before .before .before .before .before .before .before .before .before .before .before .before .before .before .before .before .before .before .before .before .before .before .args in
+    let a = c .before .before .before .before .before .before .before .before .before .before .before .before .before .before .before .before .before .before .before .before .before .before .before .before .before .before .before .before .before .before .before .before .before .before .before .before .before .before .before .before .before .before .before .before .before .before .before .before .before .args in
     let d = a .document .now in
     let nodes = indexOf (a .names .now) (a .sizes .now) (a .children .now) (a .nodes) in
-    let known = c .before .before .before .before .before .before .before .before .before .before .before .before .before .before .before .before .before .before .before .before .before .before .before .before .before .before .before .before .before .before .before .before .before .before .before .before .before .before .before .before .before .pre .1 in
+    let known = c .before .before .before .before .before .before .before .before .before .before .before .before .before .before .before .before .before .before .before .before .before .before .before .before .before .before .before .before .before .before .before .before .before .before .before .before .before .before .before .before .before .before .before .before .before .before .before .before .before .pre .1 in
     let few = known .indexed .few in
-    let i = c .before .before .before .before .before .before .before .before .before .before .before .before .before .before .before .before .before .before .before .before .before .before .loop .i in
-    let inv = c .before .before .before .before .before .before .before .before .before .before .before .before .before .before .before .before .before .before .before .before .before .before .loop .inv in
-    let some = c .before .before .before .before .before .before .before .before .before .before .before .before .before .before .before .before .before .before .before .before .before .loop-test .taken in
+    let i = c .before .before .before .before .before .before .before .before .before .before .before .before .before .before .before .before .before .before .before .before .before .before .before .loop .i in
+    let inv = c .before .before .before .before .before .before .before .before .before .before .before .before .before .before .before .before .before .before .before .before .before .before .before .loop .inv in
+    let some = c .before .before .before .before .before .before .before .before .before .before .before .before .before .before .before .before .before .before .before .before .before .before .loop-test .taken in
     let before : i - 1 + 1 ≡ i = omega arith in
     let enough = laws.round-enough d nodes known i (i - 1) before (inv .0) in
     let trees = laws.round-few d nodes known i (i - 1) before (inv .0) in
-    let room = c .before .before .before .before .before .before .before .before .before .before .before .before .before .before .before .before .before .before .before .before .before .before .before .before .before .before .before .before .before .before .before .before .before .before .before .before .before .before .before .before .before .pre .4 in
+    let room = c .before .before .before .before .before .before .before .before .before .before .before .before .before .before .before .before .before .before .before .before .before .before .before .before .before .before .before .before .before .before .before .before .before .before .before .before .before .before .before .before .before .before .before .before .before .before .before .before .before .pre .4 in
     let count = laws.round-count d nodes known i (i - 1) before (inv .0) in
-    let top = c .before .before .before .before .before .before .before .before .before .before .before .before .before .before .before .before .before .before .before .before .before .before .loop .top in
+    let top = c .before .before .before .before .before .before .before .before .before .before .before .before .before .before .before .before .before .before .before .before .before .before .before .loop .top in
     let place : top + 4 * getD (nodes .children) (i - 1) 0 - 4 + 4 ≡ top + 4 * getD (nodes .children) (i - 1) 0 = omega arith in
     let from = getD (nodes .names) (i - 1) 0 in
     let size = getD (nodes .sizes) (i - 1) 0 in (
@@ -281,7 +327,7 @@ loop-again c =
       c .before .before .store .kept .0 ∙ inv .2,
       omega arith,
       λ g named rules.
-          laws.round-stacked d nodes known i (i - 1) before (inv .0) g (c .before .before .before .before .before .before .before .before .before .before .before .before .before .before .before .before .before .before .before .before .before .before .loop .words) (c .before .before .store .last .0) (c .before .before .before .before .before .before .types-of .result .words)
+          laws.round-stacked d nodes known i (i - 1) before (inv .0) g (c .before .before .before .before .before .before .before .before .before .before .before .before .before .before .before .before .before .before .before .before .before .before .before .loop .words) (c .before .before .store .last .0) (c .before .before .before .before .before .before .types-of .result .words)
           (take (from + size - from) (drop from d))
           top
           (top + 4 * getD (nodes .children) (i - 1) 0 - 4)
@@ -290,33 +336,38 @@ loop-again c =
           place
           (c .before .before .before .before .before .before .types-of .ensures .size)
           (omega arith)
-          (c .before .before .before .before .before .before .types-of .ensures .types g rules (take (from + size - from) (drop from d)) (c .before .before .before .before .before .before .before .before .before .before .before .before .before .before .name-place .ensures (g .labels) named))
+          (c .before .before .before .before .before .before .types-of .ensures .types g rules (take (from + size - from) (drop from d)) (c .before .before .before .before .before .before .before .before .before .before .before .before .before .before .label-of .ensures (g .labels) named))
           (c .before .before .store .ensures),
     )
 
 same-length : tie.Need-same-length Inv-loop μ-loop
 same-length c =
-    c .before .loop .inv .1 ∙ c .before .before .before .before .before .before .before .before .before .before .nullable-contents .kept .1 .1 .0
+    c .before .loop .inv .1 ∙ c .before .before .before .before .nullable-contents .kept .1 .1 .1 .1 .0
 
 returns : tie.Need-returns Inv-loop μ-loop
 returns c =
-    let a = c .before .before .before .before .before .before .before .before .before .before .before .before .before .before .before .before .before .before .before .before .args in
+    let a = c .before .before .before .before .before .before .before .before .before .before .before .before .before .before .before .before .before .before .before .before .before .before .before .before .before .before .before .args in
     let d = a .document .now in
     let nodes = indexOf (a .names .now) (a .sizes .now) (a .children .now) (a .nodes) in
-    let known = c .before .before .before .before .before .before .before .before .before .before .before .before .before .before .before .before .before .before .before .before .pre .1 in
+    let known = c .before .before .before .before .before .before .before .before .before .before .before .before .before .before .before .before .before .before .before .before .before .before .before .before .before .before .before .pre .1 in
     let few = known .indexed .few in
     let inv = c .before .loop .inv in
     let last : c .before .loop .i ≡ 0 = omega arith in
     let one = known .one-tree in
     let whole = subst (λ (n : ℕ). c .before .loop .top + 4 * treeCount (drop n (nodesIn d nodes)) ≡ 4 * a .nodes) last (inv .3) in
-    let room = c .before .before .before .before .before .before .before .before .before .before .before .before .before .before .before .before .before .before .before .before .pre .4 in
+    let room = c .before .before .before .before .before .before .before .before .before .before .before .before .before .before .before .before .before .before .before .before .before .before .before .before .before .before .before .pre .4 in
     record {
       inside = omega arith;
       types =
           λ g k t e.
           laws.stack-root g (nodesIn d nodes) (c .before .loop .words) (c .before .loop .top) one
           (subst (λ (n : ℕ). laws.Stacked g (drop n (nodesIn d nodes)) (c .before .loop .words) (c .before .loop .top)) last
-          (inv .4 g (index-names (k .indexes)) (record { index = a .index; known = k; nullables = c .before .before .before .before .before .before .before .before .before .before .nullable-contents .ensures })))
+          (inv .4 g (index-names (k .indexes))
+          (record {
+            labels = a .index .«rule_label»;
+            at = record { index = a .index; known = k; nullables = c .before .before .before .before .nullable-contents .ensures };
+            chain = c .before .before .before .before .before .before .before .before .before .before .before .chained .ensures;
+          })))
           t
           e;
     }
@@ -327,6 +378,13 @@ root-types-spec =
     (tie.spec
     Inv-loop
     μ-loop
+    slice-aggregate-chained-labels
+    slice-aggregate-chained-labels-2
+    chained-labels-requires
+    slice-aggregate-chained
+    chained-requires
+    slice-aggregate-nullable-contents
+    slice-aggregate-nullable-contents-2
     nullable-contents-requires
     mul-top
     loop-holds
@@ -341,17 +399,18 @@ root-types-spec =
     mul-count
     shared-slice-read-count
     cast-count
-    sub-name-place
-    part-name-place-start
-    part-name-place-end
-    slice-aggregate-name-place
-    slice-aggregate-name-place-2
-    name-place-requires
+    sub-name
+    part-name-start
+    part-name-end
+    slice-aggregate-label-of
+    slice-aggregate-label-of-2
+    slice-aggregate-label-of-3
+    label-of-requires
     slice-aggregate-types-of
     slice-aggregate-types-of-2
     slice-aggregate-types-of-3
     slice-aggregate-types-of-4
-    (λ c. search needs)
+    slice-aggregate-types-of-5
     types-of-requires
     mul-top-2
     add-top
