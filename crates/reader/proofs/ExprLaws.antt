@@ -304,22 +304,17 @@ pub operator-optional : getElem? operators 7 ≡ just (single optional)
 unfolding operators
 operator-optional = refl
 
-pub operator-unknown : (b : ℕ) → 7 < b → getElem? operators b ≡ nothing
-operator-unknown b h = unknown-operator b (omega arith)
-
 -- Where a content is known to stand, its operator's byte says what it is and where its parts stand.
 module _ (s : List ℕ) (at : ℕ) (c : Content) (next : ℕ) (stands : exprAt s at ≡ just (c upTo next)) where
-  pub known-operator : getElem? operators (getD s at 0) ≡ nothing → ⊥
-  known-operator o =
-      let h = expr-forward s at c next stands in
-      let z : _≡_ {A = ℕ} 0 1 = cc (expr-unknown s at (omega arith) o) in
-      omega arith
-
   pub operator-known : getD s at 0 ≤ 7
   operator-known = go (passes-or-fails (ltb 7 (getD s at 0)))
     where
       go : (ltb 7 (getD s at 0) ≡ true) ⊎ (ltb 7 (getD s at 0) ≡ false) → getD s at 0 ≤ 7
-      go (inl t) = absurd (known-operator (operator-unknown (getD s at 0) (ltb-true 7 (getD s at 0) t)))
+      go (inl t) =
+          let h = expr-forward s at c next stands in
+          let l = ltb-true 7 (getD s at 0) t in
+          let z : _≡_ {A = ℕ} 0 1 = cc (expr-unknown s at (omega arith) (unknown-operator (getD s at 0) (omega arith))) in
+          absurd (omega arith)
       go (inr t) = ltb-false 7 (getD s at 0) t
 
   pub alone-was : (d : Content) → getElem? operators (getD s at 0) ≡ just (alone d) → (d ≡ c) × (at + 1 ≡ next)

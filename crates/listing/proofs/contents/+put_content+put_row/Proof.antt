@@ -8,7 +8,7 @@ use borrow.Author.Needs.{needs}
 use borrow.Fn.Kinds.{In}
 use borrow.Fn.PlainCycle.{Measures, is, falls, and}
 use Rattle.grammar.specs.Limits.{standard}
-use Rattle.pairs.proofs.ContentAtLaws.{content-inside, type-there, count-there}
+use Rattle.reader.proofs.ContentAtLaws.{content-inside, type-there, count-there}
 use Rattle.listing.specs.Printing.{markOf}
 use Rattle.listing.proofs.PrintSteps.{
   none-room,
