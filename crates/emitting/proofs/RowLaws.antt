@@ -28,19 +28,10 @@ use Rattle.grammar.specs.Content.{
 use Rattle.grammar.specs.ReadContent.{contentBytes, operandBytes}
 use Rattle.grammar.specs.Tidy.{listOf}
 use Rattle.theory.proofs.ContentBytes.{content-has-bytes}
+use Rattle.theory.proofs.TidyWords.{operands-listed}
 use Rattle.reader.specs.ExprAt.{_upTo_, placed, exprAt, exprsAt}
 use Rattle.reader.proofs.ExprLaws.{Parts, exprs-none, exprs-more, exprs-first, exprs-end, exprs-written, expr-parts, expr-forward, count-inside}
 use Rattle.emitting.specs.Drafts.{Stands, Ends, Headed}
-
-pub operands-list : (cs : Contents) → operands (listOf cs) ≡ cs
-unfolding operands listOf
-operands-list []ᶜ = refl
-operands-list (c ∷ᶜ cs) = ap (λ (ds : Contents). c ∷ᶜ ds) (operands-list cs)
-
-pub count-list : (xs : List Content) → count (operands xs) ≡ length xs
-unfolding count operands
-count-list [] = refl
-count-list (x ∷ xs) = ap suc (count-list xs)
 
 module _ (s : List ℕ) where
   pub exprs-join : (m n at mid next : ℕ) (xs ys : List Content) → exprsAt s at m ≡ just (operands xs upTo mid)
@@ -135,8 +126,8 @@ module _ (s : List ℕ) where
         contents = operands (listOf (e .contents) ++ listOf (f .contents));
         stand =
             exprs-join m n at mid next (listOf (e .contents)) (listOf (f .contents))
-            (e .stand ∙ ap (λ (cs : Contents). just (cs upTo mid)) (sym (operands-list (e .contents))))
-            (f .stand ∙ ap (λ (cs : Contents). just (cs upTo next)) (sym (operands-list (f .contents))));
+            (e .stand ∙ ap (λ (cs : Contents). just (cs upTo mid)) (sym (operands-listed (e .contents))))
+            (f .stand ∙ ap (λ (cs : Contents). just (cs upTo next)) (sym (operands-listed (f .contents))));
       }
 
 -- as many expressions have at least as many bytes
