@@ -1,7 +1,7 @@
 -- Laws of the united view: the rule of a number (`seen`), its content (`content-seen`), that the view's numbers are small
 -- (`views-sized`), where a rule of the table stands (`rule-seen`), and a content in its source (`source-there`, `source-has`,
 -- `addition-has`).
-use Prim.Native.Nat.{ℕ, _+_, _-_, _/_, _%_, _≤_, _<_}
+use Prim.Native.Nat.{ℕ, _+_, _-_, _/_, _%_, _<_}
 use native.Mathlib.Omega.{arith}
 use mathlib.Core.Bool.{Bool}
 use mathlib.Core.List.{List, List·Memᴰ}

@@ -1,8 +1,8 @@
 -- `content_has` and `row_has` meet their contracts. The measure of a content is twice the bytes from its place on, that of a row one
 -- more: every call goes on past a byte, but the one for the first of a row. Each return is a law of ProductiveLaws.
-use Prim.Native.Nat.{suc, _+_, _-_, _*_}
+use Prim.Native.Nat.{_+_, _-_, _*_}
 use native.Mathlib.Omega.{arith}
-use mathlib.Core.Path.{_≡_, sym, _∙_, ap, subst}
+use mathlib.Core.Path.{sym, _∙_, ap, subst}
 use lib.ListN.{length}
 use borrow.Author.Needs.{needs}
 use Rattle.grammar.specs.Limits.{standard}

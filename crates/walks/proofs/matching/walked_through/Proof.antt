@@ -1,6 +1,6 @@
 -- `walked_through` meets its contract: the children from here on, walked over the marks of now, are all children walked over the marks of
 -- the beginning.
-use Prim.Native.Nat.{ℕ, _+_, _*_, _-_, _≤_, _<_}
+use Prim.Native.Nat.{ℕ, _+_, _*_, _-_, _≤_}
 use native.Mathlib.Omega.{arith}
 use mathlib.Core.Bool.{true}
 use mathlib.Core.List.{List}
