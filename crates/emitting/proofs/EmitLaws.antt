@@ -51,6 +51,7 @@ use Rattle.emitting.proofs.FinishLaws.{
   headed-length,
   headed-before,
 }
+use Rattle.reader.proofs.ContentAtLaws.{FirstThere, first-of, others-from, none-there}
 use Rattle.emitting.proofs.WideLaws.{
   one-long,
   wide-choice,
@@ -63,10 +64,6 @@ use Rattle.emitting.proofs.WideLaws.{
 use Rattle.emitting.proofs.GatherLaws.{newest-of, keeps-before, gathers-from, gathers-as, nothing-added, first-wide, then-others, told-large, told-upto, large-told}
 use Rattle.emitting.proofs.SeenLaws.{seen-more, gathers-seen-as}
 use Rattle.emitting.proofs.SourceLaws.{
-  FirstThere,
-  first-of,
-  others-from,
-  none-there,
   first-deep,
   each-first,
   each-none,

@@ -19,7 +19,8 @@ use Rattle.theory.proofs.Gathering.{gathered, gathered-so, gather-old, gather-n
 use Rattle.reader.specs.ExprAt.{_upTo_, exprAt, exprsAt}
 use Rattle.reader.proofs.ExprLaws.{same-placed, expr-written, expr-of, expr-bytes, expr-forward, exprs-forward, exprs-written}
 use Rattle.emitting.specs.Drafts.{Row, long, TooWide, unfit, many, Added, Newest}
-use Rattle.emitting.proofs.RowLaws.{count-list, exprs-uncons, exprs-one-more}
+use Rattle.emitting.proofs.RowLaws.{exprs-uncons, exprs-one-more}
+use Rattle.theory.proofs.SampleWithin.{operands-count}
 
 module _ (s : List ℕ) (i middle end fresh : ℕ) (x y : Content) (e : exprAt s end ≡ just (x upTo fresh)) (f : exprAt s i ≡ just (y upTo middle)) where
   equal-bytes : take (fresh - end) (drop i s) ≡ take (fresh - end) (drop end s) → x ≡ y
@@ -100,7 +101,7 @@ pub row-count : (d : List ℕ) (base count end : ℕ) (ds : List Content) → Ro
     → (count ≡ length ds) × (end ≡ base + length (operandBytes (operands ds)))
 row-count d base count end ds r =
     let w = exprs-written d base count (operands ds) end (omega arith) (r .stand) in
-    (w .0 ∙ count-list ds, w .1 .next-is)
+    (w .0 ∙ operands-count ds, w .1 .next-is)
 
 module _ (d : List ℕ) (base count end fresh limit : ℕ) (q : Newest d base count end fresh) (fits : end ≤ limit) where
   abbrev ds : List Content
@@ -149,7 +150,7 @@ module _ (d : List ℕ) (base count end fresh limit : ℕ) (q : Newest d base co
     more-count =
         let r = q .kept .row in
         let w = exprs-written d base (count + 1) (operands (gathered ds (x ∷ []))) fresh (omega arith) more-stand in
-        (w .0 ∙ count-list (gathered ds (x ∷ [])), w .1 .next-is)
+        (w .0 ∙ operands-count (gathered ds (x ∷ [])), w .1 .next-is)
 
     pub too-long : limit < fresh → TooWide (limit - base) (gathered ds (x ∷ []))
     too-long h =

@@ -2,45 +2,39 @@
 --   exprs-join : some expressions and some after them are all of them; exprs-one-more : one more at the end
 --   exprs-uncons : the first of some, and the others; exprs-only : the one where there is one
 --   opens-.. : what the first bytes of an expression say of its operands
---   operands-few : as many expressions have at least as many bytes
+--   ends-few : as many expressions have at least as many bytes
 use Prim.Native.Nat.{ℕ, zero, suc, _+_, _-_, _≤_, _<_}
 use native.Mathlib.Omega.{arith}
 use mathlib.Core.List.{List, [], _∷_, _++_}
 use mathlib.Core.Option.{some as just}
 use mathlib.Core.Path.{_≡_, refl, sym, _∙_, ap, subst}
-use lib.ListN.{length, getD, length-append}
-use Rattle.grammar.specs.Content.{
-  Content,
-  none,
-  empty,
-  type,
-  sequence,
-  choice,
-  anyNumber,
-  oneOrMore,
-  optional,
-  Contents,
-  []ᶜ,
-  _∷ᶜ_,
-  count,
-  operands,
-}
-use Rattle.grammar.specs.ReadContent.{contentBytes, operandBytes}
+use lib.ListN.{length, getD, getElem?, length-append}
+use Rattle.grammar.specs.Limits.{standard}
+use Rattle.grammar.specs.Content.{Content, none, empty, type, Contents, []ᶜ, _∷ᶜ_, count, operands}
+use Rattle.grammar.specs.ReadContent.{contentBytes, operandBytes, operators}
 use Rattle.grammar.specs.Tidy.{listOf}
 use Rattle.theory.proofs.ContentBytes.{content-has-bytes}
+use Rattle.theory.proofs.TidyWords.{operands-listed}
 use Rattle.reader.specs.ExprAt.{_upTo_, placed, exprAt, exprsAt}
-use Rattle.reader.proofs.ExprLaws.{Parts, exprs-none, exprs-more, exprs-first, exprs-end, exprs-written, expr-parts, expr-forward, count-inside}
+use Rattle.reader.proofs.ExprLaws.{
+  exprs-none,
+  exprs-more,
+  exprs-first,
+  exprs-end,
+  exprs-written,
+  expr-forward,
+  operator-known,
+  operator-none,
+  operator-empty,
+  operator-type,
+  alone-was,
+  single-was,
+  numbered-was,
+  counted-was,
+  count-inside,
+}
+use Rattle.reader.proofs.ExtentLaws.{one-operand, counts}
 use Rattle.emitting.specs.Drafts.{Stands, Ends, Headed}
-
-pub operands-list : (cs : Contents) → operands (listOf cs) ≡ cs
-unfolding operands listOf
-operands-list []ᶜ = refl
-operands-list (c ∷ᶜ cs) = ap (λ (ds : Contents). c ∷ᶜ ds) (operands-list cs)
-
-pub count-list : (xs : List Content) → count (operands xs) ≡ length xs
-unfolding count operands
-count-list [] = refl
-count-list (x ∷ xs) = ap suc (count-list xs)
 
 module _ (s : List ℕ) where
   pub exprs-join : (m n at mid next : ℕ) (xs ys : List Content) → exprsAt s at m ≡ just (operands xs upTo mid)
@@ -135,8 +129,8 @@ module _ (s : List ℕ) where
         contents = operands (listOf (e .contents) ++ listOf (f .contents));
         stand =
             exprs-join m n at mid next (listOf (e .contents)) (listOf (f .contents))
-            (e .stand ∙ ap (λ (cs : Contents). just (cs upTo mid)) (sym (operands-list (e .contents))))
-            (f .stand ∙ ap (λ (cs : Contents). just (cs upTo next)) (sym (operands-list (f .contents))));
+            (e .stand ∙ ap (λ (cs : Contents). just (cs upTo mid)) (sym (operands-listed (e .contents))))
+            (f .stand ∙ ap (λ (cs : Contents). just (cs upTo next)) (sym (operands-listed (f .contents))));
       }
 
 -- as many expressions have at least as many bytes
@@ -183,74 +177,38 @@ ends-step s at n next width count f h =
     (ends-join s count (n - 1) (at + width) (f .first .next) next (h .operands) (f .others))
 
 -- what the first bytes of an expression say of its operands
-module _ (s : List ℕ) (at : ℕ) (next : ℕ) where
-  alone-parts : (c : Content) → Parts s at c next → getD s at 0 ≤ 1 → next ≡ at + 1
-  alone-parts none p h = p .1
-  alone-parts empty p h = p .1
-  alone-parts (type k) p h = absurd (omega arith)
-  alone-parts (sequence cs) p h = absurd (omega arith)
-  alone-parts (choice cs) p h = absurd (omega arith)
-  alone-parts (anyNumber c) p h = absurd (omega arith)
-  alone-parts (oneOrMore c) p h = absurd (omega arith)
-  alone-parts (optional c) p h = absurd (omega arith)
+module _ (s : List ℕ) (at : ℕ) (next : ℕ) (c : Content) (e : exprAt s at ≡ just (c upTo next)) where
+  no-operands : (n : ℕ) → n ≡ next → Ends s n 0 next
+  no-operands n q = record { contents = []ᶜ; stand = exprs-none s n ∙ ap (λ (k : ℕ). just ([]ᶜ upTo k)) q }
 
-  numbered-parts : (c : Content) → Parts s at c next → getD s at 0 ≡ 2 → next ≡ at + 2
-  numbered-parts none p h = absurd (omega arith)
-  numbered-parts empty p h = absurd (omega arith)
-  numbered-parts (type k) p h = p .2
-  numbered-parts (sequence cs) p h = absurd (omega arith)
-  numbered-parts (choice cs) p h = absurd (omega arith)
-  numbered-parts (anyNumber c) p h = absurd (omega arith)
-  numbered-parts (oneOrMore c) p h = absurd (omega arith)
-  numbered-parts (optional c) p h = absurd (omega arith)
+  pub opens-alone : getD s at 0 ≤ 1 → Headed s at 1 0 next
+  opens-alone h =
+      let f = expr-forward s at c next e in
+      record { operands = no-operands (at + 1) (go (getD s at 0) refl); some = omega arith; inside = omega arith }
+    where
+      go : (b : ℕ) → getD s at 0 ≡ b → at + 1 ≡ next
+      go zero q = alone-was s at c next e none (ap (getElem? operators) q ∙ operator-none) .1
+      go (suc zero) q = alone-was s at c next e empty (ap (getElem? operators) q ∙ operator-empty) .1
+      go (suc (suc b)) q = absurd (omega arith)
 
-  counted-parts : (c : Content) → Parts s at c next → 3 ≤ getD s at 0 → getD s at 0 ≤ 4 → Ends s (at + 2) (getD s (at + 1) 0) next
-  counted-parts none p h k = absurd (omega arith)
-  counted-parts empty p h k = absurd (omega arith)
-  counted-parts (type _) p h k = absurd (omega arith)
-  counted-parts (sequence cs) p h k = record { contents = cs; stand = ap (exprsAt s (at + 2)) (p .counts) ∙ p .operands }
-  counted-parts (choice cs) p h k = record { contents = cs; stand = ap (exprsAt s (at + 2)) (p .counts) ∙ p .operands }
-  counted-parts (anyNumber c) p h k = absurd (omega arith)
-  counted-parts (oneOrMore c) p h k = absurd (omega arith)
-  counted-parts (optional c) p h k = absurd (omega arith)
+  pub opens-numbered : getD s at 0 ≡ 2 → Headed s at 2 0 next
+  opens-numbered h =
+      let f = expr-forward s at c next e in
+      let n = numbered-was s at c next e type (ap (getElem? operators) h ∙ operator-type) .1 in
+      record { operands = no-operands (at + 2) n; some = omega arith; inside = omega arith }
 
-  single-ends : (c : Content) → exprAt s (at + 1) ≡ just (c upTo next) → Ends s (at + 1) 1 next
-  single-ends c e = record { contents = operands (c ∷ []); stand = exprs-one s (at + 1) next c e }
+  pub opens-counted : 3 ≤ getD s at 0 → getD s at 0 ≤ 4 → Headed s at 2 (getD s (at + 1) 0) next
+  opens-counted h k =
+      let o = counts standard (getD s at 0) h k in
+      let was = counted-was s at c next e (o .operator) (o .numbered-so) in
+      let i = count-inside s at c next e h k in
+      record { operands = record { contents = was .0; stand = was .1 }; some = omega arith; inside = omega arith }
 
-  single-parts : (c : Content) → Parts s at c next → 5 ≤ getD s at 0 → Ends s (at + 1) 1 next
-  single-parts none p h = absurd (omega arith)
-  single-parts empty p h = absurd (omega arith)
-  single-parts (type k) p h = absurd (omega arith)
-  single-parts (sequence cs) p h = absurd (omega arith)
-  single-parts (choice cs) p h = absurd (omega arith)
-  single-parts (anyNumber c) p h = single-ends c (p .operand)
-  single-parts (oneOrMore c) p h = single-ends c (p .operand)
-  single-parts (optional c) p h = single-ends c (p .operand)
-
-  no-operands : (n : ℕ) → next ≡ n → Ends s n 0 next
-  no-operands n e = record { contents = []ᶜ; stand = exprs-none s n ∙ ap (λ (k : ℕ). just ([]ᶜ upTo k)) (sym e) }
-
-  module _ (c : Content) (e : exprAt s at ≡ just (c upTo next)) where
-    pub opens-alone : getD s at 0 ≤ 1 → Headed s at 1 0 next
-    opens-alone h =
-        let f = expr-forward s at c next e in
-        record { operands = no-operands (at + 1) (alone-parts c (expr-parts s at c next e) h); some = omega arith; inside = omega arith }
-
-    pub opens-numbered : getD s at 0 ≡ 2 → Headed s at 2 0 next
-    opens-numbered h =
-        let f = expr-forward s at c next e in
-        let n = numbered-parts c (expr-parts s at c next e) h in
-        record { operands = no-operands (at + 2) n; some = omega arith; inside = omega arith }
-
-    pub opens-counted : 3 ≤ getD s at 0 → getD s at 0 ≤ 4 → Headed s at 2 (getD s (at + 1) 0) next
-    opens-counted h k =
-        record {
-          operands = counted-parts c (expr-parts s at c next e) h k;
-          some = omega arith;
-          inside = let i = count-inside s at c next e h k in omega arith;
-        }
-
-    pub opens-single : 5 ≤ getD s at 0 → Headed s at 1 1 next
-    opens-single h =
-        let f = expr-forward s at c next e in
-        record { operands = single-parts c (expr-parts s at c next e) h; some = omega arith; inside = omega arith }
+  pub opens-single : 5 ≤ getD s at 0 → Headed s at 1 1 next
+  opens-single h =
+      let f = expr-forward s at c next e in
+      let o = one-operand standard (getD s at 0) h (operator-known s at c next e) in
+      let was = single-was s at c next e (o .operator) (o .numbered-so) in
+      let one : Ends s (at + 1) 1 next =
+      record { contents = operands (was .0 ∷ []); stand = exprs-one s (at + 1) next (was .0) (was .1) } in
+      record { operands = one; some = omega arith; inside = omega arith }

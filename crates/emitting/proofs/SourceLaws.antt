@@ -1,5 +1,4 @@
 -- What stands in the source content, and what it gives:
---   first-of     of so many contents the first and the others
 --   counted-of   the operands of a sequence or a choice; single-of : the operand of an operator of one
 --   has-agrees, row-agrees : whether there are alternatives, over the set of the types that have results
 use Prim.Native.Nat.{ℕ, zero, suc, _+_, _-_, _≤_, _<_, max}
@@ -7,7 +6,7 @@ use native.Mathlib.Omega.{arith}
 use mathlib.Core.Bool.{Bool, true, false, _&&_, _||_}
 use mathlib.Core.List.{List, [], _∷_, _++_, map}
 use mathlib.Core.Option.{some as just}
-use mathlib.Core.Path.{_≡_, refl, sym, _∙_, ap, ap₂, subst}
+use mathlib.Core.Path.{_≡_, refl, sym, _∙_, ap, ap₂}
 use lib.ListN.{length, getD, getElem?}
 use Rattle.grammar.specs.Lists.{joinedOf}
 use Rattle.grammar.specs.Limits.{Limits, standard}
@@ -43,68 +42,14 @@ use Rattle.theory.proofs.Alternatives.{
   around-has-not,
 }
 use Rattle.reader.specs.ExprAt.{_upTo_, placed, exprAt, exprsAt}
-use Rattle.reader.proofs.ExprLaws.{same-placed, exprs-first, exprs-end, exprs-more, exprs-none, expr-forward, counted-was, single-was, operator-any-number, operator-one-or-more, operator-optional}
+use Rattle.reader.proofs.ExprLaws.{same-placed, exprs-more, exprs-none, expr-forward, counted-was, single-was, operator-any-number, operator-one-or-more, operator-optional}
 use Rattle.reader.proofs.ExtentLaws.{proper-number, proper-sequence, proper-choice, proper-first}
-use Rattle.pairs.specs.ContentAt.{ContentAt, ContentsAt}
+use Rattle.reader.specs.ContentAt.{ContentAt, ContentsAt}
 use Rattle.pairs.specs.Walks.{hasAt, hasRowAt, listOf}
 use Rattle.emitting.specs.Emitting.{Maps}
 use Rattle.sets.specs.Sets.{member}
-use Rattle.pairs.proofs.ContentAtLaws.{placed-of, content-inside, operands-there, operand-there}
+use Rattle.reader.proofs.ContentAtLaws.{placed-of, content-inside, operands-there, operand-there}
 use Rattle.emitting.proofs.WideLaws.{Around, around-any-number, around-one-or-more, around-optional}
-
--- of so many contents the first and the others
-pub record FirstThere (lim : Limits) (s : List ℕ) (at n : ℕ) (there : ContentsAt lim s at n) : Type 0 where
-  pub first : ContentAt lim s at
-  pub others : ContentsAt lim s (first .next) (n - 1)
-  pub both : there .contents ≡ first .content ∷ᶜ others .contents
-  pub ends : others .next ≡ there .next
-  pub forward : at < first .next
-
-pub first-of : (lim : Limits) (s : List ℕ) (at n : ℕ) (there : ContentsAt lim s at n) → (n ≡ 0 → ⊥) → FirstThere lim s at n there
-first-of lim s at zero there h = absurd (h refl)
-first-of lim s at (suc n) there h =
-    let f = exprs-first s at n (there .contents) (there .next) (there .stand) in
-    let p = proper-first lim (f .first) (f .others) (ap (areProper lim) (sym (f .both)) ∙ there .proper) in
-    let w = expr-forward s at (f .first) (f .middle) (f .first-at) in
-    let z : suc n - 1 ≡ n = omega arith in
-    record {
-      first =
-          record {
-            content = f .first;
-            next = f .middle;
-            stands = f .first-at;
-            proper = p .0;
-          };
-      others =
-          record {
-            contents = f .others;
-            next = there .next;
-            inside = omega arith;
-            stand = ap (exprsAt s (f .middle)) z ∙ f .others-at;
-            proper = p .1;
-          };
-      both = f .both;
-      ends = refl;
-      forward = omega arith;
-    }
-
--- the others from the place where the walk goes on
-abbrev pub others-from : (lim : Limits) (s : List ℕ) (at n : ℕ) (there : ContentsAt lim s at n) (f : FirstThere lim s at n there) (m : ℕ)
-    → m ≡ f .first .next → ContentsAt lim s m (n - 1)
-others-from lim s at n there f m e =
-    record {
-      contents = f .others .contents;
-      next = f .others .next;
-      inside = subst (λ (k : ℕ). k ≤ length s) (sym e) (f .others .inside);
-      stand = ap (λ (k : ℕ). exprsAt s k (n - 1)) e ∙ f .others .stand;
-      proper = f .others .proper;
-    }
-
-pub none-there : (lim : Limits) (s : List ℕ) (at n : ℕ) (there : ContentsAt lim s at n) → n ≡ 0
-    → (there .contents ≡ []ᶜ) × (at ≡ there .next)
-none-there lim s at n there z =
-    let e = exprs-end s at (there .contents) (there .next) (ap (exprsAt s at) (sym z) ∙ there .stand) in
-    (e .0, sym (e .1))
 
 -- how deep they nest
 pub first-deep : (cs : Contents) (c : Content) (ds : Contents) → cs ≡ c ∷ᶜ ds → (nesting c ≤ deepest cs) × (deepest ds ≤ deepest cs)

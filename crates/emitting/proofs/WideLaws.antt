@@ -23,7 +23,7 @@ use Rattle.theory.proofs.ContentBytes.{same-content}
 use Rattle.theory.proofs.Alternatives.{written}
 use Rattle.theory.proofs.Gathering.{gathered, gathered-so, gather-more, gather-grows, written-gathered}
 use Rattle.emitting.specs.Drafts.{Unfit, long, wide, TooWide, unfit, many}
-use Rattle.emitting.proofs.RowLaws.{count-list}
+use Rattle.theory.proofs.SampleWithin.{operands-count}
 
 -- the bytes and the widest choice of operands
 abbrev bytesOf : List Content → ℕ
@@ -112,7 +112,7 @@ choice-many : (xs : List Content) → 255 < length xs → 255 < widestChoice (ch
 unfolding choiceOf operands widestChoice
 choice-many [] h = absurd (omega arith)
 choice-many (x ∷ []) h = absurd (omega arith)
-choice-many (x ∷ y ∷ ys) h = let n = count-list (x ∷ y ∷ ys) in omega arith
+choice-many (x ∷ y ∷ ys) h = let n = operands-count (x ∷ y ∷ ys) in omega arith
 
 pub one-long : (room : ℕ) (c : Content) → room < length (contentBytes c) → Unfit room (c ∷ᶜ []ᶜ)
 unfolding operandBytes

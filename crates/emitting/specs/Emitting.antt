@@ -10,7 +10,7 @@ use Rattle.grammar.specs.Content.{Content, type, Contents, nesting, deepest}
 use Rattle.theory.proofs.Alternatives.{someLeft}
 use Rattle.sets.specs.Sets.{member}
 use Rattle.reader.specs.ExprAt.{_upTo_, exprsAt}
-use Rattle.pairs.specs.ContentAt.{ContentAt, ContentsAt}
+use Rattle.reader.specs.ContentAt.{ContentAt, ContentsAt}
 use Rattle.pairs.specs.Walks.{listOf}
 use Rattle.emitting.specs.Drafts.{Kept, Unfit, Gathers}
 use Rattle.emitting.specs.declared.drafts.Gathering.{Gathering}

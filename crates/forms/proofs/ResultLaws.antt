@@ -21,7 +21,7 @@ use Rattle.grammar.specs.Normalise.{pairsOf, normalise}
 use Rattle.grammar.specs.Reduce.{fruitful}
 use Rattle.grammar.specs.SingleTypeForm.{TypeSet}
 use Rattle.theory.proofs.Alternatives.{resultsOf}
-use Rattle.theory.proofs.ListLaws.{kept, below-at, at-else, at-mem, numbers-below, map-on, set-up-to, zeros-at}
+use Rattle.theory.proofs.ListLaws.{kept, below-at, at-else, at-mem, numbers-below, map-on, take-map, drop-map, set-up-to, zeros-at}
 use Rattle.theory.proofs.TableConditions.{Labelled}
 use Rattle.pairs.specs.declared.lists.TypeLists.{TypeLists}
 use Rattle.pairs.specs.Walks.{listOf, Listed}
@@ -44,16 +44,6 @@ map-at : (f : ℕ → ℕ) (l : List ℕ) (i : ℕ) → i < length l → getD (m
 map-at f [] i h = absurd (omega arith)
 map-at f (x ∷ l) zero h = refl
 map-at f (x ∷ l) (suc i) h = map-at f l i (omega arith)
-
-map-take : (f : ℕ → ℕ) (n : ℕ) (l : List ℕ) → take n (map f l) ≡ map f (take n l)
-map-take f zero l = refl
-map-take f (suc n) [] = refl
-map-take f (suc n) (x ∷ l) = ap (λ (r : List ℕ). f x ∷ r) (map-take f n l)
-
-map-drop : (f : ℕ → ℕ) (n : ℕ) (l : List ℕ) → drop n (map f l) ≡ map f (drop n l)
-map-drop f zero l = refl
-map-drop f (suc n) [] = refl
-map-drop f (suc n) (x ∷ l) = map-drop f n l
 
 pub all-numbers : (f : ℕ → ℕ) (before after : List ℕ) (n : ℕ) → length before ≡ n → length after ≡ n → NumbersOf (λ i. f (getD before i 0)) n after
     → after ≡ map f before
@@ -125,8 +115,8 @@ module _ (of : List ℕ) (small : (p : ℕ) → getD of p 0 ≤ 64) where
   side-list : (from numbers : List ℕ) (k : ℕ) → listOf from (map numberOf numbers) k ≡ map numberOf (listOf from numbers k)
   unfolding listOf
   side-list from numbers k =
-      ap (take (getD from (k + 1) 0 - getD from k 0)) (map-drop numberOf (getD from k 0) numbers)
-      ∙ map-take numberOf (getD from (k + 1) 0 - getD from k 0) (drop (getD from k 0) numbers)
+      ap (take (getD from (k + 1) 0 - getD from k 0)) (drop-map numberOf (getD from k 0) numbers)
+      ∙ take-map numberOf (getD from (k + 1) 0 - getD from k 0) (drop (getD from k 0) numbers)
 
   pub result-lists : (u : Table) (lists r : TypeLists) (target : ℕ → ℕ) → ListsOf (fruitfulOf u) lists
       → NumbersOf target (length (u .rules)) of

@@ -14,7 +14,7 @@ use lib.ListN.{length, getElem?, List·getD-eq-default}
 use lib.Dec.{eqb}
 use borrow.Author.Tests.{eqb-true, eq-eqb}
 use Rattle.grammar.specs.Lists.{any, keep, joinedOf, isIn, numbersBelow}
-use Rattle.grammar.specs.Content.{Content, none}
+use Rattle.grammar.specs.Content.{Content}
 use Rattle.grammar.specs.Table.{Rule, Table}
 use Rattle.grammar.specs.KindTests.{samePair}
 use Rattle.grammar.specs.Normalise.{pairOf, pairsOf, normalise}
@@ -50,15 +50,11 @@ use Rattle.theory.proofs.EmittedContent.{joined-map}
 use Rattle.theory.proofs.EmittedRule.{firstRules, pairsStanding, pairContents, ruleLeft, left-rules, set-met}
 use Rattle.pairs.specs.Rounds.{contentOf}
 use Rattle.pairs.specs.PairNumbers.{ruleAt, fruitfulOf, isLeft, contentsOfPair, contentsIn, metIn}
-use Rattle.pairs.proofs.PairLists.{firsts-are}
+use Rattle.pairs.proofs.PairLists.{firsts-are, noRule}
 use Rattle.pairs.proofs.MetLaws.{met-hold}
 use Rattle.pairs.proofs.ReachedLaws.{start-pairs, met-reached, reached-set}
 use Rattle.forms.specs.SetForms.{labelled, labelLeft}
 use Rattle.forms.proofs.KeptLists.{map-itself, numbered, first-itself}
-
--- what stands where there is no rule
-abbrev noRule : Rule
-noRule = record { type = 0; label = 0; content = none }
 
 -- all of a set are left
 abbrev pub AllLeft : Table → TypeSet → Type 0

@@ -42,9 +42,8 @@ use Rattle.reader.proofs.ExprLaws.{
   operator-optional,
 }
 use Rattle.reader.proofs.ExtentLaws.{proper-sequence, proper-choice}
-use Rattle.pairs.specs.ContentAt.{ContentAt, ContentsAt}
-use Rattle.pairs.proofs.ContentAtLaws.{content-inside}
-use Rattle.emitting.proofs.SourceLaws.{FirstThere}
+use Rattle.reader.specs.ContentAt.{ContentAt, ContentsAt}
+use Rattle.reader.proofs.ContentAtLaws.{FirstThere, content-inside}
 use Rattle.listing.specs.Printing.{markOf, rowText}
 
 -- the first operand apart

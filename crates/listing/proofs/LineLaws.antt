@@ -20,7 +20,7 @@ use Rattle.theory.proofs.ListLaws.{at-else, joined-end}
 use Rattle.reader.specs.declared.tables.TableIndex.{TableIndex}
 use Rattle.reader.specs.TableIndex.{labelFrom, labelTo, ruleType, ruleLabel, contentFrom, contentTo, part, Stands, RuleAt}
 use Rattle.reader.proofs.TableFound.{TableFound, RuleFound, label-found-at, rule-found-at, content-in-part}
-use Rattle.pairs.specs.ContentAt.{ContentAt}
+use Rattle.reader.specs.ContentAt.{ContentAt}
 use Rattle.emitting.specs.Writing.{Put}
 use Rattle.listing.specs.declared.contents.Ends.{Ends}
 use Rattle.listing.specs.Printing.{ruleOf, Printable, Printed}

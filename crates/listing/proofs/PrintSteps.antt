@@ -8,11 +8,10 @@ use lib.ListN.{length, getD, length-append}
 use Rattle.grammar.specs.Limits.{standard}
 use Rattle.grammar.specs.Listing.{Text, typeText, contentText}
 use Rattle.reader.specs.ExprAt.{exprsAt}
-use Rattle.pairs.specs.ContentAt.{ContentAt, ContentsAt}
-use Rattle.pairs.proofs.ContentAtLaws.{type-there, operands-there, operand-there}
+use Rattle.reader.specs.ContentAt.{ContentAt, ContentsAt}
+use Rattle.reader.proofs.ContentAtLaws.{FirstThere, type-there, operands-there, operand-there, first-of, none-there}
 use Rattle.emitting.specs.Writing.{Put}
 use Rattle.emitting.proofs.PutLaws.{put-length, put-join, put-none}
-use Rattle.emitting.proofs.SourceLaws.{FirstThere, first-of, none-there}
 use Rattle.listing.specs.declared.contents.Ends.{Ends}
 use Rattle.listing.specs.Printing.{markOf, rowText, Printable, RowPrintable, Printed}
 use Rattle.listing.proofs.ContentTextLaws.{

@@ -9,7 +9,7 @@ use Rattle.grammar.specs.Table.{Rule, Table}
 use Rattle.grammar.specs.Listing.{Text, contentText, continued}
 use Rattle.reader.specs.declared.tables.TableIndex.{TableIndex}
 use Rattle.reader.proofs.TableFound.{TableFound}
-use Rattle.pairs.specs.ContentAt.{ContentAt, ContentsAt}
+use Rattle.reader.specs.ContentAt.{ContentAt, ContentsAt}
 use Rattle.emitting.specs.Writing.{Put}
 use Rattle.listing.specs.declared.contents.Ends.{Ends}
 

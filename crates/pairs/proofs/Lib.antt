@@ -1,4 +1,3 @@
-pub mod ContentAtLaws
 pub mod ProductiveLaws
 pub mod OnceLaws
 pub mod SeenLaws

@@ -40,9 +40,8 @@ use Rattle.reader.proofs.ExprLaws.{
 }
 use Rattle.pairs.specs.declared.met.MetOne.{MetOne}
 use Rattle.pairs.specs.declared.met.MetRow.{MetRow}
-use Rattle.pairs.specs.ContentAt.{ContentsAt}
 use Rattle.pairs.specs.Walks.{listOf, Listed, Once, Adds, Seen, TypeMet, metAt, metRowAt, MetAsks, MetRowAsks, MetFinds, MetRowFinds, sequenceMet}
-use Rattle.pairs.proofs.ContentAtLaws.{placed-of, content-inside, type-there, count-there, operands-there, first-there, others-there}
+use Rattle.reader.proofs.ContentAtLaws.{placed-of, content-inside, type-there, count-there, operands-there, first-of, others-there}
 use Rattle.pairs.proofs.ProductiveLaws.{placed-through}
 use Rattle.pairs.proofs.OnceLaws.{adds-once, adds-same, front-kept, part-below}
 use Rattle.pairs.proofs.SeenLaws.{seen-again, seen-put}
@@ -451,22 +450,15 @@ module _ (s : List ℕ) (at : ℕ) (from pairs list : List ℕ) (count : ℕ) wh
 
   -- what the calls for the first of a row and for the others ask
   pub first-asks : (n : ℕ) → MetRowAsks s at n from pairs list count → (n ≡ 0 → ⊥) → MetAsks s at from pairs list count
-  first-asks n a some =
-      let e : n ≡ suc (n - 1) = omega arith in
-      record {
-        there = first-there standard s at (n - 1) (subst (ContentsAt standard s at) e (a .there));
-        lists = a .lists;
-        once = a .once;
-      }
+  first-asks n a some = record { there = first-of standard s at n (a .there) some .first; lists = a .lists; once = a .once }
 
   pub others-ask : (n : ℕ) (list′ : List ℕ) (r : MetOne) → MetRowAsks s at n from pairs list count → (n ≡ 0 → ⊥)
       → MetFinds (listOf from pairs) (take count list) s at list′ r
       → length list′ ≡ length list
       → (at < r .next) × MetRowAsks s (r .next) (n - 1) from pairs list′ (r .count)
   others-ask n list′ r a some f same =
-      let e : n ≡ suc (n - 1) = omega arith in
-      let there = subst (ContentsAt standard s at) e (a .there) in
-      let o = others-there standard s at (n - 1) there (one-met left numbers s at) (r .has, take (r .count) list′) (r .next) (f .found) in (
+      let o =
+      others-there standard s at n (a .there) some (one-met left numbers s at) (r .has, take (r .count) list′) (r .next) (f .found) in (
         o .0,
         record {
           there = o .1;

@@ -108,15 +108,15 @@ module _ {A : Type 0} (same : A → A → Bool) (same-refl : (x : A) → same x 
           ∙ rest ih
           ∙ sym (keep-no test 0 (numbersFrom 1 (length xs)) (here false e))
 
--- so the pairs of a type
-abbrev noRule : Rule
+-- what stands where there is no rule
+abbrev pub noRule : Rule
 noRule = record { type = 0; label = 0; content = none }
 
+-- so the pairs of a type
 pub pairs-are : (u : Table) (k : ℕ)
     → pairsOf u k
     ≡ keep
-    (λ q. eqb (getD (u .rules) q (record { type = 0; label = 0; content = none }) .type) k
-    && eqb (pairOf u (getD (u .rules) q (record { type = 0; label = 0; content = none }))) q)
+    (λ q. eqb (getD (u .rules) q noRule .type) k && eqb (pairOf u (getD (u .rules) q noRule)) q)
     (numbersBelow (length (u .rules)))
 unfolding pairsOf pairOf
 pairs-are u k = firsts-are samePair pair-refl same-pair-sym noRule (λ (r : Rule). eqb (r .type) k) (u .rules)

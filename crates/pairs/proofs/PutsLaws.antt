@@ -1,6 +1,6 @@
 -- Sets with the keys of the numbers that are on: one number more (`puts-next`), what is in them (`puts-was`, `puts-has`,
 -- `puts-keeps`).
-use Prim.Native.Nat.{ℕ, zero, suc, _+_, _-_, _*_, _/_, _<_}
+use Prim.Native.Nat.{ℕ, zero, suc, _+_, _-_, _*_, _<_}
 use native.Mathlib.Omega.{arith}
 use native.Mathlib.Numerals.{add-one}
 use mathlib.Core.Bool.{Bool, true, false, _||_}

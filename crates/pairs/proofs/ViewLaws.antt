@@ -1,7 +1,7 @@
 -- Laws of the united view: the rule of a number (`seen`), its content (`content-seen`), that the view's numbers are small
 -- (`views-sized`), where a rule of the table stands (`rule-seen`), and a content in its source (`source-there`, `source-has`,
 -- `addition-has`).
-use Prim.Native.Nat.{ℕ, _+_, _-_, _/_, _%_, _≤_, _<_}
+use Prim.Native.Nat.{ℕ, _+_, _-_, _/_, _%_, _<_}
 use native.Mathlib.Omega.{arith}
 use mathlib.Core.Bool.{Bool}
 use mathlib.Core.List.{List, List·Memᴰ}
@@ -22,11 +22,11 @@ use Rattle.theory.proofs.Alternatives.{hasAlts, has-renamed}
 use Rattle.sets.specs.Sets.{bitOf, member}
 use Rattle.reader.specs.ExprAt.{_upTo_, exprAt}
 use Rattle.pairs.specs.declared.union.United.{United}
-use Rattle.pairs.specs.ContentAt.{ContentAt}
+use Rattle.reader.specs.ContentAt.{ContentAt}
 use Rattle.pairs.specs.Walks.{hasAt}
 use Rattle.pairs.specs.View.{SourceContent, shiftedContent, RuleSeen, Views, ViewSized}
 use Rattle.pairs.specs.Rounds.{contentOf}
-use Rattle.pairs.proofs.ContentAtLaws.{placed-of}
+use Rattle.reader.proofs.ContentAtLaws.{placed-of}
 
 pub content-is : (u : Table) (i : ℕ) (r : Rule) → getElem? (u .rules) i ≡ just r → contentOf u i ≡ r .content
 unfolding contentOf

@@ -1,4 +1,3 @@
-pub mod ContentAt
 pub mod Walks
 pub mod UnitedLabels
 pub mod View

@@ -12,7 +12,7 @@ use Rattle.theory.proofs.Alternatives.{hasAlts, allHaveAlts, oneHasAlts, someLe
 use Rattle.sets.specs.Sets.{member}
 use Rattle.sets.specs.declared.four.Set4.{Set4}
 use Rattle.reader.specs.ExprAt.{Placed, _upTo_, placed, exprAt, exprsAt}
-use Rattle.pairs.specs.ContentAt.{ContentAt, ContentsAt}
+use Rattle.reader.specs.ContentAt.{ContentAt, ContentsAt}
 use Rattle.pairs.specs.declared.met.MetOne.{MetOne}
 use Rattle.pairs.specs.declared.met.MetRow.{MetRow}
 

@@ -1,7 +1,7 @@
 // The labels of a union: the old names, then the addition's new names. Names stay where they stand in the bytes of their tables.
 ghost use mathlib.Core.Path.{_≡_};
 ghost use mathlib.Core.List.{List, []};
-ghost use Prim.Native.Nat.{_<_, _≤_};
+ghost use Prim.Native.Nat.{_<_};
 ghost use lib.ListN.{getD};
 ghost use Rattle.grammar.specs.Lists.{place};
 ghost use Rattle.grammar.specs.Names.{Name, sameName};

@@ -10,7 +10,7 @@ ghost use lib.ListN.{length, getD};
 ghost use Rattle.grammar.specs.Limits.{standard};
 ghost use Rattle.sets.specs.Sets.{member};
 ghost use Rattle.reader.specs.ExprAt.{_upTo_};
-ghost use Rattle.pairs.specs.ContentAt.{ContentAt, ContentsAt};
+ghost use Rattle.reader.specs.ContentAt.{ContentAt, ContentsAt};
 ghost use Rattle.pairs.specs.Walks.{hasAt, hasRowAt};
 
 // Whether the content at a place has alternatives, and the place after it.

@@ -304,22 +304,17 @@ pub operator-optional : getElem? operators 7 ≡ just (single optional)
 unfolding operators
 operator-optional = refl
 
-pub operator-unknown : (b : ℕ) → 7 < b → getElem? operators b ≡ nothing
-operator-unknown b h = unknown-operator b (omega arith)
-
 -- Where a content is known to stand, its operator's byte says what it is and where its parts stand.
 module _ (s : List ℕ) (at : ℕ) (c : Content) (next : ℕ) (stands : exprAt s at ≡ just (c upTo next)) where
-  pub known-operator : getElem? operators (getD s at 0) ≡ nothing → ⊥
-  known-operator o =
-      let h = expr-forward s at c next stands in
-      let z : _≡_ {A = ℕ} 0 1 = cc (expr-unknown s at (omega arith) o) in
-      omega arith
-
   pub operator-known : getD s at 0 ≤ 7
   operator-known = go (passes-or-fails (ltb 7 (getD s at 0)))
     where
       go : (ltb 7 (getD s at 0) ≡ true) ⊎ (ltb 7 (getD s at 0) ≡ false) → getD s at 0 ≤ 7
-      go (inl t) = absurd (known-operator (operator-unknown (getD s at 0) (ltb-true 7 (getD s at 0) t)))
+      go (inl t) =
+          let h = expr-forward s at c next stands in
+          let l = ltb-true 7 (getD s at 0) t in
+          let z : _≡_ {A = ℕ} 0 1 = cc (expr-unknown s at (omega arith) (unknown-operator (getD s at 0) (omega arith))) in
+          absurd (omega arith)
       go (inr t) = ltb-false 7 (getD s at 0) t
 
   pub alone-was : (d : Content) → getElem? operators (getD s at 0) ≡ just (alone d) → (d ≡ c) × (at + 1 ≡ next)
@@ -370,74 +365,6 @@ module _ (s : List ℕ) (at : ℕ) (c : Content) (next : ℕ) (stands : exprAt s
       → (cs : Contents) × (exprsAt s (at + 2) (getD s (at + 1) 0) ≡ just (cs upTo next)) × (f cs ≡ c)
   counted-was f o =
       placed-from f (exprsAt s (at + 2) (getD s (at + 1) 0)) c next (sym (expr-counted s at (counted-more f o) f o) ∙ stands)
-
--- The same by cases of the content: its operator's byte, and where its parts stand.
-pub record OperandAt (s : List ℕ) (at b : ℕ) (c : Content) (next : ℕ) : Type 0 where
-  pub byte : getD s at 0 ≡ b
-  pub operand : exprAt s (at + 1) ≡ just (c upTo next)
-
-pub record OperandsAt (s : List ℕ) (at b : ℕ) (cs : Contents) (next : ℕ) : Type 0 where
-  pub byte : getD s at 0 ≡ b
-  pub counts : getD s (at + 1) 0 ≡ count cs
-  pub operands : exprsAt s (at + 2) (count cs) ≡ just (cs upTo next)
-
-abbrev pub Parts : List ℕ → ℕ → Content → ℕ → Type 0
-Parts s at none next = (getD s at 0 ≡ 0) × (next ≡ at + 1)
-Parts s at empty next = (getD s at 0 ≡ 1) × (next ≡ at + 1)
-Parts s at (type k) next = (getD s at 0 ≡ 2) × (getD s (at + 1) 0 ≡ k) × (next ≡ at + 2)
-Parts s at (sequence cs) next = OperandsAt s at 3 cs next
-Parts s at (choice cs) next = OperandsAt s at 4 cs next
-Parts s at (anyNumber c) next = OperandAt s at 5 c next
-Parts s at (oneOrMore c) next = OperandAt s at 6 c next
-Parts s at (optional c) next = OperandAt s at 7 c next
-
--- the byte where a content's bytes begin
-byte-at : (s : List ℕ) (at b : ℕ) (bytes : List ℕ) (next : ℕ) → Written s at (b ∷ bytes) next → getD s at 0 ≡ b
-byte-at s at b bytes next w =
-    let h : at < length s = omega arith in
-    let d = sym (from-place s at h) ∙ w .bytes-from in
-    cc
-
-operand-at : (s : List ℕ) (at b : ℕ) (f : Content → Content) → getElem? operators b ≡ just (single f)
-    → ((c d : Content) → f c ≡ f d → c ≡ d) → ((c : Content) → contentBytes (f c) ≡ b ∷ contentBytes c)
-    → (c : Content) (next : ℕ) → exprAt s at ≡ just (f c upTo next) → OperandAt s at b c next
-operand-at s at b f o one writes c next e =
-    let w = expr-written s at (f c) next e in
-    let q = byte-at s at b (contentBytes c) next (subst (λ (l : List ℕ). Written s at l next) (writes c) w) in
-    let p = single-was s at (f c) next e f (ap (getElem? operators) q ∙ o) in
-    record { byte = q; operand = p .1 ∙ ap (λ (d : Content). just (d upTo next)) (one (p .0) c (p .2)) }
-
-operands-at : (s : List ℕ) (at b : ℕ) (f : Contents → Content) → getElem? operators b ≡ just (counted f)
-    → ((cs ds : Contents) → f cs ≡ f ds → cs ≡ ds) → ((cs : Contents) → contentBytes (f cs) ≡ b ∷ count cs ∷ operandBytes cs)
-    → (cs : Contents) (next : ℕ) → exprAt s at ≡ just (f cs upTo next) → OperandsAt s at b cs next
-operands-at s at b f o one writes cs next e =
-    let w = expr-written s at (f cs) next e in
-    let q = byte-at s at b (count cs ∷ operandBytes cs) next (subst (λ (l : List ℕ). Written s at l next) (writes cs) w) in
-    let i = ap (getElem? operators) q ∙ o in
-    let h = counted-more s at (f cs) next e f i in
-    let p = counted-was s at (f cs) next e f i in
-    let ds = p .1 ∙ ap (λ (ds : Contents). just (ds upTo next)) (one (p .0) cs (p .2)) in
-    let n = exprs-written s (at + 2) (getD s (at + 1) 0) cs next (omega arith) ds .0 in
-    record { byte = q; counts = n; operands = ap (exprsAt s (at + 2)) (sym n) ∙ ds }
-
-pub expr-parts : (s : List ℕ) (at : ℕ) (c : Content) (next : ℕ) → exprAt s at ≡ just (c upTo next) → Parts s at c next
-unfolding contentBytes
-expr-parts s at none next e =
-    let w = expr-written s at none next e in
-    (byte-at s at 0 [] next w, w .next-is)
-expr-parts s at empty next e =
-    let w = expr-written s at empty next e in
-    (byte-at s at 1 [] next w, w .next-is)
-expr-parts s at (type k) next e =
-    let w = expr-written s at (type k) next e in
-    let q = byte-at s at 2 (k ∷ []) next w in
-    let p = numbered-was s at (type k) next e type (ap (getElem? operators) q ∙ operator-type) in
-    (q, cc, w .next-is)
-expr-parts s at (sequence cs) next e = operands-at s at 3 sequence operator-sequence (λ c d p. cc) (λ c. refl) cs next e
-expr-parts s at (choice cs) next e = operands-at s at 4 choice operator-choice (λ c d p. cc) (λ c. refl) cs next e
-expr-parts s at (anyNumber c) next e = operand-at s at 5 anyNumber operator-any-number (λ c d p. cc) (λ c. refl) c next e
-expr-parts s at (oneOrMore c) next e = operand-at s at 6 oneOrMore operator-one-or-more (λ c d p. cc) (λ c. refl) c next e
-expr-parts s at (optional c) next e = operand-at s at 7 optional operator-optional (λ c d p. cc) (λ c. refl) c next e
 
 -- the first of so many expressions, and the others
 pub record FirstAt (s : List ℕ) (at n : ℕ) (cs : Contents) (next : ℕ) : Type 0 where

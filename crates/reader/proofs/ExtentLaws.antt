@@ -141,14 +141,37 @@ extent-after lim c d ok deep (just e) = go (passes-or-fails (areProper lim (e .c
         extent-no (areProper lim) deepest (c ∷ᶜ e .content) (e .next) (both ∙ t)
         ∙ sym (ap (joinedOf d) (extent-no (areProper lim) deepest (e .content) (e .next) t))
 
--- a sequence or a choice: an operator with a count
-record Counts (lim : Limits) (b : ℕ) : Type 0 where
-  operator : Contents → Content
-  numbered-so : getElem? operators b ≡ just (counted operator)
-  proper : (cs : Contents) → isProper lim (operator cs) ≡ (leb 2 (count cs) && leb (count cs) (lim .operands) && areProper lim cs)
-  nests : (cs : Contents) → nesting (operator cs) ≡ suc (deepest cs)
+-- any number, one or more, or an optional: an operator with one operand
+pub record OneOperand (lim : Limits) (b : ℕ) : Type 0 where
+  pub operator : Content → Content
+  pub numbered-so : getElem? operators b ≡ just (single operator)
+  pub proper : (c : Content) → isProper lim (operator c) ≡ isProper lim c
+  pub nests : (c : Content) → nesting (operator c) ≡ suc (nesting c)
 
-counts : (lim : Limits) (b : ℕ) → 3 ≤ b → b ≤ 4 → Counts lim b
+pub one-operand : (lim : Limits) (b : ℕ) → 5 ≤ b → b ≤ 7 → OneOperand lim b
+unfolding isProper nesting
+one-operand lim b l h = go (b - 5) refl
+  where
+    go : (k : ℕ) → b - 5 ≡ k → OneOperand lim b
+    go zero e =
+        let q : b ≡ 5 = omega arith in
+        record { operator = anyNumber; numbered-so = ap (getElem? operators) q ∙ operator-any-number; proper = λ c. refl; nests = λ c. refl }
+    go (suc zero) e =
+        let q : b ≡ 6 = omega arith in
+        record { operator = oneOrMore; numbered-so = ap (getElem? operators) q ∙ operator-one-or-more; proper = λ c. refl; nests = λ c. refl }
+    go (suc (suc zero)) e =
+        let q : b ≡ 7 = omega arith in
+        record { operator = optional; numbered-so = ap (getElem? operators) q ∙ operator-optional; proper = λ c. refl; nests = λ c. refl }
+    go (suc (suc (suc k))) e = absurd (omega arith)
+
+-- a sequence or a choice: an operator with a count
+pub record Counts (lim : Limits) (b : ℕ) : Type 0 where
+  pub operator : Contents → Content
+  pub numbered-so : getElem? operators b ≡ just (counted operator)
+  pub proper : (cs : Contents) → isProper lim (operator cs) ≡ (leb 2 (count cs) && leb (count cs) (lim .operands) && areProper lim cs)
+  pub nests : (cs : Contents) → nesting (operator cs) ≡ suc (deepest cs)
+
+pub counts : (lim : Limits) (b : ℕ) → 3 ≤ b → b ≤ 4 → Counts lim b
 unfolding isProper nesting
 counts lim b l h = go (b - 3) refl
   where
@@ -239,36 +262,20 @@ module _ (lim : Limits) (s : List ℕ) (at : ℕ) where
         go (suc zero) e = proper-some empty (at + 1) (expr-alone s at inside empty (ap (getElem? operators) e ∙ operator-empty)) refl
         go (suc (suc b)) e = absurd (omega arith)
 
-    over : (f : Content → Content) → getElem? operators (getD s at 0) ≡ just (single f)
-        → ((c : Content) → isProper lim (f c) ≡ isProper lim c) → ((c : Content) → nesting (f c) ≡ suc (nesting c))
-        → properAt lim s at ≡ deeperOf (properAt lim s (at + 1))
+    pub proper-single : 5 ≤ getD s at 0 → getD s at 0 ≤ 7 → properAt lim s at ≡ deeperOf (properAt lim s (at + 1))
     unfolding properAt
-    over f o same more =
-        ap (extentBy (isProper lim) nesting) (expr-single s at inside f o)
+    proper-single l h =
+        let k = one-operand lim (getD s at 0) l h in
+        ap (extentBy (isProper lim) nesting) (expr-single s at inside (k .operator) (k .numbered-so))
         ∙ extent-under
-        f
+        (k .operator)
         (isProper lim)
         (isProper lim)
         nesting
         nesting
         (exprAt s (at + 1))
-        (λ c n e. same c)
-        (λ c. more c ∙ sym (add-one (nesting c)))
-
-    pub proper-single : 5 ≤ getD s at 0 → getD s at 0 ≤ 7 → properAt lim s at ≡ deeperOf (properAt lim s (at + 1))
-    unfolding isProper nesting
-    proper-single l h = go (getD s at 0 - 5) refl
-      where
-        by : (b : ℕ) (f : Content → Content) → getElem? operators b ≡ just (single f) → getD s at 0 ≡ b
-            → ((c : Content) → isProper lim (f c) ≡ isProper lim c) → ((c : Content) → nesting (f c) ≡ suc (nesting c))
-            → properAt lim s at ≡ deeperOf (properAt lim s (at + 1))
-        by b f o e same more = over f (ap (getElem? operators) e ∙ o) same more
-
-        go : (k : ℕ) → getD s at 0 - 5 ≡ k → properAt lim s at ≡ deeperOf (properAt lim s (at + 1))
-        go zero e = by 5 anyNumber operator-any-number (omega arith) (λ c. refl) (λ c. refl)
-        go (suc zero) e = by 6 oneOrMore operator-one-or-more (omega arith) (λ c. refl) (λ c. refl)
-        go (suc (suc zero)) e = by 7 optional operator-optional (omega arith) (λ c. refl) (λ c. refl)
-        go (suc (suc (suc k))) e = absurd (omega arith)
+        (λ c n e. k .proper c)
+        (λ c. k .nests c ∙ sym (add-one (nesting c)))
 
   -- a type is proper if its number is
   pub proper-type : at < length s → getD s at 0 ≡ 2 → properAt lim s at ≡ typeAt lim s (at + 1)

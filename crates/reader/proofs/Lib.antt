@@ -1,5 +1,6 @@
 pub mod ExprLaws
 pub mod ExtentLaws
+pub mod ContentAtLaws
 pub mod ClassTable
 pub mod NameReading
 pub mod FieldReading

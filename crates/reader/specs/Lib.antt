@@ -1,6 +1,7 @@
 pub mod FieldAt
 pub mod ExprAt
 pub mod Extents
+pub mod ContentAt
 pub mod DocumentNodes
 pub mod DocumentSteps
 pub mod TableIndex

@@ -18,6 +18,7 @@ use Rattle.grammar.specs.Normalise.{pairsOf, normalise}
 use Rattle.grammar.specs.Reduce.{fruitful, withoutUnfruitful}
 use Rattle.reader.specs.declared.tables.TableIndex.{TableIndex}
 use Rattle.reader.specs.TableIndex.{startType}
+use Rattle.reader.proofs.TableFound.{start-small}
 use Rattle.theory.proofs.BoolLaws.{same-test, or-cases, or-left, or-right}
 use Rattle.theory.proofs.ListLaws.{kept, joined-from, joined-mem, numbers-below, at-mem, mem-at, at-below, below-at, in-mem, mem-in}
 use Rattle.theory.proofs.Reached.{start-reached}
@@ -44,17 +45,7 @@ list-part {from} {numbers} l k first end h a b =
 -- the start types
 module _ {s : List ℕ} {index : TableIndex} {g : Table} (x : TableHeld s index g) where
   pub starts-small : StartsSmall index
-  unfolding standard
-  starts-small =
-      record {
-        few = x .indexes .few-starts;
-        small =
-            λ i h.
-            let n = x .indexes .starts in
-            let k = below-at (g .starts) i (omega arith) in
-            subst (λ (t : ℕ). t < 64) (sym (x .indexes .start i (k .0) (k .1)))
-            (x .within .start-types (k .0) (at-mem (g .starts) i (k .1)));
-      }
+  starts-small = record { few = x .indexes .few-starts; small = start-small (x .indexes) (x .within) }
 
   module _ (f : ℕ → List ℕ) (p : ℕ) where
     starts-was : List·Memᴰ p (joinedOf (λ i. f (startType index i)) (numbersBelow (index .starts)))

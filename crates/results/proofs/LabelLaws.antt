@@ -3,7 +3,7 @@
 --   kept-in, kept-out : one number more
 --   used-are     : the keys of some sets are the labels used
 --   put-on, put-off : a field is written if it is on
-use Prim.Native.Nat.{ℕ, zero, _+_, _≤_, _<_}
+use Prim.Native.Nat.{ℕ, _+_, _≤_, _<_}
 use native.Mathlib.Omega.{arith}
 use mathlib.Core.Bool.{Bool, true, false, false≢true}
 use mathlib.Core.List.{List, [], _∷_, _++_, append-nil}
@@ -18,7 +18,7 @@ use Rattle.grammar.specs.SingleTypeForm.{TypeSet}
 use Rattle.theory.proofs.Alternatives.{onlyIf}
 use Rattle.theory.proofs.BoolLaws.{false-of, same-test}
 use Rattle.theory.proofs.PlaceLaws.{place-yes, place-past}
-use Rattle.theory.proofs.ListLaws.{any-found, any-of, keep-yes, kept, keep-shorter, at-mem, mem-at, at-below, at-else, at-or-else, numbers-below, numbers-length}
+use Rattle.theory.proofs.ListLaws.{any-found, any-of, keep-yes, kept, at-mem, mem-at, at-below, at-else, at-or-else, numbers-below}
 use Rattle.theory.proofs.DistinctLaws.{keep-append}
 use Rattle.sets.specs.Sets.{nothing}
 use Rattle.pairs.specs.Rounds.{puts}
@@ -66,10 +66,6 @@ module _ (on : ℕ → Bool) where
   kept-out l e =
       ap length
       (keep-next on l ∙ ap (λ (b : Bool). keep on (numbersBelow l) ++ onlyIf b (l ∷ [])) e ∙ append-nil (keep on (numbersBelow l)))
-
-  pub kept-few : (l : ℕ) → length (keep on (numbersBelow l)) ≤ l
-  unfolding numbersBelow
-  kept-few l = let a = keep-shorter on (numbersBelow l) in let b = numbers-length zero l in omega arith
 
   pub kept-none : length (keep on (numbersBelow 0)) ≡ 0
   kept-none = ap length (keep-start on)

@@ -1,8 +1,8 @@
 -- From the tables that were read to their reduced union:
---   seen-viewed, listed-both, starts-small   what the steps ask
---   none-started                             where no start pair is fruitful, no document is derived
---   reduced                                  where there is one, what is known for the result
---   for-kind                                 the answer for the kind that is meant
+--   seen-viewed, listed-both   what the steps ask
+--   none-started               where no start pair is fruitful, no document is derived
+--   reduced                    where there is one, what is known for the result
+--   for-kind                   the answer for the kind that is meant
 use Prim.Native.Nat.{ℕ}
 use mathlib.Core.Bool.{Bool, true, false}
 use mathlib.Core.List.{List}
@@ -17,13 +17,12 @@ use Rattle.grammar.specs.declared.Refusal.the-variants.{NoDocument}
 use Rattle.sets.specs.Sets.{member, Empties}
 use Rattle.sets.specs.declared.four.Set4.{Set4}
 use Rattle.reader.specs.declared.tables.TableIndex.{TableIndex}
-use Rattle.reader.proofs.TableFound.{start-small}
 use Rattle.pairs.specs.declared.lists.TypeLists.{TypeLists}
 use Rattle.pairs.specs.declared.union.Union.{Union}
 use Rattle.pairs.specs.View.{Viewed, TableHeld, UnionSeen}
 use Rattle.pairs.specs.PairNumbers.{fruitfulOf, isStart, isLeft}
 use Rattle.pairs.specs.TypeLists.{ListsOf}
-use Rattle.reducing.specs.PairsListed.{BothListed, StartsSmall}
+use Rattle.reducing.specs.PairsListed.{BothListed}
 use Rattle.results.specs.declared.widen.Kind.{Kind}
 use Rattle.results.specs.declared.widen.Made.{Made}
 use Rattle.results.specs.Widened.{kindOf, Widens, UnionReduced}
@@ -34,9 +33,6 @@ seen-viewed {old} {add} {g} {h} s = record { table = unite standard g h; views =
 
 pub listed-both : {of : ℕ → List ℕ} {lists : TypeLists} → ListsOf of lists → BothListed lists
 listed-both l = record { old = l .old-listed; added = l .added-listed }
-
-pub starts-small : {s : List ℕ} {index : TableIndex} {g : Table} → TableHeld s index g → StartsSmall index
-starts-small held = record { few = held .indexes .few-starts; small = start-small (held .indexes) (held .within) }
 
 module _ {old add : List ℕ} {index addition : TableIndex} {g h : Table} (p : TableHeld old index g) (q : TableHeld add addition h) where
   pub none-started : (kind : Kind) {starts : Set4} {empty : Bool} → member (starts .words) 0 ≡ isStart (unite standard g h)

@@ -11,7 +11,7 @@ use mathlib.Core.List.{List, [], _∷_, List·Memᴰ, Memᴰ·map, Memᴰ·of-ma
 use mathlib.Core.Logic.{inl, inr}
 use mathlib.Core.Path.{_≡_, refl, sym, _∙_, ap, subst}
 use lib.Dec.{eqb}
-use borrow.Author.Tests.{eq-eqb}
+use borrow.Author.Tests.{eq-eqb, not-true}
 use lib.ListN.{length}
 use Rattle.grammar.specs.Lists.{isIn, numbersBelow}
 use Rattle.grammar.specs.Limits.{standard}
@@ -29,7 +29,7 @@ use Rattle.grammar.specs.Reduce.{withoutUnfruitful, withoutUnreached, reduce}
 use Rattle.grammar.specs.Widen.{reducedUnion, ofSize, widenByTable}
 use Rattle.grammar.specs.declared.Refusal.the-variants.{ResultTooLarge, NoDocument}
 use Rattle.theory.proofs.BoolLaws.{or-left}
-use Rattle.theory.proofs.ListLaws.{numbers-below}
+use Rattle.theory.proofs.ListLaws.{mem-some, in-mem, numbers-below}
 use Rattle.theory.proofs.OutcomeLaws.{no-fault}
 use Rattle.sets.specs.Sets.{nothing}
 use Rattle.pairs.specs.PairNumbers.{isStart}
@@ -53,13 +53,6 @@ nothing-in (x ∷ xs) e =
     let y : _≡_ {A = ℕ} 0 1 = cc in
     absurd (omega arith)
 
-something-in : (xs : List ℕ) (p : ℕ) → isIn p xs ≡ true → isEmpty xs ≡ false
-unfolding isIn
-something-in [] p e =
-    let z : _≡_ {A = ℕ} 0 1 = cc in
-    absurd (omega arith)
-something-in (x ∷ xs) p e = refl
-
 module _ (g h : Table) (g-within : TableWithin standard asciiClasses g) (h-within : TableWithin standard asciiClasses h) where
   abbrev u : Table
   u = unite standard g h
@@ -79,8 +72,9 @@ module _ (g h : Table) (g-within : TableWithin standard asciiClasses g) (h-withi
     sized : widenByTable standard kind g h ≡ ofSize standard (tableOf kind u)
     unfolding widenByTable reducedUnion
     sized =
+        let starts = withoutUnfruitful (normalise u) .starts in
         no-fault _ NoDocument _
-        (ap isEmpty starts-same ∙ something-in (withoutUnfruitful (normalise u) .starts) p some)
+        (ap isEmpty starts-same ∙ not-true (isEmpty starts) (mem-some (in-mem p starts some)))
         ∙ ap (ofSize standard) (table-of-kind u fit kind)
 
     pub too-many : 64 < length (setsOf kind u) → widenByTable standard kind g h ≡ refused ResultTooLarge

@@ -23,7 +23,7 @@ use Rattle.reader.proofs.ExprLaws.{expr-written}
 use Rattle.emitting.specs.Drafts.{Row, TooWide}
 use Rattle.sampling.specs.SampleContents.{sequenceIn, sequencesAmong}
 use Rattle.sampling.specs.SampleTable.{contentIn}
-use Rattle.emitting.proofs.RowLaws.{count-list}
+use Rattle.theory.proofs.SampleWithin.{operands-count}
 use Rattle.emitting.proofs.KeptLaws.{row-count}
 use Rattle.emitting.proofs.WideLaws.{too-large}
 
@@ -62,7 +62,7 @@ choice-flat (c ∷ []) h =
     (omega arith, omega arith)
 choice-flat (c ∷ d ∷ ds) h =
     let r = all-flat (c ∷ d ∷ ds) h in
-    let n = count-list (c ∷ d ∷ ds) in
+    let n = operands-count (c ∷ d ∷ ds) in
     (omega arith, omega arith)
 
 module _ (parents types : List ℕ) (n k : ℕ) where

@@ -17,7 +17,7 @@ use Rattle.theory.proofs.ListLaws.{keep-yes, keep-no, joined-end, numbers-next}
 use Rattle.theory.proofs.DistinctLaws.{keep-append}
 use Rattle.emitting.specs.Writing.{Put}
 use Rattle.sampling.specs.SampleContents.{kidTypes, kidBytes, kidsBytes, Kids}
-use Rattle.emitting.proofs.RowLaws.{count-list}
+use Rattle.theory.proofs.SampleWithin.{operands-count}
 use Rattle.emitting.proofs.PutLaws.{put-none, put-one, put-two, put-join, put-length}
 
 -- a sequence's operands
@@ -177,7 +177,7 @@ module _ (parents types : List ℕ) (n i : ℕ) where
       go (k ∷ []) h = absurd (omega arith)
       go (k ∷ l ∷ ks) h =
           ap (λ (x : ℕ). 3 ∷ x ∷ operandBytes (operands (map type (k ∷ l ∷ ks))))
-          (sym (count-list (map type (k ∷ l ∷ ks)) ∙ length-map (k ∷ l ∷ ks) type))
+          (sym (operands-count (map type (k ∷ l ∷ ks)) ∙ length-map (k ∷ l ∷ ks) type))
 
   pub put-empty : (before : List ℕ) (at : ℕ) → length kinds ≡ 0 → at + 1 ≤ length before
       → Put before at (contentBytes (sequenceOf kinds)) (set before at 1) (at + 1)

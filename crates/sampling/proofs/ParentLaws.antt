@@ -8,15 +8,9 @@ use mathlib.Core.Path.{_≡_, sym, _∙_, ap, subst}
 use lib.ListN.{length, length-drop, length-append, List·getD-map, getD, set, take, drop, replicate, drop-of-length-le}
 use lib.Seq.{drop-cons, drop-at, length-take-le, getD-take, take-suc-set, append-snoc}
 use Rattle.grammar.specs.ReadDocument.{Node}
-use Rattle.reader.proofs.DocumentTrees.{treeCount, Enough}
+use Rattle.reader.proofs.DocumentTrees.{treeCount, trees-few, Enough}
 use Rattle.sampling.specs.SampleNodes.{parentsFrom, parentsOf, CountedTree}
 use Rattle.sampling.proofs.FillLaws.{filled, fill-long}
-
--- each tree has a node
-trees-few : (ns : List Node) → treeCount ns ≤ length ns
-unfolding treeCount
-trees-few [] = omega arith
-trees-few (n ∷ ns) = let h = trees-few ns in omega arith
 
 pub record Passing (ns : List Node) (parents pending : List ℕ) (top i : ℕ) : Type 0 where
   pub so-far : parentsOf ns ≡ take i parents ++ parentsFrom i (drop top pending) (drop i ns)

@@ -1,19 +1,17 @@
--- Sets in words, as tests on numbers. Main statements: `member-put` (putting k in adds k and nothing else), `put-elsewhere` and
--- `words-put-before`, `words-put-after` (sets in other words are kept), `words-store`, `store-before`, `store-after` (what is laid
--- down stands there, the words around it are kept), `member-words` (a set that is taken out has the members it had),
--- `member-zeros`, `member-union`, and `same-words` (for words of 32 bits the same members mean the same words).
+-- Sets in words, as tests on numbers. Main statements: `member-put` (putting k in adds k and nothing else), `words-store`,
+-- `store-before`, `store-after` (what is laid down stands there, the words around it are kept), `member-words` (a set that is taken
+-- out has the members it had), `member-zeros`, `member-union`, and `words-differ` (different words of 32 bits have different members).
 use Prim.Native.Nat.{ℕ, zero, suc, _+_, _*_, _-_, _/_, _%_, _^_, _≤_, _<_}
 use mathlib.Core.Bool.{Bool, true, false, _||_, or-comm}
-use mathlib.Core.Logic.{_↔_}
 use mathlib.Core.List.{List, [], _∷_, _++_}
 use mathlib.Core.Path.{_≡_, refl, sym, ap, ap₂, _∙_, fun-ext}
 use native.Mathlib.Nat.{zero-add, suc-add, le-refl, mod-lt, zero-lt-suc}
 use native.Mathlib.Omega.{arith}
 use lib.Bits.{bitOr, or-zero-r}
-use lib.Dec.{eqb, ltb}
-use lib.ListN.{length, getD, set, take, drop, replicate, length-set, length-append, length-take, length-drop, List·getD-eq-default}
-use lib.Seq.{getD-set-same, getD-set-other, getD-take, getD-drop, take-set-le, take-set-lt, drop-set-lt, drop-set-add, take-at, drop-at, length-take-le, ext-getD, take-append-le, drop-append-le, drop-drop, take-take, drop-append-add}
-use borrow.Author.Tests.{eqb-true, eqb-false, eq-eqb, ne-eqb, ltb-true, ltb-false}
+use lib.Dec.{eqb}
+use lib.ListN.{length, getD, set, take, drop, replicate, length-set, length-append, length-take, length-drop}
+use lib.Seq.{getD-set-same, getD-set-other, getD-take, getD-drop, take-at, drop-at, length-take-le, take-append-le, drop-append-le, drop-drop, take-take, drop-append-add}
+use borrow.Author.Tests.{eqb-true, eqb-false, eq-eqb, ne-eqb}
 use Rattle.sets.proofs.BitLaws.{bit-or, bit-one, bit-zero, bits-differ, one-shifted}
 use Rattle.sets.specs.Sets.{bitOf, member, putAt, wordsAt, storeAt, unionOf, nothing, add, both, Compares, Empties}
 
@@ -25,14 +23,6 @@ add-other p k j d = ap (λ (b : Bool). b || p j) (ne-eqb j k d)
 
 pub add-itself : (p : ℕ → Bool) (k : ℕ) → add k p k ≡ true
 add-itself p k = ap (λ (b : Bool). b || p k) (eq-eqb k k refl)
-
--- a number that is there already
-pub add-old : (p : ℕ → Bool) (k : ℕ) → p k ≡ true → add k p ≡ p
-add-old p k e = fun-ext (λ j. go j (eqb j k) refl)
-  where
-    go : (j : ℕ) (b : Bool) → eqb j k ≡ b → (eqb j k || p j) ≡ p j
-    go j true h = rw h (sym (ap p (eqb-true j k h) ∙ e))
-    go j false h = rw h refl
 
 -- ---- putting a number in
 
@@ -77,14 +67,6 @@ member-put words base k h = fun-ext (λ j. go j (eqb (j / 32) (k / 32)) refl)
         put-elsewhere words base k base j (λ q. d (omega arith))
         ∙ ap (λ (b : Bool). b || member words base j) (sym (ne-eqb j k (λ q. d (ap (λ (n : ℕ). n / 32) q))))
 
-pub take-put : (words : List ℕ) (base k n : ℕ) → n ≤ base + k / 32 → take n (putAt words base k) ≡ take n words
-unfolding putAt
-take-put words base k n h = take-set-le n words (base + k / 32) _ h
-
-pub drop-put : (words : List ℕ) (base k n : ℕ) → base + k / 32 < n → drop n (putAt words base k) ≡ drop n words
-unfolding putAt
-drop-put words base k n h = drop-set-lt n words (base + k / 32) _ h
-
 -- ---- the n words at a base
 
 pub length-words : (words : List ℕ) (base n : ℕ) → base + n ≤ length words → length (wordsAt words base n) ≡ n
@@ -100,33 +82,6 @@ pub member-words : (words : List ℕ) (base n k : ℕ) → k / 32 < n → member
 unfolding member
 member-words words base n k h =
     ap (λ (x : ℕ). bitOf x (k % 32)) (ap (λ (i : ℕ). getD (wordsAt words base n) i 0) (zero-add (k / 32)) ∙ word-of words base n (k / 32) h)
-
--- putting k into the set at base, and taking it out
-pub words-put : (words : List ℕ) (base k n : ℕ) → k / 32 < n → wordsAt (putAt words base k) base n ≡ putAt (wordsAt words base n) 0 k
-unfolding wordsAt putAt
-words-put words base k n h =
-    ap (take n) (drop-set-add base words (k / 32) _)
-    ∙ take-set-lt n (drop base words) (k / 32) _ h
-    ∙ ap₂ (λ (i x : ℕ). set (wordsAt words base n) i (bitOr x (2 ^ (k % 32))))
-    (sym (zero-add (k / 32)))
-    (sym (ap (λ (i : ℕ). getD (wordsAt words base n) i 0) (zero-add (k / 32)) ∙ word-of words base n (k / 32) h))
-
--- sets that stand before or after the word are kept
-pub words-put-before : (words : List ℕ) (base k other n : ℕ) → other + n ≤ base + k / 32
-    → wordsAt (putAt words base k) other n ≡ wordsAt words other n
-unfolding wordsAt putAt
-words-put-before words base k other n h =
-    let rest = base + k / 32 - other in
-    let at : base + k / 32 ≡ other + rest = omega arith in
-    let value = bitOr (getD words (base + k / 32) 0) (2 ^ (k % 32)) in
-    ap (λ (i : ℕ). take n (drop other (set words i value))) at
-    ∙ ap (take n) (drop-set-add other words rest value)
-    ∙ take-set-le n (drop other words) rest value (omega arith)
-
-pub words-put-after : (words : List ℕ) (base k other n : ℕ) → base + k / 32 < other
-    → wordsAt (putAt words base k) other n ≡ wordsAt words other n
-unfolding wordsAt
-words-put-after words base k other n h = ap (take n) (drop-put words base k other h)
 
 -- ---- laying words down
 
@@ -165,12 +120,6 @@ words-store words base new n h e =
     (drop-append-le base (take base words ++ new) (drop (base + length new) words) (simp (length-append, length-take) (omega arith))
     ∙ ap (λ (l : List ℕ). l ++ drop (base + length new) words) (drop-at (take base words) new base front))
     ∙ take-at new (drop (base + length new) words) n e
-
-pub member-store : (words : List ℕ) (base : ℕ) (new : List ℕ) (k : ℕ) → base + length new ≤ length words → k / 32 < length new
-    → member (storeAt words base new) base k ≡ member new 0 k
-member-store words base new k h q =
-    sym (member-words (storeAt words base new) base (length new) k q)
-    ∙ ap (λ (l : List ℕ). member l 0 k) (words-store words base new (length new) h refl)
 
 -- the n words at a base lie within the first base + n
 words-of-take : (l : List ℕ) (base n : ℕ) → wordsAt (take (base + n) l) base n ≡ wordsAt l base n
@@ -237,40 +186,6 @@ words-differ a b i h ha hb d =
     let at : (l : List ℕ) → bitOf (getD l (0 + k / 32) 0) (k % 32) ≡ bitOf (getD l i 0) bit
     = λ l. ap₂ (λ (m n : ℕ). bitOf (getD l m 0) n) word rest in
     (k, omega arith, λ q. apart (sym (at a) ∙ q ∙ at b))
-
--- the same members mean the same words
-pub same-words : (a b : List ℕ) → length a ≡ length b → ((i : ℕ) → getD a i 0 < 2 ^ 32) → ((i : ℕ) → getD b i 0 < 2 ^ 32)
-    → member a 0 ≡ member b 0 → a ≡ b
-same-words a b e ha hb q = ext-getD 0 a b e (λ i h. go i h (eqb (getD a i 0) (getD b i 0)) refl)
-  where
-    go : (i : ℕ) → i < length a → (t : Bool) → eqb (getD a i 0) (getD b i 0) ≡ t → getD a i 0 ≡ getD b i 0
-    go i h true t = eqb-true (getD a i 0) (getD b i 0) t
-    go i h false t =
-        let (k, below, apart) = words-differ a b i h (ha i) (hb i) (eqb-false (getD a i 0) (getD b i 0) t) in
-        absurd (apart (ap (λ (p : ℕ → Bool). p k) q))
-
--- a number past the words is in no set
-pub member-past : (words : List ℕ) (base k : ℕ) → length words ≤ base + k / 32 → member words base k ≡ false
-unfolding member
-member-past words base k h = ap (λ (x : ℕ). bitOf x (k % 32)) (List·getD-eq-default words 0 h) ∙ bit-zero (k % 32)
-
--- sets of as many words that agree on the numbers which fit there are the same
-pub agree-below : (a b : List ℕ) → length a ≡ length b → ((k : ℕ) → k < 32 * length a → member a 0 k ≡ member b 0 k) → member a 0 ≡ member b 0
-agree-below a b e h = fun-ext (λ k. go k (ltb k (32 * length a)) refl)
-  where
-    go : (k : ℕ) (t : Bool) → ltb k (32 * length a) ≡ t → member a 0 k ≡ member b 0 k
-    go k true t = h k (ltb-true k (32 * length a) t)
-    go k false t =
-        let past : 32 * length a ≤ k = ltb-false k (32 * length a) t in
-        member-past a 0 k (omega arith) ∙ sym (member-past b 0 k (omega arith))
-
--- a comparison decides whether two sets have the same members
-pub compares : {a b : List ℕ} {r : Bool} → Compares a b r → (r ≡ true) ↔ (member a 0 ≡ member b 0)
-compares {a} {b} {r} c = (λ e. ap (λ (l : List ℕ). member l 0) (c .same e), λ q. go r refl q)
-  where
-    go : (t : Bool) → r ≡ t → member a 0 ≡ member b 0 → r ≡ true
-    go true e q = e
-    go false e q = let (k, below, apart) = c .differ e in absurd (apart (ap (λ (p : ℕ → Bool). p k) q))
 
 -- a set is empty if it is the same as one of zeros
 pub empties : (a zeros : List ℕ) (n : ℕ) (r : Bool) → zeros ≡ replicate n 0 → Compares a zeros r → Empties a r

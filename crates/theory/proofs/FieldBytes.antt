@@ -1,6 +1,6 @@
 -- The fields of an input, with no bound on their number. A field that was written is read back:
 --   fields-of : fieldsOf (fieldBytes tag value ++ rest) ≡ (record { tag = tag; value = value } then fieldsOf rest)
--- (The two length bytes of `fieldBytes` are numbers: they are bytes where the value has fewer than 65536, `length-bytes`.)
+-- (The two length bytes of `fieldBytes` are numbers: they are bytes where the value has fewer than 65536.)
 -- And what is read was written so, if the bytes are below 256, and is as long in any case: `fields-were`.
 use Prim.Native.Nat.{ℕ, zero, suc, _+_, _*_, _/_, _%_, _≤_, _<_}
 use native.Mathlib.Omega.{arith}
@@ -100,9 +100,6 @@ fields-of tag value rest =
     (λ (v left : List ℕ). record { tag = tag; value = v } then fieldsOf left)
     (take-append-seam value rest)
     (drop-append-seam value rest)
-
-pub length-bytes : (value : List ℕ) → length value < 65536 → (length value / 256 < 256) × (length value % 256 < 256)
-length-bytes value h = omega arith
 
 abbrev pub AreBytes : List ℕ → Type 0
 AreBytes bytes = (b : ℕ) → List·Memᴰ b bytes → b < 256

@@ -50,7 +50,7 @@ use Rattle.theory.proofs.Standing.{merge-type}
 
 -- numbers kept of those below a bound
 module _ (test : ℕ → Bool) (n : ℕ) where
-  few-kept : length (keep test (numbersBelow n)) ≤ n
+  pub few-kept : length (keep test (numbersBelow n)) ≤ n
   unfolding numbersBelow
   few-kept =
       let a = keep-shorter test (numbersBelow n) in

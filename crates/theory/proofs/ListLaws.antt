@@ -5,7 +5,7 @@
 --     at-mem, mem-at, at-below, below-at, at-joined, at-else  what stands at a place
 --     differ-at, all-differ, distinct-new, distinct-end       lists of which all elements are distinct
 --     joined-from, joined-mem, joined-append, joined-on       lists of lists, joined
---     map-on, map-at, at-map                                  images
+--     map-on, map-at, at-map, take-map, drop-map              images
 --     related-map, related-at, related-mem                    lists related element by element
 -- Of numbers: in-mem, mem-in, in-append, taken-mem, set-all, set-up-to, same-numbers, and AllIn (all of one list are in another);
 -- numbers-below, numbers-joined, numbers-next, numbers-end, joined-next, listed-from, one-place.
@@ -37,7 +37,7 @@ use mathlib.Core.Logic.{_↔_, _⊎_, inl, inr, ⊎-elim}
 use mathlib.Core.Option.{Option, none as nothing, some as just}
 use mathlib.Core.Path.{_≡_, refl, sym, _∙_, ap, ap₂, subst}
 use lib.Dec.{eqb}
-use lib.ListN.{length, getElem?, getD, set, take, replicate}
+use lib.ListN.{length, getElem?, getD, set, take, drop, replicate}
 use lib.Seq.{getD-set-same, getD-set-other}
 use borrow.Author.Count.{below-more}
 use borrow.Author.Tests.{eqb-true, eqb-false, eq-eqb, not-true}
@@ -591,6 +591,17 @@ module _ {A B : Type 0} where
         let at = mem-at m in
         let r = related-at rs (at .0) (at .1) in
         (r .0, at-mem xs (at .0) (r .1), r .2)
+
+-- the first elements of a mapped list, and those after them
+pub take-map : {A B : Type 0} (f : A → B) (k : ℕ) (xs : List A) → take k (map f xs) ≡ map f (take k xs)
+take-map f zero xs = refl
+take-map f (suc k) [] = refl
+take-map {B = B} f (suc k) (x ∷ xs) = ap (λ (l : List B). f x ∷ l) (take-map f k xs)
+
+pub drop-map : {A B : Type 0} (f : A → B) (k : ℕ) (xs : List A) → drop k (map f xs) ≡ map f (drop k xs)
+drop-map f zero xs = refl
+drop-map f (suc k) [] = refl
+drop-map f (suc k) (x ∷ xs) = drop-map f k xs
 
 pub keep-map : {A B : Type 0} (f : A → B) (test : B → Bool) (xs : List A) → keep test (map f xs) ≡ map f (keep (λ x. test (f x)) xs)
 unfolding keep

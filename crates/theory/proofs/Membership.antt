@@ -94,9 +94,6 @@ mutual
 pub types-derive : (g : Table) (t : Tree) (k : ℕ) → List·Memᴰ k (typesOf g t) ↔ Derives g k t
 types-derive g t k = (types-derive-it t g k, derived-by)
 
-pub children-derive : (g : Table) (ts : Forest) (w : List ℕ) → Picks (typesOfAll g ts) w ↔ DerivesAll g w ts
-children-derive g ts w = (picks-derive-all ts g w, derived-pick)
-
 pub is-let-in : (g : Table) (d : Tree) → letsIn g d ≡ true → LetsIn g d
 unfolding letsIn
 is-let-in g d e =

@@ -61,7 +61,7 @@ use Rattle.theory.proofs.DocumentWithin.{DocumentWithin}
 use Rattle.theory.proofs.NumberedTable.{Numbered, table-small, numbered-within}
 
 -- the sequence of some types
-operands-count : (cs : List Content) → count (operands cs) ≡ length cs
+pub operands-count : (cs : List Content) → count (operands cs) ≡ length cs
 unfolding count operands
 operands-count [] = refl
 operands-count (c ∷ cs) = ap suc (operands-count cs)

@@ -46,7 +46,7 @@ use Rattle.theory.proofs.ContentBytes.{same-content}
 use Rattle.theory.proofs.WordLaws.{HoldsOfOne, choice-words, operands-words}
 use Rattle.theory.proofs.Standing.{StandsIn, operands-type, choice-type}
 
-operands-listed : (cs : Contents) → operands (listOf cs) ≡ cs
+pub operands-listed : (cs : Contents) → operands (listOf cs) ≡ cs
 unfolding operands listOf
 operands-listed []ᶜ = refl
 operands-listed (c ∷ᶜ cs) = ap (λ (ds : Contents). c ∷ᶜ ds) (operands-listed cs)

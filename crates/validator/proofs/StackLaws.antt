@@ -18,7 +18,7 @@ use Rattle.grammar.specs.ReadDocument.{Node, firstTrees, otherTrees, forestOf, 
 use Rattle.grammar.specs.Membership.{isNamed, typesOf, typesOfAll}
 use Rattle.sets.specs.Sets.{member, storeAt}
 use Rattle.sets.proofs.SetLaws.{words-store, store-after}
-use Rattle.theory.proofs.ListLaws.{at-below, at-else}
+use Rattle.theory.proofs.ListLaws.{at-below, at-else, take-map, drop-map}
 use Rattle.theory.proofs.MarkedRun.{holds, run-matches}
 use Rattle.reader.proofs.DocumentTrees.{treeCount, trees-few, enough-at}
 use Rattle.reader.proofs.DocumentAnswers.{nodes-count, node-held}
@@ -55,16 +55,6 @@ tests-kept words base new h zero at q = refl
 tests-kept words base new h (suc n) at q =
     ap₂ (λ (l : List ℕ) (ts : List (ℕ → Bool)). member l 0 ∷ ts) (store-after words base new at 4 h q)
     (tests-kept words base new h n (at + 4) (omega arith))
-
-take-map : {A B : Type 0} (f : A → B) (k : ℕ) (xs : List A) → take k (map f xs) ≡ map f (take k xs)
-take-map f zero xs = refl
-take-map f (suc k) [] = refl
-take-map {B = B} f (suc k) (x ∷ xs) = ap (λ (l : List B). f x ∷ l) (take-map f k xs)
-
-drop-map : {A B : Type 0} (f : A → B) (k : ℕ) (xs : List A) → drop k (map f xs) ≡ map f (drop k xs)
-drop-map f zero xs = refl
-drop-map f (suc k) [] = refl
-drop-map f (suc k) (x ∷ xs) = drop-map f k xs
 
 -- the types of the first trees, and of those after them
 module _ (g : Table) where

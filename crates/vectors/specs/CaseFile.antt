@@ -1,7 +1,6 @@
 -- What a case file says: numbers of four bytes, what lent slices hold before a call, and where a name stands.
 use Prim.Native.Nat.{ℕ, zero, suc, _+_, _*_, _%_, _≤_}
 use mathlib.Core.List.{List, [], _∷_, _++_}
-use mathlib.Core.Path.{_≡_}
 use lib.ListN.{length}
 use Rattle.grammar.specs.Names.{SameName}
 use Rattle.reader.specs.TableIndex.{part}

@@ -1,6 +1,6 @@
 -- The laws of the walks over the bytes of a content, by which the code goes: what they are operator by operator (`walk-none`, ..,
 -- `walk-optional`) and operand by operand (`in-turn-none`, `in-turn-next`, `each-none`, `each-next`), and where the parts stand that
--- the walk goes on with (`operand-of`, `operands-of`, `proper-first`, `rest-proper`). Then child by child (`walks-next`), and
+-- the walk goes on with (`row-first`, `rest-proper`). Then child by child (`walks-next`), and
 -- that the children's walks tell whether the content matches (`no-children`, `some-children`).
 use Prim.Native.Nat.{ℕ, zero, suc, _+_, _*_, _-_, _≤_, _<_}
 use native.Mathlib.Omega.{arith}
@@ -27,7 +27,7 @@ use Rattle.grammar.specs.Content.{
   _∷ᶜ_,
   count,
 }
-use Rattle.grammar.specs.ReadContent.{contentBytes, operandBytes, operators, counted, single, isProper, areProper}
+use Rattle.grammar.specs.ReadContent.{contentBytes, operandBytes, operators}
 use Rattle.theory.proofs.Marked.{nullable}
 use Rattle.theory.proofs.MarkedRun.{run}
 use Rattle.theory.proofs.MarkedPass.{Walked, walk, walkInTurn, walkEach, walks, isMarked, noMarks, walk-nullable, walks-run}
@@ -39,8 +39,6 @@ use Rattle.reader.proofs.ExprLaws.{
   numbered-was,
   counted-was,
   single-was,
-  exprs-first,
-  exprs-end,
   operator-none,
   operator-empty,
   operator-type,
@@ -49,11 +47,11 @@ use Rattle.reader.proofs.ExprLaws.{
   operator-any-number,
   operator-one-or-more,
   operator-optional,
-  FirstAt,
 }
-use Rattle.reader.proofs.ExtentLaws.{proper-number, proper-sequence, proper-choice, proper-first as both-proper}
+use Rattle.reader.specs.ContentAt.{ContentAt, ContentsAt}
+use Rattle.reader.proofs.ContentAtLaws.{FirstThere, first-of, others-from, none-there}
 use Rattle.walks.specs.TypeSets.{setAt, testsAt}
-use Rattle.walks.specs.WalkAt.{walkAt, walkInTurnAt, walkEachAt, walksAt, runAt, walked, ended, ProperAt, WholeAt, ProperRowAt}
+use Rattle.walks.specs.WalkAt.{walkAt, walkInTurnAt, walkEachAt, walksAt, runAt, walked, ended, WholeAt}
 use Rattle.walks.specs.declared.matching.Passed.{Passed}
 
 -- where something stands, the walk is over that
@@ -128,61 +126,7 @@ byte-last (suc (suc (suc (suc (suc (suc (suc n))))))) h p0 p1 p2 p3 p4 p5 p6 = f
 abbrev pub orNone : Walked → Walked
 orNone p = record { marks = p .marks; next = p .next; nullable = true; final = p .final }
 
-module _ (lim : Limits) (s : List ℕ) (at : ℕ) (stands : ProperAt lim s at) where
-  -- the byte is there
-  pub byte-inside : at < length s
-  byte-inside = let h = expr-forward s at (stands .content) (stands .next) (stands .stands) in omega arith
-
-  -- a type is in range
-  pub type-small : getD s at 0 ≡ 2 → getD s (at + 1) 0 < lim .types
-  type-small e =
-      let p =
-      numbered-was s at (stands .content) (stands .next) (stands .stands) type (ap (getElem? operators) e ∙ operator-type) in
-      proper-number lim (getD s (at + 1) 0) (ap (isProper lim) (p .0) ∙ stands .proper)
-
-  -- the operand of an operator, and the operands
-  operand-of : (f : Content → Content) → ((c : Content) → isProper lim (f c) ≡ isProper lim c)
-      → getElem? operators (getD s at 0) ≡ just (single f) → ProperAt lim s (at + 1)
-  operand-of f same o =
-      let p = single-was s at (stands .content) (stands .next) (stands .stands) f o in
-      record {
-        content = p .0;
-        next = stands .next;
-        stands = p .1;
-        proper = sym (same (p .0)) ∙ ap (isProper lim) (p .2) ∙ stands .proper;
-      }
-
-  operands-of : (f : Contents → Content) → ((cs : Contents) → isProper lim (f cs) ≡ true → areProper lim cs ≡ true)
-      → getElem? operators (getD s at 0) ≡ just (counted f) → ProperRowAt lim s (at + 2) (getD s (at + 1) 0)
-  operands-of f give o =
-      let p = counted-was s at (stands .content) (stands .next) (stands .stands) f o in
-      record {
-        contents = p .0;
-        next = stands .next;
-        stands = p .1;
-        proper = give (p .0) (ap (isProper lim) (p .2) ∙ stands .proper);
-      }
-
-  pub any-number-operand : getD s at 0 ≡ 5 → ProperAt lim s (at + 1)
-  unfolding isProper
-  any-number-operand e = operand-of anyNumber (λ c. refl) (ap (getElem? operators) e ∙ operator-any-number)
-
-  pub one-or-more-operand : getD s at 0 ≡ 6 → ProperAt lim s (at + 1)
-  unfolding isProper
-  one-or-more-operand e = operand-of oneOrMore (λ c. refl) (ap (getElem? operators) e ∙ operator-one-or-more)
-
-  pub optional-operand : getD s at 0 ≡ 7 → ProperAt lim s (at + 1)
-  unfolding isProper
-  optional-operand e = operand-of optional (λ c. refl) (ap (getElem? operators) e ∙ operator-optional)
-
-  pub sequence-operands : getD s at 0 ≡ 3 → ProperRowAt lim s (at + 2) (getD s (at + 1) 0)
-  sequence-operands e =
-      operands-of sequence (λ cs h. proper-sequence lim cs h .2) (ap (getElem? operators) e ∙ operator-sequence)
-
-  pub choice-operands : getD s at 0 ≡ 4 → ProperRowAt lim s (at + 2) (getD s (at + 1) 0)
-  choice-operands e =
-      operands-of choice (λ cs h. proper-choice lim cs h .2) (ap (getElem? operators) e ∙ operator-choice)
-
+module _ (lim : Limits) (s : List ℕ) (at : ℕ) (stands : ContentAt lim s at) where
   -- The walk, operator by operator.
   module _ (marks : List ℕ) (b : Bool) (has : ℕ → Bool) where
     whole-walk : walkAt s at marks b has ≡ walk (stands .content) at marks b has
@@ -273,58 +217,39 @@ module _ (lim : Limits) (s : List ℕ) (at : ℕ) (stands : ProperAt lim s at) w
         ∙ sym (ap (λ (q : Walked). orNone (ended at q)) (walk-at s (at + 1) marks b has (p .0) (stands .next) (p .1)))
 
 -- Operand by operand.
-module _ (lim : Limits) (s : List ℕ) (at count : ℕ) (row : ProperRowAt lim s at count) (over : count ≤ 0) where
+module _ (lim : Limits) (s : List ℕ) (at count : ℕ) (row : ContentsAt lim s at count) (over : count ≤ 0) where
   row-over : row .contents ≡ []ᶜ
-  row-over =
-      let at-end : 0 ≡ count = omega arith in
-      exprs-end s at (row .contents) (row .next) (ap (exprsAt s at) at-end ∙ row .stands) .0
+  row-over = none-there lim s at count row (omega arith) .0
 
   module _ (n f : Bool) (marks : List ℕ) (b : Bool) (has : ℕ → Bool) where
     pub in-turn-none : walkInTurnAt s at count marks b has n f ≡ record { marks = marks; next = at; nullable = n; final = f }
     unfolding walk
     in-turn-none =
-        in-turn-at s at marks b has count (row .contents) (row .next) n f (row .stands)
+        in-turn-at s at marks b has count (row .contents) (row .next) n f (row .stand)
         ∙ ap (λ (cs : Contents). walkInTurn cs at marks b has n f) row-over
 
     pub each-none : walkEachAt s at count marks b has n f ≡ record { marks = marks; next = at; nullable = n; final = f }
     unfolding walk
     each-none =
-        each-at s at marks b has count (row .contents) (row .next) n f (row .stands)
+        each-at s at marks b has count (row .contents) (row .next) n f (row .stand)
         ∙ ap (λ (cs : Contents). walkEach cs at marks b has n f) row-over
 
-module _ (lim : Limits) (s : List ℕ) (at count : ℕ) (row : ProperRowAt lim s at count) (some : 0 < count) where
-  row-count : suc (count - 1) ≡ count
-  row-count = omega arith
-
-  row-first : FirstAt s at (count - 1) (row .contents) (row .next)
-  row-first = exprs-first s at (count - 1) (row .contents) (row .next) (ap (exprsAt s at) row-count ∙ row .stands)
-
-  row-proper : (isProper lim (row-first .first) ≡ true) × (areProper lim (row-first .others) ≡ true)
-  row-proper = both-proper lim (row-first .first) (row-first .others) (sym (ap (areProper lim) (row-first .both)) ∙ row .proper)
-
+module _ (lim : Limits) (s : List ℕ) (at count : ℕ) (row : ContentsAt lim s at count) (some : 0 < count) where
   -- the first operand, and the others after it
-  pub proper-first : ProperAt lim s at
-  proper-first =
-      let p = row-first in
-      record { content = p .first; next = p .middle; stands = p .first-at; proper = row-proper .0 }
+  pub row-first : FirstThere lim s at count row
+  row-first = first-of lim s at count row (λ z. omega arith)
 
   module _ (marks : List ℕ) (b : Bool) (has : ℕ → Bool) where
     -- the place that the walk over the first leaves
-    first-end : walkAt s at marks b has .next ≡ row-first .middle
-    unfolding proper-first
-    first-end = walk-end lim s at proper-first marks b has
+    first-end : walkAt s at marks b has .next ≡ row-first .first .next
+    first-end = walk-end lim s at (row-first .first) marks b has
 
-    others-stand : exprsAt s (walkAt s at marks b has .next) (count - 1) ≡ just (row-first .others upTo row .next)
-    others-stand = ap (λ (next : ℕ). exprsAt s next (count - 1)) first-end ∙ row-first .others-at
+    others-stand : exprsAt s (walkAt s at marks b has .next) (count - 1)
+        ≡ just (row-first .others .contents upTo row-first .others .next)
+    others-stand = ap (λ (next : ℕ). exprsAt s next (count - 1)) first-end ∙ row-first .others .stand
 
-    pub proper-others : ProperRowAt lim s (walkAt s at marks b has .next) (count - 1)
-    proper-others = record { contents = row-first .others; next = row .next; stands = others-stand; proper = row-proper .1 }
-
-    pub first-forward : (at < walkAt s at marks b has .next) × (walkAt s at marks b has .next ≤ length s)
-    first-forward = walk-forward lim s at proper-first marks b has
-
-    first-walk : walkAt s at marks b has ≡ walk (row-first .first) at marks b has
-    first-walk = walk-at s at marks b has (row-first .first) (row-first .middle) (row-first .first-at)
+    first-walk : walkAt s at marks b has ≡ walk (row-first .first .content) at marks b has
+    first-walk = whole-walk lim s at (row-first .first) marks b has
 
     module _ (n f : Bool) where
       pub in-turn-next : let p = walkAt s at marks b has in
@@ -334,13 +259,13 @@ module _ (lim : Limits) (s : List ℕ) (at count : ℕ) (row : ProperRowAt lim s
       unfolding walk
       in-turn-next =
           let p = walkAt s at marks b has in
-          in-turn-at s at marks b has count (row .contents) (row .next) n f (row .stands)
+          in-turn-at s at marks b has count (row .contents) (row .next) n f (row .stand)
           ∙ ap (λ (cs : Contents). walkInTurn cs at marks b has n f) (row-first .both)
           ∙ sym (ap (λ (q : Walked).
-          walkInTurn (row-first .others) (q .next) (q .marks) ((b && q .nullable) || isMarked marks at) has (n && q .nullable)
+          walkInTurn (row-first .others .contents) (q .next) (q .marks) ((b && q .nullable) || isMarked marks at) has (n && q .nullable)
           ((f && q .nullable) || q .final)) first-walk)
-          ∙ sym (in-turn-at s (p .next) (p .marks) ((b && p .nullable) || isMarked marks at) has (count - 1) (row-first .others)
-          (row .next) (n && p .nullable) ((f && p .nullable) || p .final) others-stand)
+          ∙ sym (in-turn-at s (p .next) (p .marks) ((b && p .nullable) || isMarked marks at) has (count - 1) (row-first .others .contents)
+          (row-first .others .next) (n && p .nullable) ((f && p .nullable) || p .final) others-stand)
 
       pub each-next : let p = walkAt s at marks b has in
           walkEachAt s at count marks b has n f
@@ -348,20 +273,21 @@ module _ (lim : Limits) (s : List ℕ) (at count : ℕ) (row : ProperRowAt lim s
       unfolding walk
       each-next =
           let p = walkAt s at marks b has in
-          each-at s at marks b has count (row .contents) (row .next) n f (row .stands)
+          each-at s at marks b has count (row .contents) (row .next) n f (row .stand)
           ∙ ap (λ (cs : Contents). walkEach cs at marks b has n f) (row-first .both)
           ∙ sym (ap (λ (q : Walked).
-          walkEach (row-first .others) (q .next) (q .marks) b has (n || q .nullable) (f || q .final)) first-walk)
-          ∙ sym (each-at s (p .next) (p .marks) b has (count - 1) (row-first .others)
-          (row .next) (n || p .nullable) (f || p .final) others-stand)
+          walkEach (row-first .others .contents) (q .next) (q .marks) b has (n || q .nullable) (f || q .final)) first-walk)
+          ∙ sym (each-at s (p .next) (p .marks) b has (count - 1) (row-first .others .contents)
+          (row-first .others .next) (n || p .nullable) (f || p .final) others-stand)
 
     -- A round as the code goes: p is what the first operand gave.
     module _ (marks′ : List ℕ) (p : Passed) (first : walked marks′ p ≡ walkAt s at marks b has) where
-      pub rest-proper : ProperRowAt lim s (p .next) (count - 1)
-      rest-proper = subst (λ (w : Walked). ProperRowAt lim s (w .next) (count - 1)) (sym first) proper-others
+      pub rest-proper : ContentsAt lim s (p .next) (count - 1)
+      rest-proper = others-from lim s at count row row-first (p .next) (ap (λ (w : Walked). w .next) first ∙ first-end)
 
       pub rest-forward : (at < p .next) × (p .next ≤ length s)
-      rest-forward = subst (λ (w : Walked). (at < w .next) × (w .next ≤ length s)) (sym first) first-forward
+      rest-forward =
+          subst (λ (w : Walked). (at < w .next) × (w .next ≤ length s)) (sym first) (walk-forward lim s at (row-first .first) marks b has)
 
       pub in-turn-goes : (n f b′ n′ f′ : Bool) → b′ ≡ ((b && p .nullable) || isMarked marks at) → n′ ≡ (n && p .nullable)
           → f′ ≡ ((f && p .nullable) || p .ends)
@@ -393,7 +319,7 @@ pub run-at : (s : List ℕ) (c : Content) (next : ℕ) (children : List (ℕ →
 unfolding runAt
 run-at s c next children e = rw (e, runAt)
 
-module _ (lim : Limits) (s : List ℕ) (stands : ProperAt lim s 0) where
+module _ (lim : Limits) (s : List ℕ) (stands : ContentAt lim s 0) where
   pub walks-none : (marks : List ℕ) (b : Bool) → walksAt s marks b [] ≡ marks
   unfolding walks
   walks-none marks b = walks-at s marks (stands .content) (stands .next) b [] (stands .stands)
@@ -446,7 +372,7 @@ tests-next words at n some =
     ap (testsAt words at) e
 
 -- A round of the loop over the children.
-module _ (lim : Limits) (s words : List ℕ) (stands : ProperAt lim s 0) (top count : ℕ) where
+module _ (lim : Limits) (s words : List ℕ) (stands : ContentAt lim s 0) (top count : ℕ) where
   pub walks-round : (i : ℕ) (marks marks′ : List ℕ) (p : Passed) (b : Bool) → i < count
       → walked marks′ p ≡ walkAt s 0 marks b (setAt words (top + 4 * i))
       → walksAt s marks′ (eqb (i + 1) 0) (testsAt words (top + 4 * (i + 1)) (count - (i + 1)))

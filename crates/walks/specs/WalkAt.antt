@@ -1,15 +1,14 @@
 -- The walk of one child over the bytes of a content, and of all children: crates/theory/proofs/MarkedPass.antt has the walks by
 -- contents, here they go by the content that stands at a place.
 use Prim.Native.Nat.{ℕ, _+_, _≤_}
-use mathlib.Core.Bool.{Bool, true, false}
-use mathlib.Core.List.{List, [], _∷_}
+use mathlib.Core.Bool.{Bool, false}
+use mathlib.Core.List.{List}
 use mathlib.Core.Option.{none as nothing, some as just}
 use mathlib.Core.Path.{_≡_}
 use lib.ListN.{length, set}
 use Rattle.grammar.specs.Limits.{Limits}
-use Rattle.grammar.specs.Content.{Content, Contents}
-use Rattle.grammar.specs.ReadContent.{isProper, areProper}
-use Rattle.reader.specs.ExprAt.{_upTo_, exprAt, exprsAt}
+use Rattle.reader.specs.ExprAt.{exprAt, exprsAt}
+use Rattle.reader.specs.ContentAt.{ContentAt}
 use Rattle.theory.proofs.MarkedPass.{Walked, number, walk, walkInTurn, walkEach, walks}
 use Rattle.theory.proofs.MarkedRun.{run}
 use Rattle.walks.specs.declared.matching.Passed.{Passed}
@@ -48,24 +47,10 @@ walked marks p = record { marks = marks; next = p .next; nullable = p .nullable;
 abbrev pub ended : ℕ → Walked → Walked
 ended at p = record { marks = set (p .marks) at (number (p .final)); next = p .next; nullable = p .nullable; final = p .final }
 
--- a proper expression stands at a place
-pub record ProperAt (lim : Limits) (s : List ℕ) (at : ℕ) : Type 0 where
-  pub content : Content
-  pub next : ℕ
-  pub stands : exprAt s at ≡ just (content upTo next)
-  pub proper : isProper lim content ≡ true
-
 -- the bytes are one proper expression
 pub record WholeAt (lim : Limits) (s : List ℕ) : Type 0 where
-  pub proper-at : ProperAt lim s 0
+  pub proper-at : ContentAt lim s 0
   pub whole : proper-at .next ≡ length s
-
--- so many, one after the other
-pub record ProperRowAt (lim : Limits) (s : List ℕ) (at n : ℕ) : Type 0 where
-  pub contents : Contents
-  pub next : ℕ
-  pub stands : exprsAt s at n ≡ just (contents upTo next)
-  pub proper : areProper lim contents ≡ true
 
 -- room for the walk: a mark for each byte, and the four words of a set at base
 pub record Room (s marks words : List ℕ) (base : ℕ) : Type 0 where

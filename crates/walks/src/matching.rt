@@ -11,8 +11,9 @@ ghost use Prim.Native.Nat.{_+_, _*_, _<_, _≤_};
 ghost use lib.ListN.{length, set, getD, replicate, drop};
 ghost use Rattle.grammar.specs.Limits.{standard};
 ghost use Rattle.theory.proofs.MarkedPass.{number, isMarked};
+ghost use Rattle.reader.specs.ContentAt.{ContentAt, ContentsAt};
 ghost use Rattle.walks.specs.TypeSets.{setAt, testsAt};
-ghost use Rattle.walks.specs.WalkAt.{walkAt, walkInTurnAt, walkEachAt, walksAt, runAt, walked, ended, WholeAt, ProperAt, ProperRowAt, Room};
+ghost use Rattle.walks.specs.WalkAt.{walkAt, walkInTurnAt, walkEachAt, walksAt, runAt, walked, ended, WholeAt, Room};
 
 // What the walk over an expression gives back: the place after it, whether it matches no children at all, and whether the children so
 // far, the last one included, can end it.
@@ -118,7 +119,7 @@ pub fn pass(
     words: &[u32],
     base: usize,
 ) -> Passed
-    requires { ⌜ (ProperAt standard (now content) at) × (Room (now content) (now marks) (now words) base) ⌝ }
+    requires { ⌜ (ContentAt standard (now content) at) × (Room (now content) (now marks) (now words) base) ⌝ }
     ensures { λ r. ⌜ walked (now (marks .exit)) r
         ≡ walkAt (now (content .entry)) at (now (marks .entry)) incoming (setAt (now (words .entry)) base) ⌝ }
 {
@@ -171,7 +172,7 @@ fn operand(
     words: &[u32],
     base: usize,
 ) -> Passed
-    requires { ⌜ (ProperAt standard (now content) at) × (Room (now content) (now marks) (now words) base) ⌝ }
+    requires { ⌜ (ContentAt standard (now content) at) × (Room (now content) (now marks) (now words) base) ⌝ }
     ensures { λ r. ⌜ walked (now (marks .exit)) r
         ≡ walkAt (now (content .entry)) at (now (marks .entry)) incoming (setAt (now (words .entry)) base) ⌝ }
 {
@@ -191,7 +192,7 @@ fn in_turn(
     words: &[u32],
     base: usize,
 ) -> Passed
-    requires { ⌜ (ProperRowAt standard (now content) from count) × (Room (now content) (now marks) (now words) base) ⌝ }
+    requires { ⌜ (ContentsAt standard (now content) from count) × (Room (now content) (now marks) (now words) base) ⌝ }
     ensures { λ r. ⌜ walked (now (marks .exit)) r
         ≡ walkInTurnAt (now (content .entry)) from count (now (marks .entry)) begun (setAt (now (words .entry)) base) true false ⌝ }
 {
@@ -226,7 +227,7 @@ fn each(
     words: &[u32],
     base: usize,
 ) -> Passed
-    requires { ⌜ (ProperRowAt standard (now content) from count) × (Room (now content) (now marks) (now words) base) ⌝ }
+    requires { ⌜ (ContentsAt standard (now content) from count) × (Room (now content) (now marks) (now words) base) ⌝ }
     ensures { λ r. ⌜ walked (now (marks .exit)) r
         ≡ walkEachAt (now (content .entry)) from count (now (marks .entry)) incoming (setAt (now (words .entry)) base) false false ⌝ }
 {

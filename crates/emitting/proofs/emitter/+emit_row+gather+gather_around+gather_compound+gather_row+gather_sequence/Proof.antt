@@ -13,7 +13,7 @@ use Rattle.grammar.specs.ReadContent.{operators}
 use Rattle.reader.proofs.ExprLaws.{operator-sequence, operator-choice}
 use Rattle.pairs.specs.Walks.{listOf}
 use Rattle.emitting.specs.Emitting.{Source}
-use Rattle.pairs.proofs.ContentAtLaws.{content-inside, type-there, count-there}
+use Rattle.reader.proofs.ContentAtLaws.{content-inside, type-there, count-there}
 use Rattle.emitting.proofs.SourceLaws.{CountedThere, counted-of, single-of, content-found, row-found}
 use Rattle.emitting.proofs.EmitLaws.{
   no-sources,

@@ -1,7 +1,6 @@
 -- `places::name_told` meets its contract.
 use borrow.Author.Needs.{needs}
 use native.Mathlib.Omega.{arith}
-use mathlib.Core.Path.{_∙_}
 use Rattle.exports.proofs.places.name_told.Statement.{statement}
 use Rattle.exports.proofs.places.name_told.Tie as tie
 

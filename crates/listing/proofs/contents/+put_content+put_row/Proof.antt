@@ -2,13 +2,13 @@
 -- more: every call goes on past a byte, but the one for the first of a row. Each return is a law of PrintSteps.
 use Prim.Native.Nat.{ℕ, _+_, _-_, _*_, _≤_, _<_}
 use native.Mathlib.Omega.{arith}
-use mathlib.Core.Path.{_≡_, sym, _∙_, ap}
+use mathlib.Core.Path.{sym, _∙_, ap}
 use lib.ListN.{length, getD}
 use borrow.Author.Needs.{needs}
 use borrow.Fn.Kinds.{In}
 use borrow.Fn.PlainCycle.{Measures, is, falls, and}
 use Rattle.grammar.specs.Limits.{standard}
-use Rattle.pairs.proofs.ContentAtLaws.{content-inside, type-there, count-there}
+use Rattle.reader.proofs.ContentAtLaws.{content-inside, type-there, count-there}
 use Rattle.listing.specs.Printing.{markOf}
 use Rattle.listing.proofs.PrintSteps.{
   none-room,

@@ -1,5 +1,4 @@
 -- `put_rule_line` meets its contract: the parts of the line are written one after the other.
-use Prim.Native.Nat.{_+_}
 use native.Mathlib.Omega.{arith}
 use mathlib.Core.Path.{_∙_}
 use borrow.Author.Needs.{needs}

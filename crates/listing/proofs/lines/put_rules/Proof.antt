@@ -1,7 +1,7 @@
 -- `put_rules` meets its contract. The loop's invariant: the lines of the rules before `i` are written.
 use Prim.Native.Nat.{_+_, _-_, _*_, _≤_}
 use native.Mathlib.Omega.{arith}
-use mathlib.Core.Path.{_≡_, refl, _∙_, ap}
+use mathlib.Core.Path.{_≡_, refl, ap}
 use lib.ListN.{length, take}
 use lib.Seq.{take-all}
 use Rattle.grammar.specs.Lists.{joinedOf}

@@ -1,5 +1,4 @@
 -- `put_decimal` meets its contract.
-use Prim.Native.Nat.{_+_, _/_, _%_}
 use native.Mathlib.Omega.{arith}
 use mathlib.Core.Path.{sym, ap}
 use lib.ListN.{length}

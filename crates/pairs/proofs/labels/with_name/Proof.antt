@@ -1,5 +1,5 @@
 -- `with_name` meets its contract.
-use mathlib.Core.Path.{_≡_, sym, ap}
+use mathlib.Core.Path.{sym, ap}
 use mathlib.Core.Bool.{Bool}
 use borrow.Author.Needs.{needs}
 use Rattle.pairs.specs.UnitedLabels.{namesIf}

@@ -6,8 +6,8 @@ use mathlib.Core.Path.{sym, _∙_, subst}
 use lib.ListN.{length}
 use borrow.Author.Needs.{needs}
 use Rattle.grammar.specs.Limits.{standard}
-use Rattle.pairs.specs.ContentAt.{ContentsAt}
-use Rattle.pairs.proofs.ContentAtLaws.{content-inside, type-there, count-there, operands-there, operand-there}
+use Rattle.reader.specs.ContentAt.{ContentsAt}
+use Rattle.reader.proofs.ContentAtLaws.{content-inside, type-there, count-there, operands-there, operand-there}
 use Rattle.pairs.proofs.MetLaws.{none-finds, empty-finds, type-finds, sequence-finds, choice-finds, one-or-more-finds, around-finds, no-row-finds, row-finds, first-asks, others-ask}
 use borrow.Fn.Kinds.{In}
 use borrow.Fn.PlainCycle.{Measures, is, falls, and}

@@ -1,7 +1,6 @@
 -- `append_part` meets its contract. The loop's invariant: the numbers of the part before `i` are added.
 use Prim.Native.Nat.{_-_, _≤_}
 use native.Mathlib.Omega.{arith}
-use mathlib.Core.List.{[]}
 use mathlib.Core.Path.{_≡_, refl, sym, _∙_, ap}
 use lib.ListN.{length, take, drop}
 use Prim.Native.Nat.{ℕ}

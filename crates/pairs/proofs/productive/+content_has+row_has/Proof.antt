@@ -1,15 +1,15 @@
 -- `content_has` and `row_has` meet their contracts. The measure of a content is twice the bytes from its place on, that of a row one
 -- more: every call goes on past a byte, but the one for the first of a row. Each return is a law of ProductiveLaws.
-use Prim.Native.Nat.{suc, _+_, _-_, _*_}
+use Prim.Native.Nat.{_+_, _-_, _*_}
 use native.Mathlib.Omega.{arith}
-use mathlib.Core.Path.{_≡_, sym, _∙_, ap, subst}
+use mathlib.Core.Path.{sym, _∙_, ap, subst}
 use lib.ListN.{length}
 use borrow.Author.Needs.{needs}
 use Rattle.grammar.specs.Limits.{standard}
 use Rattle.sets.specs.Sets.{member}
-use Rattle.pairs.specs.ContentAt.{ContentsAt}
+use Rattle.reader.specs.ContentAt.{ContentsAt}
 use Rattle.pairs.specs.Walks.{hasRowAt}
-use Rattle.pairs.proofs.ContentAtLaws.{content-inside, type-there, count-there, operands-there, operand-there, first-there, others-there}
+use Rattle.reader.proofs.ContentAtLaws.{content-inside, type-there, count-there, operands-there, operand-there, first-of, others-there}
 use Rattle.pairs.proofs.ProductiveLaws.{has-none, has-empty, has-type, has-sequence, has-choice, has-one-or-more, has-around, row-none, row-next}
 use Prim.Native.Nat.{ℕ, _<_}
 use borrow.Fn.Kinds.{In}
@@ -235,8 +235,7 @@ row-has-content-has-requires : (t : ℕ) → row-has-lts.Need-content-has-requir
 row-has-content-has-requires t c κs =
     let start = c .before .before .before in
     let m = start .pre .0 in
-    let e : start .args .n ≡ suc (start .args .n - 1) = omega arith in
-    let first = first-there standard _ _ _ (subst (ContentsAt standard _ _) e (start .pre .1 .0)) in
+    let first = first-of standard _ _ _ (start .pre .1 .0) (c .if1 .left) .first in
     (omega arith, (first, start .pre .1 .1))
 
 row-has-sub-row-has : (t : ℕ) → row-has-lts.Need-sub-row-has (row-has-calls t) (row-has-at t) row-has.Post
@@ -247,10 +246,9 @@ row-has-row-has-requires : (t : ℕ) → row-has-lts.Need-row-has-requires (row-
 row-has-row-has-requires t c κs =
     let start = c .before .before .before .before in
     let m = start .pre .0 in
-    let e : start .args .n ≡ suc (start .args .n - 1) = omega arith in
-    let there = subst (ContentsAt standard _ _) e (start .pre .1 .0) in
-    let i = content-inside standard _ _ (first-there standard _ _ _ there) .0 in
-    let o = others-there standard _ _ _ there _ _ _ (c .content-has .ensures) in
+    let first = first-of standard _ _ _ (start .pre .1 .0) (c .before .if1 .left) .first in
+    let i = content-inside standard _ _ first .0 in
+    let o = others-there standard _ _ _ (start .pre .1 .0) (c .before .if1 .left) _ _ _ (c .content-has .ensures) in
     (omega arith, (o .1, start .pre .1 .1))
 
 row-has-both-requires : (t : ℕ) → row-has-lts.Need-both-requires (row-has-calls t) (row-has-at t) row-has.Post

@@ -1,6 +1,6 @@
 -- `with_new_rule` meets its contract: the next rule of the addition stands in its bytes, with the label that it has in the union.
 use borrow.Author.Needs.{needs}
-use mathlib.Core.Path.{_∙_, ap}
+use mathlib.Core.Path.{ap}
 use Prim.Native.Nat.{ℕ, _+_}
 use Rattle.pairs.proofs.UnionLaws.{views-same, new-label-below, new-next}
 use Rattle.pairs.proofs.union.with_new_rule.Statement.{statement}

@@ -1,6 +1,6 @@
 -- `with_list` meets its contract: the list of a type is a part.
 use Prim.Native.Nat.{ℕ, _-_}
-use mathlib.Core.Path.{_≡_, _∙_, ap₂}
+use mathlib.Core.Path.{_∙_, ap₂}
 use lib.ListN.{take, drop}
 use borrow.Author.Needs.{needs}
 use Rattle.grammar.specs.Lists.{isIn}

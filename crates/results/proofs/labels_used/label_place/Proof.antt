@@ -6,7 +6,8 @@ use mathlib.Core.Path.{_≡_, sym, _∙_, ap}
 use lib.ListN.{length}
 use Rattle.grammar.specs.Lists.{keep, numbersBelow}
 use Rattle.sets.specs.Sets.{member}
-use Rattle.results.proofs.LabelLaws.{place-among, kept-in, kept-out, kept-few, kept-none}
+use Rattle.theory.proofs.FormsNumbered.{few-kept}
+use Rattle.results.proofs.LabelLaws.{place-among, kept-in, kept-out, kept-none}
 use Rattle.results.proofs.labels_used.label_place.Statement.{statement}
 use Rattle.results.proofs.labels_used.label_place.Tie as tie
 
@@ -24,7 +25,7 @@ has-requires c κs = omega arith
 
 one-more-requires : tie.Need-one-more-requires Inv-loop μ-loop
 one-more-requires c κs =
-    let few = kept-few (member (c .before .before .before .args .used .words) 0) (c .before .before .loop .l) in
+    let few = few-kept (member (c .before .before .before .args .used .words) 0) (c .before .before .loop .l) in
     let e = c .before .before .loop .inv .1 in
     omega arith
 
@@ -53,7 +54,7 @@ returns c =
     let label = c .before .before .args .label in
     let e : c .before .loop .l ≡ label = omega arith in
     let place = c .before .loop .inv .1 ∙ ap (λ (n : ℕ). length (keep on (numbersBelow n))) e in
-    let few = kept-few on label in
+    let few = few-kept on label in
     (λ n h t. place ∙ place-among on label n h t, omega arith)
 
 pub label-place-spec : {M : Type 1} → statement M

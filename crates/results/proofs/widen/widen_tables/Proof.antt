@@ -1,6 +1,7 @@
 -- `widen_tables` meets its contract: the union is reduced, no document is derived, or the result is drafted.
 use borrow.Author.Needs.{needs}
 use Rattle.pairs.proofs.ViewLaws.{views-sized}
+use Rattle.reducing.proofs.LeavingLaws.{starts-small}
 use Rattle.results.specs.declared.widen.Kind.the-variants.{Local, SingleType}
 use Rattle.results.specs.Widened.{kindOf, Widens}
 use Rattle.results.proofs.UnionLaws as laws
@@ -24,7 +25,7 @@ start-pairs-requires c κs =
     let seen = c .before .before .before .unite-tables .ensures (p .table) (q .table) (p .held) (q .held) in
     let known = c .before .fruitful-pairs .ensures .0 _ (seen .rules) in
     let lists = c .fruitful-lists .ensures _ _ _ (seen .rules) known in
-    (laws.listed-both lists, laws.starts-small (p .held), laws.starts-small (q .held))
+    (laws.listed-both lists, starts-small (p .held), starts-small (q .held))
 
 returns : tie.Need-returns
 unfolding Widens

@@ -11,10 +11,11 @@ use borrow.Fn.Kinds.{In}
 use borrow.Fn.PlainCycle.{Measures, is, falls, and}
 use Rattle.grammar.specs.Limits.{standard}
 use Rattle.theory.proofs.MarkedPass.{Walked, isMarked}
-use Rattle.reader.proofs.ExprLaws.{operator-known, number-inside, count-inside}
+use Rattle.reader.specs.ContentAt.{ContentsAt}
+use Rattle.reader.proofs.ContentAtLaws.{content-inside, type-there, count-there, operands-there, operand-there}
 use Rattle.walks.specs.TypeSets.{setAt}
 use Rattle.walks.specs.declared.matching.Passed.{Passed}
-use Rattle.walks.specs.WalkAt.{ProperRowAt, walkAt, walkInTurnAt, walkEachAt, walked, ended}
+use Rattle.walks.specs.WalkAt.{walkAt, walkInTurnAt, walkEachAt, walked, ended}
 use Rattle.walks.proofs.WalkLaws as laws
 use Rattle.walks.proofs.matching.each.Reads as each
 use Rattle.walks.proofs.matching.each.Kinds as each-kinds
@@ -89,7 +90,7 @@ abbrev each-Inv-loop : each-lts.InvT-loop
 each-Inv-loop content count from marks₀ incoming words base left₀ at₀ nullable₀ ends₀ marks left at nullable ends =
     (from ≤ at)
     × (length marks ≡ length marks₀)
-    × (ProperRowAt standard content at left)
+    × (ContentsAt standard content at left)
     × (walkEachAt content at left marks incoming (setAt words base) nullable ends
     ≡ walkEachAt content from count marks₀ incoming (setAt words base) false false)
 
@@ -100,7 +101,7 @@ abbrev in-turn-Inv-loop : in-turn-lts.InvT-loop
 in-turn-Inv-loop content count from marks₀ begun words base left₀ at₀ nullable₀ ends₀ incoming₀ marks left at nullable ends incoming =
     (from ≤ at)
     × (length marks ≡ length marks₀)
-    × (ProperRowAt standard content at left)
+    × (ContentsAt standard content at left)
     × (walkInTurnAt content at left marks incoming (setAt words base) nullable ends
     ≡ walkInTurnAt content from count marks₀ begun (setAt words base) true false)
 
@@ -115,7 +116,7 @@ each-operand-requires t c κs =
     let start = c .before .before .before .before .before .before in
     let now = c .before .before .loop in
     let s = start .args .content .now in
-    let first = laws.proper-first standard s (now .at) (now .left) (now .inv .2) (c .before .loop-test .taken) in
+    let first = laws.row-first standard s (now .at) (now .left) (now .inv .2) (c .before .loop-test .taken) .first in
     let room = start .pre .1 .1 in
     (omega arith, (first, record { few = room .few; mark-each = omega arith; four-words = room .four-words }))
 
@@ -156,8 +157,8 @@ in-turn-slice-read-went-on t c =
     let start = c .before .before .before .before .before .before in
     let now = c .before .before .loop in
     let s = start .args .content .now in
-    let first = laws.proper-first standard s (now .at) (now .left) (now .inv .2) (c .before .loop-test .taken) in
-    let inside = laws.byte-inside standard s (now .at) first in
+    let first = laws.row-first standard s (now .at) (now .left) (now .inv .2) (c .before .loop-test .taken) .first in
+    let inside = content-inside standard s (now .at) first in
     let room = start .pre .1 .1 in
     omega arith
 
@@ -166,7 +167,7 @@ in-turn-operand-requires t c κs =
     let start = c .before .before .before .before .before .before .before in
     let now = c .before .before .before .loop in
     let s = start .args .content .now in
-    let first = laws.proper-first standard s (now .at) (now .left) (now .inv .2) (c .before .before .loop-test .taken) in
+    let first = laws.row-first standard s (now .at) (now .left) (now .inv .2) (c .before .before .loop-test .taken) .first in
     let room = start .pre .1 .1 in
     (omega arith, (first, record { few = room .few; mark-each = omega arith; four-words = room .four-words }))
 
@@ -203,7 +204,7 @@ in-turn-returns t c =
     ∙ now .inv .3
 
 operand-shared-slice-read-if1 : (t : ℕ) → operand-lts.Need-shared-slice-read-if1 (operand-calls t) (operand-at t) operand.Post
-operand-shared-slice-read-if1 t c = omega (arith, laws.byte-inside standard _ _ (c .before .before .before .before .pre .1 .0))
+operand-shared-slice-read-if1 t c = omega (arith, content-inside standard _ _ (c .before .before .before .before .pre .1 .0) .0)
 
 operand-typed-requires : (t : ℕ) → operand-lts.Need-typed-requires (operand-calls t) (operand-at t) operand.Post
 unfolding standard
@@ -213,7 +214,8 @@ operand-typed-requires t c κs =
     let at = start .args .at in
     let stands = start .pre .1 .0 in
     let is-type = c .before .if1 .taken in
-    (number-inside s at (stands .content) (stands .next) (stands .stands) is-type, laws.type-small standard s at stands is-type, start .pre .1 .1)
+    let there = type-there standard s at stands is-type in
+    (there .0, there .1, start .pre .1 .1)
 
 operand-returns : (t : ℕ) → operand-lts.Need-returns (operand-calls t) (operand-at t) operand.Post
 operand-returns t c =
@@ -230,13 +232,13 @@ operand-returns-2 : (t : ℕ) → operand-lts.Need-returns-2 (operand-calls t) (
 operand-returns-2 t c = c .before .before .pass .ensures
 
 pass-shared-slice-read-wide : (t : ℕ) → pass-lts.Need-shared-slice-read-wide (pass-calls t) (pass-at t) pass.Post
-pass-shared-slice-read-wide t c = omega (arith, laws.byte-inside standard _ _ (c .before .before .before .before .pre .1 .0))
+pass-shared-slice-read-wide t c = omega (arith, content-inside standard _ _ (c .before .before .before .before .pre .1 .0) .0)
 
 pass-add-t20 : (t : ℕ) → pass-lts.Need-add-t20 (pass-calls t) (pass-at t) pass.Post
-pass-add-t20 t c = omega (arith, laws.byte-inside standard _ _ (c .before .before .before .before .before .before .pre .1 .0))
+pass-add-t20 t c = omega (arith, content-inside standard _ _ (c .before .before .before .before .before .before .pre .1 .0) .0)
 
 pass-add-t21 : (t : ℕ) → pass-lts.Need-add-t21 (pass-calls t) (pass-at t) pass.Post
-pass-add-t21 t c = omega (arith, laws.byte-inside standard _ _ (c .before .before .before .before .before .before .pre .1 .0))
+pass-add-t21 t c = omega (arith, content-inside standard _ _ (c .before .before .before .before .before .before .pre .1 .0) .0)
 
 pass-typed-requires : (t : ℕ) → pass-lts.Need-typed-requires (pass-calls t) (pass-at t) pass.Post
 unfolding standard
@@ -248,10 +250,11 @@ pass-typed-requires t c κs =
     let room = start .pre .1 .1 in
     let byte = sym (c .before .before .wide .ensures .0) in
     let k = byte ∙ c .before .match .keys3 in
-    (number-inside s at (stands .content) (stands .next) (stands .stands) k, laws.type-small standard s at stands k, room)
+    let there = type-there standard s at stands k in
+    (there .0, there .1, room)
 
 pass-add-wide : (t : ℕ) → pass-lts.Need-add-wide (pass-calls t) (pass-at t) pass.Post
-pass-add-wide t c = omega (arith, laws.byte-inside standard _ _ (c .before .before .before .before .before .before .pre .1 .0))
+pass-add-wide t c = omega (arith, content-inside standard _ _ (c .before .before .before .before .before .before .pre .1 .0) .0)
 
 pass-shared-slice-read-wide-2 : (t : ℕ) → pass-lts.Need-shared-slice-read-wide-2 (pass-calls t) (pass-at t) pass.Post
 pass-shared-slice-read-wide-2 t c =
@@ -260,14 +263,14 @@ pass-shared-slice-read-wide-2 t c =
     let at = start .args .at in
     let stands = start .pre .1 .0 in
     let room = start .pre .1 .1 in
-    let inside = laws.byte-inside standard s at stands in
+    let inside = content-inside standard s at stands in
     let byte = sym (c .before .before .wide .ensures .0) in
     let op = byte ∙ c .before .match .keys4 in
-    let more = count-inside s at (stands .content) (stands .next) (stands .stands) (omega arith) (omega arith) in
+    let more = count-there standard s at stands (omega arith) (omega arith) in
     omega arith
 
 pass-add-in-turn : (t : ℕ) → pass-lts.Need-add-in-turn (pass-calls t) (pass-at t) pass.Post
-pass-add-in-turn t c = omega (arith, laws.byte-inside standard _ _ (c .before .before .before .before .before .before .before .before .pre .1 .0))
+pass-add-in-turn t c = omega (arith, content-inside standard _ _ (c .before .before .before .before .before .before .before .before .pre .1 .0) .0)
 
 pass-in-turn-requires : (t : ℕ) → pass-lts.Need-in-turn-requires (pass-calls t) (pass-at t) pass.Post
 pass-in-turn-requires t c κs =
@@ -276,17 +279,17 @@ pass-in-turn-requires t c κs =
     let at = start .args .at in
     let stands = start .pre .1 .0 in
     let room = start .pre .1 .1 in
-    let inside = laws.byte-inside standard s at stands in
+    let inside = content-inside standard s at stands in
     let byte = sym (c .before .before .before .before .wide .ensures .0) in
     let op = byte ∙ c .before .before .before .match .keys4 in
-    let more = count-inside s at (stands .content) (stands .next) (stands .stands) (omega arith) (omega arith) in
-    (omega arith, (subst (λ (n : ℕ). ProperRowAt standard s (at + 2) n) (sym (c .before .wide2 .ensures .0)) (laws.sequence-operands standard s at stands op), room))
+    let more = count-there standard s at stands (omega arith) (omega arith) in
+    (omega arith, (subst (λ (n : ℕ). ContentsAt standard s (at + 2) n) (sym (c .before .wide2 .ensures .0)) (operands-there standard s at stands (omega arith) (omega arith)), room))
 
 pass-sealed-requires : (t : ℕ) → pass-lts.Need-sealed-requires (pass-calls t) (pass-at t) pass.Post
-pass-sealed-requires t c κs = omega (arith, laws.byte-inside standard _ _ (c .before .before .before .before .before .before .before .before .before .before .before .before .before .pre .1 .0))
+pass-sealed-requires t c κs = omega (arith, content-inside standard _ _ (c .before .before .before .before .before .before .before .before .before .before .before .before .before .pre .1 .0) .0)
 
 pass-add-wide-2 : (t : ℕ) → pass-lts.Need-add-wide-2 (pass-calls t) (pass-at t) pass.Post
-pass-add-wide-2 t c = omega (arith, laws.byte-inside standard _ _ (c .before .before .before .before .before .before .pre .1 .0))
+pass-add-wide-2 t c = omega (arith, content-inside standard _ _ (c .before .before .before .before .before .before .pre .1 .0) .0)
 
 pass-shared-slice-read-wide-3 : (t : ℕ) → pass-lts.Need-shared-slice-read-wide-3 (pass-calls t) (pass-at t) pass.Post
 pass-shared-slice-read-wide-3 t c =
@@ -295,14 +298,14 @@ pass-shared-slice-read-wide-3 t c =
     let at = start .args .at in
     let stands = start .pre .1 .0 in
     let room = start .pre .1 .1 in
-    let inside = laws.byte-inside standard s at stands in
+    let inside = content-inside standard s at stands in
     let byte = sym (c .before .before .wide .ensures .0) in
     let op = byte ∙ c .before .match .keys5 in
-    let more = count-inside s at (stands .content) (stands .next) (stands .stands) (omega arith) (omega arith) in
+    let more = count-there standard s at stands (omega arith) (omega arith) in
     omega arith
 
 pass-add-each : (t : ℕ) → pass-lts.Need-add-each (pass-calls t) (pass-at t) pass.Post
-pass-add-each t c = omega (arith, laws.byte-inside standard _ _ (c .before .before .before .before .before .before .before .before .pre .1 .0))
+pass-add-each t c = omega (arith, content-inside standard _ _ (c .before .before .before .before .before .before .before .before .pre .1 .0) .0)
 
 pass-each-requires : (t : ℕ) → pass-lts.Need-each-requires (pass-calls t) (pass-at t) pass.Post
 pass-each-requires t c κs =
@@ -311,17 +314,17 @@ pass-each-requires t c κs =
     let at = start .args .at in
     let stands = start .pre .1 .0 in
     let room = start .pre .1 .1 in
-    let inside = laws.byte-inside standard s at stands in
+    let inside = content-inside standard s at stands in
     let byte = sym (c .before .before .before .before .wide .ensures .0) in
     let op = byte ∙ c .before .before .before .match .keys5 in
-    let more = count-inside s at (stands .content) (stands .next) (stands .stands) (omega arith) (omega arith) in
-    (omega arith, (subst (λ (n : ℕ). ProperRowAt standard s (at + 2) n) (sym (c .before .wide3 .ensures .0)) (laws.choice-operands standard s at stands op), room))
+    let more = count-there standard s at stands (omega arith) (omega arith) in
+    (omega arith, (subst (λ (n : ℕ). ContentsAt standard s (at + 2) n) (sym (c .before .wide3 .ensures .0)) (operands-there standard s at stands (omega arith) (omega arith)), room))
 
 pass-sealed-requires-2 : (t : ℕ) → pass-lts.Need-sealed-requires-2 (pass-calls t) (pass-at t) pass.Post
-pass-sealed-requires-2 t c κs = omega (arith, laws.byte-inside standard _ _ (c .before .before .before .before .before .before .before .before .before .before .before .before .before .pre .1 .0))
+pass-sealed-requires-2 t c κs = omega (arith, content-inside standard _ _ (c .before .before .before .before .before .before .before .before .before .before .before .before .before .pre .1 .0) .0)
 
 pass-add-either : (t : ℕ) → pass-lts.Need-add-either (pass-calls t) (pass-at t) pass.Post
-pass-add-either t c = omega (arith, laws.byte-inside standard _ _ (c .before .before .before .before .before .before .pre .1 .0))
+pass-add-either t c = omega (arith, content-inside standard _ _ (c .before .before .before .before .before .before .pre .1 .0) .0)
 
 pass-slice-read-either : (t : ℕ) → pass-lts.Need-slice-read-either (pass-calls t) (pass-at t) pass.Post
 pass-slice-read-either t c =
@@ -330,13 +333,13 @@ pass-slice-read-either t c =
     let at = start .args .at in
     let stands = start .pre .1 .0 in
     let room = start .pre .1 .1 in
-    let inside = laws.byte-inside standard s at stands in
+    let inside = content-inside standard s at stands in
     let byte = sym (c .before .before .wide .ensures .0) in
-    let operand = laws.byte-inside standard s (at + 1) (laws.any-number-operand standard s at stands (byte ∙ c .before .match .keys6)) in
+    let operand = content-inside standard s (at + 1) (operand-there standard s at stands (omega (arith, byte ∙ c .before .match .keys6))) in
     omega arith
 
 pass-add-operand : (t : ℕ) → pass-lts.Need-add-operand (pass-calls t) (pass-at t) pass.Post
-pass-add-operand t c = omega (arith, laws.byte-inside standard _ _ (c .before .before .before .before .before .before .before .before .pre .1 .0))
+pass-add-operand t c = omega (arith, content-inside standard _ _ (c .before .before .before .before .before .before .before .before .pre .1 .0) .0)
 
 pass-operand-requires : (t : ℕ) → pass-lts.Need-operand-requires (pass-calls t) (pass-at t) pass.Post
 pass-operand-requires t c κs =
@@ -345,17 +348,17 @@ pass-operand-requires t c κs =
     let at = start .args .at in
     let stands = start .pre .1 .0 in
     let room = start .pre .1 .1 in
-    let inside = laws.byte-inside standard s at stands in
+    let inside = content-inside standard s at stands in
     let byte = sym (c .before .before .before .before .wide .ensures .0) in
-    let operand = laws.any-number-operand standard s at stands (byte ∙ c .before .before .before .match .keys6) in
-    let more = laws.byte-inside standard s (at + 1) operand in
+    let operand = operand-there standard s at stands (omega (arith, byte ∙ c .before .before .before .match .keys6)) in
+    let more = content-inside standard s (at + 1) operand in
     (omega arith, (operand, room))
 
 pass-sealed-requires-3 : (t : ℕ) → pass-lts.Need-sealed-requires-3 (pass-calls t) (pass-at t) pass.Post
-pass-sealed-requires-3 t c κs = omega (arith, laws.byte-inside standard _ _ (c .before .before .before .before .before .before .before .before .before .before .before .before .before .before .pre .1 .0))
+pass-sealed-requires-3 t c κs = omega (arith, content-inside standard _ _ (c .before .before .before .before .before .before .before .before .before .before .before .before .before .before .pre .1 .0) .0)
 
 pass-add-either-2 : (t : ℕ) → pass-lts.Need-add-either-2 (pass-calls t) (pass-at t) pass.Post
-pass-add-either-2 t c = omega (arith, laws.byte-inside standard _ _ (c .before .before .before .before .before .before .pre .1 .0))
+pass-add-either-2 t c = omega (arith, content-inside standard _ _ (c .before .before .before .before .before .before .pre .1 .0) .0)
 
 pass-slice-read-either-2 : (t : ℕ) → pass-lts.Need-slice-read-either-2 (pass-calls t) (pass-at t) pass.Post
 pass-slice-read-either-2 t c =
@@ -364,13 +367,13 @@ pass-slice-read-either-2 t c =
     let at = start .args .at in
     let stands = start .pre .1 .0 in
     let room = start .pre .1 .1 in
-    let inside = laws.byte-inside standard s at stands in
+    let inside = content-inside standard s at stands in
     let byte = sym (c .before .before .wide .ensures .0) in
-    let operand = laws.byte-inside standard s (at + 1) (laws.one-or-more-operand standard s at stands (byte ∙ c .before .match .keys7)) in
+    let operand = content-inside standard s (at + 1) (operand-there standard s at stands (omega (arith, byte ∙ c .before .match .keys7))) in
     omega arith
 
 pass-add-operand-2 : (t : ℕ) → pass-lts.Need-add-operand-2 (pass-calls t) (pass-at t) pass.Post
-pass-add-operand-2 t c = omega (arith, laws.byte-inside standard _ _ (c .before .before .before .before .before .before .before .before .pre .1 .0))
+pass-add-operand-2 t c = omega (arith, content-inside standard _ _ (c .before .before .before .before .before .before .before .before .pre .1 .0) .0)
 
 pass-operand-requires-2 : (t : ℕ) → pass-lts.Need-operand-requires-2 (pass-calls t) (pass-at t) pass.Post
 pass-operand-requires-2 t c κs =
@@ -379,17 +382,17 @@ pass-operand-requires-2 t c κs =
     let at = start .args .at in
     let stands = start .pre .1 .0 in
     let room = start .pre .1 .1 in
-    let inside = laws.byte-inside standard s at stands in
+    let inside = content-inside standard s at stands in
     let byte = sym (c .before .before .before .before .wide .ensures .0) in
-    let operand = laws.one-or-more-operand standard s at stands (byte ∙ c .before .before .before .match .keys7) in
-    let more = laws.byte-inside standard s (at + 1) operand in
+    let operand = operand-there standard s at stands (omega (arith, byte ∙ c .before .before .before .match .keys7)) in
+    let more = content-inside standard s (at + 1) operand in
     (omega arith, (operand, room))
 
 pass-sealed-requires-4 : (t : ℕ) → pass-lts.Need-sealed-requires-4 (pass-calls t) (pass-at t) pass.Post
-pass-sealed-requires-4 t c κs = omega (arith, laws.byte-inside standard _ _ (c .before .before .before .before .before .before .before .before .before .before .before .before .before .pre .1 .0))
+pass-sealed-requires-4 t c κs = omega (arith, content-inside standard _ _ (c .before .before .before .before .before .before .before .before .before .before .before .before .before .pre .1 .0) .0)
 
 pass-add-operand-3 : (t : ℕ) → pass-lts.Need-add-operand-3 (pass-calls t) (pass-at t) pass.Post
-pass-add-operand-3 t c = omega (arith, laws.byte-inside standard _ _ (c .before .before .before .before .before .before .pre .1 .0))
+pass-add-operand-3 t c = omega (arith, content-inside standard _ _ (c .before .before .before .before .before .before .pre .1 .0) .0)
 
 pass-operand-requires-3 : (t : ℕ) → pass-lts.Need-operand-requires-3 (pass-calls t) (pass-at t) pass.Post
 pass-operand-requires-3 t c κs =
@@ -398,20 +401,20 @@ pass-operand-requires-3 t c κs =
     let at = start .args .at in
     let stands = start .pre .1 .0 in
     let room = start .pre .1 .1 in
-    let inside = laws.byte-inside standard s at stands in
+    let inside = content-inside standard s at stands in
     let byte = sym (c .before .before .wide .ensures .0) in
     let rest = c .before .match .rest in
-    let known = operator-known s at (stands .content) (stands .next) (stands .stands) in
+    let known = content-inside standard s at stands .1 in
     let last =
     laws.byte-last (c .before .before .wide .result) (subst (λ (n : ℕ). n ≤ 7) byte known) (rest .0 .0 .0 .0 .0 .0 .1) (rest .0 .0 .0 .0 .0 .1)
     (rest .0 .0 .0 .0 .1) (rest .0 .0 .0 .1) (rest .0 .0 .1) (rest .0 .1) (rest .1) in
     let op = byte ∙ last in
-    let operand = laws.optional-operand standard s at stands op in
-    let more = laws.byte-inside standard s (at + 1) operand in
+    let operand = operand-there standard s at stands (omega arith) in
+    let more = content-inside standard s (at + 1) operand in
     (omega arith, (operand, room))
 
 pass-sealed-requires-5 : (t : ℕ) → pass-lts.Need-sealed-requires-5 (pass-calls t) (pass-at t) pass.Post
-pass-sealed-requires-5 t c κs = omega (arith, laws.byte-inside standard _ _ (c .before .before .before .before .before .before .before .before .before .before .before .before .pre .1 .0))
+pass-sealed-requires-5 t c κs = omega (arith, content-inside standard _ _ (c .before .before .before .before .before .before .before .before .before .before .before .before .pre .1 .0) .0)
 
 pass-returns : (t : ℕ) → pass-lts.Need-returns (pass-calls t) (pass-at t) pass.Post
 pass-returns t c =
@@ -519,7 +522,7 @@ pass-returns-8 t c =
     let marks = start .args .marks .now in
     let b = start .args .incoming in
     let rest = c .before .before .before .before .before .before .before .before .before .match .rest in
-    let known = operator-known s at (stands .content) (stands .next) (stands .stands) in
+    let known = content-inside standard s at stands .1 in
     let last =
     laws.byte-last (c .before .before .before .before .before .before .before .before .before .before .wide .result) (subst (λ (n : ℕ). n ≤ 7) byte known) (rest .0 .0 .0 .0 .0 .0 .1) (rest .0 .0 .0 .0 .0 .1)
     (rest .0 .0 .0 .0 .1) (rest .0 .0 .0 .1) (rest .0 .0 .1) (rest .0 .1) (rest .1) in

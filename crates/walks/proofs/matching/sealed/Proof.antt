@@ -1,6 +1,6 @@
 -- `sealed` meets its contract: `mark` stores the end.
 use mathlib.Core.List.{List}
-use mathlib.Core.Path.{_≡_, ap}
+use mathlib.Core.Path.{ap}
 use Prim.Native.Nat.{ℕ}
 use borrow.Author.Needs.{needs}
 use Rattle.walks.specs.WalkAt.{walked}

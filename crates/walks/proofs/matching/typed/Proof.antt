@@ -1,17 +1,12 @@
 -- `typed` meets its contract: the child's set is asked for the type's number.
 use Prim.Native.Nat.{ℕ, _+_}
 use mathlib.Core.Bool.{Bool, false, _&&_}
-use mathlib.Core.Path.{_≡_, _∙_, ap}
+use mathlib.Core.Path.{_∙_, ap}
 use borrow.Author.Needs.{needs}
 use Rattle.walks.specs.TypeSets.{setAt}
 use Rattle.walks.specs.WalkAt.{ended}
 use Rattle.walks.proofs.matching.typed.Statement.{statement}
 use Rattle.walks.proofs.matching.typed.Tie as tie
-use Rattle.walks.proofs.matching.typed.Reads as reads
-use Rattle.walks.proofs.matching.typed.Lts as lts
-use Rattle.reader.proofs.numbers.wide.Reads as wide-reads
-use Rattle.walks.proofs.matching.allowed.Reads as allowed-reads
-use Rattle.walks.proofs.matching.sealed.Reads as sealed-reads
 
 -- src/matching.rt:102:26
 add-wide : tie.Need-add-wide

@@ -1,6 +1,6 @@
 -- `walked_through` meets its contract: the children from here on, walked over the marks of now, are all children walked over the marks of
 -- the beginning.
-use Prim.Native.Nat.{ℕ, _+_, _*_, _-_, _≤_, _<_}
+use Prim.Native.Nat.{ℕ, _+_, _*_, _-_, _≤_}
 use native.Mathlib.Omega.{arith}
 use mathlib.Core.Bool.{true}
 use mathlib.Core.List.{List}
@@ -9,9 +9,10 @@ use lib.Dec.{eqb}
 use lib.ListN.{length}
 use Rattle.grammar.specs.Limits.{standard}
 use Rattle.theory.proofs.MarkedPass.{isMarked}
+use Rattle.reader.proofs.ContentAtLaws.{content-inside}
 use Rattle.walks.specs.TypeSets.{testsAt}
 use Rattle.walks.specs.WalkAt.{walksAt}
-use Rattle.walks.proofs.WalkLaws.{byte-inside, walks-round, walks-over}
+use Rattle.walks.proofs.WalkLaws.{walks-round, walks-over}
 use Rattle.walks.proofs.matching.walked_through.Statement.{statement}
 use Rattle.walks.proofs.matching.walked_through.Tie as tie
 
@@ -55,7 +56,7 @@ loop-again c =
 
 slice-read-result : tie.Need-slice-read-result Inv-loop μ-loop
 slice-read-result c =
-    let inside = byte-inside standard (c .before .before .before .before .before .before .args .content .now) 0 (c .before .before .before .before .before .before .pre .0 .proper-at) in
+    let inside = content-inside standard (c .before .before .before .before .before .before .args .content .now) 0 (c .before .before .before .before .before .before .pre .0 .proper-at) in
     let room = c .before .before .before .before .before .before .pre .2 in
     omega arith
 
