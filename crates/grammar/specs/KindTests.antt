@@ -1,7 +1,7 @@
 -- Deciding the kinds. (crates/theory proves that these are Local and SingleType.)
 use Prim.Native.Nat.{ℕ}
 use mathlib.Core.Bool.{Bool, true, false, _&&_, not}
-use mathlib.Core.List.{List, [], _∷_}
+use mathlib.Core.List.{List}
 use lib.Dec.{eqb}
 use Rattle.grammar.specs.Lists.{any, all, allDistinct}
 use Rattle.grammar.specs.Content.{typesIn}

@@ -1,7 +1,7 @@
 -- Single-type: a result type is a set of types of one label.
 use Prim.Native.Nat.{ℕ, zero, suc}
 use mathlib.Core.Bool.{_&&_, not}
-use mathlib.Core.List.{List, [], _∷_, _++_, map}
+use mathlib.Core.List.{List, _++_, map}
 use mathlib.Core.Option.{none as nothing, some as just}
 use lib.ListN.{length, getElem?, getD}
 use lib.Dec.{eqb}

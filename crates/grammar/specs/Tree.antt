@@ -1,5 +1,4 @@
 -- Documents: finite trees of named nodes, of any size.
-use mathlib.Core.List.{[], _∷_}
 use Rattle.grammar.specs.Names.{Name}
 
 infixr 40 _∷ᵗ_

@@ -12,7 +12,7 @@ use mathlib.Core.Option.{some as just}
 use mathlib.Core.Path.{_≡_, refl, sym, _∙_, ap, subst}
 use lib.Dec.{ltb}
 use borrow.Author.Tests.{ltb-true, ltb-false}
-use lib.ListN.{length, length-append, set, take, drop}
+use lib.ListN.{length, length-append, set, take}
 use Rattle.grammar.specs.Lists.{joinedOf, numbersBelow}
 use Rattle.grammar.specs.Limits.{standard}
 use Rattle.grammar.specs.Content.{Content}
@@ -70,9 +70,6 @@ module _ (f : ℕ → List ℕ) where
           (up-more (subst (λ (l : List ℕ). Put draft end l after m) same (x .0)), x .1)
 
 -- the bytes of a part, so many long
-pub part-of : (s : List ℕ) (from size : ℕ) → take (from + size - from) (drop from s) ≡ take size (drop from s)
-part-of s from size = let z : from + size - from ≡ size = omega arith in ap (λ (n : ℕ). take n (drop from s)) z
-
 -- what making a content said
 pub made-stop : (d : List ℕ) (c : Content) (r : Drafted) {stop : ℕ} → ContentMade d c r → r ≡ Length stop
     → (exprAt d 2 ≡ just (c upTo stop)) × (stop ≤ 1026) × (contentTooLarge standard c ≡ false)

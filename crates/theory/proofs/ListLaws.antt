@@ -5,11 +5,11 @@
 --     at-mem, mem-at, at-below, below-at, at-joined, at-else  what stands at a place
 --     differ-at, all-differ, distinct-new, distinct-end       lists of which all elements are distinct
 --     joined-from, joined-mem, joined-append, joined-on       lists of lists, joined
---     map-on, map-at, at-map, take-map, drop-map              images
+--     map-on, map-at, at-map, take-map, drop-map              images; part-of
 --     related-map, related-at, related-mem                    lists related element by element
 -- Of numbers: in-mem, mem-in, in-append, taken-mem, set-all, set-up-to, same-numbers, and AllIn (all of one list are in another);
 -- numbers-below, numbers-joined, numbers-next, numbers-end, joined-next, listed-from, one-place.
-use Prim.Native.Nat.{ℕ, zero, suc, _+_, _≤_, _<_}
+use Prim.Native.Nat.{ℕ, zero, suc, _+_, _-_, _≤_, _<_}
 use native.Mathlib.Omega.{arith}
 use native.Mathlib.Numerals.{add-one}
 use mathlib.Core.Bool.{Bool, true, false, not, _&&_, _||_, or-assoc, false≢true}
@@ -602,6 +602,10 @@ pub drop-map : {A B : Type 0} (f : A → B) (k : ℕ) (xs : List A) → drop k (
 drop-map f zero xs = refl
 drop-map f (suc k) [] = refl
 drop-map f (suc k) (x ∷ xs) = drop-map f k xs
+
+-- a part by where it begins and how long it is
+pub part-of : (s : List ℕ) (from size : ℕ) → take (from + size - from) (drop from s) ≡ take size (drop from s)
+part-of s from size = let z : from + size - from ≡ size = omega arith in ap (λ (n : ℕ). take n (drop from s)) z
 
 pub keep-map : {A B : Type 0} (f : A → B) (test : B → Bool) (xs : List A) → keep test (map f xs) ≡ map f (keep (λ x. test (f x)) xs)
 unfolding keep

@@ -1,5 +1,5 @@
 -- Labels by the keys of their names.
-use Prim.Native.Nat.{ℕ, _+_, _*_, _/_, _%_, _≤_, _<_}
+use Prim.Native.Nat.{ℕ, _+_, _*_, _/_, _%_}
 use mathlib.Core.List.{List}
 use mathlib.Core.Option.{some as just}
 use mathlib.Core.Path.{_≡_}

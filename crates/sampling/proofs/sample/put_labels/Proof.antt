@@ -7,8 +7,9 @@ use borrow.Author.Needs.{needs}
 use Rattle.grammar.specs.Lists.{joinedOf, numbersBelow}
 use Rattle.grammar.specs.Fields.{fieldBytes}
 use Rattle.emitting.specs.Writing.{Put}
+use Rattle.theory.proofs.ListLaws.{part-of}
 use Rattle.sampling.specs.SampleTable.{labelField}
-use Rattle.sampling.proofs.RuleLaws.{up-start, step-stop, step-more, part-of}
+use Rattle.sampling.proofs.RuleLaws.{up-start, step-stop, step-more}
 use Rattle.sampling.proofs.sample.put_labels.Statement.{statement}
 use Rattle.sampling.proofs.sample.put_labels.Tie as tie
 

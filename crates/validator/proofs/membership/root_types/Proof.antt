@@ -1,14 +1,14 @@
 -- `root_types` meets its contract: from the top on, set by set, stand the types of the trees of the nodes gone through.
 use Prim.Native.Nat.{ℕ, _+_, _*_, _-_, _≤_, _<_}
 use native.Mathlib.Omega.{arith}
-use mathlib.Core.List.{List}
-use mathlib.Core.Path.{_≡_, refl, sym, _∙_, ap, subst}
+use mathlib.Core.Path.{_≡_, refl, sym, _∙_, subst}
 use lib.ListN.{length, getD, take, drop}
 use Rattle.grammar.specs.Table.{Table}
 use Rattle.reader.specs.DocumentNodes.{nodesIn}
 use Rattle.reader.specs.NamePlaces.{NamesAt}
 use Rattle.reader.proofs.LabelSearch.{index-names}
 use Rattle.reader.proofs.DocumentTrees.{treeCount}
+use Rattle.theory.proofs.ListLaws.{part-of}
 use Rattle.validator.specs.KnownDocument.{indexOf}
 use Rattle.validator.specs.KnownTable.{RulesChained}
 use Rattle.validator.proofs.StackLaws as laws
@@ -30,14 +30,9 @@ abbrev μ-loop : tie.MeasureT-loop
 μ-loop table document names sizes children nodes marks₀ words₀ label-from label-to labels by-key rule-type rules by-label content-from content-to nullable i₀ top₀ marks words i top =
     i
 
--- the node before a place, and its name
+-- the node before a place
 inside : (i n : ℕ) → i ≤ n → 0 < i → i - 1 < n
 inside i n h k = omega arith
-
-same-size : (d : List ℕ) (from size : ℕ) → take (from + size - from) (drop from d) ≡ take size (drop from d)
-same-size d from size =
-    let e : from + size - from ≡ size = omega arith in
-    ap (λ (n : ℕ). take n (drop from d)) e
 
 slice-aggregate-chained-labels : tie.Need-slice-aggregate-chained-labels Inv-loop μ-loop
 slice-aggregate-chained-labels c =
@@ -331,7 +326,7 @@ loop-again c =
           (take (from + size - from) (drop from d))
           top
           (top + 4 * getD (nodes .children) (i - 1) 0 - 4)
-          (same-size d from size)
+          (part-of d from size)
           (inv .4 g named rules)
           place
           (c .before .before .before .before .before .before .types-of .ensures .size)
