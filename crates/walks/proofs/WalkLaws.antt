@@ -3,9 +3,11 @@
 -- the walk goes on with (`row-first`, `rest-proper`). Then child by child (`walks-next`), and
 -- that the children's walks tell whether the content matches (`no-children`, `some-children`).
 use Prim.Native.Nat.{ℕ, zero, suc, _+_, _*_, _-_, _≤_, _<_}
+use native.Mathlib.Nat.{eq-or-lt-of-le}
 use native.Mathlib.Omega.{arith}
-use mathlib.Core.Bool.{Bool, true, false, _&&_, _||_}
+use mathlib.Core.Bool.{Bool, true, false, not, _&&_, _||_, or-false}
 use mathlib.Core.List.{List, [], _∷_, _++_}
+use mathlib.Core.Logic.{⊎-elim}
 use mathlib.Core.Option.{some as just}
 use mathlib.Core.Path.{_≡_, refl, sym, _∙_, ap, subst}
 use lib.Dec.{eqb}
@@ -215,6 +217,35 @@ module _ (lim : Limits) (s : List ℕ) (at : ℕ) (stands : ContentAt lim s at) 
         whole-walk
         ∙ sym (ap (λ (c : Content). walk c at marks b has) (p .2))
         ∙ sym (ap (λ (q : Walked). orNone (ended at q)) (walk-at s (at + 1) marks b has (p .0) (stands .next) (p .1)))
+
+    -- a type under one operator: `part` is what the walk over the type gave
+    pub walk-around-type : (part : Walked) → part .nullable ≡ false → 5 ≤ getD s at 0 → getD s at 0 ≤ 7
+        → part ≡ walkAt s (at + 1) marks (b || (not (eqb (getD s at 0) 7) && isMarked marks (at + 1))) has
+        → ended at (record { marks = part .marks; next = part .next; nullable = not (eqb (getD s at 0) 6); final = part .final })
+        ≡ walkAt s at marks b has
+    walk-around-type part never low high =
+        ⊎-elim
+        (λ e.
+        subst Goes e (λ is. ap (λ (w : Walked). orNone (ended at w)) is ∙ sym (walk-any-number (sym e))))
+        (λ h.
+        ⊎-elim
+        (λ e.
+        subst Goes e (λ is.
+        ap (λ (n : Bool). ended at (record { marks = part .marks; next = part .next; nullable = n; final = part .final })) (sym never)
+        ∙ ap (ended at) is
+        ∙ sym (walk-one-or-more (sym e))))
+        (λ k.
+        let e : 7 ≡ getD s at 0 = omega arith in
+        subst Goes e (λ is.
+        ap (λ (w : Walked). orNone (ended at w)) (is ∙ ap (λ (x : Bool). walkAt s (at + 1) marks x has) (or-false b))
+        ∙ sym (walk-optional (sym e))))
+        (eq-or-lt-of-le h))
+        (eq-or-lt-of-le low)
+      where
+        Goes : ℕ → Type 0
+        Goes op =
+            part ≡ walkAt s (at + 1) marks (b || (not (eqb op 7) && isMarked marks (at + 1))) has
+            → ended at (record { marks = part .marks; next = part .next; nullable = not (eqb op 6); final = part .final }) ≡ walkAt s at marks b has
 
 -- Operand by operand.
 module _ (lim : Limits) (s : List ℕ) (at count : ℕ) (row : ContentsAt lim s at count) (over : count ≤ 0) where

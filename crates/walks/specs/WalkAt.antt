@@ -5,7 +5,7 @@ use mathlib.Core.Bool.{Bool, false}
 use mathlib.Core.List.{List}
 use mathlib.Core.Option.{none as nothing, some as just}
 use mathlib.Core.Path.{_≡_}
-use lib.ListN.{length, set}
+use lib.ListN.{length, set, getD}
 use Rattle.grammar.specs.Limits.{Limits}
 use Rattle.reader.specs.ExprAt.{exprAt, exprsAt}
 use Rattle.reader.specs.ContentAt.{ContentAt}
@@ -51,6 +51,11 @@ ended at p = record { marks = set (p .marks) at (number (p .final)); next = p .n
 pub record WholeAt (lim : Limits) (s : List ℕ) : Type 0 where
   pub proper-at : ContentAt lim s 0
   pub whole : proper-at .next ≡ length s
+
+-- the expression at a place is a type under one operator
+pub record AroundType (s : List ℕ) (at : ℕ) : Type 0 where
+  pub operator : 5 ≤ getD s at 0
+  pub type : getD s (at + 1) 0 ≡ 2
 
 -- room for the walk: a mark for each byte, and the four words of a set at base
 pub record Room (s marks words : List ℕ) (base : ℕ) : Type 0 where

@@ -6,6 +6,7 @@ use reader::numbers::wide;
 use sets::words::has;
 ghost use mathlib.Core.Bool.{_&&_, _||_, true, false};
 ghost use mathlib.Core.List.{_++_};
+ghost use mathlib.Core.Logic.{_↔_};
 ghost use mathlib.Core.Path.{_≡_};
 ghost use Prim.Native.Nat.{_+_, _*_, _<_, _≤_};
 ghost use lib.ListN.{length, set, getD, replicate, drop};
@@ -13,7 +14,7 @@ ghost use Rattle.grammar.specs.Limits.{standard};
 ghost use Rattle.theory.proofs.MarkedPass.{number, isMarked};
 ghost use Rattle.reader.specs.ContentAt.{ContentAt, ContentsAt};
 ghost use Rattle.walks.specs.TypeSets.{setAt, testsAt};
-ghost use Rattle.walks.specs.WalkAt.{walkAt, walkInTurnAt, walkEachAt, walksAt, runAt, walked, ended, WholeAt, Room};
+ghost use Rattle.walks.specs.WalkAt.{walkAt, walkInTurnAt, walkEachAt, walksAt, runAt, walked, ended, WholeAt, AroundType, Room};
 
 // What the walk over an expression gives back: the place after it, whether it matches no children at all, and whether the children so
 // far, the last one included, can end it.
@@ -182,6 +183,61 @@ fn operand(
     pass(content, at, marks, incoming, words, base)
 }
 
+// Whether the expression at a place is a type under one operator: any number of it, one or more of it, or optional.
+fn is_around_type(content: &[u8], at: usize) -> bool
+    requires { ⌜ ContentAt standard (now content) at ⌝ }
+    ensures { λ r. ⌜ ((r ≡ true) ↔ AroundType (now (content .entry)) at) ⌝ }
+{
+    if content[at] < 5 {
+        return false;
+    }
+    content[at + 1] == 2
+}
+
+// One child's walk over a type under one operator.
+fn around_type(
+    content: &[u8],
+    at: usize,
+    marks: &mut [u8],
+    incoming: bool,
+    words: &[u32],
+    base: usize,
+) -> Passed
+    requires { ⌜ (ContentAt standard (now content) at) × (AroundType (now content) at) × (Room (now content) (now marks) (now words) base) ⌝ }
+    ensures { λ r. ⌜ walked (now (marks .exit)) r
+        ≡ walkAt (now (content .entry)) at (now (marks .entry)) incoming (setAt (now (words .entry)) base) ⌝ }
+{
+    let operator = content[at];
+    let again = both(operator != 7, marks[at + 1] == 1);
+    let begins = either(incoming, again);
+    let part = typed(content, at + 1, marks, begins, words, base);
+    let all = Passed {
+        next: part.next,
+        nullable: operator != 6,
+        ends: part.ends,
+    };
+    sealed(marks, at, all)
+}
+
+// The same over an operand of a sequence. Many are types under one operator, and need no call of `pass` either.
+fn operand_in_turn(
+    content: &[u8],
+    at: usize,
+    marks: &mut [u8],
+    incoming: bool,
+    words: &[u32],
+    base: usize,
+) -> Passed
+    requires { ⌜ (ContentAt standard (now content) at) × (Room (now content) (now marks) (now words) base) ⌝ }
+    ensures { λ r. ⌜ walked (now (marks .exit)) r
+        ≡ walkAt (now (content .entry)) at (now (marks .entry)) incoming (setAt (now (words .entry)) base) ⌝ }
+{
+    if is_around_type(content, at) {
+        return around_type(content, at, marks, incoming, words, base);
+    }
+    operand(content, at, marks, incoming, words, base)
+}
+
 // The same over so many operands of a sequence, from a place on; `begun` where the child may begin the first.
 fn in_turn(
     content: &[u8],
@@ -203,7 +259,7 @@ fn in_turn(
     let mut incoming = begun;
     while 0 < left {
         let went_on = marks[at] == 1;
-        let first = operand(content, at, marks, incoming, words, base);
+        let first = operand_in_turn(content, at, marks, incoming, words, base);
         at = first.next;
         nullable = both(nullable, first.nullable);
         ends = either(both(ends, first.nullable), first.ends);

@@ -1,6 +1,6 @@
--- `pass`, `operand`, `in_turn` and `each` meet their contracts. The measure of an expression is three times the bytes from its place on,
--- that of an operand one more, that of operands two more: a call stays at its place only where that goes down, else it goes on past a
--- byte. Each loop keeps that the walk over the operands left is the walk over all. Each return is a law of WalkLaws.
+-- `pass`, `operand`, `operand_in_turn`, `in_turn` and `each` meet their contracts. The measure of an expression is four times the bytes from
+-- its place on, that of an operand one more, of one of a sequence two more, that of operands three more: a call stays at its place only where
+-- that goes down, else it goes on past a byte. Each loop keeps that the walk over the operands left is the walk over all. Each return is a law of WalkLaws.
 use Prim.Native.Nat.{ℕ, _+_, _-_, _*_, _≤_, _<_}
 use native.Mathlib.Omega.{arith}
 use mathlib.Core.Bool.{Bool, true, false, _||_}
@@ -19,36 +19,44 @@ use Rattle.walks.specs.WalkAt.{walkAt, walkInTurnAt, walkEachAt, walked,
 use Rattle.walks.proofs.WalkLaws as laws
 use Rattle.walks.proofs.matching.each.Reads as each
 use Rattle.walks.proofs.matching.each.Kinds as each-kinds
-use Rattle.walks.proofs.matching.+each+in_turn+operand+pass.Lts-each as each-lts
+use Rattle.walks.proofs.matching.+each+in_turn+operand+operand_in_turn+pass.Lts-each as each-lts
 use Rattle.walks.proofs.matching.in_turn.Reads as in-turn
 use Rattle.walks.proofs.matching.in_turn.Kinds as in-turn-kinds
-use Rattle.walks.proofs.matching.+each+in_turn+operand+pass.Lts-in_turn as in-turn-lts
+use Rattle.walks.proofs.matching.+each+in_turn+operand+operand_in_turn+pass.Lts-in_turn as in-turn-lts
 use Rattle.walks.proofs.matching.operand.Reads as operand
 use Rattle.walks.proofs.matching.operand.Kinds as operand-kinds
-use Rattle.walks.proofs.matching.+each+in_turn+operand+pass.Lts-operand as operand-lts
+use Rattle.walks.proofs.matching.+each+in_turn+operand+operand_in_turn+pass.Lts-operand as operand-lts
+use Rattle.walks.proofs.matching.operand_in_turn.Reads as operand-in-turn
+use Rattle.walks.proofs.matching.operand_in_turn.Kinds as operand-in-turn-kinds
+use Rattle.walks.proofs.matching.+each+in_turn+operand+operand_in_turn+pass.Lts-operand_in_turn as operand-in-turn-lts
 use Rattle.walks.proofs.matching.pass.Reads as pass
 use Rattle.walks.proofs.matching.pass.Kinds as pass-kinds
-use Rattle.walks.proofs.matching.+each+in_turn+operand+pass.Lts-pass as pass-lts
+use Rattle.walks.proofs.matching.+each+in_turn+operand+operand_in_turn+pass.Lts-pass as pass-lts
 use Rattle.reader.proofs.numbers.wide.Reads as wide-reads
+use Rattle.walks.proofs.matching.around_type.Reads as around-type-reads
+use Rattle.walks.proofs.matching.is_around_type.Reads as is-around-type-reads
 use Rattle.walks.proofs.matching.both.Reads as both-reads
 use Rattle.walks.proofs.matching.either.Reads as either-reads
 use Rattle.walks.proofs.matching.or_none.Reads as or-none-reads
 use Rattle.walks.proofs.matching.sealed.Reads as sealed-reads
 use Rattle.walks.proofs.matching.typed.Reads as typed-reads
-use Rattle.walks.proofs.matching.+each+in_turn+operand+pass.{statement}
-use Rattle.walks.proofs.matching.+each+in_turn+operand+pass.Tie.{close}
+use Rattle.walks.proofs.matching.+each+in_turn+operand+operand_in_turn+pass.{statement}
+use Rattle.walks.proofs.matching.+each+in_turn+operand+operand_in_turn+pass.Tie.{close}
 
 abbrev μ-each : Measures 3 each-kinds.ps ℕ
-μ-each κs a = 3 * (length (a .0 .now) - a .1 .1 .0) + 2
+μ-each κs a = 4 * (length (a .0 .now) - a .1 .1 .0) + 3
 
 abbrev μ-in-turn : Measures 3 in-turn-kinds.ps ℕ
-μ-in-turn κs a = 3 * (length (a .0 .now) - a .1 .1 .0) + 2
+μ-in-turn κs a = 4 * (length (a .0 .now) - a .1 .1 .0) + 3
 
 abbrev μ-operand : Measures 3 operand-kinds.ps ℕ
-μ-operand κs a = 3 * (length (a .0 .now) - a .1 .0) + 1
+μ-operand κs a = 4 * (length (a .0 .now) - a .1 .0) + 1
+
+abbrev μ-operand-in-turn : Measures 3 operand-in-turn-kinds.ps ℕ
+μ-operand-in-turn κs a = 4 * (length (a .0 .now) - a .1 .0) + 2
 
 abbrev μ-pass : Measures 3 pass-kinds.ps ℕ
-μ-pass κs a = 3 * (length (a .0 .now) - a .1 .0)
+μ-pass κs a = 4 * (length (a .0 .now) - a .1 .0)
 
 abbrev each-at : ℕ → In 3 each-kinds.ps
 each-at t = and 3 each-kinds.ps (is 3 each-kinds.ps μ-each t) each.Pre
@@ -68,6 +76,12 @@ operand-at t = and 3 operand-kinds.ps (is 3 operand-kinds.ps μ-operand t) opera
 abbrev operand-below : ℕ → In 3 operand-kinds.ps
 operand-below t = and 3 operand-kinds.ps (falls 3 operand-kinds.ps _<_ μ-operand t) operand.Pre
 
+abbrev operand-in-turn-at : ℕ → In 3 operand-in-turn-kinds.ps
+operand-in-turn-at t = and 3 operand-in-turn-kinds.ps (is 3 operand-in-turn-kinds.ps μ-operand-in-turn t) operand-in-turn.Pre
+
+abbrev operand-in-turn-below : ℕ → In 3 operand-in-turn-kinds.ps
+operand-in-turn-below t = and 3 operand-in-turn-kinds.ps (falls 3 operand-in-turn-kinds.ps _<_ μ-operand-in-turn t) operand-in-turn.Pre
+
 abbrev pass-at : ℕ → In 3 pass-kinds.ps
 pass-at t = and 3 pass-kinds.ps (is 3 pass-kinds.ps μ-pass t) pass.Pre
 
@@ -78,10 +92,13 @@ abbrev each-calls : ℕ → each-lts.Claims
 each-calls t = (operand-below t, operand.Post, either-reads.Asked, either-reads.Learnt)
 
 abbrev in-turn-calls : ℕ → in-turn-lts.Claims
-in-turn-calls t = (operand-below t, operand.Post, both-reads.Asked, both-reads.Learnt, either-reads.Asked, either-reads.Learnt)
+in-turn-calls t = (operand-in-turn-below t, operand-in-turn.Post, both-reads.Asked, both-reads.Learnt, either-reads.Asked, either-reads.Learnt)
 
 abbrev operand-calls : ℕ → operand-lts.Claims
 operand-calls t = (typed-reads.Asked, typed-reads.Learnt, pass-below t, pass.Post)
+
+abbrev operand-in-turn-calls : ℕ → operand-in-turn-lts.Claims
+operand-in-turn-calls t = (is-around-type-reads.Asked, is-around-type-reads.Learnt, around-type-reads.Asked, around-type-reads.Learnt, operand-below t, operand.Post)
 
 abbrev pass-calls : ℕ → pass-lts.Claims
 pass-calls t = (wide-reads.Asked, wide-reads.Learnt, typed-reads.Asked, typed-reads.Learnt, in-turn-below t, in-turn.Post, sealed-reads.Asked, sealed-reads.Learnt, each-below t, each.Post, either-reads.Asked, either-reads.Learnt, operand-below t, operand.Post, or-none-reads.Asked, or-none-reads.Learnt)
@@ -162,8 +179,8 @@ in-turn-slice-read-went-on t c =
     let room = start .pre .1 .1 in
     omega arith
 
-in-turn-operand-requires : (t : ℕ) → in-turn-lts.Need-operand-requires (in-turn-calls t) (in-turn-at t) in-turn.Post in-turn-Inv-loop in-turn-μ-loop
-in-turn-operand-requires t c κs =
+in-turn-operand-in-turn-requires : (t : ℕ) → in-turn-lts.Need-operand-in-turn-requires (in-turn-calls t) (in-turn-at t) in-turn.Post in-turn-Inv-loop in-turn-μ-loop
+in-turn-operand-in-turn-requires t c κs =
     let start = c .before .before .before .before .before .before .before in
     let now = c .before .before .before .loop in
     let s = start .args .content .now in
@@ -181,12 +198,12 @@ in-turn-loop-again t c =
     let b = now .incoming in
     let row = now .inv .2 in
     let some = c .before .before .before .before .before .before .before .before .before .before .loop-test .taken in
-    let marks2 = c .before .before .before .before .before .before .before .operand .last .1 .1 .0 in
-    let p = c .before .before .before .before .before .before .before .operand .result in
-    let first = c .before .before .before .before .before .before .before .operand .ensures in
+    let marks2 = c .before .before .before .before .before .before .before .operand-in-turn .last .1 .1 .0 in
+    let p = c .before .before .before .before .before .before .before .operand-in-turn .result in
+    let first = c .before .before .before .before .before .before .before .operand-in-turn .ensures in
     let go = laws.rest-forward standard s (now .at) (now .left) row some (now .marks) b has marks2 p first in (
       omega arith,
-      c .before .before .before .before .before .before .before .operand .kept .1 .1 .0 ∙ now .inv .1,
+      c .before .before .before .before .before .before .before .operand-in-turn .kept .1 .1 .0 ∙ now .inv .1,
       laws.rest-proper standard s (now .at) (now .left) row some (now .marks) b has marks2 p first,
       laws.in-turn-goes standard s (now .at) (now .left) row some (now .marks) b has marks2 p first (now .nullable) (now .ends)
           (c .either2 .result) (c .before .before .before .before .both .result) (c .before .before .either .result)
@@ -230,6 +247,23 @@ operand-pass-requires t c κs = (omega arith, c .before .before .before .before 
 
 operand-returns-2 : (t : ℕ) → operand-lts.Need-returns-2 (operand-calls t) (operand-at t) operand.Post
 operand-returns-2 t c = c .before .before .pass .ensures
+
+operand-in-turn-is-around-type-requires : (t : ℕ) → operand-in-turn-lts.Need-is-around-type-requires (operand-in-turn-calls t) (operand-in-turn-at t) operand-in-turn.Post
+operand-in-turn-is-around-type-requires t c κs = c .before .before .before .pre .1 .0
+
+operand-in-turn-around-type-requires : (t : ℕ) → operand-in-turn-lts.Need-around-type-requires (operand-in-turn-calls t) (operand-in-turn-at t) operand-in-turn.Post
+operand-in-turn-around-type-requires t c κs =
+    let pre = c .before .before .before .before .before .before .pre .1 in
+    (pre .0, c .before .before .is-around-type .ensures .0 (c .before .if1 .taken), pre .1)
+
+operand-in-turn-returns : (t : ℕ) → operand-in-turn-lts.Need-returns (operand-in-turn-calls t) (operand-in-turn-at t) operand-in-turn.Post
+operand-in-turn-returns t c = c .before .before .around-type .ensures
+
+operand-in-turn-operand-requires : (t : ℕ) → operand-in-turn-lts.Need-operand-requires (operand-in-turn-calls t) (operand-in-turn-at t) operand-in-turn.Post
+operand-in-turn-operand-requires t c κs = (omega arith, c .before .before .before .before .before .before .pre .1)
+
+operand-in-turn-returns-2 : (t : ℕ) → operand-in-turn-lts.Need-returns-2 (operand-in-turn-calls t) (operand-in-turn-at t) operand-in-turn.Post
+operand-in-turn-returns-2 t c = c .before .before .operand .ensures
 
 pass-shared-slice-read-wide : (t : ℕ) → pass-lts.Need-shared-slice-read-wide (pass-calls t) (pass-at t) pass.Post
 pass-shared-slice-read-wide t c = omega (arith, content-inside standard _ _ (c .before .before .before .before .pre .1 .0) .0)
@@ -532,8 +566,8 @@ pass-returns-8 t c =
     ∙ ap (λ (w : Walked). ended at (laws.orNone w)) (c .before .before .before .before .before .before .before .operand3 .ensures)
     ∙ sym (laws.walk-optional standard s at stands marks b has op)
 
-pub +each+in-turn+operand+pass-spec : {M : Type 1} → statement M
-+each+in-turn+operand+pass-spec = close μ-each μ-in-turn μ-operand μ-pass (λ t. each-lts.spec (each-calls t)
+pub +each+in-turn+operand+operand-in-turn+pass-spec : {M : Type 1} → statement M
++each+in-turn+operand+operand-in-turn+pass-spec = close μ-each μ-in-turn μ-operand μ-operand-in-turn μ-pass (λ t. each-lts.spec (each-calls t)
     (each-at t)
     each.Post
     each-Inv-loop
@@ -554,7 +588,7 @@ pub +each+in-turn+operand+pass-spec : {M : Type 1} → statement M
     in-turn-μ-loop
     (in-turn-loop-holds t)
     (in-turn-slice-read-went-on t)
-    (in-turn-operand-requires t)
+    (in-turn-operand-in-turn-requires t)
     (λ c κs. search needs)
     (λ c κs. search needs)
     (λ c κs. search needs)
@@ -575,6 +609,16 @@ pub +each+in-turn+operand+pass-spec : {M : Type 1} → statement M
     (operand-pass-requires t)
     (λ c. search needs)
     (operand-returns-2 t))
+    (λ t. operand-in-turn-lts.spec (operand-in-turn-calls t)
+    (operand-in-turn-at t)
+    operand-in-turn.Post
+    (operand-in-turn-is-around-type-requires t)
+    (operand-in-turn-around-type-requires t)
+    (λ c. search needs)
+    (operand-in-turn-returns t)
+    (operand-in-turn-operand-requires t)
+    (λ c. search needs)
+    (operand-in-turn-returns-2 t))
     λ t. pass-lts.spec (pass-calls t)
     (pass-at t)
     pass.Post
