@@ -90,6 +90,16 @@ static double timed(int measure, long repeats) {
     return (now() - begin) / repeats;
 }
 
+/* About the time of a call: the least of some tries, so that one that the machine held up does not count. */
+static double least_of_some(int measure) {
+    double least = timed(measure, 10);
+    for (int i = 0; i < 20; i++) {
+        double again = timed(measure, 10);
+        if (again < least) least = again;
+    }
+    return least;
+}
+
 static int ascending(const void *a, const void *b) {
     double x = *(const double *)a, y = *(const double *)b;
     return (x > y) - (x < y);
@@ -101,7 +111,7 @@ static void measure_file(double seconds) {
     long repeats[MEASURES];
     double *spent[MEASURES];
     for (int measure = 0; measure < MEASURES; measure++) {
-        repeats[measure] = (long)(round_seconds / (timed(measure, 100) + 1e-9)) + 1;
+        repeats[measure] = (long)(round_seconds / (least_of_some(measure) + 1e-9)) + 1;
         spent[measure] = malloc(rounds * sizeof *spent[measure]);
         if (spent[measure] == NULL) exit(2);
     }
