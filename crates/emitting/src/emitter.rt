@@ -408,11 +408,7 @@ pub fn gather_row(
         seen,
     ) {
         Gathering::TooLarge => Gathering::TooLarge,
-        Gathering::Upto {
-            next,
-            count: more,
-            end: last,
-        } => gather_row(
+        Gathering::Upto { next, count, end } => gather_row(
             content,
             next,
             n - 1,
@@ -421,8 +417,8 @@ pub fn gather_row(
             results,
             draft,
             base,
-            more,
-            last,
+            count,
+            end,
             limit,
             seen,
         ),
