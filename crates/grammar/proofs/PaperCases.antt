@@ -1,6 +1,7 @@
 -- The paper's cases P1 to P8, computed. (crates/theory states them as instances of the written meaning.)
+use Prim.Native.Nat.{ℕ}
 use mathlib.Core.Bool.{true, false}
-use mathlib.Core.List.{[]}
+use mathlib.Core.List.{List, []}
 use mathlib.Core.Path.{_≡_, refl}
 use lib.ListN.{length}
 use Rattle.grammar.specs.Limits.{standard}
@@ -8,12 +9,14 @@ use Rattle.grammar.specs.Names.{asciiClasses}
 use Rattle.grammar.specs.Table.{Table, emptyTable}
 use Rattle.grammar.specs.Kinds.{Kind, local, singleType}
 use Rattle.grammar.specs.Least.{byTable}
-use Rattle.grammar.specs.Outcome.{Outcome, given, refused}
+use Rattle.grammar.specs.Outcome.{Outcome, given, _>>=_}
 use Rattle.grammar.specs.ReadTable.{readTable}
 use Rattle.grammar.specs.ReadDocument.{readDocument}
 use Rattle.grammar.specs.Membership.{letsIn}
 use Rattle.grammar.specs.Widen.{widen}
-use Rattle.grammar.specs.declared.Refusal.the-variants.{FieldPastEnd, NoDocument}
+use Rattle.grammar.specs.Answers.{numberAfter}
+use Rattle.grammar.specs.Calls.{writtenTo, readAddition}
+use Rattle.grammar.specs.declared.Source.the-variants.{Table as aTable}
 use Rattle.grammar.proofs.PaperTables.{
   p1Bytes,
   p1Table,
@@ -47,29 +50,31 @@ pub p2-let-in : letsIn p1Table p2Document ≡ true
 unfolding letsIn p1Table p2Document
 p2-let-in = refl
 
-pub p3 : readTable standard asciiClasses [] ≡ refused FieldPastEnd
-unfolding readTable standard
+pub p3 : numberAfter (readTable standard asciiClasses []) ≡ 3
+unfolding readTable standard numberAfter
 p3 = refl
 
-pub p3-document : readDocument standard asciiClasses [] ≡ refused FieldPastEnd
-unfolding readDocument standard
+pub p3-document : numberAfter (readDocument standard asciiClasses []) ≡ 3
+unfolding readDocument standard numberAfter
 p3-document = refl
 
-pub e-reads : readTable standard asciiClasses eBytes ≡ given emptyTable
-unfolding readTable standard eBytes
-e-reads = refl
+-- E widened by E, from their bytes
+abbrev pub eByE : Kind → List ℕ → Outcome (List ℕ)
+eByE kind out =
+    readTable standard asciiClasses eBytes
+    >>= λ g. (readAddition standard asciiClasses aTable eBytes >>= λ a. (widen standard kind g a >>= λ r. writtenTo out r))
+
+pub p4-local : (out : List ℕ) → numberAfter (eByE local out) ≡ 13
+unfolding readTable readAddition widen standard eBytes numberAfter
+p4-local out = refl
+
+pub p4-single-type : (out : List ℕ) → numberAfter (eByE singleType out) ≡ 13
+unfolding readTable readAddition widen standard eBytes numberAfter
+p4-single-type out = refl
 
 -- widened by E
 abbrev pub alone : Kind → Table → Outcome Table
 alone kind g = widen standard kind g (byTable emptyTable)
-
-pub p4-local : alone local emptyTable ≡ refused NoDocument
-unfolding widen standard
-p4-local = refl
-
-pub p4-single-type : alone singleType emptyTable ≡ refused NoDocument
-unfolding widen standard
-p4-single-type = refl
 
 pub p5-local : alone local p5Table ≡ given p5Local
 unfolding widen standard p5Table p5Local

@@ -13,8 +13,9 @@ use Rattle.grammar.specs.Outcome.{Outcome, given, refused}
 use Rattle.grammar.specs.Fields.{fieldBytes}
 use Rattle.grammar.specs.ReadTable.{readTable, labelTag, startTag, ruleTag}
 use Rattle.grammar.specs.ReadDocument.{nodeTag, readNodes}
-use Rattle.grammar.specs.Calls.{tableReads, labelName, widenedByTable, widenedByDocument}
+use Rattle.grammar.specs.Calls.{tableReads, labelName, widened}
 use Rattle.grammar.specs.Listing.{typeText}
+use Rattle.grammar.specs.declared.Source.the-variants.{Table as aTable, Document as aDocument}
 use Rattle.grammar.specs.declared.Refusal.the-variants.{
   WorkTooShort,
   InputTooLong,
@@ -139,21 +140,21 @@ unfolding readNodes standard asciiClasses nodeField endOfDocument
 after-the-tree = refl
 
 -- the old table before the addition, to its end: its 12 before the addition's 3, and before the addition's 2
-old-before-addition : widenedByTable standard asciiClasses local (eBytes ++ 0 ∷ []) [] [] enough ≡ refused BytesAfterEnd
-unfolding widenedByTable standard eBytes enough
+old-before-addition : widened standard asciiClasses local aTable (eBytes ++ 0 ∷ []) [] [] enough ≡ refused BytesAfterEnd
+unfolding widened standard eBytes enough
 old-before-addition = refl
 
-old-before-length : widenedByTable standard asciiClasses local [] (replicate 32769 0) [] enough ≡ refused FieldPastEnd
-unfolding widenedByTable standard enough
+old-before-length : widened standard asciiClasses local aTable [] (replicate 32769 0) [] enough ≡ refused FieldPastEnd
+unfolding widened standard enough
 old-before-length = refl
 
 -- reading before 13, and 13 before 15
-reading-before-widening : widenedByTable standard asciiClasses local eBytes (eBytes ++ 0 ∷ []) [] enough ≡ refused BytesAfterEnd
-unfolding widenedByTable standard eBytes enough
+reading-before-widening : widened standard asciiClasses local aTable eBytes (eBytes ++ 0 ∷ []) [] enough ≡ refused BytesAfterEnd
+unfolding widened standard eBytes enough
 reading-before-widening = refl
 
-document-before-output : widenedByTable standard asciiClasses local eBytes eBytes [] enough ≡ refused NoDocument
-unfolding widenedByTable standard eBytes enough
+document-before-output : widened standard asciiClasses local aTable eBytes eBytes [] enough ≡ refused NoDocument
+unfolding widened standard eBytes enough
 document-before-output = refl
 
 -- a root with 64 children of different names: its sample has 65 types
@@ -163,8 +164,8 @@ wideDocument =
     nodeField "a" 64 ++ joinedOf (λ k. fieldBytes nodeTag (0 ∷ typeText k)) (numbersBelow 64) ++ endOfDocument
 
 -- 14 of the sample first, before 15
-sample-before-output : widenedByDocument standard asciiClasses local eBytes wideDocument [] enough ≡ refused ResultTooLarge
-unfolding widenedByDocument standard asciiClasses eBytes wideDocument enough
+sample-before-output : widened standard asciiClasses local aDocument eBytes wideDocument [] enough ≡ refused ResultTooLarge
+unfolding widened standard asciiClasses eBytes wideDocument enough
 sample-before-output = refl
 
 -- a caller's label number is tried after its table
@@ -177,10 +178,10 @@ unfolding labelName standard asciiClasses p1Bytes enough
 label-out-of-range = refl
 
 -- 15: a result of 17 bytes and an output of 16
-output-too-short : widenedByTable standard asciiClasses local p1Bytes eBytes (replicate 16 0) enough ≡ refused OutputTooShort
-unfolding widenedByTable standard asciiClasses p1Bytes eBytes enough
+output-too-short : widened standard asciiClasses local aTable p1Bytes eBytes (replicate 16 0) enough ≡ refused OutputTooShort
+unfolding widened standard asciiClasses p1Bytes eBytes enough
 output-too-short = refl
 
-output-just-enough : widenedByTable standard asciiClasses local p1Bytes eBytes (replicate 17 0) enough ≡ given p1Bytes
-unfolding widenedByTable standard asciiClasses p1Bytes eBytes enough
+output-just-enough : widened standard asciiClasses local aTable p1Bytes eBytes (replicate 17 0) enough ≡ given p1Bytes
+unfolding widened standard asciiClasses p1Bytes eBytes enough
 output-just-enough = refl

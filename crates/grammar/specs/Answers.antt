@@ -4,6 +4,7 @@ use mathlib.Core.Bool.{Bool, true, false}
 use mathlib.Core.List.{List}
 use lib.ListN.{length}
 use Rattle.grammar.specs.Outcome.{Outcome, given, refused, number}
+use Rattle.grammar.specs.declared.Refusal.{Refusal}
 use Rattle.grammar.specs.declared.Reading.{Reading}
 use Rattle.grammar.specs.declared.Reading.the-variants.{Readable, Refused as Unreadable}
 use Rattle.grammar.specs.declared.Verdict.{Verdict}
@@ -17,21 +18,43 @@ pub record Numbers : Type 0 where
   pub refusal : ℕ
   pub value : ℕ
 
-unfoldable pub readingNumbers : Reading → Numbers
+unfoldable pub refusedBy : Refusal → Numbers
 unfolding number
-readingNumbers Readable = record { refusal = 0; value = 1 }
-readingNumbers (Unreadable r) = record { refusal = number r; value = 0 }
+refusedBy r = record { refusal = number r; value = 0 }
+
+abbrev pub saysYes : Numbers
+saysYes = record { refusal = 0; value = 1 }
+
+abbrev pub saysNo : Numbers
+saysNo = record { refusal = 0; value = 0 }
+
+-- the numbers of each case of the enums
+unfoldable pub readingNumbers : Reading → Numbers
+unfolding refusedBy
+readingNumbers Readable = saysYes
+readingNumbers (Unreadable r) = refusedBy r
 
 unfoldable pub verdictNumbers : Verdict → Numbers
-unfolding number
-verdictNumbers Yes = record { refusal = 0; value = 1 }
-verdictNumbers No = record { refusal = 0; value = 0 }
-verdictNumbers (Undecided r) = record { refusal = number r; value = 0 }
+unfolding refusedBy
+verdictNumbers Yes = saysYes
+verdictNumbers No = saysNo
+verdictNumbers (Undecided r) = refusedBy r
 
 unfoldable pub writtenNumbers : Written → Numbers
-unfolding number
+unfolding refusedBy
 writtenNumbers (Length n) = record { refusal = 0; value = n }
-writtenNumbers (Unwritten r) = record { refusal = number r; value = 0 }
+writtenNumbers (Unwritten r) = refusedBy r
+
+-- the numbers of an outcome, by the value of what was given
+unfoldable pub numbersOf : {A : Type 0} → (A → ℕ) → Outcome A → Numbers
+unfolding refusedBy
+numbersOf value (given a) = record { refusal = 0; value = value a }
+numbersOf value (refused r) = refusedBy r
+
+-- the value of yes or no
+unfoldable pub bit : Bool → ℕ
+bit true = 1
+bit false = 0
 
 -- the enum that answers for an outcome
 unfoldable pub reading : {A : Type 0} → Outcome A → Reading

@@ -1,4 +1,4 @@
--- The whole outcome of every public call, and the final content of each lent slice.
+-- The whole outcome of every public call, and what it leaves in each lent slice.
 use Prim.Native.Nat.{ℕ, _+_}
 use mathlib.Core.Bool.{Bool, true, false}
 use mathlib.Core.List.{List, [], _++_}
@@ -10,15 +10,18 @@ use Rattle.grammar.specs.Names.{Name, Classes}
 use Rattle.grammar.specs.Tree.{Tree}
 use Rattle.grammar.specs.Table.{Table}
 use Rattle.grammar.specs.Kinds.{Kind}
-use Rattle.grammar.specs.Least.{byTable, byDocument}
+use Rattle.grammar.specs.Least.{Addition, byTable, byDocument}
 use Rattle.grammar.specs.Outcome.{Outcome, given, refused, _>>=_, _>>_, turnBack}
 use Rattle.grammar.specs.Fields.{fieldBytes}
 use Rattle.grammar.specs.ReadTable.{labelTag, readTable}
 use Rattle.grammar.specs.ReadDocument.{readDocument}
 use Rattle.grammar.specs.WriteTable.{tableBytes}
 use Rattle.grammar.specs.Membership.{letsIn}
-use Rattle.grammar.specs.KindTests.{isLocal, isSingleType}
+use Rattle.grammar.specs.KindTests.{isOfKind}
 use Rattle.grammar.specs.Widen.{widen, sampleTable}
+use Rattle.grammar.specs.Answers.{Numbers, numbersOf, numberAfter}
+use Rattle.grammar.specs.declared.Source.{Source}
+use Rattle.grammar.specs.declared.Source.the-variants.{Table as aTable, Document as aDocument}
 use Rattle.grammar.specs.declared.Refusal.the-variants.{WorkTooShort, OutOfRange, OutputTooShort}
 
 -- Working memory is lent to every call.
@@ -48,7 +51,11 @@ pub record Part : Type 0 where
   pub from : ℕ
   pub size : ℕ
 
--- the bytes of a part; a refusal gives an empty part
+-- where a part begins, and its bytes; a refusal gives an empty part
+unfoldable pub partFrom : Outcome Part → ℕ
+partFrom (refused r) = 0
+partFrom (given p) = p .from
+
 unfoldable pub partBytes : Outcome Part → List ℕ → List ℕ
 partBytes (refused r) bytes = []
 partBytes (given p) bytes = take (p .size) (drop (p .from) bytes)
@@ -88,17 +95,11 @@ module _ (lim : Limits) (classes : Classes) where
     d ← readDocument lim classes document
     given (letsIn g d)
 
-  unfoldable pub tableIsLocal : List ℕ → List ℕ → Outcome Bool
-  unfolding tableReads isLocal
-  tableIsLocal table work = do
+  unfoldable pub tableIsOfKind : Kind → List ℕ → List ℕ → Outcome Bool
+  unfolding tableReads isOfKind
+  tableIsOfKind kind table work = do
     g ← tableReads table work
-    given (isLocal g)
-
-  unfoldable pub tableIsSingleType : List ℕ → List ℕ → Outcome Bool
-  unfolding tableReads isSingleType
-  tableIsSingleType table work = do
-    g ← tableReads table work
-    given (isSingleType g)
+    given (isOfKind kind g)
 
   unfoldable pub documentSample : List ℕ → List ℕ → List ℕ → Outcome (List ℕ)
   unfolding documentReads sampleTable writtenTo
@@ -107,19 +108,45 @@ module _ (lim : Limits) (classes : Classes) where
     g ← sampleTable lim d
     writtenTo out g
 
+  -- what the bytes of an addition read as
+  unfoldable pub readAddition : Source → List ℕ → Outcome Addition
+  unfolding readTable readDocument
+  readAddition aTable bytes = readTable lim classes bytes >>= λ g. given (byTable g)
+  readAddition aDocument bytes = readDocument lim classes bytes >>= λ d. given (byDocument d)
+
   -- the old table first
-  unfoldable pub widenedByTable : Kind → List ℕ → List ℕ → List ℕ → List ℕ → Outcome (List ℕ)
-  unfolding tableReads readTable widen writtenTo
-  widenedByTable kind old addition out work = do
+  unfoldable pub widened : Kind → Source → List ℕ → List ℕ → List ℕ → List ℕ → Outcome (List ℕ)
+  unfolding tableReads readAddition widen writtenTo
+  widened kind source old addition out work = do
     g ← tableReads old work
-    a ← readTable lim classes addition
-    result ← widen lim kind g (byTable a)
+    a ← readAddition source addition
+    result ← widen lim kind g a
     writtenTo out result
 
-  unfoldable pub widenedByDocument : Kind → List ℕ → List ℕ → List ℕ → List ℕ → Outcome (List ℕ)
-  unfolding tableReads readDocument widen writtenTo
-  widenedByDocument kind old document out work = do
-    g ← tableReads old work
-    d ← readDocument lim classes document
-    result ← widen lim kind g (byDocument d)
-    writtenTo out result
+-- What a call leaves: its answer, the output and the working memory. A call that is lent no output leaves no bytes there.
+pub record After (Answer : Type 0) : Type 0 where
+  pub answer : Answer
+  pub out : List ℕ
+  pub work : List ℕ
+
+abbrev pub after : {Answer : Type 0} → Answer → List ℕ → List ℕ → After Answer
+after answer out work = record { answer = answer; out = out; work = work }
+
+-- by its outcome: a call that reads or decides, a call that writes a table
+unfoldable pub answered : {A : Type 0} → Limits → (A → ℕ) → Outcome A → List ℕ → After Numbers
+unfolding numbersOf workAfter
+answered lim value o work = after (numbersOf value o) [] (workAfter lim work)
+
+unfoldable pub wrote : Limits → Outcome (List ℕ) → List ℕ → List ℕ → After Numbers
+unfolding numbersOf outAfter workAfter
+wrote lim o out work = after (numbersOf length o) (outAfter o out) (workAfter lim work)
+
+-- the part of a table that is a name, and the lent number
+pub record NamePart : Type 0 where
+  pub bytes : List ℕ
+  pub refusal : ℕ
+
+-- and a call that gives a part of its table
+unfoldable pub named : Limits → Outcome Part → List ℕ → List ℕ → After NamePart
+unfolding partBytes numberAfter workAfter
+named lim o table work = after (record { bytes = partBytes o table; refusal = numberAfter o }) [] (workAfter lim work)

@@ -6,6 +6,7 @@ use lib.Dec.{eqb}
 use Rattle.grammar.specs.Lists.{any, all, allDistinct}
 use Rattle.grammar.specs.Content.{typesIn}
 use Rattle.grammar.specs.Table.{Rule, Table}
+use Rattle.grammar.specs.Kinds.{Kind, local, singleType}
 
 unfoldable pub sameLabel : Rule → Rule → Bool
 sameLabel r s = eqb (r .label) (s .label)
@@ -31,3 +32,8 @@ unfoldable pub isSingleType : Table → Bool
 unfolding allDistinct samePair all noneCompete typesIn
 isSingleType g =
     allDistinct samePair (g .rules) && noneCompete g (g .starts) && all (λ (r : Rule). noneCompete g (typesIn (r .content))) (g .rules)
+
+unfoldable pub isOfKind : Kind → Table → Bool
+unfolding isLocal isSingleType
+isOfKind local g = isLocal g
+isOfKind singleType g = isSingleType g

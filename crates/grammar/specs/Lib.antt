@@ -28,6 +28,7 @@ pub mod Tidy
 pub mod Size
 pub mod Widen
 pub mod Claim
-pub mod Calls
 pub mod Answers
+pub mod Calls
+pub mod Promises
 pub mod Listing

@@ -1,4 +1,4 @@
-// The answers of the public calls. crates/grammar/specs gives each case its number and its values.
+// The answers of the public calls, whose cases crates/grammar/specs gives numbers and values, and the sorts of addition.
 
 // Why a call turned its input back, in the order in which the reasons are tried.
 pub enum Refusal {
@@ -36,4 +36,10 @@ pub enum Verdict {
 pub enum Written {
     Length(usize),
     Refused(Refusal),
+}
+
+// What an addition is read as.
+pub enum Source {
+    Table,
+    Document,
 }

@@ -9,7 +9,6 @@ pub mod Membership
 pub mod KindTests
 pub mod ContentBytes
 pub mod FieldBytes
-pub mod PaperTheorem
 pub mod TreeParts
 pub mod Automaton
 pub mod Covering
@@ -24,6 +23,7 @@ pub mod TableAutomaton
 pub mod TreeAutomaton
 pub mod ReducedTable
 pub mod OutcomeLaws
+pub mod AnswerNumbers
 pub mod ReadSteps
 pub mod TableBytes
 pub mod ReadWithin
@@ -78,3 +78,5 @@ pub mod MarkedRun
 pub mod MarkedPass
 pub mod WideningTheorem
 pub mod WideningCorollaries
+pub mod CallPromises
+pub mod PaperTheorem
