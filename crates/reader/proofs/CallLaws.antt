@@ -1,67 +1,102 @@
 -- The public calls of the reader, case by case.
-use Prim.Native.Nat.{ℕ, _≤_, _<_}
+use Prim.Native.Nat.{ℕ, _+_, _-_, _≤_, _<_}
 use native.Mathlib.Omega.{arith}
 use mathlib.Core.List.{List, []}
-use mathlib.Core.Path.{_≡_, sym, _∙_, ap, subst}
+use mathlib.Core.Path.{_≡_, refl, sym, _∙_, ap, subst}
 use lib.Dec.{leb}
 use lib.ListN.{length, getD}
 use Rattle.grammar.specs.Limits.{standard}
 use Rattle.grammar.specs.Names.{asciiClasses}
 use Rattle.grammar.specs.Table.{Table}
 use Rattle.grammar.specs.Outcome.{Outcome, given, refused, _>>=_, _>>_, turnBack, number}
-use Rattle.grammar.specs.Answers.{reading, numberAfter}
+use Rattle.grammar.specs.Answers.{Numbers, refusedBy, readingNumbers, numbersOf, reading, numberAfter}
 use Rattle.grammar.specs.ReadTable.{readTable}
 use Rattle.grammar.specs.ReadDocument.{readDocument}
-use Rattle.grammar.specs.Calls.{Part, workAfter, partBytes, partOfLabel, tableReads, documentReads, labelName}
+use Rattle.grammar.specs.Calls.{
+  Part,
+  workAfter,
+  partFrom,
+  partBytes,
+  partOfLabel,
+  after,
+  answered,
+  named,
+  tableReads,
+  documentReads,
+  labelName,
+}
+use Rattle.grammar.specs.Promises.{TableReading, DocumentReading, Naming, PartOf}
 use Rattle.grammar.specs.declared.Refusal.{Refusal}
 use Rattle.grammar.specs.declared.Refusal.the-variants.{WorkTooShort, OutOfRange}
 use Rattle.grammar.specs.declared.Reading.{Reading}
 use Rattle.grammar.specs.declared.Reading.the-variants.{Readable, Refused as Unreadable}
-use Rattle.reader.specs.declared.calls.LabelFound.{LabelFound}
-use Rattle.reader.specs.declared.calls.LabelFound.the-variants.{At, Refused as Unfound}
+use Rattle.theory.proofs.AnswerNumbers.{reading-numbers}
+use Rattle.reader.specs.declared.label_places.LabelFound.{LabelFound}
+use Rattle.reader.specs.declared.label_places.LabelFound.the-variants.{At, Refused as Unfound}
 use Rattle.reader.specs.declared.tables.TableRead.{TableRead}
 use Rattle.reader.specs.declared.documents.DocumentRead.{DocumentRead}
 use Rattle.reader.specs.DocumentNodes.{DocumentReads}
-use Rattle.reader.specs.TableIndex.{part, labelFrom, labelTo, Inside, Indexes, Reads}
-use Rattle.reader.specs.ReaderCalls.{TableAnswered, DocumentAnswered, LabelAnswered, LabelSought, labelIn}
-use Rattle.reader.proofs.AnswerLaws.{unreadable, was-readable, was-unreadable}
+use Rattle.reader.specs.TableIndex.{part, labelFrom, labelTo, Inside, Reads}
+use Rattle.reader.specs.TableFound.{TableFound}
+use Rattle.reader.specs.LabelPlaces.{LabelSought, labelIn, nameBegins}
+use Rattle.reader.proofs.AnswerLaws.{was-unreadable}
 use Rattle.reader.proofs.DocumentAnswers.{document-answer}
-use Rattle.reader.proofs.LabelParts.{are-bytes, label-part, label-unread, label-past, label-found}
-use Rattle.reader.proofs.TableIndexLaws.{label-at}
+use Rattle.reader.proofs.LabelParts.{are-bytes, label-unread, label-past}
+use Rattle.reader.proofs.LabelPlaceLaws.{place-found}
+use Rattle.reader.proofs.TableFound.{table-found}
 use Rattle.reader.proofs.WorkLaws.{work-kept, lent-short, lent-enough}
 
+-- What a call leaves, by its outcome
+module _ {A : Type 0} (value : A → ℕ) (o : Outcome A) (work : List ℕ) where
+  pub left-as : (numbers : Numbers) (left : List ℕ) → numbers ≡ numbersOf value o → left ≡ workAfter standard work
+      → after numbers [] left ≡ answered standard value o work
+  unfolding answered
+  left-as numbers left e w = ap (λ (n : Numbers). after n [] left) e ∙ ap (λ (l : List ℕ). after (numbersOf value o) [] l) w
+
+  -- one that was lent too few words
+  pub left-short : length work < 16384 → o ≡ refused WorkTooShort → after (refusedBy WorkTooShort) [] work ≡ answered standard value o work
+  unfolding numbersOf
+  left-short h e = left-as (refusedBy WorkTooShort) work (sym (ap (numbersOf value) e)) (work-kept work h)
+
 module _ (table work : List ℕ) where
-  pub table-unanswered : length work < 16384 → TableAnswered table work work (Unreadable WorkTooShort)
-  unfolding tableReads
+  pub table-unanswered : length work < 16384
+      → TableReading standard asciiClasses table work (after (readingNumbers (Unreadable WorkTooShort)) [] work)
+  unfolding tableReads readingNumbers
   table-unanswered h =
-      record {
-        answer-is = sym (unreadable _ WorkTooShort (lent-short work (readTable standard asciiClasses table) h));
-        work-left = work-kept work h;
-      }
+      record { settled = left-short (λ g. 1) _ work h (lent-short work (readTable standard asciiClasses table) h) }
 
   pub table-answered : 16384 ≤ length work → (left : List ℕ) → left ≡ workAfter standard work → (answer : Reading)
-      → answer ≡ reading (readTable standard asciiClasses table) → TableAnswered table work left answer
+      → answer ≡ reading (readTable standard asciiClasses table)
+      → TableReading standard asciiClasses table work (after (readingNumbers answer) [] left)
   unfolding tableReads
   table-answered h left w answer a =
-      record { answer-is = a ∙ ap reading (sym (lent-enough work (readTable standard asciiClasses table) h)); work-left = w }
-
-module _ (document work : List ℕ) where
-  pub document-unanswered : length work < 16384 → DocumentAnswered document work work (Unreadable WorkTooShort)
-  unfolding documentReads
-  document-unanswered h =
+      let o = readTable standard asciiClasses table in
       record {
-        answer-is = sym (unreadable _ WorkTooShort (lent-short work (readDocument standard asciiClasses document) h));
-        work-left = work-kept work h;
+        settled =
+            left-as (λ g. 1) _ work (readingNumbers answer) left
+            (ap readingNumbers a ∙ reading-numbers o ∙ ap (numbersOf (λ g. 1)) (sym (lent-enough work o h)))
+            w;
       }
 
+module _ (document work : List ℕ) where
+  pub document-unanswered : length work < 16384
+      → DocumentReading standard asciiClasses document work (after (readingNumbers (Unreadable WorkTooShort)) [] work)
+  unfolding documentReads readingNumbers
+  document-unanswered h =
+      record { settled = left-short (λ d. 1) _ work h (lent-short work (readDocument standard asciiClasses document) h) }
+
   pub document-answered : 16384 ≤ length work → (left : List ℕ) → left ≡ workAfter standard work → (r : DocumentRead)
-      → DocumentReads document r → DocumentAnswered document work left (r .answer)
+      → DocumentReads document r → DocumentReading standard asciiClasses document work (after (readingNumbers (r .answer)) [] left)
   unfolding documentReads
   document-answered h left w r d =
+      let o = readDocument standard asciiClasses document in
       record {
-        answer-is =
-            sym (ap reading (lent-enough work (readDocument standard asciiClasses document) h) ∙ document-answer document r d);
-        work-left = w;
+        settled =
+            left-as (λ t. 1) _ work (readingNumbers (r .answer)) left
+            (ap readingNumbers (sym (document-answer document r d))
+            ∙ reading-numbers o
+            ∙ ap (numbersOf (λ t. 1)) (sym (lent-enough work o h)))
+            w;
       }
 
 -- looking for a label
@@ -76,10 +111,12 @@ module _ (s : List ℕ) (o : Outcome Part) where
       same : {r : Refusal} → Unfound q ≡ Unfound r → q ≡ r
       same p = cc
 
-  sought-at : (from to : ℕ) (p : Part) → Inside s from to → part s from to ≡ partBytes o s → o ≡ given p → LabelSought s o (At from to)
-  sought-at from to p h b e =
+  sought-at : (from to : ℕ) → Inside s from to → o ≡ given (record { from = from; size = to - from }) → LabelSought s o (At from to)
+  sought-at from to h e =
       record {
-        found = λ f t q. subst₂ f t (first q) (second q);
+        found = λ f t q.
+            subst (λ (m : ℕ). Inside s m t × (o ≡ given (record { from = m; size = t - m }))) (first q)
+            (subst (λ (m : ℕ). Inside s from m × (o ≡ given (record { from = from; size = m - from }))) (second q) (h, e));
         unfound = λ r q. let z : _≡_ {A = ℕ} 0 1 = cc in absurd (omega arith);
       }
     where
@@ -89,51 +126,27 @@ module _ (s : List ℕ) (o : Outcome Part) where
       second : {f t : ℕ} → At from to ≡ At f t → to ≡ t
       second q = cc
 
-      subst₂ : (f t : ℕ) → from ≡ f → to ≡ t → Inside s f t × (part s f t ≡ partBytes o s) × ((r : Part) × (o ≡ given r))
-      subst₂ f t x y = (
-        subst (λ (n : ℕ). Inside s n t) x (subst (λ (n : ℕ). Inside s from n) y h),
-        ap (λ (n : ℕ). part s f n) (sym y) ∙ ap (λ (n : ℕ). part s n to) (sym x) ∙ b,
-        (p, e),
-      )
-
 module _ (s : List ℕ) (label : ℕ) (r : TableRead) (so : Reads s (readTable standard asciiClasses s) r) where
   pub find-unread : (q : Refusal) → r .answer ≡ Unreadable q → LabelSought s (labelIn s label) (Unfound q)
   find-unread q e =
       sought-none s (labelIn s label) q (label-unread s label q (was-unreadable (readTable standard asciiClasses s) q (sym (so .answer) ∙ e)))
 
   module _ (e : r .answer ≡ Readable) where
-    table : Table
-    table = was-readable (readTable standard asciiClasses s) (sym (so .answer) ∙ e) .0
-
-    read : readTable standard asciiClasses s ≡ given table
-    unfolding table
-    read = was-readable (readTable standard asciiClasses s) (sym (so .answer) ∙ e) .1
-
-    indexed : Indexes s (r .index) table
-    indexed = so .index table read
-
-    pub few-found : r .index .labels ≤ 64
-    few-found = indexed .few-labels
+    pub table-there : TableFound s (r .index)
+    table-there = table-found s r so e
 
     pub find-past : r .index .labels ≤ label → LabelSought s (labelIn s label) (Unfound OutOfRange)
-    find-past h = sought-none s (labelIn s label) OutOfRange (label-past s label table read (omega (arith, indexed .labels)))
+    find-past h =
+        let f = table-found s r so e in
+        sought-none s (labelIn s label) OutOfRange (label-past s label (f .table) (f .read) (omega (arith, f .indexes .labels)))
 
-    pub find-at : label < r .index .labels → ((i : ℕ) → getD s i 0 < 256)
-        → LabelSought s (labelIn s label) (At (labelFrom (r .index) label) (labelTo (r .index) label))
-    find-at h small =
-        let w = label-at indexed label h in
-        let o = label-found s label table read (omega (arith, indexed .labels)) in
-        sought-at
-        s
-        (labelIn s label)
-        (labelFrom (r .index) label)
-        (labelTo (r .index) label)
-        (partOfLabel (table .labels) label)
-        (w .2 .inside)
-        (w .2 .bytes-are
-        ∙ sym (label-part standard asciiClasses s table (are-bytes s small) read label (w .0) (w .1))
-        ∙ ap (λ (z : Outcome Part). partBytes z s) (sym o))
-        o
+    pub find-at : label < r .index .labels → ((i : ℕ) → getD s i 0 < 256) → (from : ℕ)
+        → ((f : TableFound s (r .index)) → from ≡ nameBegins (f .table .labels) label)
+        → LabelSought s (labelIn s label) (At from (from + (labelTo (r .index) label - labelFrom (r .index) label)))
+    find-at h small from begins =
+        let f = table-found s r so e in
+        let p = place-found f (are-bytes s small) label h from (begins f) in
+        sought-at s (labelIn s label) from _ (p .0) (p .1)
 
 module _ (table : List ℕ) (label : ℕ) (work : List ℕ) where
   label-name-short : length work < 16384 → labelName standard asciiClasses table label work ≡ refused WorkTooShort
@@ -150,36 +163,44 @@ module _ (table : List ℕ) (label : ℕ) (work : List ℕ) where
       (λ (o : Outcome Table). o >>= (λ g. turnBack (leb (length (g .labels)) label) OutOfRange >> given (partOfLabel (g .labels) label)))
       (lent-enough work (readTable standard asciiClasses table) h)
 
+  -- what is told of a part at a place in memory
+  abbrev Told : List ℕ → ℕ × ℕ → ℕ → List ℕ → ℕ × ℕ → Type 0
+  Told left input n bytes at =
+      Naming standard asciiClasses table label work (after (record { bytes = bytes; refusal = n }) [] left)
+      × PartOf input (labelName standard asciiClasses table label work) at
+
   -- a refusal, and a name that was found
-  refused-so : (r : Refusal) (left : List ℕ) → labelName standard asciiClasses table label work ≡ refused r → left ≡ workAfter standard work
-      → LabelAnswered table label work left (number r) []
-  unfolding partBytes numberAfter
-  refused-so r left e w =
+  module _ (left : List ℕ) (w : left ≡ workAfter standard work) (input at : ℕ × ℕ) (block : at .0 ≡ input .0) where
+    refused-so : at .1 ≡ input .1 + 0 → (r : Refusal) → labelName standard asciiClasses table label work ≡ refused r
+        → Told left input (number r) [] at
+    unfolding named partBytes partFrom numberAfter
+    refused-so offset r e = (
       record {
-        name-is = sym (ap (λ (o : Outcome Part). partBytes o table) e);
-        number-is = sym (ap numberAfter e);
-        work-left = w;
-      }
+        settled =
+            ap (λ (l : List ℕ). after (record { bytes = []; refusal = number r }) [] l) w
+            ∙ sym (ap (λ (o : Outcome Part). named standard o table work) e);
+      },
+      record { block = block; offset = offset ∙ ap (λ (o : Outcome Part). input .1 + partFrom o) (sym e) },
+    )
 
-  pub label-unanswered : length work < 16384 → LabelAnswered table label work work 1 []
-  unfolding number
-  label-unanswered h = refused-so WorkTooShort work (label-name-short h) (work-kept work h)
+    pub label-unanswered : at .1 ≡ input .1 + 0 → length work < 16384 → Told left input 1 [] at
+    unfolding number
+    label-unanswered offset h = refused-so offset WorkTooShort (label-name-short h)
 
-  module _ (h : 16384 ≤ length work) (left : List ℕ) (w : left ≡ workAfter standard work) (found : LabelFound)
-      (so : LabelSought table (labelIn table label) found) where
-    pub label-refused : (r : Refusal) → found ≡ Unfound r → (n : ℕ) → n ≡ number r → LabelAnswered table label work left n []
-    label-refused r e n m =
-        subst
-        (λ (k : ℕ). LabelAnswered table label work left k [])
-        (sym m)
-        (refused-so r left (label-name-enough h ∙ so .unfound r e) w)
+    module _ (h : 16384 ≤ length work) (found : LabelFound) (so : LabelSought table (labelIn table label) found) where
+      pub label-refused : at .1 ≡ input .1 + 0 → (r : Refusal) → found ≡ Unfound r → (n : ℕ) → n ≡ number r → Told left input n [] at
+      label-refused offset r e n m =
+          subst (λ (k : ℕ). Told left input k [] at) (sym m) (refused-so offset r (label-name-enough h ∙ so .unfound r e))
 
-    pub label-given : (from to : ℕ) → found ≡ At from to → LabelAnswered table label work left 0 (part table from to)
-    unfolding numberAfter
-    label-given from to e =
-        let f = so .found from to e in
-        record {
-          name-is = f .1 ∙ ap (λ (o : Outcome Part). partBytes o table) (sym (label-name-enough h));
-          number-is = sym (ap numberAfter (label-name-enough h ∙ f .2 .1));
-          work-left = w;
-        }
+      pub label-given : (from to : ℕ) → at .1 ≡ input .1 + from → found ≡ At from to → Told left input 0 (part table from to) at
+      unfolding named partBytes partFrom numberAfter
+      label-given from to offset e =
+          let o : labelName standard asciiClasses table label work ≡ given (record { from = from; size = to - from }) =
+          label-name-enough h ∙ so .found from to e .1 in (
+            record {
+              settled =
+                  ap (λ (l : List ℕ). after (record { bytes = part table from to; refusal = 0 }) [] l) w
+                  ∙ sym (ap (λ (x : Outcome Part). named standard x table work) o);
+            },
+            record { block = block; offset = offset ∙ ap (λ (x : Outcome Part). input .1 + partFrom x) (sym o) },
+          )

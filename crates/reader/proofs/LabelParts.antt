@@ -7,7 +7,7 @@ use mathlib.Core.List.{List, [], _∷_, _++_, append-assoc}
 use mathlib.Core.Option.{some as just}
 use mathlib.Core.Path.{_≡_, refl, sym, _∙_, ap, ap₂, subst}
 use lib.Dec.{leb}
-use lib.ListN.{length, getD, getElem?, take, drop, length-append}
+use lib.ListN.{length, getD, getElem?, take, drop, length-append, length-drop}
 use lib.Seq.{drop-drop, drop-append-add, take-append-seam}
 use borrow.Author.Tests.{le-leb, lt-leb}
 use Rattle.grammar.specs.Lists.{joinedOf}
@@ -25,8 +25,9 @@ use Rattle.theory.proofs.FieldBytes.{AreBytes}
 use Rattle.theory.proofs.ListLaws.{mem-at, just-eq, at-else}
 use Rattle.theory.proofs.OutcomeLaws.{given-then, no-fault}
 use Rattle.theory.proofs.ReadWithin.{read-was}
-use Rattle.reader.specs.ReaderCalls.{labelIn}
+use Rattle.reader.specs.LabelPlaces.{labelIn}
 use Rattle.reader.proofs.AnswerLaws.{fault}
+use Rattle.reader.proofs.FieldReading.{field-length}
 
 -- bytes, one by one
 pub are-bytes : (s : List ℕ) → ((i : ℕ) → getD s i 0 < 256) → AreBytes s
@@ -71,6 +72,17 @@ module _ (lim : Limits) (classes : Classes) (s : List ℕ) (g : Table) (small : 
     where
       behind : (m after : List ℕ) → drop 3 (fieldBytes labelTag m ++ after) ≡ m ++ after
       behind m after = refl
+
+  pub label-inside : (i : ℕ) (n : Name) → getElem? (g .labels) i ≡ just n
+      → length (joinedOf (fieldBytes labelTag) (take i (g .labels))) + 3 + length n ≤ length s
+  label-inside i n e =
+      let k = length (joinedOf (fieldBytes labelTag) (take i (g .labels))) in
+      let p = joined-at (fieldBytes labelTag) (g .labels) i n (labels-first .0) e in
+      let rest : length (drop k s) ≡ length (fieldBytes labelTag n ++ p .0) = ap length (ap (drop k) (labels-first .1) ∙ p .1) in
+      let whole = length-append (fieldBytes labelTag n) (p .0) in
+      let field = field-length labelTag n in
+      let left = length-drop k s in
+      omega arith
 
 -- the three ways of looking for a label
 module _ (s : List ℕ) (label : ℕ) where

@@ -19,5 +19,6 @@ pub mod TableSteps
 pub mod TableReading
 pub mod WorkLaws
 pub mod LabelParts
-pub mod CallLaws
 pub mod TableFound
+pub mod LabelPlaceLaws
+pub mod CallLaws

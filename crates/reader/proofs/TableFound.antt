@@ -15,7 +15,7 @@ use Rattle.grammar.specs.Limits.{standard}
 use Rattle.grammar.specs.Names.{Name, asciiClasses}
 use Rattle.grammar.specs.Content.{Content}
 use Rattle.grammar.specs.Table.{Rule, Table}
-use Rattle.grammar.specs.Outcome.{given, refused}
+use Rattle.grammar.specs.Outcome.{refused}
 use Rattle.grammar.specs.ReadContent.{contentBytes}
 use Rattle.grammar.specs.ReadTable.{readTable}
 use Rattle.grammar.specs.WithinLimits.{NameWithin, RuleWithin, TableWithin}
@@ -26,18 +26,12 @@ use Rattle.theory.proofs.ReadWithin.{read-within}
 use Rattle.reader.specs.declared.tables.TableIndex.{TableIndex}
 use Rattle.reader.specs.declared.tables.TableRead.{TableRead}
 use Rattle.reader.specs.ExprAt.{_upTo_, exprAt}
+use Rattle.reader.specs.TableFound.{TableFound}
 use Rattle.reader.specs.TableIndex.{part, labelFrom, labelTo, startType, ruleType, ruleLabel, Stands, RuleAt, Indexes, Reads}
 use Rattle.reader.proofs.AnswerLaws.{was-readable, was-unreadable}
 use Rattle.reader.proofs.ExprLaws.{expr-of}
 use Rattle.reader.proofs.TableFaults.{part-size}
 use Rattle.reader.proofs.TableIndexLaws.{label-at, start-at, rule-at}
-
--- the table that was read, and where its parts stand
-pub record TableFound (s : List ℕ) (index : TableIndex) : Type 0 where
-  pub table : Table
-  pub read : readTable standard asciiClasses s ≡ given table
-  pub indexes : Indexes s index table
-  pub within : TableWithin standard asciiClasses table
 
 module _ (s : List ℕ) (r : TableRead) (so : Reads s (readTable standard asciiClasses s) r) where
   pub table-found : r .answer ≡ Readable → TableFound s (r .index)

@@ -2,18 +2,17 @@
 use Prim.Native.Nat.{ℕ, suc, _+_, _≤_, _<_}
 use native.Mathlib.Numerals.{add-one}
 use native.Mathlib.Omega.{arith}
-use mathlib.Core.Bool.{true, false}
+use mathlib.Core.Bool.{false}
 use mathlib.Core.List.{List, _++_, append-nil}
 use mathlib.Core.Path.{_≡_, sym, _∙_, ap}
-use lib.ListN.{length, take, drop, set, replicate, length-replicate, replicate-append-replicate, drop-of-length-le}
-use lib.Seq.{drop-cons, set-at, append-snoc, length-take-le}
+use lib.ListN.{length, take, drop, set, replicate, length-append, length-replicate, replicate-append-replicate, drop-of-length-le}
+use lib.Seq.{drop-cons, set-at, append-snoc, length-take-le, drop-append-seam}
 use borrow.Author.Tests.{lt-ltb, le-ltb}
 use Rattle.grammar.specs.Limits.{standard}
-use Rattle.grammar.specs.Outcome.{Outcome, refused, _>>_, turnBack}
+use Rattle.grammar.specs.Outcome.{Outcome, refused}
 use Rattle.grammar.specs.Calls.{workTooShort, workAfter}
 use Rattle.grammar.specs.declared.Refusal.the-variants.{WorkTooShort}
-use Rattle.theory.proofs.OutcomeLaws.{no-fault}
-use Rattle.reader.proofs.AnswerLaws.{fault}
+use Rattle.theory.proofs.CallPromises as promises
 
 -- so many words cleared
 abbrev pub clearedTo : ℕ → List ℕ → List ℕ
@@ -36,18 +35,14 @@ module _ (words : List ℕ) (i : ℕ) where
       ∙ ap (λ (n : ℕ). replicate n 0) e
 
 module _ (work : List ℕ) where
-  pub enough : 16384 ≤ length work → workTooShort standard work ≡ false
+  enough : 16384 ≤ length work → workTooShort standard work ≡ false
   unfolding workTooShort standard
   enough h = le-ltb (length work) 16384 h
 
-  pub too-short : length work < 16384 → workTooShort standard work ≡ true
-  unfolding workTooShort standard
-  too-short h = lt-ltb (length work) 16384 h
-
   -- a call that is refused for its working memory leaves it as it came
   pub work-kept : length work < 16384 → work ≡ workAfter standard work
-  unfolding workAfter
-  work-kept h = rw (too-short h, workAfter)
+  unfolding workAfter workTooShort standard
+  work-kept h = rw (lt-ltb (length work) 16384 h, workAfter)
 
   pub work-cleared : 16384 ≤ length work → replicate 16384 0 ++ drop 16384 work ≡ workAfter standard work
   unfolding workAfter standard
@@ -61,13 +56,22 @@ module _ (work : List ℕ) where
       ∙ ap (λ (k : ℕ). replicate k 0 ++ drop k work) e
       ∙ work-cleared (omega arith)
 
+-- what a call does with the words that it needs is cleared away
+pub cleared-after : (work front : List ℕ) → 16384 ≤ length work → length front ≡ 16384
+    → workAfter standard (front ++ drop 16384 work) ≡ workAfter standard work
+cleared-after work front h size =
+    let rest = length-append front (drop 16384 work) in
+    sym (work-cleared (front ++ drop 16384 work) (omega arith))
+    ∙ ap (λ (l : List ℕ). replicate 16384 0 ++ l)
+    (ap (λ (k : ℕ). drop k (front ++ drop 16384 work)) (sym size) ∙ drop-append-seam front (drop 16384 work))
+    ∙ work-cleared work h
+
 -- reading with the working memory lent
 module _ {A : Type 0} (work : List ℕ) (o : Outcome A) where
-  abbrev pub lent : Outcome A
-  lent = turnBack (workTooShort standard work) WorkTooShort >> o
+  pub lent-short : length work < 16384 → promises.lent standard work o ≡ refused WorkTooShort
+  unfolding standard
+  lent-short h = promises.lent-short standard work o h
 
-  pub lent-short : length work < 16384 → lent ≡ refused WorkTooShort
-  lent-short h = fault (workTooShort standard work) WorkTooShort o (too-short work h)
-
-  pub lent-enough : 16384 ≤ length work → lent ≡ o
-  lent-enough h = no-fault (workTooShort standard work) WorkTooShort o (enough work h)
+  pub lent-enough : 16384 ≤ length work → promises.lent standard work o ≡ o
+  unfolding standard
+  lent-enough h = promises.lent-enough standard work o h

@@ -5,5 +5,6 @@ pub mod ContentAt
 pub mod DocumentNodes
 pub mod DocumentSteps
 pub mod TableIndex
+pub mod TableFound
 pub mod NamePlaces
-pub mod ReaderCalls
+pub mod LabelPlaces

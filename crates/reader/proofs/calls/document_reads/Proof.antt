@@ -7,18 +7,18 @@ use Rattle.reader.proofs.calls.document_reads.Tie as tie
 returns : tie.Need-returns
 returns c = document-unanswered (c .before .before .before .args .document .now) (c .before .before .before .args .work .now) (c .if1 .taken)
 
-clear-work-requires : tie.Need-clear-work-requires
-clear-work-requires c κs = search needs
-
 read-document-requires : tie.Need-read-document-requires
 read-document-requires c κs = search needs
+
+clear-work-requires : tie.Need-clear-work-requires
+clear-work-requires c κs = search needs
 
 same-length : tie.Need-same-length
 same-length c = search needs
 
 returns-2 : tie.Need-returns-2
-returns-2 c = document-answered (c .before .before .before .before .before .before .before .before .args .document .now) (c .before .before .before .before .before .before .before .before .args .work .now) (c .before .before .before .before .before .if1 .left) _ (c .before .before .before .clear-work .ensures) (c .read-document .result) (c .read-document .ensures)
+returns-2 c = document-answered (c .before .before .before .before .before .before .before .before .args .document .now) (c .before .before .before .before .before .before .before .before .args .work .now) (c .before .before .before .before .before .if1 .left) _ (c .before .before .clear-work .ensures) (c .before .before .before .before .read-document .result) (c .before .before .before .before .read-document .ensures)
 
 pub document-reads-spec : {M : Type 1} → statement M
 document-reads-spec =
-    tie.close (tie.spec returns clear-work-requires read-document-requires same-length returns-2)
+    tie.close (tie.spec returns read-document-requires clear-work-requires same-length returns-2)

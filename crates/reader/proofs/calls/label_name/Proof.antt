@@ -1,5 +1,8 @@
 -- `calls::label_name` meets its contract.
+use native.Mathlib.Omega.{arith}
+use mathlib.Core.Path.{refl}
 use Rattle.reader.proofs.CallLaws.{label-unanswered, label-refused, label-given}
+use Rattle.reader.proofs.WorkLaws.{work-kept}
 use borrow.Author.Needs.{needs}
 use Rattle.reader.proofs.calls.label_name.Statement.{statement}
 use Rattle.reader.proofs.calls.label_name.Tie as tie
@@ -14,16 +17,16 @@ part-result-end : tie.Need-part-result-end
 part-result-end c = search needs
 
 returns : tie.Need-returns
-returns c = label-unanswered (c .before .before .before .before .args .table .now) (c .before .before .before .before .args .label) (c .before .before .before .before .args .work .now) (c .before .if1 .taken)
-
-clear-work-requires : tie.Need-clear-work-requires
-clear-work-requires c κs = search needs
+returns c = label-unanswered (c .before .before .before .before .args .table .now) (c .before .before .before .before .args .label) (c .before .before .before .before .args .work .now) _ (work-kept (c .before .before .before .before .args .work .now) (c .before .if1 .taken)) (c .before .before .before .before .args .table .ptr) _ refl (omega arith) (c .before .if1 .taken)
 
 find-label-requires : tie.Need-find-label-requires
 find-label-requires c κs = search needs
 
-enum-known-r : tie.Need-enum-known-r
-enum-known-r c = search needs
+clear-work-requires : tie.Need-clear-work-requires
+clear-work-requires c κs = search needs
+
+enum-known-found : tie.Need-enum-known-found
+enum-known-found c = search needs
 
 number-of-requires : tie.Need-number-of-requires
 number-of-requires c κs = search needs
@@ -37,29 +40,29 @@ part-result-start-2 c = search needs
 part-result-end-2 : tie.Need-part-result-end-2
 part-result-end-2 c = search needs
 
-enum-known-from : tie.Need-enum-known-from
-enum-known-from c = search needs
+enum-known-found-2 : tie.Need-enum-known-found-2
+enum-known-found-2 c = search needs
 
 sub-result-3 : tie.Need-sub-result-3
-sub-result-3 c = c .before .before .before .find-label .ensures .found _ _ (c .before .from .given .1) .0 .order
+sub-result-3 c = c .before .before .before .before .before .before .before .find-label .ensures .found _ _ (c .before .found2 .given .1) .0 .order
 
 part-result-start-3 : tie.Need-part-result-start-3
-part-result-start-3 c = c .before .before .before .find-label .ensures .found _ _ (c .before .from .given .1) .0 .order
+part-result-start-3 c = c .before .before .before .before .before .before .before .find-label .ensures .found _ _ (c .before .found2 .given .1) .0 .order
 
 part-result-end-3 : tie.Need-part-result-end-3
-part-result-end-3 c = c .before .before .before .find-label .ensures .found _ _ (c .before .from .given .1) .0 .within
+part-result-end-3 c = c .before .before .before .before .before .before .before .find-label .ensures .found _ _ (c .before .found2 .given .1) .0 .within
 
 same-length : tie.Need-same-length
 same-length c = search needs
 
 returns-2 : tie.Need-returns-2
-returns-2 c = label-refused (c .before .before .before .before .before .before .before .before .before .before .before .before .before .args .table .now) (c .before .before .before .before .before .before .before .before .before .before .before .before .before .args .label) (c .before .before .before .before .before .before .before .before .before .before .before .before .before .args .work .now) (c .before .before .before .before .before .before .before .before .before .before .if1 .left) _ (c .before .before .before .before .before .before .before .before .clear-work .ensures) (c .before .before .before .before .before .find-label .result) (c .before .before .before .before .before .find-label .ensures) _ (c .before .before .before .r .given .1) _ (c .before .number-of .ensures)
+returns-2 c = label-refused (c .before .before .before .before .before .before .before .before .before .before .before .before .before .args .table .now) (c .before .before .before .before .before .before .before .before .before .before .before .before .before .args .label) (c .before .before .before .before .before .before .before .before .before .before .before .before .before .args .work .now) _ (c .before .before .before .before .before .before .before .clear-work .ensures) (c .before .before .before .before .before .before .before .before .before .before .before .before .before .args .table .ptr) _ refl (c .before .before .before .before .before .before .before .before .before .before .if1 .left) (c .before .before .before .before .before .before .before .before .before .find-label .result) (c .before .before .before .before .before .before .before .before .before .find-label .ensures) (omega arith) _ (c .before .before .before .found .given .1) _ (c .before .number-of .ensures)
 
 same-length-2 : tie.Need-same-length-2
 same-length-2 c = search needs
 
 returns-3 : tie.Need-returns-3
-returns-3 c = label-given (c .before .before .before .before .before .before .before .before .before .before .before .before .args .table .now) (c .before .before .before .before .before .before .before .before .before .before .before .before .args .label) (c .before .before .before .before .before .before .before .before .before .before .before .before .args .work .now) (c .before .before .before .before .before .before .before .before .before .if1 .left) _ (c .before .before .before .before .before .before .before .clear-work .ensures) (c .before .before .before .before .find-label .result) (c .before .before .before .before .find-label .ensures) _ _ (c .before .before .from .given .1)
+returns-3 c = label-given (c .before .before .before .before .before .before .before .before .before .before .before .before .args .table .now) (c .before .before .before .before .before .before .before .before .before .before .before .before .args .label) (c .before .before .before .before .before .before .before .before .before .before .before .before .args .work .now) _ (c .before .before .before .before .before .before .clear-work .ensures) (c .before .before .before .before .before .before .before .before .before .before .before .before .args .table .ptr) _ refl (c .before .before .before .before .before .before .before .before .before .if1 .left) (c .before .before .before .before .before .before .before .before .find-label .result) (c .before .before .before .before .before .before .before .before .find-label .ensures) _ _ (omega arith) (c .before .before .found2 .given .1)
 
 pub label-name-spec : {M : Type 1} → statement M
 label-name-spec =
@@ -69,14 +72,14 @@ label-name-spec =
     part-result-start
     part-result-end
     returns
-    clear-work-requires
     find-label-requires
-    enum-known-r
+    clear-work-requires
+    enum-known-found
     number-of-requires
     sub-result-2
     part-result-start-2
     part-result-end-2
-    enum-known-from
+    enum-known-found-2
     sub-result-3
     part-result-start-3
     part-result-end-3

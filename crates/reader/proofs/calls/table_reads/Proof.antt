@@ -7,18 +7,18 @@ use Rattle.reader.proofs.calls.table_reads.Tie as tie
 returns : tie.Need-returns
 returns c = table-unanswered (c .before .before .before .args .table .now) (c .before .before .before .args .work .now) (c .if1 .taken)
 
-clear-work-requires : tie.Need-clear-work-requires
-clear-work-requires c κs = search needs
-
 read-table-requires : tie.Need-read-table-requires
 read-table-requires c κs = search needs
+
+clear-work-requires : tie.Need-clear-work-requires
+clear-work-requires c κs = search needs
 
 same-length : tie.Need-same-length
 same-length c = search needs
 
 returns-2 : tie.Need-returns-2
-returns-2 c = table-answered (c .before .before .before .before .before .before .before .before .args .table .now) (c .before .before .before .before .before .before .before .before .args .work .now) (c .before .before .before .before .before .if1 .left) _ (c .before .before .before .clear-work .ensures) _ (c .read-table .ensures .answer)
+returns-2 c = table-answered (c .before .before .before .before .before .before .before .before .args .table .now) (c .before .before .before .before .before .before .before .before .args .work .now) (c .before .before .before .before .before .if1 .left) _ (c .before .before .clear-work .ensures) _ (c .before .before .before .before .read-table .ensures .answer)
 
 pub table-reads-spec : {M : Type 1} → statement M
 table-reads-spec =
-    tie.close (tie.spec returns clear-work-requires read-table-requires same-length returns-2)
+    tie.close (tie.spec returns read-table-requires clear-work-requires same-length returns-2)

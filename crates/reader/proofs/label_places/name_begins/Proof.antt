@@ -1,12 +1,12 @@
--- `places::name_begins` meets its contract. The loop's invariant: the fields of the labels before `i` are summed.
+-- `label_places::name_begins` meets its contract. The loop's invariant: the fields of the labels before `i` are summed.
 use Prim.Native.Nat.{_+_, _*_, _-_, _≤_}
 use native.Mathlib.Omega.{arith}
 use mathlib.Core.Path.{_≡_, refl, sym, _∙_, ap}
 use Rattle.reader.specs.TableIndex.{labelFrom, labelTo}
-use Rattle.exports.specs.Exported.{nameBegins}
-use Rattle.exports.proofs.NameLaws.{summed, summed-next, label-short, begins-at}
-use Rattle.exports.proofs.places.name_begins.Statement.{statement}
-use Rattle.exports.proofs.places.name_begins.Tie as tie
+use Rattle.reader.specs.LabelPlaces.{nameBegins}
+use Rattle.reader.proofs.LabelPlaceLaws.{summed, summed-next, label-short, begins-at}
+use Rattle.reader.proofs.label_places.name_begins.Statement.{statement}
+use Rattle.reader.proofs.label_places.name_begins.Tie as tie
 
 abbrev Inv-loop : tie.InvT-loop
 Inv-loop table label label-from label-to begins₀ i₀ begins i =

@@ -1,11 +1,11 @@
--- `calls::clear` meets its contract. The loop's invariant: the words before `i` are zero, and the others are as they came.
+-- `work::clear` meets its contract. The loop's invariant: the words before `i` are zero, and the others are as they came.
 use Prim.Native.Nat.{_-_, _≤_}
 use native.Mathlib.Omega.{arith}
 use mathlib.Core.Path.{_≡_, refl, _∙_, ap}
 use lib.ListN.{length, set, length-set}
 use Rattle.reader.proofs.WorkLaws.{clearedTo, cleared-next, cleared-all}
-use Rattle.reader.proofs.calls.clear.Statement.{statement}
-use Rattle.reader.proofs.calls.clear.Tie as tie
+use Rattle.reader.proofs.work.clear.Statement.{statement}
+use Rattle.reader.proofs.work.clear.Tie as tie
 
 abbrev Inv-loop : tie.InvT-loop
 Inv-loop words₀ i₀ words i = (words ≡ clearedTo i words₀) × (i ≤ length words₀) × (length words ≡ length words₀)

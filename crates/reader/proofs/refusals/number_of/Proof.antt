@@ -1,9 +1,9 @@
--- `calls::number_of` meets its contract.
+-- `refusals::number_of` meets its contract.
 use borrow.Author.Needs.{needs}
 use mathlib.Core.Path.{sym, ap}
 use Rattle.grammar.specs.Outcome.{number}
-use Rattle.reader.proofs.calls.number_of.Statement.{statement}
-use Rattle.reader.proofs.calls.number_of.Tie as tie
+use Rattle.reader.proofs.refusals.number_of.Statement.{statement}
+use Rattle.reader.proofs.refusals.number_of.Tie as tie
 
 returns : tie.Need-returns
 unfolding number

@@ -1,9 +1,9 @@
--- `calls::clear_work` meets its contract.
+-- `work::clear_work` meets its contract.
 use mathlib.Core.Path.{refl}
 use Rattle.reader.proofs.WorkLaws.{front-cleared}
 use borrow.Author.Needs.{needs}
-use Rattle.reader.proofs.calls.clear_work.Statement.{statement}
-use Rattle.reader.proofs.calls.clear_work.Tie as tie
+use Rattle.reader.proofs.work.clear_work.Statement.{statement}
+use Rattle.reader.proofs.work.clear_work.Tie as tie
 
 sub-clear : tie.Need-sub-clear
 sub-clear c = search needs
