@@ -7,7 +7,7 @@ use grammar::Reading;
 use grammar::Refusal;
 use grammar::Verdict;
 use grammar::Written;
-use reader::calls::number_of;
+use reader::refusals::number_of;
 
 // A refusal.
 pub fn of_refusal(refusal: Refusal) -> u64

@@ -1,7 +1,7 @@
 // The kinds of a table, by its index: local, and single-type.
 //
 // The types of one content, or the starts, are a set at the front of the lent words. Eight words have a bit for each value of a byte.
-use reader::calls::clear;
+use reader::work::clear;
 use reader::numbers::wide;
 use reader::tables::TableIndex;
 use sets::words::has;

@@ -6,7 +6,7 @@ use crate::pieces::put_decimal;
 use crate::pieces::put_type;
 use grammar::Reading;
 use grammar::Refusal;
-use reader::calls::number_of;
+use reader::refusals::number_of;
 use reader::numbers::wide;
 use reader::tables::TableIndex;
 use reader::tables::read_table;

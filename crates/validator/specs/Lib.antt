@@ -1,5 +1,5 @@
 pub mod KnownTable
 pub mod KnownDocument
-pub mod ValidatorCalls
+pub mod Deciding
 pub mod Chains
 pub mod LabelKeys

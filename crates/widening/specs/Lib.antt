@@ -1,1 +1,1 @@
-pub mod WideningCalls
+pub mod Drafting

@@ -1,0 +1,84 @@
+// Reading the inputs of a call, and deciding.
+use crate::membership::lets_in_read;
+use grammar::Reading;
+use grammar::Verdict;
+use kinds::kinds::local_table;
+use kinds::kinds::single_type_table;
+use reader::documents::read_nodes;
+use reader::tables::read_table;
+ghost use mathlib.Core.Path.{_≡_};
+ghost use Prim.Native.Nat.{_≤_};
+ghost use lib.ListN.{length};
+ghost use Rattle.grammar.specs.Kinds.{local, singleType};
+ghost use Rattle.grammar.specs.Outcome.{given};
+ghost use Rattle.grammar.specs.Answers.{verdict};
+ghost use Rattle.validator.specs.Deciding.{letsInOf, isOfKindOf};
+
+// Yes or no.
+fn yes_or_no(yes: bool) -> Verdict
+    ensures { λ r. ⌜ r ≡ verdict (given yes) ⌝ }
+{
+    if yes {
+        return Verdict::Yes;
+    }
+    Verdict::No
+}
+
+// Reads the table, then the document, then decides.
+pub fn read_and_decide(table: &[u8], document: &[u8], words: &mut [u32]) -> Verdict
+    requires { ⌜ 16384 ≤ length (now words) ⌝ }
+    ensures { λ r. ⌜ r ≡ verdict (letsInOf (now (table .entry)) (now (document .entry))) ⌝ }
+{
+    let known = read_table(table);
+    let readable = known.answer;
+    if let Reading::Refused(r) = readable {
+        return Verdict::Refused(r);
+    }
+    let mut names = [0u16; 1024];
+    let mut sizes = [0u16; 1024];
+    let mut children = [0u16; 1024];
+    let found = read_nodes(document, &mut names, &mut sizes, &mut children);
+    let complete = found.answer;
+    if let Reading::Refused(r) = complete {
+        return Verdict::Refused(r);
+    }
+    let index = known.index;
+    let nodes = found.nodes;
+    yes_or_no(lets_in_read(
+        table,
+        index,
+        document,
+        &names,
+        &sizes,
+        &children,
+        nodes,
+        words,
+    ))
+}
+
+// Reads the table, then decides whether it is local.
+pub fn read_and_test_local(table: &[u8]) -> Verdict
+    ensures { λ r. ⌜ r ≡ verdict (isOfKindOf local (now (table .entry))) ⌝ }
+{
+    let known = read_table(table);
+    let readable = known.answer;
+    if let Reading::Refused(r) = readable {
+        return Verdict::Refused(r);
+    }
+    let index = known.index;
+    yes_or_no(local_table(index))
+}
+
+// Reads the table, then decides whether it is single-type, with its set of types in the first eight words.
+pub fn read_and_test_single_type(table: &[u8], words: &mut [u32]) -> Verdict
+    requires { ⌜ 16384 ≤ length (now words) ⌝ }
+    ensures { λ r. ⌜ r ≡ verdict (isOfKindOf singleType (now (table .entry))) ⌝ }
+{
+    let known = read_table(table);
+    let readable = known.answer;
+    if let Reading::Refused(r) = readable {
+        return Verdict::Refused(r);
+    }
+    let index = known.index;
+    yes_or_no(single_type_table(table, index, &mut words[0..8]))
+}

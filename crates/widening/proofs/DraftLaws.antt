@@ -1,0 +1,304 @@
+-- A table in a draft, and handed over; inputs that are refused or read.
+use Prim.Native.Nat.{ℕ, _+_, _≤_, _<_}
+use native.Mathlib.Omega.{arith}
+use mathlib.Core.List.{List, _++_}
+use mathlib.Core.Path.{_≡_, refl, sym, _∙_, ap, subst}
+use lib.ListN.{length, take, drop, length-append}
+use lib.Seq.{paste, take-append-seam}
+use lib.Dec.{ltb}
+use borrow.Author.Tests.{lt-ltb, le-ltb}
+use Rattle.grammar.specs.Limits.{standard}
+use Rattle.emitting.proofs.PutLaws.{put-paste}
+use Rattle.grammar.specs.Names.{asciiClasses}
+use Rattle.grammar.specs.Table.{Table}
+use Rattle.grammar.specs.Tree.{Tree}
+use Rattle.grammar.specs.Kinds.{Kind}
+use Rattle.grammar.specs.Least.{byTable, byDocument}
+use Rattle.grammar.specs.Outcome.{Outcome, given, refused, _>>=_}
+use Rattle.grammar.specs.Answers.{written}
+use Rattle.grammar.specs.ReadTable.{readTable}
+use Rattle.grammar.specs.ReadDocument.{readDocument, treeOf}
+use Rattle.grammar.specs.WriteTable.{tableBytes}
+use Rattle.grammar.specs.Sample.{sample}
+use Rattle.grammar.specs.Widen.{widen, widenByTable, sampleTable}
+use Rattle.grammar.specs.Calls.{outAfter, writtenTo, readAddition}
+use Rattle.grammar.specs.declared.Source.{Source}
+use Rattle.grammar.specs.declared.Source.the-variants.{Table as aTable, Document as aDocument}
+use Rattle.grammar.specs.declared.Refusal.{Refusal}
+use Rattle.grammar.specs.declared.Refusal.the-variants.{NoDocument, ResultTooLarge, OutputTooShort}
+use Rattle.grammar.specs.declared.Reading.the-variants.{Readable, Refused as Unreadable}
+use Rattle.grammar.specs.declared.Written.{Written}
+use Rattle.grammar.specs.declared.Written.the-variants.{Length, Refused}
+use Rattle.theory.proofs.OutcomeLaws.{given-then, no-fault, was-given, given-eq}
+use Rattle.theory.proofs.NumberedTable.{standard-agree}
+use Rattle.theory.proofs.DocumentWithin.{document-within}
+use Rattle.theory.proofs.ResultWithin.{sample-read-back}
+use Rattle.reader.specs.TableIndex.{Reads}
+use Rattle.reader.specs.TableFound.{TableFound}
+use Rattle.reader.specs.DocumentNodes.{DocumentReads, nodesIn}
+use Rattle.reader.specs.declared.tables.TableIndex.{TableIndex}
+use Rattle.reader.specs.declared.tables.TableRead.{TableRead}
+use Rattle.reader.specs.declared.documents.DocumentRead.{DocumentRead}
+use Rattle.reader.proofs.AnswerLaws.{fault, never-given, was-written, was-unwritten}
+use Rattle.reader.proofs.TableFound.{table-found, table-refused}
+use Rattle.reader.proofs.DocumentAnswers.{document-tree, nodes-read, document-unread}
+use Rattle.pairs.specs.View.{TableHeld, Held}
+use Rattle.emitting.specs.declared.writing.Drafted.{Drafted}
+use Rattle.emitting.specs.declared.writing.Drafted.the-variants.{Length as DraftedTo, TooLarge as Undrafted}
+use Rattle.sampling.specs.SampleTable.{SampleDrafted, Indexes}
+use Rattle.results.specs.declared.widen.Made.{Made}
+use Rattle.results.specs.declared.widen.Made.the-variants.{Length as MadeTo, NoDocument as Nothing, TooLarge}
+use Rattle.results.specs.Widened.{Widens, ResultDrafted}
+use Rattle.widening.specs.Drafting.{sampleOf, widenedBy, widenedFrom, InDraft, FitsDraft, HandedOver}
+
+-- the bytes of an outcome, and its answer, before the output is looked at
+abbrev bytesOf : Outcome Table → Outcome (List ℕ)
+bytesOf o = o >>= λ g. given (tableBytes g)
+
+abbrev answerOf : Outcome Table → Written
+answerOf o = written (bytesOf o)
+
+bytes-refused : (o : Outcome Table) (q : Refusal) → bytesOf o ≡ refused q → o ≡ refused q
+bytes-refused (refused r) q e = cc
+bytes-refused (given g) q e = let z : _≡_ {A = ℕ} 0 1 = cc in absurd (omega arith)
+
+-- a table in a draft, or why there is none
+module _ (o : Outcome Table) (draft : List ℕ) where
+  pub unmade : (q : Refusal) → o ≡ refused q → InDraft o draft (Refused q)
+  unfolding written
+  unmade q e =
+      record {
+        made-is = sym (ap answerOf e);
+        bytes = λ g p. absurd (never-given o q g e p);
+        room = λ g p. absurd (never-given o q g e p);
+      }
+
+  pub made : (g : Table) (n : ℕ) (rest : List ℕ) → o ≡ given g → n ≡ length (tableBytes g) → draft ≡ tableBytes g ++ rest
+      → InDraft o draft (Length n)
+  unfolding written
+  made g n rest e size d =
+      record {
+        made-is = ap (λ (k : ℕ). Length k) size ∙ sym (ap answerOf e);
+        bytes = λ h p. subst (λ (k : Table). take (length (tableBytes k)) draft ≡ tableBytes k) (given-eq (sym e ∙ p)) front;
+        room = λ h p. subst (λ (k : Table). length (tableBytes k) ≤ length draft) (given-eq (sym e ∙ p)) long;
+      }
+    where
+      front : take (length (tableBytes g)) draft ≡ tableBytes g
+      front = ap (take (length (tableBytes g))) d ∙ take-append-seam (tableBytes g) rest
+
+      long : length (tableBytes g) ≤ length draft
+      long = let l = ap length d ∙ length-append (tableBytes g) rest in omega arith
+
+  -- and back
+  module _ (answer : Written) (i : InDraft o draft answer) where
+    pub was-made : (n : ℕ) → answer ≡ Length n → (g : Table) × (o ≡ given g) × (n ≡ length (tableBytes g))
+    was-made n e =
+        let (bytes, p, size) = was-written (bytesOf o) n (sym (i .made-is) ∙ e) in
+        let (g, q, same) = was-given o (λ g. given (tableBytes g)) bytes p in
+        (g, q, size ∙ ap length (sym (given-eq same)))
+
+    pub was-unmade : (q : Refusal) → answer ≡ Refused q → o ≡ refused q
+    was-unmade q e = bytes-refused o q (was-unwritten (bytesOf o) q (sym (i .made-is) ∙ e))
+
+    pub made-fits : (n : ℕ) → answer ≡ Length n → n ≤ length draft
+    made-fits n e =
+        let (g, p, size) = was-made n e in
+        let r = i .room g p in
+        omega arith
+
+  pub fits : (answer : Written) → InDraft o draft answer → FitsDraft draft answer
+  fits (Length n) i = made-fits (Length n) i n refl
+  fits (Refused q) i = tt
+
+pub fits-to : (draft : List ℕ) (answer : Written) → FitsDraft draft answer → (n : ℕ) → answer ≡ Length n → n ≤ length draft
+fits-to draft answer f n e = subst (FitsDraft draft) e f
+
+-- handing it over
+module _ (o : Outcome Table) (draft out : List ℕ) (answer : Written) (i : InDraft o draft answer) where
+  pub hands-refusal : (q : Refusal) → answer ≡ Refused q → HandedOver o out out (Refused q)
+  unfolding written outAfter
+  hands-refusal q e =
+      let p = was-unmade o draft answer i q e in
+      (
+        sym (ap (λ (x : Outcome Table). written (x >>= writtenTo out)) p),
+        sym (ap (λ (x : Outcome Table). outAfter (x >>= writtenTo out) out) p),
+      )
+
+  pub no-room : (n : ℕ) → answer ≡ Length n → length out < n → HandedOver o out out (Refused OutputTooShort)
+  unfolding written outAfter writtenTo
+  no-room n e h =
+      let (g, p, size) = was-made o draft answer i n e in
+      let short : length out < length (tableBytes g) = omega arith in
+      let f : (o >>= writtenTo out) ≡ refused OutputTooShort = given-then o g (writtenTo out) p
+      ∙ fault (ltb (length out) (length (tableBytes g))) OutputTooShort (given (tableBytes g)) (lt-ltb (length out) (length (tableBytes g)) short) in
+      (sym (ap written f), sym (ap (λ (x : Outcome (List ℕ)). outAfter x out) f))
+
+  pub handed : (n : ℕ) → answer ≡ Length n → n ≤ length out → (m : ℕ) → m ≡ n → (left : List ℕ)
+      → left ≡ take m draft ++ drop (length (take m draft)) out → HandedOver o out left (Length n)
+  unfolding written outAfter writtenTo
+  handed n e h m same left w =
+      let (g, p, size) = was-made o draft answer i n e in
+      let long : length (tableBytes g) ≤ length out = omega arith in
+      let f : (o >>= writtenTo out) ≡ given (tableBytes g) = given-then o g (writtenTo out) p
+      ∙ no-fault (ltb (length out) (length (tableBytes g))) OutputTooShort (given (tableBytes g)) (le-ltb (length out) (length (tableBytes g)) long) in
+      (
+        ap (λ (k : ℕ). Length k) size ∙ sym (ap written f),
+        w
+            ∙ ap (λ (l : List ℕ). l ++ drop (length l) out) (ap (λ (k : ℕ). take k draft) (same ∙ size) ∙ i .bytes g p)
+            ∙ sym (ap (λ (x : Outcome (List ℕ)). outAfter x out) f),
+      )
+
+-- bytes copied to the front of the output
+pub copied : (out bytes left : List ℕ) → 0 + length bytes ≤ length out → left ≡ paste out 0 bytes (length bytes)
+    → left ≡ bytes ++ drop (length bytes) out
+copied out bytes left h e =
+    let z : 0 + length bytes ≡ length bytes = omega arith in
+    put-paste out 0 bytes left h e .is ∙ ap (λ (n : ℕ). bytes ++ drop n out) z
+
+-- a table that was read is held
+pub found-held : {s : List ℕ} {index : TableIndex} → TableFound s index → Held s index
+found-held f = record { table = f .table; held = record { indexes = f .indexes; within = f .within } }
+
+-- reading a table and going on with it
+module _ (table : List ℕ) (r : TableRead) (so : Reads table (readTable standard asciiClasses table) r) (next : Table → Outcome Table) where
+  table-refuses : (q : Refusal) → r .answer ≡ Unreadable q → (readTable standard asciiClasses table >>= next) ≡ refused q
+  table-refuses q e = ap (λ (o : Outcome Table). o >>= next) (table-refused table r so q e)
+
+  table-goes-on : (e : r .answer ≡ Readable) → (readTable standard asciiClasses table >>= next) ≡ next (table-found table r so e .table)
+  table-goes-on e =
+      let f = table-found table r so e in
+      given-then (readTable standard asciiClasses table) (f .table) next (f .read)
+
+  -- the old table, with any outcome that begins by reading it
+  module _ (o : Outcome Table) (is : o ≡ (readTable standard asciiClasses table >>= next)) (draft : List ℕ) where
+    pub old-refuses : (q : Refusal) → r .answer ≡ Unreadable q → InDraft o draft (Refused q)
+    old-refuses q e = unmade o draft q (is ∙ table-refuses q e)
+
+    pub old-goes-on : r .answer ≡ Readable → (answer : Written)
+        → ((g : Table) → TableHeld table (r .index) g → InDraft (next g) draft answer) → InDraft o draft answer
+    unfolding found-held
+    old-goes-on e answer h =
+        let f = table-found table r so e in
+        subst (λ (x : Outcome Table). InDraft x draft answer) (sym (is ∙ table-goes-on e)) (h (f .table) (found-held f .held))
+
+pub from-old : (source : Source) (kind : Kind) (old addition : List ℕ)
+    → widenedFrom source kind old addition ≡ (readTable standard asciiClasses old >>= λ g. widenedBy source kind g addition)
+unfolding widenedFrom
+from-old source kind old addition = refl
+
+-- by a table, and by a document's sample
+by-table : (kind : Kind) (g : Table) (addition : List ℕ)
+    → widenedBy aTable kind g addition ≡ (readTable standard asciiClasses addition >>= λ a. widenByTable standard kind g a)
+unfolding widenedBy readAddition widen
+by-table kind g addition = go (readTable standard asciiClasses addition)
+  where
+    go : (o : Outcome Table) → ((o >>= λ a. given (byTable a)) >>= widen standard kind g) ≡ (o >>= λ a. widenByTable standard kind g a)
+    go (refused r) = refl
+    go (given a) = refl
+
+by-document : (kind : Kind) (g : Table) (document : List ℕ)
+    → widenedBy aDocument kind g document ≡ (sampleOf document >>= λ a. widenByTable standard kind g a)
+unfolding widenedBy readAddition widen sampleOf
+by-document kind g document = go (readDocument standard asciiClasses document)
+  where
+    go : (o : Outcome Tree) → ((o >>= λ d. given (byDocument d)) >>= widen standard kind g)
+        ≡ ((o >>= λ d. sampleTable standard d) >>= λ a. widenByTable standard kind g a)
+    go (refused r) = refl
+    go (given d) = refl
+
+-- reading the addition, and widening by it
+module _ (kind : Kind) (g : Table) (addition : List ℕ) (r : TableRead) (so : Reads addition (readTable standard asciiClasses addition) r)
+    (draft : List ℕ) where
+  pub addition-refuses : (q : Refusal) → r .answer ≡ Unreadable q → InDraft (widenedBy aTable kind g addition) draft (Refused q)
+  addition-refuses q e =
+      unmade (widenedBy aTable kind g addition) draft q
+      (by-table kind g addition ∙ table-refuses addition r so (λ a. widenByTable standard kind g a) q e)
+
+  module _ (e : r .answer ≡ Readable) (before : List ℕ) (m : Made)
+      (w : (h : Table) → TableHeld addition (r .index) h → Widens kind g h before draft m) where
+    abbrev found : TableFound addition (r .index)
+    found = table-found addition r so e
+
+    so-widens : Widens kind g (found .table) before draft m
+    unfolding found-held
+    so-widens = w (found .table) (found-held found .held)
+
+    added : widenedBy aTable kind g addition ≡ widenByTable standard kind g (found .table)
+    added = by-table kind g addition ∙ table-goes-on addition r so (λ a. widenByTable standard kind g a) e
+
+    pub widens-nothing : m ≡ Nothing → InDraft (widenedBy aTable kind g addition) draft (Refused NoDocument)
+    unfolding Widens
+    widens-nothing p =
+        unmade (widenedBy aTable kind g addition) draft NoDocument (added ∙ subst (Widens kind g (found .table) before draft) p so-widens)
+
+    pub widens-too-far : m ≡ TooLarge → InDraft (widenedBy aTable kind g addition) draft (Refused ResultTooLarge)
+    unfolding Widens
+    widens-too-far p =
+        unmade (widenedBy aTable kind g addition) draft ResultTooLarge (added ∙ subst (Widens kind g (found .table) before draft) p so-widens)
+
+    pub widens-to : (n : ℕ) → m ≡ MadeTo n → InDraft (widenedBy aTable kind g addition) draft (Length n)
+    unfolding Widens
+    widens-to n p =
+        let d : ResultDrafted kind g (found .table) before draft n = subst (Widens kind g (found .table) before draft) p so-widens in
+        made (widenedBy aTable kind g addition) draft (d .result) n (drop n before) (added ∙ d .widened) (d .size) (d .bytes)
+
+-- the sample of a document
+module _ (document : List ℕ) (f : DocumentRead) (reads : DocumentReads document f) where
+  pub document-refuses : (draft : List ℕ) (q : Refusal) → f .answer ≡ Unreadable q → InDraft (sampleOf document) draft (Refused q)
+  unfolding sampleOf
+  document-refuses draft q e =
+      unmade (sampleOf document) draft q
+      (ap (λ (o : Outcome Tree). o >>= λ d. sampleTable standard d) (document-unread document f reads q e))
+
+  module _ (e : f .answer ≡ Readable) where
+    pub nodes-indexed : Indexes document (f .index)
+    nodes-indexed = record { reads = nodes-read document f reads e; indexed = reads .indexed }
+
+    module _ (before draft : List ℕ) (m : Drafted)
+        (s : (d : Tree) → treeOf (nodesIn document (f .index)) ≡ given d → SampleDrafted d before draft m) where
+      abbrev tree-read : (t : Tree) × (treeOf (nodesIn document (f .index)) ≡ given t) × (readDocument standard asciiClasses document ≡ given t)
+      tree-read = document-tree standard asciiClasses document (nodesIn document (f .index)) (nodes-read document f reads e)
+
+      sample-is : sampleOf document ≡ sampleTable standard (tree-read .0)
+      unfolding sampleOf
+      sample-is = given-then (readDocument standard asciiClasses document) (tree-read .0) (λ d. sampleTable standard d) (tree-read .2)
+
+      sample-drafted : (x : Drafted) → m ≡ x → SampleDrafted (tree-read .0) before draft x
+      sample-drafted x p = subst (SampleDrafted (tree-read .0) before draft) p (s (tree-read .0) (tree-read .1))
+
+      pub sample-too-large : m ≡ Undrafted → InDraft (sampleOf document) draft (Refused ResultTooLarge)
+      sample-too-large p = unmade (sampleOf document) draft ResultTooLarge (sample-is ∙ sample-drafted Undrafted p)
+
+      pub sample-made : (n : ℕ) → m ≡ DraftedTo n → InDraft (sampleOf document) draft (Length n)
+      sample-made n p =
+          let d = sample-drafted (DraftedTo n) p in
+          made (sampleOf document) draft (sample (tree-read .0)) n (drop n before) (sample-is ∙ d .0) (d .2) (d .1)
+
+-- its bytes read as the sample
+sample-reads-back : (document : List ℕ) (a : Table) → sampleOf document ≡ given a → readTable standard asciiClasses (tableBytes a) ≡ given a
+unfolding sampleOf
+sample-reads-back document a e =
+    let (d, p, q) = was-given (readDocument standard asciiClasses document) (λ d. sampleTable standard d) a e in
+    sample-read-back standard asciiClasses standard-agree d (document-within standard asciiClasses document d p) a q
+
+-- widening by the sample of a document, whose bytes stand at the front of a draft
+module _ (kind : Kind) (g : Table) (document drafted : List ℕ) (answer : Written) (i : InDraft (sampleOf document) drafted answer)
+    (draft : List ℕ) where
+  pub sample-refuses : (q : Refusal) → answer ≡ Refused q → InDraft (widenedBy aDocument kind g document) draft (Refused q)
+  sample-refuses q e =
+      unmade (widenedBy aDocument kind g document) draft q
+      (by-document kind g document
+      ∙ ap (λ (o : Outcome Table). o >>= λ a. widenByTable standard kind g a) (was-unmade (sampleOf document) drafted answer i q e))
+
+  pub by-sample : (n : ℕ) → answer ≡ Length n → (m : ℕ) → m ≡ n → (said : Written)
+      → InDraft (widenedBy aTable kind g (take m drafted)) draft said → InDraft (widenedBy aDocument kind g document) draft said
+  by-sample n e m same said d =
+      let (a, p, size) = was-made (sampleOf document) drafted answer i n e in
+      let back : readTable standard asciiClasses (take m drafted) ≡ given a =
+      ap (readTable standard asciiClasses) (ap (λ (k : ℕ). take k drafted) (same ∙ size) ∙ i .bytes a p)
+      ∙ sample-reads-back document a p in
+      subst (λ (x : Outcome Table). InDraft x draft said)
+      (by-table kind g (take m drafted)
+      ∙ given-then (readTable standard asciiClasses (take m drafted)) a (λ a. widenByTable standard kind g a) back
+      ∙ sym (by-document kind g document ∙ given-then (sampleOf document) a (λ a. widenByTable standard kind g a) p))
+      d

@@ -1,0 +1,51 @@
+-- A call's table in a draft, before the output is looked at, where there is enough working memory.
+use Prim.Native.Nat.{ℕ, _≤_}
+use mathlib.Core.List.{List}
+use mathlib.Core.Path.{_≡_}
+use lib.ListN.{length, take}
+use Rattle.grammar.specs.Limits.{standard}
+use Rattle.grammar.specs.Names.{asciiClasses}
+use Rattle.grammar.specs.Table.{Table}
+use Rattle.grammar.specs.Kinds.{Kind}
+use Rattle.grammar.specs.Outcome.{Outcome, given, _>>=_}
+use Rattle.grammar.specs.Answers.{written}
+use Rattle.grammar.specs.ReadTable.{readTable}
+use Rattle.grammar.specs.ReadDocument.{readDocument}
+use Rattle.grammar.specs.WriteTable.{tableBytes}
+use Rattle.grammar.specs.Widen.{widen, sampleTable}
+use Rattle.grammar.specs.Calls.{outAfter, writtenTo, readAddition}
+use Rattle.grammar.specs.declared.Source.{Source}
+use Rattle.grammar.specs.declared.Written.{Written}
+use Rattle.grammar.specs.declared.Written.the-variants.{Length, Refused}
+
+unfoldable pub sampleOf : List ℕ → Outcome Table
+sampleOf document = do
+  d ← readDocument standard asciiClasses document
+  sampleTable standard d
+
+-- a table that was read, widened
+unfoldable pub widenedBy : Source → Kind → Table → List ℕ → Outcome Table
+widenedBy source kind g addition = do
+  a ← readAddition standard asciiClasses source addition
+  widen standard kind g a
+
+unfoldable pub widenedFrom : Source → Kind → List ℕ → List ℕ → Outcome Table
+unfolding widenedBy
+widenedFrom source kind old addition = do
+  g ← readTable standard asciiClasses old
+  widenedBy source kind g addition
+
+-- the table stands at the front of the draft; or the answer is why there is none
+pub record InDraft (o : Outcome Table) (draft : List ℕ) (made : Written) : Type 0 where
+  pub made-is : made ≡ written (o >>= λ g. given (tableBytes g))
+  pub bytes : (g : Table) → o ≡ given g → take (length (tableBytes g)) draft ≡ tableBytes g
+  pub room : (g : Table) → o ≡ given g → length (tableBytes g) ≤ length draft
+
+-- no more is made than the draft has
+abbrev pub FitsDraft : List ℕ → Written → Type 0
+FitsDraft draft (Length n) = n ≤ length draft
+FitsDraft draft (Refused r) = Unit {0}
+
+-- the answer, and the output as it is left
+abbrev pub HandedOver : Outcome Table → (out left : List ℕ) → Written → Type 0
+HandedOver o out left answer = (answer ≡ written (o >>= writtenTo out)) × (left ≡ outAfter (o >>= writtenTo out) out)

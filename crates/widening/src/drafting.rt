@@ -1,0 +1,140 @@
+// A call's table made in a draft, so that a refusal leaves the output as it came, and handed over.
+use emitting::writing::Drafted;
+use emitting::writing::copy;
+use grammar::Reading;
+use grammar::Refusal;
+use grammar::Source;
+use grammar::Written;
+use reader::documents::read_document;
+use reader::tables::TableIndex;
+use reader::tables::read_table;
+use results::widen::Kind;
+use results::widen::Made;
+use results::widen::widen_tables;
+use sampling::sample::sample_table;
+ghost use Prim.Native.Nat.{_≤_};
+ghost use lib.ListN.{length};
+ghost use Rattle.grammar.specs.Table.{Table};
+ghost use Rattle.grammar.specs.Outcome.{Outcome};
+ghost use Rattle.grammar.specs.declared.Source.the-variants.{Table as aTable, Document as aDocument};
+ghost use Rattle.pairs.specs.View.{TableHeld, Held};
+ghost use Rattle.results.specs.Widened.{kindOf};
+ghost use Rattle.widening.specs.Drafting.{sampleOf, widenedBy, widenedFrom, InDraft, FitsDraft, HandedOver};
+
+// Hands over what stands in the draft, if the output has room.
+pub fn deliver(draft: &[u8], made: Written, out: &mut [u8]) -> Written
+    requires { ⌜ FitsDraft (now draft) made ⌝ }
+    ensures { λ r. ⌜ ((o : Outcome Table) → InDraft o (now (draft .entry)) made → HandedOver o (now (out .entry)) (now (out .exit)) r) ⌝ }
+{
+    match made {
+        Written::Refused(r) => Written::Refused(r),
+        Written::Length(n) => {
+            if out.len() < n {
+                return Written::Refused(Refusal::OutputTooShort);
+            }
+            copy(out, 0, &draft[0..n]);
+            Written::Length(n)
+        }
+    }
+}
+
+// Reads the addition and widens by it a table that was read.
+fn read_and_widen(
+    kind: Kind,
+    old: &[u8],
+    index: TableIndex,
+    addition: &[u8],
+    words: &mut [u32],
+    draft: &mut [u8],
+) -> Written
+    requires { ⌜ (Held (now old) index) × (16384 ≤ length (now words)) × (32768 ≤ length (now draft)) ⌝ }
+    ensures { λ r. ⌜ ((g : Table) → TableHeld (now (old .entry)) index g
+        → InDraft (widenedBy aTable (kindOf kind) g (now (addition .entry))) (now (draft .exit)) r) ⌝ }
+{
+    let added = read_table(addition);
+    let readable = added.answer;
+    if let Reading::Refused(r) = readable {
+        return Written::Refused(r);
+    }
+    match widen_tables(kind, old, index, addition, added.index, words, draft) {
+        Made::NoDocument => Written::Refused(Refusal::NoDocument),
+        Made::TooLarge => Written::Refused(Refusal::ResultTooLarge),
+        Made::Length(n) => Written::Length(n),
+    }
+}
+
+// Reads a document and makes its sample in the draft.
+pub fn draft_sample(document: &[u8], draft: &mut [u8]) -> Written
+    requires { ⌜ 32768 ≤ length (now draft) ⌝ }
+    ensures { λ r. ⌜ InDraft (sampleOf (now (document .entry))) (now (draft .exit)) r ⌝ }
+{
+    let found = read_document(document);
+    let readable = found.answer;
+    if let Reading::Refused(r) = readable {
+        return Written::Refused(r);
+    }
+    match sample_table(document, found.index, draft) {
+        Drafted::TooLarge => Written::Refused(Refusal::ResultTooLarge),
+        Drafted::Length(n) => Written::Length(n),
+    }
+}
+
+// Widens by the sample of a document a table that was read.
+fn widen_by_sample(
+    kind: Kind,
+    old: &[u8],
+    index: TableIndex,
+    document: &[u8],
+    words: &mut [u32],
+    draft: &mut [u8],
+) -> Written
+    requires { ⌜ (Held (now old) index) × (16384 ≤ length (now words)) × (32768 ≤ length (now draft)) ⌝ }
+    ensures { λ r. ⌜ ((g : Table) → TableHeld (now (old .entry)) index g
+        → InDraft (widenedBy aDocument (kindOf kind) g (now (document .entry))) (now (draft .exit)) r) ⌝ }
+{
+    let mut sample = [0u8; 32768];
+    match draft_sample(document, &mut sample) {
+        Written::Refused(r) => Written::Refused(r),
+        Written::Length(n) => read_and_widen(kind, old, index, &sample[0..n], words, draft),
+    }
+}
+
+// Widens by an addition of either sort a table that was read.
+fn widen_read(
+    kind: Kind,
+    source: Source,
+    old: &[u8],
+    index: TableIndex,
+    addition: &[u8],
+    words: &mut [u32],
+    draft: &mut [u8],
+) -> Written
+    requires { ⌜ (Held (now old) index) × (16384 ≤ length (now words)) × (32768 ≤ length (now draft)) ⌝ }
+    ensures { λ r. ⌜ ((g : Table) → TableHeld (now (old .entry)) index g
+        → InDraft (widenedBy source (kindOf kind) g (now (addition .entry))) (now (draft .exit)) r) ⌝ }
+{
+    match source {
+        Source::Table => read_and_widen(kind, old, index, addition, words, draft),
+        Source::Document => widen_by_sample(kind, old, index, addition, words, draft),
+    }
+}
+
+// Reads the old table, then the addition, and makes the result in the draft.
+pub fn draft_widened(
+    kind: Kind,
+    source: Source,
+    old: &[u8],
+    addition: &[u8],
+    words: &mut [u32],
+    draft: &mut [u8],
+) -> Written
+    requires { ⌜ (16384 ≤ length (now words)) × (32768 ≤ length (now draft)) ⌝ }
+    ensures { λ r. ⌜ InDraft (widenedFrom source (kindOf kind) (now (old .entry)) (now (addition .entry))) (now (draft .exit)) r ⌝ }
+{
+    let known = read_table(old);
+    let readable = known.answer;
+    if let Reading::Refused(r) = readable {
+        return Written::Refused(r);
+    }
+    widen_read(kind, source, old, known.index, addition, words, draft)
+}
