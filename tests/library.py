@@ -4,9 +4,12 @@
     library.calls                       the numbers of the calls that it has (tests/second_validator/README.md)
     library.run(case)                   (refusal, value, output slice, working slice) of a case of generate.py
     library.lets_in(table, document)    True or False
+    loaded(name, path)                  a script of tests or tools as a module
 """
 
 import ctypes
+import importlib.machinery
+import importlib.util
 import os
 import subprocess
 import sys
@@ -19,6 +22,14 @@ sys.dont_write_bytecode = True
 sys.path.insert(0, os.path.join(ROOT, 'tests', 'second_validator'))
 import generate  # noqa: E402
 import reference as ref  # noqa: E402
+
+
+def loaded(name, path):
+    """A script as a module."""
+    loader = importlib.machinery.SourceFileLoader(name, path)
+    module = importlib.util.module_from_spec(importlib.util.spec_from_loader(name, loader))
+    loader.exec_module(module)
+    return module
 
 
 def newest(folder):

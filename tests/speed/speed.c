@@ -1,13 +1,13 @@
-/* Times of membership, side by side: the static library's lets_in and libxml2's validation of the same table as a RELAX NG schema and
- * the same document as XML.
+/* Times of membership, side by side: the static library's lets_in, the same call in plain C (floor.c), and libxml2's validation of the same
+ * table as a RELAX NG schema and the same document as XML.
  *
  *     speed SECONDS FILE..
  *
  * Each FILE holds four parts, each a number of bytes in decimal, a line feed and the bytes: table, document, schema, XML. For each one
- * line of numbers goes to standard output: answer of lets_in, answer of libxml2 (1 yes, 0 no), and seconds a call of
+ * line of numbers goes to standard output: the answers of lets_in, of the floor and of libxml2 (1 yes, 0 no), and seconds a call of
  *     lets_in whole; reading the table; reading the document; the least call (the three bytes of an empty table), which clears the
- *     working words and does next to nothing else; libxml2's validation alone.
- * The five are measured in turn in short rounds, for so many seconds in all; of all rounds of a measure the one counts that a tenth of
+ *     working words and does next to nothing else; the floor whole; libxml2's validation alone.
+ * The six are measured in turn in short rounds, for so many seconds in all; of all rounds of a measure the one counts that a tenth of
  * them undercut, so that load on the machine and errors of its clock tell little. */
 #include <libxml/parser.h>
 #include <libxml/relaxng.h>
@@ -17,9 +17,10 @@
 #include <time.h>
 
 #include "../../include/cogarrune.h"
+#include "floor.h"
 
 enum { TABLE, DOCUMENT, SCHEMA, XML, PARTS };
-enum { WHOLE, READ_TABLE, READ_DOCUMENT, LEAST, VALIDATE, MEASURES };
+enum { WHOLE, READ_TABLE, READ_DOCUMENT, LEAST, FLOOR, VALIDATE, MEASURES };
 
 struct part {
     unsigned char *bytes;
@@ -78,6 +79,10 @@ static void once(int measure) {
     case LEAST:
         sink = cogarrune_table_reads(empty_table, sizeof empty_table, work, COGARRUNE_WORK_WORDS);
         break;
+    case FLOOR:
+        sink = floor_lets_in(parts[TABLE].bytes, parts[TABLE].length, parts[DOCUMENT].bytes, parts[DOCUMENT].length, work,
+                             COGARRUNE_WORK_WORDS);
+        break;
     case VALIDATE:
         sink = (uint64_t)xmlRelaxNGValidateDoc(context, document);
         break;
@@ -118,9 +123,11 @@ static void measure_file(double seconds) {
     for (size_t round = 0; round < rounds; round++)
         for (int measure = 0; measure < MEASURES; measure++) spent[measure][round] = timed(measure, repeats[measure]);
     once(WHOLE);
-    uint64_t ours = sink;
+    printf("%u", cogarrune_value_of(sink));
+    once(FLOOR);
+    printf(" %u", cogarrune_value_of(sink));
     once(VALIDATE);
-    printf("%u %d", cogarrune_value_of(ours), sink == 0);
+    printf(" %d", sink == 0);
     for (int measure = 0; measure < MEASURES; measure++) {
         qsort(spent[measure], rounds, sizeof *spent[measure], ascending);
         printf(" %.9f", spent[measure][rounds / 10]);

@@ -1,0 +1,12 @@
+/* A floor to measure the library against: its call lets_in in plain C, with nothing proved (floor.c). */
+#ifndef FLOOR_H
+#define FLOOR_H
+
+#include <stddef.h>
+#include <stdint.h>
+
+/* As cogarrune_lets_in of include/cogarrune.h, in its answers and in what it leaves in the working words. */
+uint64_t floor_lets_in(const uint8_t *table, size_t table_length, const uint8_t *document, size_t document_length, uint32_t *work,
+                       size_t work_length);
+
+#endif
