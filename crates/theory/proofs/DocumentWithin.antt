@@ -1,7 +1,7 @@
 -- A document that is read is within the limits, and its bytes are those that were read:
 --   document-within : readDocument lim classes bytes ≡ given d → DocumentWithin lim classes d
 --   document-was : AreBytes bytes → readDocument lim classes bytes ≡ given d → documentBytes d ≡ bytes
--- Each visit of a tree comes to one of its nodes: visit-node.
+-- The nodes that are read are those of one tree (nodes-were). Each visit of a tree comes to one of its nodes (visit-node).
 use Prim.Native.Nat.{ℕ, zero, suc, _+_, _≤_}
 use native.Mathlib.Omega.{arith}
 use mathlib.Core.Bool.{Bool, true, false, not, true≢false}
@@ -279,38 +279,46 @@ module _ (lim : Limits) (classes : Classes) where
           let ready-after = subst (λ (m : Opened). Ready (m .toCome)) (r .result) (after-ready (r .it .children) (o .toCome) ready) in
           ends-with-node o (a .0) f fs s ns ready r front (ih (a .0) (front .rest) ready-after (sym (front .after)) (a .2))
 
+  module _ (bytes : List ℕ) (ns : List Node) (read : readNodes lim classes bytes ≡ given ns) where
+    nodes-end : (length bytes ≤ lim .input) × Ends nothingRead bytes ns
+    unfolding readNodes
+    nodes-end =
+        let a = had-no-fault (ltb (lim .input) (length bytes)) InputTooLong _ ns read in
+        (ltb-false (lim .input) (length bytes) (a .0), ends (fieldsOf bytes) nothingRead bytes ns tt refl (a .1))
+
+    -- nodes that are read are those of one tree
+    pub nodes-were : (t : Tree) × (ns ≡ nodesOf t) × (depth t ≤ lim .levels)
+    nodes-were =
+        let w = nodes-end .1 in
+        let (t, made, shallow) = root-filled (w .later) (w .filled) in
+        (t, w .whole ∙ made, shallow)
+
   module _ (bytes : List ℕ) (d : Tree) (read : readDocument lim classes bytes ≡ given d) where
     -- what was read: bytes few enough, and the nodes of the document
     record Was : Type 0 where
-      short : length bytes ≤ lim .input
       nodes : List Node
+      short : length bytes ≤ lim .input
       ends : Ends nothingRead bytes nodes
       made : nodes ≡ nodesOf d
       levels : depth d ≤ lim .levels
 
     was : Was
-    unfolding readDocument readNodes
+    unfolding readDocument
     was =
         let (ns, p, q) = was-given (readNodes lim classes bytes) treeOf d read in
-        let a = had-no-fault (ltb (lim .input) (length bytes)) InputTooLong _ ns p in
-        let w = ends (fieldsOf bytes) nothingRead bytes ns tt refl (a .1) in
-        let (t, of-tree, shallow) = root-filled (w .later) (w .filled) in
-        let made = w .whole ∙ of-tree in
+        let (t, made, shallow) = nodes-were bytes ns p in
         let same : t ≡ d = given-eq (sym (tree-of-nodes t) ∙ ap treeOf (sym made) ∙ q) in
         record {
-          short = ltb-false (lim .input) (length bytes) (a .0);
           nodes = ns;
-          ends = w;
+          short = nodes-end bytes ns p .0;
+          ends = nodes-end bytes ns p .1;
           made = made ∙ ap nodesOf same;
           levels = subst (λ (x : Tree). depth x ≤ lim .levels) same shallow;
         }
 
-    later-is : was .ends .later ≡ nodesOf d
-    later-is = sym (was .ends .whole) ∙ was .made
-
     bytes-are : written (was .ends .later) ≡ documentBytes d
     unfolding documentBytes
-    bytes-are = ap written later-is
+    bytes-are = ap written (sym (was .ends .whole) ∙ was .made)
 
     pub document-was : AreBytes bytes → documentBytes d ≡ bytes
     document-was small = sym (was .ends .same small ∙ bytes-are)
@@ -320,7 +328,7 @@ module _ (lim : Limits) (classes : Classes) where
         let short = was .short in
         let size = was .ends .size ∙ ap length bytes-are in
         record {
-          each-node = subst (Each (NodeWithin lim classes)) later-is (was .ends .each);
+          each-node = subst (Each (NodeWithin lim classes)) (sym (was .ends .whole) ∙ was .made) (was .ends .each);
           nodes = subst (λ (ns : List Node). length ns ≤ lim .nodes) (was .made) (was .ends .few (omega arith));
           levels = was .levels;
           size = omega arith;
