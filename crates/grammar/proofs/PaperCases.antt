@@ -1,7 +1,7 @@
 -- The paper's cases P1 to P8, computed. (crates/theory states them as instances of the written meaning.)
 use Prim.Native.Nat.{ℕ}
 use mathlib.Core.Bool.{true, false}
-use mathlib.Core.List.{List, []}
+use mathlib.Core.List.{List, [], _++_}
 use mathlib.Core.Path.{_≡_, refl}
 use lib.ListN.{length}
 use Rattle.grammar.specs.Limits.{standard}
@@ -12,11 +12,13 @@ use Rattle.grammar.specs.Least.{byTable}
 use Rattle.grammar.specs.Outcome.{Outcome, given, _>>=_}
 use Rattle.grammar.specs.ReadTable.{readTable}
 use Rattle.grammar.specs.ReadDocument.{readDocument}
+use Rattle.grammar.specs.WriteDocument.{documentBytes}
 use Rattle.grammar.specs.Membership.{letsIn}
 use Rattle.grammar.specs.Widen.{widen}
 use Rattle.grammar.specs.Answers.{numberAfter}
 use Rattle.grammar.specs.Calls.{writtenTo, readAddition}
 use Rattle.grammar.specs.declared.Source.the-variants.{Table as aTable}
+use Rattle.grammar.proofs.Builders.{nodeField, endOfDocument}
 use Rattle.grammar.proofs.PaperTables.{
   p1Bytes,
   p1Table,
@@ -45,6 +47,10 @@ p1-reads = refl
 pub p2-reads : readDocument standard asciiClasses p2Bytes ≡ given p2Document
 unfolding readDocument standard asciiClasses p2Bytes p2Document
 p2-reads = refl
+
+pub p2-bytes : documentBytes p2Document ≡ p2Bytes
+unfolding documentBytes p2Document p2Bytes
+p2-bytes = refl
 
 pub p2-let-in : letsIn p1Table p2Document ≡ true
 unfolding letsIn p1Table p2Document
@@ -92,6 +98,20 @@ p5-single-type = refl
 pub p5-single-type-keeps-out : letsIn p5Table p5Document ≡ false
 unfolding letsIn p5Table p5Document
 p5-single-type-keeps-out = refl
+
+-- each child's own children before the next child
+pub p5-bytes :
+    documentBytes p5Document
+    ≡ nodeField "block" 2
+    ++ nodeField "floor" 1
+    ++ nodeField "door" 1
+    ++ nodeField "code" 0
+    ++ nodeField "lift" 1
+    ++ nodeField "door" 1
+    ++ nodeField "time" 0
+    ++ endOfDocument
+unfolding documentBytes p5Document nodeField endOfDocument
+p5-bytes = refl
 
 pub p6 : alone local p6Table ≡ given p6Local
 unfolding widen standard p6Table p6Local

@@ -14,6 +14,7 @@ pub mod ReadContent
 pub mod ReadTable
 pub mod ReadDocument
 pub mod WriteTable
+pub mod WriteDocument
 pub mod WithinLimits
 pub mod Membership
 pub mod KindTests

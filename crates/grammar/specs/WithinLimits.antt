@@ -1,4 +1,4 @@
--- Tables that a file can hold.
+-- Tables and documents that a file can hold.
 use Prim.Native.Nat.{ℕ, _≤_, _<_}
 use mathlib.Core.Bool.{true}
 use mathlib.Core.List.{List·Memᴰ}
@@ -9,9 +9,12 @@ use Rattle.grammar.specs.Lists.{allDistinct}
 use Rattle.grammar.specs.Limits.{Limits}
 use Rattle.grammar.specs.Names.{Name, sameName, Classes, isName}
 use Rattle.grammar.specs.Content.{Content, nesting}
+use Rattle.grammar.specs.Tree.{Tree, depth}
 use Rattle.grammar.specs.Table.{Rule, Table}
 use Rattle.grammar.specs.ReadContent.{contentBytes, isProper}
+use Rattle.grammar.specs.ReadDocument.{Node}
 use Rattle.grammar.specs.WriteTable.{tableBytes}
+use Rattle.grammar.specs.WriteDocument.{nodesOf, documentBytes}
 
 pub record NameWithin (lim : Limits) (classes : Classes) (n : Name) : Type 0 where
   pub rule : isName classes n ≡ true
@@ -37,3 +40,13 @@ pub record TableWithin (lim : Limits) (classes : Classes) (g : Table) : Type 0 w
   pub each-rule : (r : Rule) → List·Memᴰ r (g .rules) → RuleWithin lim (length (g .labels)) r
   pub rules : length (g .rules) ≤ lim .rules
   pub size : length (tableBytes g) ≤ lim .input
+
+pub record NodeWithin (lim : Limits) (classes : Classes) (n : Node) : Type 0 where
+  pub name : NameWithin lim classes (n .name)
+  pub children : n .children ≤ lim .children
+
+pub record DocumentWithin (lim : Limits) (classes : Classes) (d : Tree) : Type 0 where
+  pub each-node : (n : Node) → List·Memᴰ n (nodesOf d) → NodeWithin lim classes n
+  pub nodes : length (nodesOf d) ≤ lim .nodes
+  pub levels : depth d ≤ lim .levels
+  pub size : length (documentBytes d) ≤ lim .input

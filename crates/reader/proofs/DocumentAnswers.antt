@@ -5,7 +5,7 @@
 --   document-answer : whether the document reads is that answer
 use Prim.Native.Nat.{ℕ, zero, suc, _<_}
 use native.Mathlib.Omega.{arith}
-use mathlib.Core.Bool.{Bool, true, false, true≢false}
+use mathlib.Core.Bool.{Bool, true, false}
 use mathlib.Core.List.{List, [], _∷_, _++_}
 use mathlib.Core.Option.{some as just}
 use mathlib.Core.Path.{_≡_, refl, sym, _∙_, ap}
@@ -16,7 +16,6 @@ use borrow.Author.Tests.{ltb-true, ltb-false}
 use Rattle.grammar.specs.Limits.{Limits, standard}
 use Rattle.grammar.specs.Names.{Classes, asciiClasses}
 use Rattle.grammar.specs.Outcome.{Outcome, given, refused, _>>=_}
-use Rattle.grammar.specs.ReadTable.{isEmpty}
 use Rattle.grammar.specs.Tree.{Tree}
 use Rattle.grammar.specs.ReadDocument.{Node, readNodes, treeOf, readDocument}
 use Rattle.grammar.specs.Answers.{reading}
@@ -27,35 +26,24 @@ use Rattle.reader.specs.declared.documents.DocumentIndex.{DocumentIndex}
 use Rattle.reader.specs.declared.documents.DocumentRead.{DocumentRead}
 use Rattle.reader.specs.DocumentNodes.{nodeAt, firstNodes, nodesIn, outcomeOf, DocumentReads}
 use Rattle.theory.proofs.ListLaws.{at-joined, at-or-else}
-use Rattle.reader.proofs.DocumentTrees.{trees-few, complete}
+use Rattle.theory.proofs.DocumentBytes.{tree-of-nodes}
+use Rattle.theory.proofs.DocumentWithin.{nodes-were}
 use Rattle.reader.proofs.DocumentLoop.{nodes-length}
-use Rattle.reader.proofs.TableFaults.{is-some}
 
 module _ (lim : Limits) (classes : Classes) where
-  some-read : (bytes : List ℕ) (ns : List Node) → readNodes lim classes bytes ≡ given ns → isEmpty ns ≡ false
-  some-read bytes ns e =
-      let one = complete lim classes bytes ns e .0 in
-      let few = trees-few ns in
-      is-some ns (omega arith)
-
-  -- reading on to the tree
-  tree-given : (ns : List Node) → isEmpty ns ≡ false → (t : Tree) × (treeOf ns ≡ given t)
-  unfolding treeOf
-  tree-given [] e = absurd (true≢false e)
-  tree-given (n ∷ ns) e = (_, refl)
-
-  tree-of-nodes : (bytes : List ℕ) (o : Outcome (List Node)) → readNodes lim classes bytes ≡ o → readDocument lim classes bytes ≡ (o >>= treeOf)
+  reads-on : (bytes : List ℕ) (o : Outcome (List Node)) → readNodes lim classes bytes ≡ o → readDocument lim classes bytes ≡ (o >>= treeOf)
   unfolding readDocument
-  tree-of-nodes bytes o e = ap (λ (x : Outcome (List Node)). x >>= treeOf) e
+  reads-on bytes o e = ap (λ (x : Outcome (List Node)). x >>= treeOf) e
 
   pub document-tree : (bytes : List ℕ) (ns : List Node) → readNodes lim classes bytes ≡ given ns
       → (t : Tree) × (treeOf ns ≡ given t) × (readDocument lim classes bytes ≡ given t)
   document-tree bytes ns e =
-      let t = tree-given ns (some-read bytes ns e) in
-      (t .0, t .1, tree-of-nodes bytes (given ns) e ∙ t .1)
+      let (t, made, shallow) = nodes-were lim classes bytes ns e in
+      let one = ap treeOf made ∙ tree-of-nodes t in
+      (t, one, reads-on bytes (given ns) e ∙ one)
 
   document-refused : (bytes : List ℕ) (r : Refusal) → readNodes lim classes bytes ≡ refused r → readDocument lim classes bytes ≡ refused r
-  document-refused bytes r e = tree-of-nodes bytes (refused r) e
+  document-refused bytes r e = reads-on bytes (refused r) e
 
 -- a document that was read, by the answer that reading found
 module _ (s : List ℕ) (r : DocumentRead) (d : DocumentReads s r) where

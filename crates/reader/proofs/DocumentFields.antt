@@ -147,20 +147,20 @@ good-counts nodes children depth e =
     record { room = room; few = few; level = level; some-level = omega arith }
 
 -- a node field, test by test
-abbrev pub tried : Bool → Bool → Bool → Opened → Outcome Opened
+abbrev tried : Bool → Bool → Bool → Opened → Outcome Opened
 tried fits named bad more =
     turnBack (not fits) BadField >> (turnBack (not named) BadName >> (turnBack bad BadTree >> given more))
 
 module _ (lim : Limits) (classes : Classes) (o : Opened) where
-  pub read-empty : (tag : ℕ) → readNode lim classes o (record { tag = tag; value = [] }) ≡ refused BadField
+  read-empty : (tag : ℕ) → readNode lim classes o (record { tag = tag; value = [] }) ≡ refused BadField
   unfolding readNode
   read-empty tag = refl
 
   module _ (tag k : ℕ) (name : List ℕ) where
-    abbrev pub fits : Bool
+    abbrev fits : Bool
     fits = eqb tag nodeTag && leb 1 (length name) && leb (length name) (lim .name)
 
-    pub read-tried : readNode lim classes o (record { tag = tag; value = k ∷ name })
+    read-tried : readNode lim classes o (record { tag = tag; value = k ∷ name })
         ≡ tried
         fits
         (isName classes name)

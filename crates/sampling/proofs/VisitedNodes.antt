@@ -14,11 +14,11 @@ use lib.ListN.{length, length-append, length-replicate, getD, drop, replicate}
 use borrow.Author.Tests.{eq-eqb, ne-eqb}
 use Rattle.grammar.specs.Names.{Name}
 use Rattle.grammar.specs.Outcome.{given}
-use Rattle.grammar.specs.Tree.{Tree, node, Forest, []ᵗ, _∷ᵗ_}
+use Rattle.grammar.specs.Tree.{Tree, node, Forest, []ᵗ, _∷ᵗ_, trees}
 use Rattle.grammar.specs.ReadDocument.{Node, forestOf, firstTrees, otherTrees, treeOf}
 use Rattle.grammar.specs.Sample.{Visit, rootNames, visits, visitsAll}
 use Rattle.theory.proofs.OutcomeLaws.{given-eq}
-use Rattle.reader.proofs.DocumentTrees.{trees, treeCount, Enough, forest-trees}
+use Rattle.reader.proofs.DocumentTrees.{treeCount, Enough, forest-trees}
 use Rattle.sampling.specs.SampleNodes.{parentsFrom, visitsFrom, pathsIn, childrenIn, namesIn}
 
 -- the visits of trees, each with its own path above

@@ -27,6 +27,8 @@ pub mod AnswerNumbers
 pub mod ReadSteps
 pub mod TableBytes
 pub mod ReadWithin
+pub mod NodeSteps
+pub mod DocumentBytes
 pub mod DistinctLaws
 pub mod Alternatives
 pub mod ChoiceLaws

@@ -27,7 +27,7 @@ use Rattle.grammar.specs.declared.Refusal.the-variants.{
   BadContent,
   NestedTooDeep,
 }
-use Rattle.grammar.specs.Fields.{Field, Fields, _then_}
+use Rattle.grammar.specs.Fields.{Field, Fields, noBytes, pastEnd, _then_}
 use Rattle.grammar.specs.ReadContent.{contentBytes, Parsed, expressionOf, isProper, whole, readContent}
 use Rattle.grammar.specs.ReadTable.{
   tableEndTag,
@@ -83,6 +83,11 @@ name-has-bytes classes (b ∷ bs) e = omega arith
 pub empty-is : {A : Type 0} (xs : List A) → isEmpty xs ≡ true → xs ≡ []
 empty-is [] e = refl
 empty-is (x ∷ xs) e = let z : _≡_ {A = ℕ} 0 1 = cc in absurd (omega arith)
+
+pub none-left : (fs : Fields) → bytesLeft fs ≡ false → fs ≡ noBytes
+none-left noBytes e = refl
+none-left pastEnd e = let z : _≡_ {A = ℕ} 0 1 = cc in absurd (omega arith)
+none-left (f then fs) e = let z : _≡_ {A = ℕ} 0 1 = cc in absurd (omega arith)
 
 module _ (lim : Limits) where
   -- what a start that is read is, and how the table goes on

@@ -47,6 +47,7 @@ use Rattle.theory.proofs.ReadSteps.{
   end-field,
   next-field,
   empty-is,
+  none-left,
 }
 use Rattle.theory.proofs.TableBytes.{LabelsFit, StartsFit, RulesFit}
 
@@ -171,11 +172,6 @@ module _ (lim : Limits) (classes : Classes) where
     size : length s ≡ length spelled
     same : AreBytes s → s ≡ spelled
     fits : Fits g → Fits more
-
-  none-left : (fs : Fields) → bytesLeft fs ≡ false → fs ≡ noBytes
-  none-left noBytes e = refl
-  none-left pastEnd e = let z : _≡_ {A = ℕ} 0 1 = cc in absurd (omega arith)
-  none-left (f then fs) e = let z : _≡_ {A = ℕ} 0 1 = cc in absurd (omega arith)
 
   ends : (fs : Fields) (g : Table) (s : List ℕ) (more : Table) → fieldsOf s ≡ fs → readTableFields lim classes g fs ≡ given more
       → Ends g s more

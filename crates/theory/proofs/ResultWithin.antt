@@ -17,7 +17,7 @@ use Rattle.grammar.specs.Least.{byDocument}
 use Rattle.grammar.specs.Outcome.{given}
 use Rattle.grammar.specs.ReadTable.{readTable}
 use Rattle.grammar.specs.WriteTable.{tableBytes}
-use Rattle.grammar.specs.WithinLimits.{NameWithin, TableWithin}
+use Rattle.grammar.specs.WithinLimits.{NameWithin, TableWithin, DocumentWithin}
 use Rattle.grammar.specs.Widen.{form, reducedUnion, widenByTable, sampleTable, widen}
 use Rattle.theory.proofs.OutcomeLaws.{was-given}
 use Rattle.theory.proofs.FieldBytes.{AreBytes}
@@ -27,7 +27,6 @@ use Rattle.theory.proofs.WidenLeast.{unsized, widened}
 use Rattle.theory.proofs.CountedTables.{within-counted, union-counted, union-name}
 use Rattle.theory.proofs.NumberedTable.{numbered-within, finished-numbered, finished-labels}
 use Rattle.theory.proofs.FormsNumbered.{form-numbered}
-use Rattle.theory.proofs.DocumentWithin.{DocumentWithin}
 use Rattle.theory.proofs.SampleWithin.{sample-within}
 use Rattle.theory.proofs.WrittenBytes.{BytesAgree, table-bytes-small}
 

@@ -18,7 +18,7 @@ use Rattle.grammar.specs.Table.{Rule, Table}
 use Rattle.grammar.specs.Derivation.{Fits}
 use Rattle.grammar.specs.Outcome.{given}
 use Rattle.grammar.specs.declared.Refusal.the-variants.{ResultTooLarge}
-use Rattle.grammar.specs.WithinLimits.{NameWithin, TableWithin}
+use Rattle.grammar.specs.WithinLimits.{NameWithin, TableWithin, DocumentWithin}
 use Rattle.grammar.specs.UsedLabels.{usedLabels, withUsedLabels}
 use Rattle.grammar.specs.Size.{tooLarge}
 use Rattle.grammar.specs.Sample.{Visit, visits, samePath, pathsOf, namesOf, sequenceOf, contentAt, ruleAt, sample}
@@ -57,7 +57,7 @@ use Rattle.theory.proofs.SampleRules.{
   sample-start,
 }
 use Rattle.theory.proofs.Counted.{Counted, AllCounted, choice-counted}
-use Rattle.theory.proofs.DocumentWithin.{DocumentWithin}
+use Rattle.theory.proofs.DocumentWithin.{nodeAt, visit-node}
 use Rattle.theory.proofs.NumberedTable.{Numbered, table-small, numbered-within}
 
 -- the sequence of some types
@@ -184,7 +184,7 @@ module _ (lim : Limits) (classes : Classes) (agree : LimitsAgree lim) (d : Tree)
         names =
             λ n o.
             let (u, p, e) = name-from d n o in
-            subst (NameWithin lim classes) e (within u p .name);
+            subst (NameWithin lim classes) e (within .each-node (nodeAt u) (visit-node d [] u p) .name);
         names-differ = sample-names d;
         start-types =
             λ k o.
@@ -199,7 +199,7 @@ module _ (lim : Limits) (classes : Classes) (agree : LimitsAgree lim) (d : Tree)
             content-counted d lim
             (λ u p.
             let a = agree .children in
-            let b = within u p .children in
+            let b = within .each-node (nodeAt u) (visit-node d [] u p) .children in
             omega arith);
       }
 

@@ -1,5 +1,6 @@
--- The numbers written for a table that a file can hold are bytes, where the limits are those of bytes:
+-- The numbers written for a table or a document that a file can hold are bytes, where the limits are those of bytes:
 --   table-bytes-small : BytesAgree lim classes → TableWithin lim classes g → AreBytes (tableBytes g)
+--   document-bytes-small : BytesAgree lim classes → DocumentWithin lim classes d → AreBytes (documentBytes d)
 use Prim.Native.Nat.{ℕ, zero, suc, _/_, _%_, _≤_, _<_}
 use native.Mathlib.Omega.{arith}
 use mathlib.Core.Bool.{true}
@@ -37,12 +38,15 @@ use Rattle.grammar.specs.Content.{
   _∷ᶜ_,
   count,
 }
+use Rattle.grammar.specs.Tree.{Tree}
 use Rattle.grammar.specs.Table.{Table}
 use Rattle.grammar.specs.Fields.{fieldBytes}
 use Rattle.grammar.specs.ReadContent.{contentBytes, operandBytes, isProper, areProper}
 use Rattle.grammar.specs.ReadTable.{labelTag, startTag, ruleTag, tableEndTag}
+use Rattle.grammar.specs.ReadDocument.{nodeTag, documentEndTag, Node}
 use Rattle.grammar.specs.WriteTable.{ruleBytes, tableBytes}
-use Rattle.grammar.specs.WithinLimits.{TableWithin}
+use Rattle.grammar.specs.WriteDocument.{nodesOf, nodeBytes, documentBytes}
+use Rattle.grammar.specs.WithinLimits.{TableWithin, DocumentWithin}
 use Rattle.theory.proofs.BoolLaws.{and-left, and-right}
 use Rattle.theory.proofs.ListLaws.{all-at, joined-from, numbers-length}
 use Rattle.theory.proofs.FieldBytes.{AreBytes}
@@ -53,6 +57,7 @@ pub record BytesAgree (lim : Limits) (classes : Classes) : Type 0 where
   pub types : lim .types ≤ 256
   pub labels : lim .labels ≤ 256
   pub operands : lim .operands ≤ 255
+  pub children : lim .children ≤ 255
   pub input : lim .input < 65536
   pub name-bytes : length classes ≤ 256
 
@@ -62,7 +67,14 @@ unfolding standard asciiClasses numbersBelow
 standard-bytes =
     let a = length-map (numbersBelow 256) classOf in
     let b = numbers-length 0 256 in
-    record { types = omega arith; labels = omega arith; operands = omega arith; input = omega arith; name-bytes = omega arith }
+    record {
+      types = omega arith;
+      labels = omega arith;
+      operands = omega arith;
+      children = omega arith;
+      input = omega arith;
+      name-bytes = omega arith;
+    }
 
 small-none : AreBytes []
 small-none b m = elim m [ ]
@@ -201,3 +213,19 @@ module _ (lim : Limits) (classes : Classes) (agree : BytesAgree lim classes) whe
       small-cons (r .type) _ (omega arith)
       (small-cons (r .label) _ (omega arith) (content-small (r .content) (w .content .proper))))))
       (field-small tableEndTag [] (omega arith) (omega arith) small-none)
+
+  pub document-bytes-small : (d : Tree) → DocumentWithin lim classes d → AreBytes (documentBytes d)
+  unfolding documentBytes nodeBytes
+  document-bytes-small d within =
+      let nodes = joinedOf nodeBytes (nodesOf d) in
+      let end = fieldBytes documentEndTag [] in
+      let size = within .size in
+      let l = length-append nodes end in
+      small-append nodes end
+      (fields-small nodeTag (λ (n : Node). n .children ∷ n .name) (nodesOf d) (omega arith) (omega arith)
+      (λ n m.
+      let w = within .each-node n m in
+      let a = agree .children in
+      let b = w .children in
+      small-cons (n .children) (n .name) (omega arith) (name-small classes (n .name) (agree .name-bytes) (w .name .rule))))
+      (field-small documentEndTag [] (omega arith) (omega arith) small-none)
