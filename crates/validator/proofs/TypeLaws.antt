@@ -235,11 +235,10 @@ module _ {s : List ℕ} {index : TableIndex} {g : Table} (known : Known s index 
 pub emptied : (words after none : List ℕ) (base : ℕ) → base + 4 ≤ length words → none ≡ replicate 4 0 → after ≡ storeAt words base none
     → (setAt after base ≡ sets.nothing) × (drop (base + 4) after ≡ drop (base + 4) words)
 emptied words after none base room zeros e =
-    let size : length none ≡ 4 = ap length zeros ∙ length-replicate {A = ℕ} 4 0 in
-    (
+    let size : length none ≡ 4 = ap length zeros ∙ length-replicate {A = ℕ} 4 0 in (
       ap (λ (l : List ℕ). setAt l base) e
-      ∙ ap (λ (l : List ℕ). member l 0) (words-store words base none 4 (omega arith) size ∙ zeros)
-      ∙ member-zeros 4 0,
+          ∙ ap (λ (l : List ℕ). member l 0) (words-store words base none 4 (omega arith) size ∙ zeros)
+          ∙ member-zeros 4 0,
       ap (drop (base + 4)) e ∙ drop-store words base none (base + 4) (omega arith) (omega arith),
     )
 

@@ -112,8 +112,8 @@ pub record PutIf (words : List ℕ) (base : ℕ) (flag : Bool) (k : ℕ) (after 
   pub members : setAt after base ≡ elim flag as (λ f. ℕ → Bool) [ true ↦ add k (setAt words base) | false ↦ setAt words base ]
   pub behind : drop (base + 4) after ≡ drop (base + 4) words
 
--- the set at a word has the types of the rules that fit a node, the place of whose name among the labels is `label`, whatever table the rules
--- are of; the sets of its children stood behind it, and the words there are kept
+-- the set at a word has the types of the rules that fit a node, the place of whose name among the labels is `label`, whatever table
+-- the rules are of; the sets of its children stand behind it, and the words there are kept
 pub record TypesAre (s ruleTypes next from to : List ℕ) (nullable : List Bool) (rules label : ℕ) (words : List ℕ) (base count : ℕ)
     (after : List ℕ) : Type 0 where
   pub types : (g : Table) → RulesChained s ruleTypes next from to nullable rules g → (n : Name) → label ≡ place sameName n (g .labels)

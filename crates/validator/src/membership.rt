@@ -26,7 +26,8 @@ ghost use Rattle.grammar.specs.Tree.{Tree};
 ghost use Rattle.reader.specs.DocumentNodes.{nodesIn};
 ghost use Rattle.walks.specs.TypeSets.{setAt, testsAt};
 ghost use Rattle.validator.specs.KnownDocument.{indexOf, NodeRoom, KnownNodes, Brought, RootTypes};
-ghost use Rattle.validator.specs.KnownTable.{Known, SomeTable, SomeContents, NullableAre, SomeRules, StartsAt, SomeStarts, PutIf, TypesAre};
+ghost use Rattle.validator.specs.KnownTable.{Known, SomeTable, SomeContents, NullableAre, SomeRules, StartsAt, SomeStarts};
+ghost use Rattle.validator.specs.KnownTable.{PutIf, TypesAre};
 ghost use Rattle.walks.specs.WalkAt.{runAt, WholeAt, Room};
 
 // Whether the content of each rule matches no children.
@@ -38,7 +39,8 @@ fn nullable_contents(
     marks: &mut [u8],
     words: &[u32],
 ) -> [bool; 64]
-    requires { ⌜ (SomeContents (now table) (now «content_from») (now «content_to») rules) × (1024 ≤ length (now marks)) × (4 ≤ length (now words)) ⌝ }
+    requires { ⌜ (SomeContents (now table) (now «content_from») (now «content_to») rules) × (1024 ≤ length (now marks))
+        × (4 ≤ length (now words)) ⌝ }
     ensures { λ r. ⌜ NullableAre (now (table .entry)) (now («content_from» .entry)) (now («content_to» .entry)) rules r ⌝ }
 {
     let mut nullable = [false; 64];
@@ -61,7 +63,8 @@ fn content_fits(
     top: usize,
     count: usize,
 ) -> bool
-    requires { ⌜ (WholeAt standard (now content)) × (Room (now content) (now marks) (now words) 0) × (top + 4 * count ≤ length (now words)) × (nullable ≡ runAt (now content) []) ⌝ }
+    requires { ⌜ (WholeAt standard (now content)) × (Room (now content) (now marks) (now words) 0)
+        × (top + 4 * count ≤ length (now words)) × (nullable ≡ runAt (now content) []) ⌝ }
     ensures { λ r. ⌜ r ≡ runAt (now (content .entry)) (testsAt (now (words .entry)) top count) ⌝ }
 {
     if count == 0 {
@@ -95,8 +98,8 @@ fn put_types(
     base: usize,
     count: usize,
 )
-    requires { ⌜ (SomeRules (now table) (now «rule_type») (now next) (now «content_from») (now «content_to») (now nullable) rules) × (label ≤ 64)
-        × (1024 ≤ length (now marks)) × (base + 4 + 4 * count ≤ length (now words)) ⌝ }
+    requires { ⌜ (SomeRules (now table) (now «rule_type») (now next) (now «content_from») (now «content_to») (now nullable) rules)
+        × (label ≤ 64) × (1024 ≤ length (now marks)) × (base + 4 + 4 * count ≤ length (now words)) ⌝ }
     ensures { λ r. ⌜ TypesAre (now (table .entry)) (now («rule_type» .entry)) (now (next .entry)) (now («content_from» .entry))
         (now («content_to» .entry)) (now (nullable .entry)) rules label (now (words .entry)) base count (now (words .exit)) ⌝ }
 {
@@ -212,8 +215,8 @@ pub fn lets_in_read(
     requires { ⌜ (SomeTable (now table) index) × (KnownNodes (now document) (indexOf (now names) (now sizes) (now children) nodes))
         × (NodeRoom (now names) (now sizes) (now children)) × (4096 ≤ length (now words)) ⌝ }
     ensures { λ r. ⌜ ((g : Table) → Known (now (table .entry)) index g → (t : Tree)
-        → treeOf (nodesIn (now (document .entry)) (indexOf (now (names .entry)) (now (sizes .entry)) (now (children .entry)) nodes)) ≡ given t
-        → r ≡ letsIn g t) ⌝ }
+        → treeOf (nodesIn (now (document .entry)) (indexOf (now (names .entry)) (now (sizes .entry)) (now (children .entry)) nodes))
+        ≡ given t → r ≡ letsIn g t) ⌝ }
 {
     let mut marks = [0u8; 1024];
     let at = root_types(
