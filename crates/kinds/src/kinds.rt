@@ -182,7 +182,8 @@ fn has_rival(index: TableIndex, words: &[u32], i: usize) -> bool
 // No two different types of the set have rules with one label.
 fn none_compete(index: TableIndex, words: &[u32]) -> bool
     requires { ⌜ (index .rules ≤ 64) × (8 ≤ length (now words)) ⌝ }
-    ensures { λ r. ⌜ ((s : List ℕ) (g : Table) (types : List ℕ) → Indexes s index g → Holds (now (words .entry)) types → r ≡ noneCompete g types) ⌝ }
+    ensures { λ r. ⌜ ((s : List ℕ) (g : Table) (types : List ℕ) → Indexes s index g → Holds (now (words .entry)) types
+        → r ≡ noneCompete g types) ⌝ }
 {
     let rules = index.rules;
     let mut i: usize = 0;
@@ -198,7 +199,8 @@ fn none_compete(index: TableIndex, words: &[u32]) -> bool
 // No two different types that stand in the content of this rule have rules with one label.
 fn none_compete_in(table: &[u8], index: TableIndex, i: usize, words: &mut [u32]) -> bool
     requires { ⌜ (Indexed (now table) index) × (i < index .rules) × (8 ≤ length (now words)) ⌝ }
-    ensures { λ r. ⌜ ((g : Table) (rule : Rule) → Indexes (now (table .entry)) index g → getElem? (g .rules) i ≡ some rule → r ≡ noneCompete g (typesIn (rule .content))) ⌝ }
+    ensures { λ r. ⌜ ((g : Table) (rule : Rule) → Indexes (now (table .entry)) index g → getElem? (g .rules) i ≡ some rule
+        → r ≡ noneCompete g (typesIn (rule .content))) ⌝ }
 {
     let content_from = index.content_from;
     let content_to = index.content_to;
@@ -211,7 +213,8 @@ fn none_compete_in(table: &[u8], index: TableIndex, i: usize, words: &mut [u32])
 // The same of every content.
 fn none_compete_in_any(table: &[u8], index: TableIndex, words: &mut [u32]) -> bool
     requires { ⌜ (Indexed (now table) index) × (8 ≤ length (now words)) ⌝ }
-    ensures { λ r. ⌜ ((g : Table) → Indexes (now (table .entry)) index g → r ≡ all (λ (rule : Rule). noneCompete g (typesIn (rule .content))) (g .rules)) ⌝ }
+    ensures { λ r. ⌜ ((g : Table) → Indexes (now (table .entry)) index g
+        → r ≡ all (λ (rule : Rule). noneCompete g (typesIn (rule .content))) (g .rules)) ⌝ }
 {
     let rules = index.rules;
     let mut rule: usize = 0;

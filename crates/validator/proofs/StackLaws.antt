@@ -1,14 +1,15 @@
 -- The stack of type sets: from a word on, set by set, stand the types of the trees of the nodes from a place on (`Stacked`). One node more
 -- takes its children's sets and leaves its own (`stack-next`); when all nodes are gone through, the root's set is left (`stack-root`).
-use Prim.Native.Nat.{ℕ, zero, suc, _+_, _*_, _-_, _≤_}
+use Prim.Native.Nat.{ℕ, zero, suc, _+_, _*_, _-_, _≤_, _<_}
 use native.Mathlib.Omega.{arith}
+use native.Mathlib.Nat.{add-zero}
 use native.Mathlib.Numerals.{add-one}
 use mathlib.Core.Bool.{Bool, _&&_}
 use mathlib.Core.List.{List, [], _∷_, map}
 use mathlib.Core.Option.{some as just}
 use mathlib.Core.Path.{_≡_, refl, sym, _∙_, ap, ap₂, subst, fun-ext}
-use lib.ListN.{length, getD, getElem?, take, drop, length-drop, drop-of-length-le}
-use lib.Seq.{drop-cons}
+use lib.ListN.{length, getD, set, getElem?, take, drop, length-drop, drop-of-length-le}
+use lib.Seq.{drop-cons, drop-drop, getD-set-other}
 use Rattle.grammar.specs.Lists.{keep}
 use Rattle.grammar.specs.Names.{Name}
 use Rattle.grammar.specs.Outcome.{given}
@@ -16,8 +17,9 @@ use Rattle.grammar.specs.Table.{Rule, Table}
 use Rattle.grammar.specs.Tree.{Tree, node, Forest, []ᵗ, _∷ᵗ_}
 use Rattle.grammar.specs.ReadDocument.{Node, firstTrees, otherTrees, forestOf, treeOf}
 use Rattle.grammar.specs.Membership.{isNamed, typesOf, typesOfAll}
-use Rattle.sets.specs.Sets.{member, storeAt}
-use Rattle.sets.proofs.SetLaws.{words-store, store-after}
+use Rattle.sets.specs.Sets.{member, wordsAt, storeAt}
+use Rattle.sets.proofs.FourWords.{four-stored}
+use Rattle.sets.proofs.SetLaws.{length-words, word-of, words-store, drop-store}
 use Rattle.theory.proofs.ListLaws.{at-below, at-else, take-map, drop-map}
 use Rattle.theory.proofs.MarkedRun.{holds, run-matches}
 use Rattle.reader.proofs.DocumentTrees.{treeCount, trees-few, enough-at}
@@ -26,7 +28,7 @@ use Rattle.reader.specs.DocumentNodes.{nodeAt, nodesIn}
 use Rattle.reader.specs.declared.documents.DocumentIndex.{DocumentIndex}
 use Rattle.walks.specs.TypeSets.{setAt, testsAt}
 use Rattle.validator.specs.KnownTable.{typesFor}
-use Rattle.validator.specs.KnownDocument.{KnownNodes}
+use Rattle.validator.specs.KnownDocument.{indexOf, KnownNodes, Brought}
 
 -- Sets that stand one after the other: the first, and those behind them.
 tests-take : (words : List ℕ) (k n at : ℕ) → k ≤ n → take k (testsAt words at n) ≡ testsAt words at k
@@ -47,14 +49,20 @@ tests-drop words (suc k) (suc n) at h =
     let left : n - k ≡ suc n - suc k = omega arith in
     tests-drop words k n (at + 4) (omega arith) ∙ (λ j. testsAt words (place j) (left j))
 
--- sets behind a set that is laid down are kept
-tests-kept : (words : List ℕ) (base : ℕ) (new : List ℕ) → base + length new ≤ length words → (n at : ℕ) → base + length new ≤ at
-    → testsAt (storeAt words base new) at n ≡ testsAt words at n
-unfolding testsAt
-tests-kept words base new h zero at q = refl
-tests-kept words base new h (suc n) at q =
-    ap₂ (λ (l : List ℕ) (ts : List (ℕ → Bool)). member l 0 ∷ ts) (store-after words base new at 4 h q)
-    (tests-kept words base new h n (at + 4) (omega arith))
+-- where the words from a place on are kept, the sets there are
+module _ (words after : List ℕ) (from : ℕ) (kept : drop from after ≡ drop from words) where
+  drop-behind : (at : ℕ) → from ≤ at → drop at after ≡ drop at words
+  drop-behind at h =
+      let whole : from + (at - from) ≡ at = omega arith in
+      let further : (l : List ℕ) → drop (at - from) (drop from l) ≡ drop at l
+      = λ l. drop-drop (at - from) from l ∙ ap (λ (k : ℕ). drop k l) whole in
+      sym (further after) ∙ ap (drop (at - from)) kept ∙ further words
+
+  pub tests-behind : (n at : ℕ) → from ≤ at → testsAt after at n ≡ testsAt words at n
+  unfolding testsAt wordsAt
+  tests-behind zero at h = refl
+  tests-behind (suc n) at h =
+      ap₂ (λ (l : List ℕ) (ts : List (ℕ → Bool)). member (take 4 l) 0 ∷ ts) (drop-behind at h) (tests-behind n (at + 4) (omega arith))
 
 -- the types of the first trees, and of those after them
 module _ (g : Table) where
@@ -104,19 +112,16 @@ module _ (g : Table) (n : Node) (ns : List Node) (words : List ℕ) (top : ℕ) 
       ∙ drop-map holds (n .children) (typesOfAll g (forestOf ns))
       ∙ ap (map holds) (sym (types-other g (n .children) (forestOf ns)))
 
-  pub stack-next : (set : List ℕ) (at : ℕ) → at + 4 ≡ top + 4 * n .children → length set ≡ 4 → at + 4 ≤ length words
-      → member set 0 ≡ holds (typesFor g (n .name) (testsAt words top (n .children)) (g .rules))
-      → Stacked g (n ∷ ns) (storeAt words at set) at
+  pub stack-next : (after : List ℕ) (at : ℕ) → at + 4 ≡ top + 4 * n .children
+      → setAt after at ≡ holds (typesFor g (n .name) (testsAt words top (n .children)) (g .rules))
+      → drop (at + 4) after ≡ drop (at + 4) words → Stacked g (n ∷ ns) after at
   unfolding treeCount forestOf typesOf testsAt
-  stack-next set at place size room types =
-      let fits : at + length set ≤ length words = omega arith in
-      let behind : at + length set ≤ at + 4 = omega arith in
+  stack-next after at place types kept =
       ap₂ (λ (p : ℕ → Bool) (ts : List (ℕ → Bool)). p ∷ ts)
-      (ap (λ (l : List ℕ). member l 0) (words-store words at set 4 fits size)
-      ∙ types
+      (types
       ∙ ap holds (ap (λ (ts : List (ℕ → Bool)). typesFor g (n .name) ts (g .rules)) stack-children
       ∙ sym (types-node g (n .name) (firstTrees (n .children) (forestOf ns)))))
-      (tests-kept words at set fits (treeCount ns - n .children) (at + 4) behind
+      (tests-behind words after (at + 4) kept (treeCount ns - n .children) (at + 4) (omega arith)
       ∙ ap (λ (k : ℕ). testsAt words k (treeCount ns - n .children)) place
       ∙ stack-others)
 
@@ -169,18 +174,33 @@ module _ (d : List ℕ) (nodes : DocumentIndex) (known : KnownNodes d nodes) (i 
       let n = nodes-count d nodes in
       omega arith
 
-  pub round-stacked : (g : Table) (words words′ set name : List ℕ) (top top′ : ℕ)
+  -- the node's set was made before its children's, and then brought to its place
+  pub round-stacked : (g : Table) (words made after name : List ℕ) (top base to : ℕ)
       → name ≡ take (getD (nodes .sizes) at 0) (drop (getD (nodes .names) at 0) d)
-      → Stacked g (drop i (nodesIn d nodes)) words top → top′ + 4 ≡ top + 4 * getD (nodes .children) at 0 → length set ≡ 4
-      → top′ + 4 ≤ length words
-      → member set 0 ≡ holds (typesFor g name (testsAt words top (getD (nodes .children) at 0)) (g .rules))
-      → words′ ≡ storeAt words top′ set → Stacked g (drop at (nodesIn d nodes)) words′ top′
+      → Stacked g (drop i (nodesIn d nodes)) words top → base + 4 ≡ top → to ≡ base + 4 * getD (nodes .children) at 0
+      → setAt made base ≡ holds (typesFor g name (testsAt words (base + 4) (getD (nodes .children) at 0)) (g .rules))
+      → drop (base + 4) made ≡ drop (base + 4) words
+      → Brought made base to after → Stacked g (drop at (nodesIn d nodes)) after to
   unfolding round-node
-  round-stacked g words words′ set name top top′ same stacked place size room types stored =
-      subst (λ (l : List Node). Stacked g l words′ top′) (sym round-drop)
-      (subst (λ (w : List ℕ). Stacked g (round-node ∷ drop i (nodesIn d nodes)) w top′) (sym stored)
-      (stack-next g round-node (drop i (nodesIn d nodes)) words top round-enough stacked set top′ place size room
-      (types ∙ ap (λ (n : Name). holds (typesFor g n (testsAt words top (getD (nodes .children) at 0)) (g .rules))) same)))
+  round-stacked g words made after name top base to same stacked place there types kept brought =
+      subst (λ (l : List Node). Stacked g l after to) (sym round-drop)
+      (stack-next g round-node (drop i (nodesIn d nodes)) words top round-enough stacked after to (omega arith)
+      (brought .there
+      ∙ types
+      ∙ ap₂ (λ (n : Name) (k : ℕ). holds (typesFor g n (testsAt words k (getD (nodes .children) at 0)) (g .rules))) same place)
+      (brought .behind ∙ drop-behind words made (base + 4) kept (to + 4) (omega arith)))
+
+-- there is room for the set of the node before a place, before its children's sets and at its place
+pub round-room : (d names sizes children : List ℕ) (n i top : ℕ) (known : KnownNodes d (indexOf names sizes children n)) → 0 < i → i ≤ n
+    → top + 4 * treeCount (drop i (nodesIn d (indexOf names sizes children n))) ≡ 4 * n
+    → (4 ≤ top) × (top + 4 * getD children (i - 1) 0 ≤ 4 * n) × (n ≤ 1024)
+round-room d names sizes children n i top known some inside e =
+    let nodes = indexOf names sizes children n in
+    let before : i - 1 + 1 ≡ i = omega arith in
+    let enough = round-enough d nodes known i (i - 1) before inside in
+    let trees = round-few d nodes known i (i - 1) before inside in
+    let few = known .indexed .few in
+    (omega arith, omega arith, omega arith)
 
 -- before the first round no node is gone through
 module _ (d : List ℕ) (nodes : DocumentIndex) where
@@ -194,3 +214,37 @@ module _ (d : List ℕ) (nodes : DocumentIndex) where
   pub none-count : treeCount (drop (nodes .nodes) (nodesIn d nodes)) ≡ 0
   unfolding treeCount
   none-count = ap treeCount no-nodes
+
+-- a set whose words are copied one by one to words behind it
+module _ (words : List ℕ) (from to : ℕ) (far : from + 4 ≤ to) (room : to + 4 ≤ length words) where
+  abbrev copy : List ℕ → ℕ → List ℕ
+  copy l i = set l (to + i) (getD l (from + i) 0)
+
+  pub copied : (after : List ℕ) → after ≡ copy (copy (copy (set words to (getD words from 0)) 1) 2) 3 → Brought words from to after
+  copied after e =
+      let there = wordsAt words from 4 in
+      let size = length-words words from 4 (omega arith) in
+      let w1 = set words to (getD words from 0) in
+      let w2 = copy w1 1 in
+      let w3 = copy w2 2 in
+      let here : getD words from 0 ≡ getD there 0 0
+      = ap (λ (i : ℕ). getD words i 0) (sym (add-zero from)) ∙ sym (word-of words from 4 0 (omega arith)) in
+      let first : (i : ℕ) → i < 4 → getD w1 (from + i) 0 ≡ getD there i 0
+      = λ i h. getD-set-other words to (from + i) _ 0 (λ q. omega arith) ∙ sym (word-of words from 4 i h) in
+      let second : (i : ℕ) → i < 4 → getD w2 (from + i) 0 ≡ getD there i 0
+      = λ i h. getD-set-other w1 (to + 1) (from + i) _ 0 (λ q. omega arith) ∙ first i h in
+      let third : (i : ℕ) → i < 4 → getD w3 (from + i) 0 ≡ getD there i 0
+      = λ i h. getD-set-other w2 (to + 2) (from + i) _ 0 (λ q. omega arith) ∙ second i h in
+      let x1 = first 1 (omega arith) in
+      let x2 = second 2 (omega arith) in
+      let x3 = third 3 (omega arith) in
+      let stored : after ≡ storeAt words to there
+      = e
+      ∙ (λ j. set (set (set (set words to (here j)) (to + 1) (x1 j)) (to + 2) (x2 j)) (to + 3) (x3 j))
+      ∙ four-stored words to there room size in
+      record {
+        there =
+            ap (λ (l : List ℕ). setAt l to) stored
+            ∙ ap (λ (l : List ℕ). member l 0) (words-store words to there 4 (omega arith) size);
+        behind = ap (drop (to + 4)) stored ∙ drop-store words to there (to + 4) (omega arith) (omega arith);
+      }

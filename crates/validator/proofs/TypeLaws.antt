@@ -1,16 +1,18 @@
 -- The types of a node, rule by rule. A rule is named as the node exactly if its label is the place of the node's name (`named-by-place`), so
 -- what the code asks of a rule is what the table says of it (`asked-is`, `not-asked`). A set that has the types of the first rules has, with
 -- the next rule's if it fits, those of one rule more (`types-step`), and those of all rules up to the next one of the label (`types-passed`).
-use Prim.Native.Nat.{ℕ, zero, suc, _+_, _-_, _/_, _≤_, _<_}
+use Prim.Native.Nat.{ℕ, zero, suc, _+_, _-_, _/_, _%_, _^_, _≤_, _<_}
 use native.Mathlib.Omega.{arith}
+use native.Mathlib.Nat.{zero-add}
 use native.Mathlib.Numerals.{add-one}
 use mathlib.Core.Bool.{Bool, true, false, _&&_, _||_, or-comm, or-false}
 use mathlib.Core.List.{List, [], _∷_, _++_, map, append-nil, map-append}
 use mathlib.Core.Option.{none as nothing, some as just}
 use mathlib.Core.Path.{_≡_, refl, sym, _∙_, ap, ap₂, subst, fun-ext}
+use lib.Bits.{bitOr}
 use lib.Dec.{eqb}
-use lib.ListN.{length, getD, set, getElem?, take}
-use lib.Seq.{take-all, take-suc, getD-set-same, getD-set-other}
+use lib.ListN.{length, getD, set, getElem?, take, drop, replicate, length-replicate}
+use lib.Seq.{take-all, take-suc, take-set-lt, drop-set-lt, drop-set-add, getD-set-same, getD-set-other}
 use borrow.Author.Count.{below-more}
 use borrow.Author.Tests.{eqb-true, eq-eqb, ne-eqb}
 use Rattle.grammar.specs.Lists.{any, keep, isIn, allDistinct, place}
@@ -19,8 +21,8 @@ use Rattle.grammar.specs.Names.{Name, sameName}
 use Rattle.grammar.specs.Table.{Rule, Table}
 use Rattle.grammar.specs.Membership.{isNamed}
 use Rattle.sets.specs.Sets as sets
-use Rattle.sets.specs.Sets.{member, putAt, add}
-use Rattle.sets.proofs.SetLaws.{member-put, length-put, member-words}
+use Rattle.sets.specs.Sets.{member, putAt, wordsAt, storeAt, add}
+use Rattle.sets.proofs.SetLaws.{member-put, member-words, member-zeros, length-words, word-of, words-store, drop-store}
 use Rattle.theory.proofs.BoolLaws.{same-test}
 use Rattle.theory.proofs.ListLaws.{any-of, at-mem, at-below, at-else, below-at, differ-at, in-append, just-eq, keep-yes, keep-no}
 use Rattle.theory.proofs.DistinctLaws.{keep-append}
@@ -35,7 +37,7 @@ use Rattle.reader.proofs.TableFound.{RuleFound, rule-found-at, content-in-part}
 use Rattle.walks.specs.TypeSets.{setAt}
 use Rattle.walks.specs.WalkAt.{runAt, WholeAt}
 use Rattle.validator.specs.Chains.{Keyed, PlaceFrom}
-use Rattle.validator.specs.KnownTable.{Known, ruleFits, typesFor, WithIf}
+use Rattle.validator.specs.KnownTable.{Known, ruleFits, typesFor, PutIf}
 use Rattle.walks.proofs.WalkLaws.{run-at}
 
 -- where labels differ, a name has just the label at its place
@@ -180,21 +182,22 @@ module _ (g : Table) (n : Name) (tests : List (ℕ → Bool)) where
   types-all i h = ap (typesFor g n tests) (take-all i (g .rules) h)
 
   -- one rule more
-  pub types-step : (i : ℕ) (r : Rule) → getElem? (g .rules) i ≡ just r → (old new : List ℕ) (fits : Bool) (k : ℕ)
-      → fits ≡ ruleFits g n tests r → k ≡ r .type → WithIf old fits k new → member old 0 ≡ holds (typesFor g n tests (take i (g .rules)))
-      → member new 0 ≡ holds (typesFor g n tests (take (i + 1) (g .rules)))
-  types-step i r e old new fits k f q w o = go fits refl
+  pub types-step : (i : ℕ) (r : Rule) → getElem? (g .rules) i ≡ just r → (words after : List ℕ) (base : ℕ) (fits : Bool) (k : ℕ)
+      → fits ≡ ruleFits g n tests r → k ≡ r .type → PutIf words base fits k after
+      → setAt words base ≡ holds (typesFor g n tests (take i (g .rules)))
+      → setAt after base ≡ holds (typesFor g n tests (take (i + 1) (g .rules)))
+  types-step i r e words after base fits k f q w o = go fits refl
     where
-      go : (b : Bool) → fits ≡ b → member new 0 ≡ holds (typesFor g n tests (take (i + 1) (g .rules)))
+      go : (b : Bool) → fits ≡ b → setAt after base ≡ holds (typesFor g n tests (take (i + 1) (g .rules)))
       go true p =
           w .members
-          ∙ ap (λ (b : Bool). elim b as (λ f. ℕ → Bool) [ true ↦ add k (member old 0) | false ↦ member old 0 ]) p
+          ∙ ap (λ (b : Bool). elim b as (λ f. ℕ → Bool) [ true ↦ add k (setAt words base) | false ↦ setAt words base ]) p
           ∙ ap₂ add q o
           ∙ sym (ap holds (types-more i r e ∙ ap (λ (l : List ℕ). typesFor g n tests (take i (g .rules)) ++ l) (types-one r (sym f ∙ p)))
           ∙ holds-end (typesFor g n tests (take i (g .rules))) (r .type))
       go false p =
           w .members
-          ∙ ap (λ (b : Bool). elim b as (λ f. ℕ → Bool) [ true ↦ add k (member old 0) | false ↦ member old 0 ]) p
+          ∙ ap (λ (b : Bool). elim b as (λ f. ℕ → Bool) [ true ↦ add k (setAt words base) | false ↦ setAt words base ]) p
           ∙ o
           ∙ sym (ap holds (types-more i r e ∙ ap (λ (l : List ℕ). typesFor g n tests (take i (g .rules)) ++ l) (types-not r (sym f ∙ p))
           ∙ append-nil (typesFor g n tests (take i (g .rules)))))
@@ -228,24 +231,48 @@ module _ {s : List ℕ} {index : TableIndex} {g : Table} (known : Known s index 
           ∙ rule-passed (from + more) (omega arith) (p .passed (from + more) (omega arith) (omega arith))
           ∙ go more (omega arith)
 
--- a set with one more number, if the flag says so
-module _ (old new : List ℕ) (k : ℕ) (small : k < 64) (size : length old ≡ 4) where
-  pub with-it : (flag : Bool) → flag ≡ true → new ≡ putAt old 0 k → WithIf old flag k new
-  with-it flag f e =
-      let inside : 0 + k / 32 < length old = omega arith in
+-- the set at a word is emptied
+pub emptied : (words after none : List ℕ) (base : ℕ) → base + 4 ≤ length words → none ≡ replicate 4 0 → after ≡ storeAt words base none
+    → (setAt after base ≡ sets.nothing) × (drop (base + 4) after ≡ drop (base + 4) words)
+emptied words after none base room zeros e =
+    let size : length none ≡ 4 = ap length zeros ∙ length-replicate {A = ℕ} 4 0 in (
+      ap (λ (l : List ℕ). setAt l base) e
+          ∙ ap (λ (l : List ℕ). member l 0) (words-store words base none 4 (omega arith) size ∙ zeros)
+          ∙ member-zeros 4 0,
+      ap (drop (base + 4)) e ∙ drop-store words base none (base + 4) (omega arith) (omega arith),
+    )
+
+-- one more number in a set that stands in words, if the flag says so
+words-put : (words : List ℕ) (base k n : ℕ) → k / 32 < n → wordsAt (putAt words base k) base n ≡ putAt (wordsAt words base n) 0 k
+unfolding wordsAt putAt
+words-put words base k n h =
+    let x = bitOr (getD words (base + k / 32) 0) (2 ^ (k % 32)) in
+    ap (take n) (drop-set-add base words (k / 32) x)
+    ∙ take-set-lt n (drop base words) (k / 32) x h
+    ∙ ap₂ (λ (i y : ℕ). set (take n (drop base words)) i (bitOr y (2 ^ (k % 32)))) (sym (zero-add (k / 32)))
+    (sym (ap (λ (i : ℕ). getD (take n (drop base words)) i 0) (zero-add (k / 32)) ∙ word-of words base n (k / 32) h))
+
+module _ (words after : List ℕ) (base k : ℕ) (small : k < 64) (room : base + 4 ≤ length words) where
+  pub put-it : (flag : Bool) → flag ≡ true → after ≡ putAt words base k → PutIf words base flag k after
+  unfolding putAt
+  put-it flag f e =
+      let size = length-words words base 4 room in
+      let inside : 0 + k / 32 < length (wordsAt words base 4) = omega arith in
+      let word : k / 32 < 4 = omega arith in
       record {
         members =
-            ap (λ (l : List ℕ). member l 0) e
-            ∙ member-put old 0 k inside
-            ∙ sym (ap (λ (b : Bool). elim b as (λ f. ℕ → Bool) [ true ↦ add k (member old 0) | false ↦ member old 0 ]) f);
-        size = ap length e ∙ length-put old 0 k ∙ size;
+            ap (λ (l : List ℕ). setAt l base) e
+            ∙ ap (λ (l : List ℕ). member l 0) (words-put words base k 4 word)
+            ∙ member-put (wordsAt words base 4) 0 k inside
+            ∙ sym (ap (λ (b : Bool). elim b as (λ f. ℕ → Bool) [ true ↦ add k (setAt words base) | false ↦ setAt words base ]) f);
+        behind = ap (drop (base + 4)) e ∙ drop-set-lt (base + 4) words (base + k / 32) _ (omega arith);
       }
 
-pub without-it : (old : List ℕ) (k : ℕ) (flag : Bool) → length old ≡ 4 → flag ≡ false → WithIf old flag k old
-without-it old k flag size f =
+pub not-put : (words : List ℕ) (base k : ℕ) (flag : Bool) → flag ≡ false → PutIf words base flag k words
+not-put words base k flag f =
     record {
-      members = sym (ap (λ (b : Bool). elim b as (λ f. ℕ → Bool) [ true ↦ add k (member old 0) | false ↦ member old 0 ]) f);
-      size = size;
+      members = sym (ap (λ (b : Bool). elim b as (λ f. ℕ → Bool) [ true ↦ add k (setAt words base) | false ↦ setAt words base ]) f);
+      behind = refl;
     }
 
 -- a number of a set that was read in its words

@@ -2,7 +2,7 @@
 use Prim.Native.Nat.{ℕ, _+_, _≤_}
 use mathlib.Core.List.{List}
 use mathlib.Core.Path.{_≡_}
-use lib.ListN.{length}
+use lib.ListN.{length, drop}
 use Rattle.grammar.specs.Table.{Table}
 use Rattle.grammar.specs.Tree.{Tree}
 use Rattle.grammar.specs.Outcome.{given}
@@ -31,6 +31,11 @@ pub record KnownNodes (d : List ℕ) (nodes : DocumentIndex) : Type 0 where
   pub indexed : Indexed d (nodes .names) (nodes .sizes) (nodes .children) (nodes .nodes)
   pub one-tree : treeCount (nodesIn d nodes) ≡ 1
   pub enough : Enough (nodesIn d nodes)
+
+-- the set at a word is the one that stood at another, and the words behind it are kept
+pub record Brought (words : List ℕ) (from to : ℕ) (after : List ℕ) : Type 0 where
+  pub there : setAt after to ≡ setAt words from
+  pub behind : drop (to + 4) after ≡ drop (to + 4) words
 
 -- the set at a word has the types of the root
 pub record RootTypes (s : List ℕ) (index : TableIndex) (d : List ℕ) (nodes : DocumentIndex) (words : List ℕ) (at : ℕ) : Type 0 where

@@ -1,20 +1,21 @@
 -- A table that was read, known by where its labels, starts and rules stand; and what it says of a node whose children are known.
-use Prim.Native.Nat.{ℕ, _≤_, _<_}
+use Prim.Native.Nat.{ℕ, _+_, _≤_, _<_}
 use mathlib.Core.Bool.{Bool, true, false, _&&_}
 use mathlib.Core.List.{List, [], map}
 use mathlib.Core.Path.{_≡_}
-use lib.ListN.{length, getD}
+use lib.ListN.{length, getD, drop}
 use Rattle.grammar.specs.Lists.{keep, place}
 use Rattle.grammar.specs.Limits.{standard}
 use Rattle.grammar.specs.Names.{Name, asciiClasses, sameName}
 use Rattle.grammar.specs.Table.{Rule, Table}
 use Rattle.grammar.specs.Membership.{isNamed}
 use Rattle.grammar.specs.WithinLimits.{TableWithin}
-use Rattle.sets.specs.Sets.{member, add}
+use Rattle.sets.specs.Sets.{add}
 use Rattle.theory.proofs.MarkedRun.{run, holds}
 use Rattle.reader.specs.TableIndex.{part, Indexes}
 use Rattle.reader.specs.declared.tables.TableIndex.{TableIndex}
 use Rattle.validator.specs.Chains.{ChainAre}
+use Rattle.walks.specs.TypeSets.{setAt, testsAt}
 use Rattle.walks.specs.WalkAt.{runAt}
 
 pub record Known (s : List ℕ) (index : TableIndex) (g : Table) : Type 0 where
@@ -106,14 +107,15 @@ unfoldable pub typesFor : Table → Name → List (ℕ → Bool) → List Rule �
 unfolding ruleFits keep
 typesFor g n tests rules = map (λ (r : Rule). r .type) (keep (ruleFits g n tests) rules)
 
--- a set, with one more number if the flag says so
-pub record WithIf (old : List ℕ) (flag : Bool) (k : ℕ) (new : List ℕ) : Type 0 where
-  pub members : member new 0 ≡ elim flag as (λ f. ℕ → Bool) [ true ↦ add k (member old 0) | false ↦ member old 0 ]
-  pub size : length new ≡ 4
+-- the set at a word has one number more if the flag says so, and the words behind it are kept
+pub record PutIf (words : List ℕ) (base : ℕ) (flag : Bool) (k : ℕ) (after : List ℕ) : Type 0 where
+  pub members : setAt after base ≡ elim flag as (λ f. ℕ → Bool) [ true ↦ add k (setAt words base) | false ↦ setAt words base ]
+  pub behind : drop (base + 4) after ≡ drop (base + 4) words
 
--- a set of four words has the types of the rules that fit a node, the place of whose name among the labels is `label`, whatever table the rules
--- are of
-pub record TypesAre (s ruleTypes next from to : List ℕ) (nullable : List Bool) (rules label : ℕ) (tests : List (ℕ → Bool)) (set : List ℕ) : Type 0 where
+-- the set at a word has the types of the rules that fit a node, the place of whose name among the labels is `label`, whatever table
+-- the rules are of; the sets of its children stand behind it, and the words there are kept
+pub record TypesAre (s ruleTypes next from to : List ℕ) (nullable : List Bool) (rules label : ℕ) (words : List ℕ) (base count : ℕ)
+    (after : List ℕ) : Type 0 where
   pub types : (g : Table) → RulesChained s ruleTypes next from to nullable rules g → (n : Name) → label ≡ place sameName n (g .labels)
-      → member set 0 ≡ holds (typesFor g n tests (g .rules))
-  pub size : length set ≡ 4
+      → setAt after base ≡ holds (typesFor g n (testsAt words (base + 4) count) (g .rules))
+  pub behind : drop (base + 4) after ≡ drop (base + 4) words

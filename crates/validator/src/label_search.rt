@@ -58,7 +58,8 @@ pub fn label_of(
     labels: usize,
 ) -> usize
     requires { ⌜ SomeChained (now table) (now from) (now to) labels (now next) ⌝ }
-    ensures { λ r. ⌜ ((list : List Name) → NamesAt (now (table .entry)) (now (from .entry)) (now (to .entry)) labels list → r ≡ place sameName (now (name .entry)) list) ⌝ }
+    ensures { λ r. ⌜ ((list : List Name) → NamesAt (now (table .entry)) (now (from .entry)) (now (to .entry)) labels list
+        → r ≡ place sameName (now (name .entry)) list) ⌝ }
 {
     let key = wide(name_key(name));
     let mut i = wide(next[64 + key]);

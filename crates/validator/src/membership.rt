@@ -1,7 +1,7 @@
 // Whether a table that was read lets in a document that was read.
 //
 // The nodes are gone through from the last to the first, with a stack of type sets in the lent words: a node takes the sets of its
-// children from the top, in order, and leaves its own.
+// children from the top, in order, and leaves its own. That one is made in the words before them, and then takes the last one's place.
 use crate::chains::chained;
 use crate::label_search::chained_labels;
 use crate::label_search::label_of;
@@ -9,6 +9,7 @@ use reader::numbers::wide;
 use reader::tables::TableIndex;
 use sets::four::Set4;
 use sets::words::has;
+use sets::words::put;
 use sets::words::store;
 use walks::matching::matches;
 ghost use mathlib.Core.List.{[]};
@@ -24,8 +25,9 @@ ghost use Rattle.grammar.specs.Table.{Table};
 ghost use Rattle.grammar.specs.Tree.{Tree};
 ghost use Rattle.reader.specs.DocumentNodes.{nodesIn};
 ghost use Rattle.walks.specs.TypeSets.{setAt, testsAt};
-ghost use Rattle.validator.specs.KnownDocument.{indexOf, NodeRoom, KnownNodes, RootTypes};
-ghost use Rattle.validator.specs.KnownTable.{Known, SomeTable, SomeContents, NullableAre, SomeRules, StartsAt, SomeStarts, WithIf, TypesAre};
+ghost use Rattle.validator.specs.KnownDocument.{indexOf, NodeRoom, KnownNodes, Brought, RootTypes};
+ghost use Rattle.validator.specs.KnownTable.{Known, SomeTable, SomeContents, NullableAre, SomeRules, StartsAt, SomeStarts};
+ghost use Rattle.validator.specs.KnownTable.{PutIf, TypesAre};
 ghost use Rattle.walks.specs.WalkAt.{runAt, WholeAt, Room};
 
 // Whether the content of each rule matches no children.
@@ -37,7 +39,8 @@ fn nullable_contents(
     marks: &mut [u8],
     words: &[u32],
 ) -> [bool; 64]
-    requires { ⌜ (SomeContents (now table) (now «content_from») (now «content_to») rules) × (1024 ≤ length (now marks)) × (4 ≤ length (now words)) ⌝ }
+    requires { ⌜ (SomeContents (now table) (now «content_from») (now «content_to») rules) × (1024 ≤ length (now marks))
+        × (4 ≤ length (now words)) ⌝ }
     ensures { λ r. ⌜ NullableAre (now (table .entry)) (now («content_from» .entry)) (now («content_to» .entry)) rules r ⌝ }
 {
     let mut nullable = [false; 64];
@@ -60,7 +63,8 @@ fn content_fits(
     top: usize,
     count: usize,
 ) -> bool
-    requires { ⌜ (WholeAt standard (now content)) × (Room (now content) (now marks) (now words) 0) × (top + 4 * count ≤ length (now words)) × (nullable ≡ runAt (now content) []) ⌝ }
+    requires { ⌜ (WholeAt standard (now content)) × (Room (now content) (now marks) (now words) 0)
+        × (top + 4 * count ≤ length (now words)) × (nullable ≡ runAt (now content) []) ⌝ }
     ensures { λ r. ⌜ r ≡ runAt (now (content .entry)) (testsAt (now (words .entry)) top count) ⌝ }
 {
     if count == 0 {
@@ -69,19 +73,18 @@ fn content_fits(
     matches(content, marks, words, top, count)
 }
 
-// The set, with one more type if the rule fits.
-fn with_if(types: Set4, fits: bool, k: usize) -> Set4
-    requires { ⌜ (k < 64) × (length (types .words) ≡ 4) ⌝ }
-    ensures { λ r. ⌜ WithIf (types .words) fits k (r .words) ⌝ }
+// Puts a type into the set at a word, if the rule fits.
+fn put_if(words: &mut [u32], base: usize, fits: bool, k: usize)
+    requires { ⌜ (k < 64) × (base + 4 ≤ length (now words)) ⌝ }
+    ensures { λ r. ⌜ PutIf (now (words .entry)) base fits k (now (words .exit)) ⌝ }
 {
     if fits {
-        return types.with(k);
+        put(words, base, k);
     }
-    types
 }
 
-// The types of the rules of a label that fit a node whose children's sets stand from `top` on.
-fn types_of(
+// Puts the types of the rules of a label that fit a node into the set at a word; behind it stand the sets of the node's children.
+fn put_types(
     table: &[u8],
     rule_type: &[u8],
     next: &[u8],
@@ -91,26 +94,37 @@ fn types_of(
     rules: usize,
     label: usize,
     marks: &mut [u8],
-    words: &[u32],
-    top: usize,
+    words: &mut [u32],
+    base: usize,
     count: usize,
-) -> Set4
-    requires { ⌜ (SomeRules (now table) (now «rule_type») (now next) (now «content_from») (now «content_to») (now nullable) rules) × (label ≤ 64)
-        × (1024 ≤ length (now marks)) × (4 ≤ length (now words)) × (top + 4 * count ≤ length (now words)) ⌝ }
-    ensures { λ r. ⌜ TypesAre (now (table .entry)) (now («rule_type» .entry)) (now (next .entry)) (now («content_from» .entry)) (now («content_to» .entry))
-        (now (nullable .entry)) rules label (testsAt (now (words .entry)) top count) (r .words) ⌝ }
+)
+    requires { ⌜ (SomeRules (now table) (now «rule_type») (now next) (now «content_from») (now «content_to») (now nullable) rules)
+        × (label ≤ 64) × (1024 ≤ length (now marks)) × (base + 4 + 4 * count ≤ length (now words)) ⌝ }
+    ensures { λ r. ⌜ TypesAre (now (table .entry)) (now («rule_type» .entry)) (now (next .entry)) (now («content_from» .entry))
+        (now («content_to» .entry)) (now (nullable .entry)) rules label (now (words .entry)) base count (now (words .exit)) ⌝ }
 {
-    let mut types = Set4::empty();
+    store(words, base, Set4::empty());
     let mut i = wide(next[64 + label]);
     while i < rules {
         let from = content_from[i];
         let to = content_to[i];
-        let fits = content_fits(&table[from..to], nullable[i], marks, words, top, count);
-        let more = with_if(types, fits, wide(rule_type[i]));
-        types = more;
+        let fits = content_fits(&table[from..to], nullable[i], marks, words, base + 4, count);
+        put_if(words, base, fits, wide(rule_type[i]));
         i = wide(next[i]);
     }
-    types
+}
+
+// Brings the set at a word to a word behind it. Word by word: a set whose words were just written one by one is slow to read whole.
+fn bring(words: &mut [u32], from: usize, to: usize)
+    requires { ⌜ (from ≤ to) × (from < to → from + 4 ≤ to) × (to + 4 ≤ length (now words)) ⌝ }
+    ensures { λ r. ⌜ Brought (now (words .entry)) from to (now (words .exit)) ⌝ }
+{
+    if from < to {
+        words[to] = words[from];
+        words[to + 1] = words[from + 1];
+        words[to + 2] = words[from + 2];
+        words[to + 3] = words[from + 3];
+    }
 }
 
 // Goes through the nodes from the last to the first, and answers where the root's set then stands.
@@ -150,7 +164,8 @@ fn root_types(
         let count = children[at] as usize;
         let name = &document[from..to];
         let label = label_of(name, table, &label_from, &label_to, &by_key, labels);
-        let types = types_of(
+        let base = top - 4;
+        put_types(
             table,
             &rule_type,
             &by_label,
@@ -161,11 +176,11 @@ fn root_types(
             label,
             marks,
             words,
-            top,
+            base,
             count,
         );
-        top = top + 4 * count - 4;
-        store(words, top, types);
+        top = base + 4 * count;
+        bring(words, base, top);
         i = at;
     }
     top
@@ -200,8 +215,8 @@ pub fn lets_in_read(
     requires { ⌜ (SomeTable (now table) index) × (KnownNodes (now document) (indexOf (now names) (now sizes) (now children) nodes))
         × (NodeRoom (now names) (now sizes) (now children)) × (4096 ≤ length (now words)) ⌝ }
     ensures { λ r. ⌜ ((g : Table) → Known (now (table .entry)) index g → (t : Tree)
-        → treeOf (nodesIn (now (document .entry)) (indexOf (now (names .entry)) (now (sizes .entry)) (now (children .entry)) nodes)) ≡ given t
-        → r ≡ letsIn g t) ⌝ }
+        → treeOf (nodesIn (now (document .entry)) (indexOf (now (names .entry)) (now (sizes .entry)) (now (children .entry)) nodes))
+        ≡ given t → r ≡ letsIn g t) ⌝ }
 {
     let mut marks = [0u8; 1024];
     let at = root_types(

@@ -94,7 +94,8 @@ fn typed(
     words: &[u32],
     base: usize,
 ) -> Passed
-    requires { ⌜ (at + 1 < length (now content)) × (getD (now content) (at + 1) 0 < 64) × (Room (now content) (now marks) (now words) base) ⌝ }
+    requires { ⌜ (at + 1 < length (now content)) × (getD (now content) (at + 1) 0 < 64)
+        × (Room (now content) (now marks) (now words) base) ⌝ }
     ensures { λ r. ⌜ walked (now (marks .exit)) r ≡ ended at (record {
       marks = now (marks .entry);
       next = at + 2;
@@ -203,7 +204,8 @@ fn around_type(
     words: &[u32],
     base: usize,
 ) -> Passed
-    requires { ⌜ (ContentAt standard (now content) at) × (AroundType (now content) at) × (Room (now content) (now marks) (now words) base) ⌝ }
+    requires { ⌜ (ContentAt standard (now content) at) × (AroundType (now content) at)
+        × (Room (now content) (now marks) (now words) base) ⌝ }
     ensures { λ r. ⌜ walked (now (marks .exit)) r
         ≡ walkAt (now (content .entry)) at (now (marks .entry)) incoming (setAt (now (words .entry)) base) ⌝ }
 {
@@ -319,7 +321,8 @@ fn clear(marks: &mut [u8], places: usize)
 
 // The children's walks over the content, one after the other: whether the last one can end it.
 fn walked_through(content: &[u8], marks: &mut [u8], words: &[u32], top: usize, count: usize) -> bool
-    requires { ⌜ (WholeAt standard (now content)) × (0 < count) × (Room (now content) (now marks) (now words) top) × (top + 4 * count ≤ length (now words)) ⌝ }
+    requires { ⌜ (WholeAt standard (now content)) × (0 < count) × (Room (now content) (now marks) (now words) top)
+        × (top + 4 * count ≤ length (now words)) ⌝ }
     ensures { λ r. ⌜ r ≡ isMarked (walksAt (now (content .entry)) (now (marks .entry)) true (testsAt (now (words .entry)) top count)) 0 ⌝ }
 {
     let mut i: usize = 0;
@@ -332,7 +335,8 @@ fn walked_through(content: &[u8], marks: &mut [u8], words: &[u32], top: usize, c
 
 // Whether the content matches so many children, whose sets stand in the words from `top` on, four words a set.
 pub fn matches(content: &[u8], marks: &mut [u8], words: &[u32], top: usize, count: usize) -> bool
-    requires { ⌜ (WholeAt standard (now content)) × (Room (now content) (now marks) (now words) 0) × (top + 4 * count ≤ length (now words)) ⌝ }
+    requires { ⌜ (WholeAt standard (now content)) × (Room (now content) (now marks) (now words) 0)
+        × (top + 4 * count ≤ length (now words)) ⌝ }
     ensures { λ r. ⌜ r ≡ runAt (now (content .entry)) (testsAt (now (words .entry)) top count) ⌝ }
 {
     clear(marks, content.len());

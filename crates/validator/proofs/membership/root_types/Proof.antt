@@ -175,20 +175,20 @@ slice-aggregate-label-of-3 : tie.Need-slice-aggregate-label-of-3 Inv-loop μ-loo
 slice-aggregate-label-of-3 c =
     sym (c .before .before .before .before .before .before .before .before .before .before .before .before .before .before .before .before .before .before .before .before .before .before .chained-labels .ensures .chain .room)
 
-slice-aggregate-types-of : tie.Need-slice-aggregate-types-of Inv-loop μ-loop
-slice-aggregate-types-of c =
+slice-aggregate-put-types : tie.Need-slice-aggregate-put-types Inv-loop μ-loop
+slice-aggregate-put-types c =
     sym (c .before .before .before .before .before .before .before .before .before .before .before .before .before .before .before .before .before .before .before .before .before .before .before .before .before .before .before .before .before .before .before .before .before .before .before .before .pre .0 .known .indexes .rooms .rule-type)
 
-slice-aggregate-types-of-2 : tie.Need-slice-aggregate-types-of-2 Inv-loop μ-loop
-slice-aggregate-types-of-2 c =
+slice-aggregate-put-types-2 : tie.Need-slice-aggregate-put-types-2 Inv-loop μ-loop
+slice-aggregate-put-types-2 c =
     sym (c .before .before .before .before .before .before .before .before .before .before .before .before .before .before .before .before .before .before .before .before .before .chained .ensures .room)
 
-slice-aggregate-types-of-3 : tie.Need-slice-aggregate-types-of-3 Inv-loop μ-loop
-slice-aggregate-types-of-3 c =
+slice-aggregate-put-types-3 : tie.Need-slice-aggregate-put-types-3 Inv-loop μ-loop
+slice-aggregate-put-types-3 c =
     sym (c .before .before .before .before .before .before .before .before .before .before .before .before .before .before .before .before .before .before .before .before .before .before .before .before .before .before .before .before .before .before .before .before .before .before .before .before .before .before .pre .0 .known .indexes .rooms .content-from)
 
-slice-aggregate-types-of-4 : tie.Need-slice-aggregate-types-of-4 Inv-loop μ-loop
-slice-aggregate-types-of-4 c =
+slice-aggregate-put-types-4 : tie.Need-slice-aggregate-put-types-4 Inv-loop μ-loop
+slice-aggregate-put-types-4 c =
     sym (c .before .before .before .before .before .before .before .before .before .before .before .before .before .before .before .before .before .before .before .before .before .before .before .before .before .before .before .before .before .before .before .before .before .before .before .before .before .before .before .pre .0 .known .indexes .rooms .content-to)
 
 label-of-requires : tie.Need-label-of-requires Inv-loop μ-loop
@@ -196,27 +196,18 @@ label-of-requires c κs =
     let table = c .before .before .before .before .before .before .before .before .before .before .before .before .before .before .before .before .before .before .before .before .before .before .before .before .before .before .before .before .before .before .before .before .before .before .pre .0 in
     record { list = table .table .labels; at = index-names (table .known .indexes); chained = c .before .before .before .before .before .before .before .before .before .before .before .before .before .before .before .before .before .before .before .before .before .before .chained-labels .ensures }
 
-slice-aggregate-types-of-5 : tie.Need-slice-aggregate-types-of-5 Inv-loop μ-loop
-slice-aggregate-types-of-5 c =
+slice-aggregate-put-types-5 : tie.Need-slice-aggregate-put-types-5 Inv-loop μ-loop
+slice-aggregate-put-types-5 c =
     sym (c .before .before .before .before .before .before .before .before .before .before .before .before .before .before .before .before .before .nullable-contents .ok .1 .0 .1)
 
-types-of-requires : tie.Need-types-of-requires Inv-loop μ-loop
-types-of-requires c κs =
+put-types-requires : tie.Need-put-types-requires Inv-loop μ-loop
+put-types-requires c κs =
     let a = c .before .before .before .before .before .before .before .before .before .before .before .before .before .before .before .before .before .before .before .before .before .before .before .before .before .before .before .before .before .before .before .before .before .before .before .before .before .before .before .before .before .before .args in
-    let d = a .document .now in
-    let nodes = indexOf (a .names .now) (a .sizes .now) (a .children .now) (a .nodes) in
-    let known = c .before .before .before .before .before .before .before .before .before .before .before .before .before .before .before .before .before .before .before .before .before .before .before .before .before .before .before .before .before .before .before .before .before .before .before .before .before .before .before .before .before .before .pre .1 in
-    let few = known .indexed .few in
-    let i = c .before .before .before .before .before .before .before .before .before .before .before .before .before .before .before .before .loop .i in
+    let pre = c .before .before .before .before .before .before .before .before .before .before .before .before .before .before .before .before .before .before .before .before .before .before .before .before .before .before .before .before .before .before .before .before .before .before .before .before .before .before .before .before .before .before .pre in
     let inv = c .before .before .before .before .before .before .before .before .before .before .before .before .before .before .before .before .loop .inv in
-    let some = c .before .before .before .before .before .before .before .before .before .before .before .before .before .before .before .loop-test .taken in
-    let before : i - 1 + 1 ≡ i = omega arith in
-    let enough = laws.round-enough d nodes known i (i - 1) before (inv .0) in
-    let trees = laws.round-few d nodes known i (i - 1) before (inv .0) in
-    let room = c .before .before .before .before .before .before .before .before .before .before .before .before .before .before .before .before .before .before .before .before .before .before .before .before .before .before .before .before .before .before .before .before .before .before .before .before .before .before .before .before .before .before .pre .4 in
-    let marks = c .before .before .before .before .before .before .before .before .before .before .before .before .before .before .before .before .before .before .before .before .before .before .before .before .before .before .before .before .before .before .before .before .before .before .before .before .before .before .before .before .before .before .pre .3 in
+    let fits = laws.round-room _ _ _ _ _ (c .before .before .before .before .before .before .before .before .before .before .before .before .before .before .before .before .loop .i) (c .before .before .before .before .before .before .before .before .before .before .before .before .before .before .before .before .loop .top) (c .before .before .before .before .before .before .before .before .before .before .before .before .before .before .before .before .before .before .before .before .before .before .before .before .before .before .before .before .before .before .before .before .before .before .before .before .before .before .before .before .before .before .pre .1) (c .before .before .before .before .before .before .before .before .before .before .before .before .before .before .before .loop-test .taken) (c .before .before .before .before .before .before .before .before .before .before .before .before .before .before .before .before .loop .inv .0) (c .before .before .before .before .before .before .before .before .before .before .before .before .before .before .before .before .loop .inv .3) in
     let kept = c .before .before .before .before .before .before .before .before .before .before .before .before .before .before .before .before .before .before .before .nullable-contents .kept .1 .1 .1 .1 .0 in
-    let table = c .before .before .before .before .before .before .before .before .before .before .before .before .before .before .before .before .before .before .before .before .before .before .before .before .before .before .before .before .before .before .before .before .before .before .before .before .before .before .before .before .before .before .pre .0 in (
+    let table = pre .0 in (
       record {
         table = table .table;
         at =
@@ -229,115 +220,79 @@ types-of-requires c κs =
       label-few (table .known) _ (c .before .before .before .before .before .before .before .label-of .ensures (table .table .labels) (index-names (table .known .indexes))),
       omega arith,
       omega arith,
-      omega arith,
     )
+
+sub-base : tie.Need-sub-base Inv-loop μ-loop
+sub-base c =
+    let fits = laws.round-room _ _ _ _ _ (c .before .before .before .before .before .before .before .before .before .loop .i) (c .before .before .before .before .before .before .before .before .before .loop .top) (c .before .before .before .before .before .before .before .before .before .before .before .before .before .before .before .before .before .before .before .before .before .before .before .before .before .before .before .before .before .before .before .before .before .before .before .pre .1) (c .before .before .before .before .before .before .before .before .loop-test .taken) (c .before .before .before .before .before .before .before .before .before .loop .inv .0) (c .before .before .before .before .before .before .before .before .before .loop .inv .3) in
+    omega arith
 
 mul-top-2 : tie.Need-mul-top-2 Inv-loop μ-loop
 mul-top-2 c =
-    let a = c .before .before .before .before .before .before .before .before .before .before .before .before .before .before .before .before .before .before .before .before .before .before .before .before .before .before .before .before .before .before .before .before .before .before .before .before .before .before .before .before .before .before .before .before .before .args in
-    let d = a .document .now in
-    let nodes = indexOf (a .names .now) (a .sizes .now) (a .children .now) (a .nodes) in
-    let known = c .before .before .before .before .before .before .before .before .before .before .before .before .before .before .before .before .before .before .before .before .before .before .before .before .before .before .before .before .before .before .before .before .before .before .before .before .before .before .before .before .before .before .before .before .before .pre .1 in
-    let few = known .indexed .few in
-    let i = c .before .before .before .before .before .before .before .before .before .before .before .before .before .before .before .before .before .before .before .loop .i in
-    let inv = c .before .before .before .before .before .before .before .before .before .before .before .before .before .before .before .before .before .before .before .loop .inv in
-    let some = c .before .before .before .before .before .before .before .before .before .before .before .before .before .before .before .before .before .before .loop-test .taken in
-    let before : i - 1 + 1 ≡ i = omega arith in
-    let enough = laws.round-enough d nodes known i (i - 1) before (inv .0) in
-    let trees = laws.round-few d nodes known i (i - 1) before (inv .0) in
+    let fits = laws.round-room _ _ _ _ _ (c .before .before .before .before .before .before .before .before .before .before .before .before .before .before .before .before .before .before .before .before .before .loop .i) (c .before .before .before .before .before .before .before .before .before .before .before .before .before .before .before .before .before .before .before .before .before .loop .top) (c .before .before .before .before .before .before .before .before .before .before .before .before .before .before .before .before .before .before .before .before .before .before .before .before .before .before .before .before .before .before .before .before .before .before .before .before .before .before .before .before .before .before .before .before .before .before .before .pre .1) (c .before .before .before .before .before .before .before .before .before .before .before .before .before .before .before .before .before .before .before .before .loop-test .taken) (c .before .before .before .before .before .before .before .before .before .before .before .before .before .before .before .before .before .before .before .before .before .loop .inv .0) (c .before .before .before .before .before .before .before .before .before .before .before .before .before .before .before .before .before .before .before .before .before .loop .inv .3) in
     omega arith
 
 add-top : tie.Need-add-top Inv-loop μ-loop
 add-top c =
-    let a = c .before .before .before .before .before .before .before .before .before .before .before .before .before .before .before .before .before .before .before .before .before .before .before .before .before .before .before .before .before .before .before .before .before .before .before .before .before .before .before .before .before .before .before .before .before .args in
-    let d = a .document .now in
-    let nodes = indexOf (a .names .now) (a .sizes .now) (a .children .now) (a .nodes) in
-    let known = c .before .before .before .before .before .before .before .before .before .before .before .before .before .before .before .before .before .before .before .before .before .before .before .before .before .before .before .before .before .before .before .before .before .before .before .before .before .before .before .before .before .before .before .before .before .pre .1 in
-    let few = known .indexed .few in
-    let i = c .before .before .before .before .before .before .before .before .before .before .before .before .before .before .before .before .before .before .before .loop .i in
-    let inv = c .before .before .before .before .before .before .before .before .before .before .before .before .before .before .before .before .before .before .before .loop .inv in
-    let some = c .before .before .before .before .before .before .before .before .before .before .before .before .before .before .before .before .before .before .loop-test .taken in
-    let before : i - 1 + 1 ≡ i = omega arith in
-    let enough = laws.round-enough d nodes known i (i - 1) before (inv .0) in
-    let trees = laws.round-few d nodes known i (i - 1) before (inv .0) in
+    let fits = laws.round-room _ _ _ _ _ (c .before .before .before .before .before .before .before .before .before .before .before .before .before .before .before .before .before .before .before .before .before .loop .i) (c .before .before .before .before .before .before .before .before .before .before .before .before .before .before .before .before .before .before .before .before .before .loop .top) (c .before .before .before .before .before .before .before .before .before .before .before .before .before .before .before .before .before .before .before .before .before .before .before .before .before .before .before .before .before .before .before .before .before .before .before .before .before .before .before .before .before .before .before .before .before .before .before .pre .1) (c .before .before .before .before .before .before .before .before .before .before .before .before .before .before .before .before .before .before .before .before .loop-test .taken) (c .before .before .before .before .before .before .before .before .before .before .before .before .before .before .before .before .before .before .before .before .before .loop .inv .0) (c .before .before .before .before .before .before .before .before .before .before .before .before .before .before .before .before .before .before .before .before .before .loop .inv .3) in
     omega arith
 
-sub-top : tie.Need-sub-top Inv-loop μ-loop
-sub-top c =
-    let a = c .before .before .before .before .before .before .before .before .before .before .before .before .before .before .before .before .before .before .before .before .before .before .before .before .before .before .before .before .before .before .before .before .before .before .before .before .before .before .before .before .before .before .before .before .before .args in
-    let d = a .document .now in
-    let nodes = indexOf (a .names .now) (a .sizes .now) (a .children .now) (a .nodes) in
-    let known = c .before .before .before .before .before .before .before .before .before .before .before .before .before .before .before .before .before .before .before .before .before .before .before .before .before .before .before .before .before .before .before .before .before .before .before .before .before .before .before .before .before .before .before .before .before .pre .1 in
-    let few = known .indexed .few in
-    let i = c .before .before .before .before .before .before .before .before .before .before .before .before .before .before .before .before .before .before .before .loop .i in
-    let inv = c .before .before .before .before .before .before .before .before .before .before .before .before .before .before .before .before .before .before .before .loop .inv in
-    let some = c .before .before .before .before .before .before .before .before .before .before .before .before .before .before .before .before .before .before .loop-test .taken in
-    let before : i - 1 + 1 ≡ i = omega arith in
-    let enough = laws.round-enough d nodes known i (i - 1) before (inv .0) in
-    let trees = laws.round-few d nodes known i (i - 1) before (inv .0) in
-    omega arith
-
-store-requires : tie.Need-store-requires Inv-loop μ-loop
-store-requires c κs =
-    let a = c .before .before .before .before .before .before .before .before .before .before .before .before .before .before .before .before .before .before .before .before .before .before .before .before .before .before .before .before .before .before .before .before .before .before .before .before .before .before .before .before .before .before .before .before .before .before .args in
-    let d = a .document .now in
-    let nodes = indexOf (a .names .now) (a .sizes .now) (a .children .now) (a .nodes) in
-    let known = c .before .before .before .before .before .before .before .before .before .before .before .before .before .before .before .before .before .before .before .before .before .before .before .before .before .before .before .before .before .before .before .before .before .before .before .before .before .before .before .before .before .before .before .before .before .before .pre .1 in
-    let few = known .indexed .few in
-    let i = c .before .before .before .before .before .before .before .before .before .before .before .before .before .before .before .before .before .before .before .before .loop .i in
-    let inv = c .before .before .before .before .before .before .before .before .before .before .before .before .before .before .before .before .before .before .before .before .loop .inv in
-    let some = c .before .before .before .before .before .before .before .before .before .before .before .before .before .before .before .before .before .before .before .loop-test .taken in
-    let before : i - 1 + 1 ≡ i = omega arith in
-    let enough = laws.round-enough d nodes known i (i - 1) before (inv .0) in
-    let trees = laws.round-few d nodes known i (i - 1) before (inv .0) in
-    let room = c .before .before .before .before .before .before .before .before .before .before .before .before .before .before .before .before .before .before .before .before .before .before .before .before .before .before .before .before .before .before .before .before .before .before .before .before .before .before .before .before .before .before .before .before .before .before .pre .4 in
-    omega arith
+bring-requires : tie.Need-bring-requires Inv-loop μ-loop
+bring-requires c κs =
+    let room = c .before .before .before .before .before .before .before .before .before .before .before .before .before .before .before .before .before .before .before .before .before .before .before .before .before .before .before .before .before .before .before .before .before .before .before .before .before .before .before .before .before .before .before .before .before .before .before .before .pre .4 in
+    let inv = c .before .before .before .before .before .before .before .before .before .before .before .before .before .before .before .before .before .before .before .before .before .before .loop .inv in
+    let kept = c .before .before .before .before .before .put-types .kept .1 .1 .1 .1 .1 .1 .1 .1 .1 .0 in
+    let fits = laws.round-room _ _ _ _ _ (c .before .before .before .before .before .before .before .before .before .before .before .before .before .before .before .before .before .before .before .before .before .before .loop .i) (c .before .before .before .before .before .before .before .before .before .before .before .before .before .before .before .before .before .before .before .before .before .before .loop .top) (c .before .before .before .before .before .before .before .before .before .before .before .before .before .before .before .before .before .before .before .before .before .before .before .before .before .before .before .before .before .before .before .before .before .before .before .before .before .before .before .before .before .before .before .before .before .before .before .before .pre .1) (c .before .before .before .before .before .before .before .before .before .before .before .before .before .before .before .before .before .before .before .before .before .loop-test .taken) (c .before .before .before .before .before .before .before .before .before .before .before .before .before .before .before .before .before .before .before .before .before .before .loop .inv .0) (c .before .before .before .before .before .before .before .before .before .before .before .before .before .before .before .before .before .before .before .before .before .before .loop .inv .3) in
+    (omega arith, λ h. omega arith, omega arith)
 
 loop-less : tie.Need-loop-less Inv-loop μ-loop
 loop-less c =
-    let some = c .before .before .before .before .before .before .before .before .before .before .before .before .before .before .before .before .before .before .before .before .before .before .loop-test .taken in
+    let some = c .before .before .before .before .before .before .before .before .before .before .before .before .before .before .before .before .before .before .before .before .before .before .before .before .loop-test .taken in
     omega arith
 
 loop-again : tie.Need-loop-again Inv-loop μ-loop
 loop-again c =
-    let a = c .before .before .before .before .before .before .before .before .before .before .before .before .before .before .before .before .before .before .before .before .before .before .before .before .before .before .before .before .before .before .before .before .before .before .before .before .before .before .before .before .before .before .before .before .before .before .before .before .before .args in
+    let a = c .before .before .before .before .before .before .before .before .before .before .before .before .before .before .before .before .before .before .before .before .before .before .before .before .before .before .before .before .before .before .before .before .before .before .before .before .before .before .before .before .before .before .before .before .before .before .before .before .before .before .before .args in
     let d = a .document .now in
     let nodes = indexOf (a .names .now) (a .sizes .now) (a .children .now) (a .nodes) in
-    let known = c .before .before .before .before .before .before .before .before .before .before .before .before .before .before .before .before .before .before .before .before .before .before .before .before .before .before .before .before .before .before .before .before .before .before .before .before .before .before .before .before .before .before .before .before .before .before .before .before .before .pre .1 in
-    let few = known .indexed .few in
-    let i = c .before .before .before .before .before .before .before .before .before .before .before .before .before .before .before .before .before .before .before .before .before .before .before .loop .i in
-    let inv = c .before .before .before .before .before .before .before .before .before .before .before .before .before .before .before .before .before .before .before .before .before .before .before .loop .inv in
-    let some = c .before .before .before .before .before .before .before .before .before .before .before .before .before .before .before .before .before .before .before .before .before .before .loop-test .taken in
+    let known = c .before .before .before .before .before .before .before .before .before .before .before .before .before .before .before .before .before .before .before .before .before .before .before .before .before .before .before .before .before .before .before .before .before .before .before .before .before .before .before .before .before .before .before .before .before .before .before .before .before .before .before .pre .1 in
+    let i = c .before .before .before .before .before .before .before .before .before .before .before .before .before .before .before .before .before .before .before .before .before .before .before .before .before .loop .i in
+    let top = c .before .before .before .before .before .before .before .before .before .before .before .before .before .before .before .before .before .before .before .before .before .before .before .before .before .loop .top in
+    let inv = c .before .before .before .before .before .before .before .before .before .before .before .before .before .before .before .before .before .before .before .before .before .before .before .before .before .loop .inv in
+    let some = c .before .before .before .before .before .before .before .before .before .before .before .before .before .before .before .before .before .before .before .before .before .before .before .before .loop-test .taken in
     let before : i - 1 + 1 ≡ i = omega arith in
     let enough = laws.round-enough d nodes known i (i - 1) before (inv .0) in
-    let trees = laws.round-few d nodes known i (i - 1) before (inv .0) in
-    let room = c .before .before .before .before .before .before .before .before .before .before .before .before .before .before .before .before .before .before .before .before .before .before .before .before .before .before .before .before .before .before .before .before .before .before .before .before .before .before .before .before .before .before .before .before .before .before .before .before .before .pre .4 in
+    let fits = laws.round-room _ _ _ _ _ i top known some (inv .0) (inv .3) in
     let count = laws.round-count d nodes known i (i - 1) before (inv .0) in
-    let top = c .before .before .before .before .before .before .before .before .before .before .before .before .before .before .before .before .before .before .before .before .before .before .before .loop .top in
-    let place : top + 4 * getD (nodes .children) (i - 1) 0 - 4 + 4 ≡ top + 4 * getD (nodes .children) (i - 1) 0 = omega arith in
+    let place : top - 4 + 4 ≡ top = omega arith in
     let from = getD (nodes .names) (i - 1) 0 in
-    let size = getD (nodes .sizes) (i - 1) 0 in (
+    let size = getD (nodes .sizes) (i - 1) 0 in
+    let made = c .before .before .before .before .before .before .before .before .put-types .ensures in (
       omega arith,
-      c .before .before .before .before .before .before .types-of .kept .1 .1 .1 .1 .1 .1 .1 .1 .0 ∙ inv .1,
-      c .before .before .store .kept .0 ∙ inv .2,
+      c .before .before .before .before .before .before .before .before .put-types .kept .1 .1 .1 .1 .1 .1 .1 .1 .0 ∙ inv .1,
+      c .before .before .bring .kept .0 ∙ c .before .before .before .before .before .before .before .before .put-types .kept .1 .1 .1 .1 .1 .1 .1 .1 .1 .0 ∙ inv .2,
       omega arith,
       λ g named rules.
-          laws.round-stacked d nodes known i (i - 1) before (inv .0) g (c .before .before .before .before .before .before .before .before .before .before .before .before .before .before .before .before .before .before .before .before .before .before .before .loop .words) (c .before .before .store .last .0) (c .before .before .before .before .before .before .types-of .result .words)
+          laws.round-stacked d nodes known i (i - 1) before (inv .0) g (c .before .before .before .before .before .before .before .before .before .before .before .before .before .before .before .before .before .before .before .before .before .before .before .before .before .loop .words) (c .before .before .before .before .before .before .before .before .put-types .last .1 .1 .1 .1 .1 .1 .1 .1 .1 .0) (c .before .before .bring .last .0)
           (take (from + size - from) (drop from d))
           top
-          (top + 4 * getD (nodes .children) (i - 1) 0 - 4)
+          (top - 4)
+          (top - 4 + 4 * getD (nodes .children) (i - 1) 0)
           (part-of d from size)
           (inv .4 g named rules)
           place
-          (c .before .before .before .before .before .before .types-of .ensures .size)
-          (omega arith)
-          (c .before .before .before .before .before .before .types-of .ensures .types g rules (take (from + size - from) (drop from d)) (c .before .before .before .before .before .before .before .before .before .before .before .before .before .before .label-of .ensures (g .labels) named))
-          (c .before .before .store .ensures),
+          refl
+          (made .types g rules (take (from + size - from) (drop from d)) (c .before .before .before .before .before .before .before .before .before .before .before .before .before .before .before .before .label-of .ensures (g .labels) named))
+          (made .behind)
+          (c .before .before .bring .ensures),
     )
 
 same-length : tie.Need-same-length Inv-loop μ-loop
 same-length c =
     c .before .loop .inv .1 ∙ c .before .before .before .before .nullable-contents .kept .1 .1 .1 .1 .0
+
+same-length-2 : tie.Need-same-length-2 Inv-loop μ-loop
+same-length-2 c = c .before .loop .inv .2
 
 returns : tie.Need-returns Inv-loop μ-loop
 returns c =
@@ -401,18 +356,18 @@ root-types-spec =
     slice-aggregate-label-of-2
     slice-aggregate-label-of-3
     label-of-requires
-    slice-aggregate-types-of
-    slice-aggregate-types-of-2
-    slice-aggregate-types-of-3
-    slice-aggregate-types-of-4
-    slice-aggregate-types-of-5
-    types-of-requires
+    sub-base
+    slice-aggregate-put-types
+    slice-aggregate-put-types-2
+    slice-aggregate-put-types-3
+    slice-aggregate-put-types-4
+    slice-aggregate-put-types-5
+    put-types-requires
     mul-top-2
     add-top
-    sub-top
-    store-requires
+    bring-requires
     loop-less
     loop-again
     same-length
-    (λ c. c .before .loop .inv .2)
+    same-length-2
     returns)
