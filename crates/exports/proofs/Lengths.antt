@@ -1,5 +1,5 @@
 -- The values of the calls that write a table: a table that is given has at most 32,768 bytes, so no length written reaches 2^32.
---   sample-below, by-table-below, by-document-below
+--   sample-below, widening-below
 use Prim.Native.Nat.{ℕ, _≤_, _<_}
 use native.Mathlib.Omega.{arith}
 use mathlib.Core.Bool.{Bool, true, false}
@@ -14,33 +14,32 @@ use Rattle.grammar.specs.Table.{Table}
 use Rattle.grammar.specs.Kinds.{Kind}
 use Rattle.grammar.specs.Least.{Addition, byTable, byDocument}
 use Rattle.grammar.specs.Outcome.{Outcome, given, refused, _>>=_, _>>_, turnBack}
-use Rattle.grammar.specs.Answers.{writtenNumbers, written}
-use Rattle.grammar.specs.ReadTable.{readTable}
-use Rattle.grammar.specs.ReadDocument.{readDocument}
+use Rattle.grammar.specs.Answers.{refusedBy, numbersOf}
 use Rattle.grammar.specs.WriteTable.{tableBytes}
 use Rattle.grammar.specs.Sample.{sample}
 use Rattle.grammar.specs.Size.{tooLarge}
 use Rattle.grammar.specs.Widen.{ofSize, sampleTable, widenByTable, widen}
-use Rattle.grammar.specs.Calls.{writtenTo, tableReads, documentReads, documentSample, widenedByTable, widenedByDocument}
+use Rattle.grammar.specs.Calls.{writtenTo, tableReads, documentReads, documentSample, readAddition, widened}
+use Rattle.grammar.specs.declared.Source.{Source}
 use Rattle.grammar.specs.declared.Refusal.the-variants.{ResultTooLarge, OutputTooShort}
 use Rattle.theory.proofs.OutcomeLaws.{was-given, had-no-fault, given-eq}
 use Rattle.theory.proofs.NumberedTable.{table-small}
-use Rattle.theory.proofs.WidenLeast.{widened}
+use Rattle.theory.proofs.WidenLeast as widening
 
 -- the value told for an outcome is below 2^32
 abbrev Below : Outcome (List ℕ) → Type 0
-Below o = writtenNumbers (written o) .value < 4294967296
+Below o = numbersOf length o .value < 4294967296
 
 -- after a step, if it is so for whatever the step gives
 then-below : {A : Type 0} (o : Outcome A) (next : A → Outcome (List ℕ)) → ((a : A) → o ≡ given a → Below (next a))
     → Below (o >>= next)
-unfolding writtenNumbers written
+unfolding numbersOf refusedBy
 then-below (refused r) next h = omega arith
 then-below (given a) next h = h a refl
 
 -- a table of at most 32,768 bytes
 table-below : (out : List ℕ) (g : Table) → length (tableBytes g) ≤ 32768 → Below (writtenTo out g)
-unfolding writtenTo writtenNumbers written
+unfolding writtenTo numbersOf refusedBy
 table-below out g h = go (ltb (length out) (length (tableBytes g)))
   where
     go : (short : Bool) → Below (turnBack short OutputTooShort >> given (tableBytes g))
@@ -57,7 +56,7 @@ result-size : (kind : Kind) (old addition result : Table) → widenByTable stand
     → length (tableBytes result) ≤ 32768
 unfolding standard
 result-size kind old addition result e =
-    let w = widened standard kind old addition result e in
+    let w = widening.widened standard kind old addition result e in
     subst (λ (r : Table). length (tableBytes r) ≤ 32768) (sym (w .made)) (w .small .size)
 
 widen-size : (kind : Kind) (old : Table) (addition : Addition) (result : Table) → widen standard kind old addition ≡ given result
@@ -69,28 +68,17 @@ widen-size kind old (byDocument d) result e =
     result-size kind old a result p
 
 pub sample-below : (document out work : List ℕ)
-    → writtenNumbers (written (documentSample standard asciiClasses document out work)) .value < 4294967296
+    → numbersOf length (documentSample standard asciiClasses document out work) .value < 4294967296
 unfolding documentSample
 sample-below document out work =
     then-below (documentReads standard asciiClasses document work) _
     (λ d _. then-below (sampleTable standard d) _ (λ g e. table-below out g (sample-size d g e)))
 
-module _ (kind : Kind) (old : List ℕ) where
-  -- a widening by whatever the second input is read as
-  widening-below : {A : Type 0} (second : Outcome A) (by : A → Addition) (out work : List ℕ)
-      → Below (tableReads standard asciiClasses old work >>= λ g. (second >>= λ a. (widen standard kind g (by a) >>= λ r. writtenTo out r)))
-  widening-below second by out work =
-      then-below (tableReads standard asciiClasses old work) _
-      (λ g _.
-      then-below second _
-      (λ a _. then-below (widen standard kind g (by a)) _ (λ r e. table-below out r (widen-size kind g (by a) r e))))
-
-  pub by-table-below : (addition out work : List ℕ)
-      → writtenNumbers (written (widenedByTable standard asciiClasses kind old addition out work)) .value < 4294967296
-  unfolding widenedByTable
-  by-table-below addition out work = widening-below (readTable standard asciiClasses addition) (λ a. byTable a) out work
-
-  pub by-document-below : (document out work : List ℕ)
-      → writtenNumbers (written (widenedByDocument standard asciiClasses kind old document out work)) .value < 4294967296
-  unfolding widenedByDocument
-  by-document-below document out work = widening-below (readDocument standard asciiClasses document) (λ d. byDocument d) out work
+pub widening-below : (kind : Kind) (source : Source) (old addition out work : List ℕ)
+    → numbersOf length (widened standard asciiClasses kind source old addition out work) .value < 4294967296
+unfolding widened
+widening-below kind source old addition out work =
+    then-below (tableReads standard asciiClasses old work) _
+    (λ g _.
+    then-below (readAddition standard asciiClasses source addition) _
+    (λ a _. then-below (widen standard kind g a) _ (λ r e. table-below out r (widen-size kind g a r e))))

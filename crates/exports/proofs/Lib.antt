@@ -1,3 +1,3 @@
-pub mod NameLaws
 pub mod Apart
 pub mod Lengths
+pub mod PlaceLaws

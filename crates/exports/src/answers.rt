@@ -1,24 +1,26 @@
 // Answers as one number: the refusal's number times 2^32, and the value.
 ghost use mathlib.Core.Path.{_≡_};
-ghost use Rattle.grammar.specs.Answers.{readingNumbers, verdictNumbers, writtenNumbers};
-ghost use Rattle.grammar.specs.Outcome.{number};
-ghost use Rattle.exports.specs.Exported.{told};
+ghost use Rattle.grammar.specs.Answers.{refusedBy, readingNumbers, verdictNumbers, writtenNumbers};
+ghost use Prim.Native.Nat.{ℕ};
+ghost use Rattle.reader.specs.declared.label_places.LabelFound.the-variants.{At};
+ghost use Rattle.exports.specs.Exported.{told, placeNumbers, ShortName};
 use grammar::Reading;
 use grammar::Refusal;
 use grammar::Verdict;
 use grammar::Written;
+use reader::label_places::LabelFound;
 use reader::refusals::number_of;
 
 // A refusal.
 pub fn of_refusal(refusal: Refusal) -> u64
-    ensures { λ r. ⌜ r ≡ told (number refusal) 0 ⌝ }
+    ensures { λ r. ⌜ r ≡ told (refusedBy refusal) ⌝ }
 {
     number_of(refusal) as u64 * 4294967296
 }
 
 // The answer of a reading call.
 pub fn of_reading(answer: Reading) -> u64
-    ensures { λ r. ⌜ r ≡ told (readingNumbers answer .refusal) (readingNumbers answer .value) ⌝ }
+    ensures { λ r. ⌜ r ≡ told (readingNumbers answer) ⌝ }
 {
     match answer {
         Reading::Readable => 1,
@@ -28,7 +30,7 @@ pub fn of_reading(answer: Reading) -> u64
 
 // The answer of a call that decides.
 pub fn of_verdict(answer: Verdict) -> u64
-    ensures { λ r. ⌜ r ≡ told (verdictNumbers answer .refusal) (verdictNumbers answer .value) ⌝ }
+    ensures { λ r. ⌜ r ≡ told (verdictNumbers answer) ⌝ }
 {
     match answer {
         Verdict::Yes => 1,
@@ -39,10 +41,21 @@ pub fn of_verdict(answer: Verdict) -> u64
 
 // The answer of a call that writes a table.
 pub fn of_written(answer: Written) -> u64
-    ensures { λ r. ⌜ r ≡ told (writtenNumbers answer .refusal) (writtenNumbers answer .value) ⌝ }
+    ensures { λ r. ⌜ r ≡ told (writtenNumbers answer) ⌝ }
 {
     match answer {
         Written::Length(n) => n as u64,
         Written::Refused(r) => of_refusal(r),
+    }
+}
+
+// The place of a name: its offset times 65,536, and its length.
+pub fn of_place(found: LabelFound) -> u64
+    requires { ⌜ ((from to : ℕ) → found ≡ At from to → ShortName from to) ⌝ }
+    ensures { λ r. ⌜ r ≡ told (placeNumbers found) ⌝ }
+{
+    match found {
+        LabelFound::Refused(r) => of_refusal(r),
+        LabelFound::At(from, to) => (from * 65536 + (to - from)) as u64,
     }
 }

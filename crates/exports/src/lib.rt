@@ -1,21 +1,18 @@
 // The public calls for C and Rust. A slice is a pointer and a length; every answer is one number: the refusal's number times 2^32,
 // and the value (1 for yes and readable, 0 for no, the length of a table written, offset times 65,536 and length for a name).
 mod answers;
-mod places;
 
-ghost use Rattle.grammar.specs.Limits.{standard};
-ghost use Rattle.grammar.specs.Names.{asciiClasses};
-ghost use Rattle.grammar.specs.Answers.{readingNumbers, verdictNumbers, reading, verdict};
-ghost use Rattle.grammar.specs.Kinds.{local, singleType};
-ghost use Rattle.grammar.specs.Calls.{tableReads, documentReads, labelName, tableLetsIn, tableIsLocal, tableIsSingleType, documentSample, widenedByTable, widenedByDocument};
-ghost use Rattle.exports.specs.Exported.{Told, Wrote, nameNumbers};
+use crate::answers::of_place;
 use crate::answers::of_reading;
+use crate::answers::of_refusal;
 use crate::answers::of_verdict;
 use crate::answers::of_written;
-use crate::places::name_told;
+use grammar::Refusal;
 use reader::calls::document_reads;
-use reader::calls::label_name;
 use reader::calls::table_reads;
+use reader::label_places::find_label;
+use reader::limits::WORDS;
+use reader::work::clear_work;
 use validator::calls::is_local;
 use validator::calls::is_single_type;
 use validator::calls::lets_in;
@@ -24,12 +21,20 @@ use widening::calls::widen_local_by_document;
 use widening::calls::widen_local_by_table;
 use widening::calls::widen_single_type_by_document;
 use widening::calls::widen_single_type_by_table;
+ghost use mathlib.Core.List.{[]};
+ghost use Rattle.grammar.specs.Limits.{standard};
+ghost use Rattle.grammar.specs.Names.{asciiClasses};
+ghost use Rattle.grammar.specs.Kinds.{local, singleType};
+ghost use Rattle.grammar.specs.Calls.{after};
+ghost use Rattle.grammar.specs.Promises.{TableReading, DocumentReading, NamePlace, Membership, KindTest, Sampling, Widening};
+ghost use Rattle.grammar.specs.declared.Source.the-variants.{Table as aTable, Document as aDocument};
+ghost use Rattle.exports.specs.Exported.{parted};
 
 // Does a table read?
 #[no_mangle]
 pub extern "C" fn cogarrune_table_reads(table: &[u8], work: &mut [u32]) -> u64
-    ensures { λ r. ⌜ Told (readingNumbers (reading (tableReads standard asciiClasses (now (table .entry)) (now (work .entry)))))
-        (now (work .entry)) (now (work .exit)) r ⌝ }
+    ensures { λ r. ⌜ TableReading standard asciiClasses (now (table .entry)) (now (work .entry))
+        (after (parted r) [] (now (work .exit))) ⌝ }
 {
     of_reading(table_reads(table, work))
 }
@@ -37,8 +42,8 @@ pub extern "C" fn cogarrune_table_reads(table: &[u8], work: &mut [u32]) -> u64
 // Does a document read?
 #[no_mangle]
 pub extern "C" fn cogarrune_document_reads(document: &[u8], work: &mut [u32]) -> u64
-    ensures { λ r. ⌜ Told (readingNumbers (reading (documentReads standard asciiClasses (now (document .entry)) (now (work .entry)))))
-        (now (work .entry)) (now (work .exit)) r ⌝ }
+    ensures { λ r. ⌜ DocumentReading standard asciiClasses (now (document .entry)) (now (work .entry))
+        (after (parted r) [] (now (work .exit))) ⌝ }
 {
     of_reading(document_reads(document, work))
 }
@@ -46,20 +51,22 @@ pub extern "C" fn cogarrune_document_reads(document: &[u8], work: &mut [u32]) ->
 // Where the name of a label stands in its table.
 #[no_mangle]
 pub extern "C" fn cogarrune_label_name(table: &[u8], label: usize, work: &mut [u32]) -> u64
-    ensures { λ r. ⌜ Told (nameNumbers (labelName standard asciiClasses (now (table .entry)) label (now (work .entry))))
-        (now (work .entry)) (now (work .exit)) r ⌝ }
+    ensures { λ r. ⌜ NamePlace standard asciiClasses (now (table .entry)) label (now (work .entry))
+        (after (parted r) [] (now (work .exit))) ⌝ }
 {
-    let mut refusal: u32 = 0;
-    let name = label_name(table, label, work, &mut refusal);
-    let size = name.len();
-    name_told(refusal, table, label, size)
+    if work.len() < WORDS {
+        return of_refusal(Refusal::WorkTooShort);
+    }
+    let found = find_label(table, label);
+    clear_work(work);
+    of_place(found)
 }
 
 // Does the table let in the document?
 #[no_mangle]
 pub extern "C" fn cogarrune_lets_in(table: &[u8], document: &[u8], work: &mut [u32]) -> u64
-    ensures { λ r. ⌜ Told (verdictNumbers (verdict (tableLetsIn standard asciiClasses (now (table .entry)) (now (document .entry)) (now (work .entry)))))
-        (now (work .entry)) (now (work .exit)) r ⌝ }
+    ensures { λ r. ⌜ Membership standard asciiClasses (now (table .entry)) (now (document .entry)) (now (work .entry))
+        (after (parted r) [] (now (work .exit))) ⌝ }
 {
     of_verdict(lets_in(table, document, work))
 }
@@ -67,8 +74,8 @@ pub extern "C" fn cogarrune_lets_in(table: &[u8], document: &[u8], work: &mut [u
 // Is the table local?
 #[no_mangle]
 pub extern "C" fn cogarrune_is_local(table: &[u8], work: &mut [u32]) -> u64
-    ensures { λ r. ⌜ Told (verdictNumbers (verdict (tableIsLocal standard asciiClasses (now (table .entry)) (now (work .entry)))))
-        (now (work .entry)) (now (work .exit)) r ⌝ }
+    ensures { λ r. ⌜ KindTest standard asciiClasses local (now (table .entry)) (now (work .entry))
+        (after (parted r) [] (now (work .exit))) ⌝ }
 {
     of_verdict(is_local(table, work))
 }
@@ -76,8 +83,8 @@ pub extern "C" fn cogarrune_is_local(table: &[u8], work: &mut [u32]) -> u64
 // Is the table single-type?
 #[no_mangle]
 pub extern "C" fn cogarrune_is_single_type(table: &[u8], work: &mut [u32]) -> u64
-    ensures { λ r. ⌜ Told (verdictNumbers (verdict (tableIsSingleType standard asciiClasses (now (table .entry)) (now (work .entry)))))
-        (now (work .entry)) (now (work .exit)) r ⌝ }
+    ensures { λ r. ⌜ KindTest standard asciiClasses singleType (now (table .entry)) (now (work .entry))
+        (after (parted r) [] (now (work .exit))) ⌝ }
 {
     of_verdict(is_single_type(table, work))
 }
@@ -85,8 +92,8 @@ pub extern "C" fn cogarrune_is_single_type(table: &[u8], work: &mut [u32]) -> u6
 // Writes the sample table of a document.
 #[no_mangle]
 pub extern "C" fn cogarrune_sample(document: &[u8], out: &mut [u8], work: &mut [u32]) -> u64
-    ensures { λ r. ⌜ Wrote (documentSample standard asciiClasses (now (document .entry)) (now (out .entry)) (now (work .entry)))
-        (now (out .entry)) (now (out .exit)) (now (work .entry)) (now (work .exit)) r ⌝ }
+    ensures { λ r. ⌜ Sampling standard asciiClasses (now (document .entry)) (now (out .entry)) (now (work .entry))
+        (after (parted r) (now (out .exit)) (now (work .exit))) ⌝ }
 {
     of_written(sample(document, out, work))
 }
@@ -99,8 +106,8 @@ pub extern "C" fn cogarrune_widen_local_by_table(
     out: &mut [u8],
     work: &mut [u32],
 ) -> u64
-    ensures { λ r. ⌜ Wrote (widenedByTable standard asciiClasses local (now (old .entry)) (now (addition .entry)) (now (out .entry)) (now (work .entry)))
-        (now (out .entry)) (now (out .exit)) (now (work .entry)) (now (work .exit)) r ⌝ }
+    ensures { λ r. ⌜ Widening standard asciiClasses local aTable (now (old .entry)) (now (addition .entry)) (now (out .entry)) (now (work .entry))
+        (after (parted r) (now (out .exit)) (now (work .exit))) ⌝ }
 {
     of_written(widen_local_by_table(old, addition, out, work))
 }
@@ -113,8 +120,8 @@ pub extern "C" fn cogarrune_widen_local_by_document(
     out: &mut [u8],
     work: &mut [u32],
 ) -> u64
-    ensures { λ r. ⌜ Wrote (widenedByDocument standard asciiClasses local (now (old .entry)) (now (document .entry)) (now (out .entry)) (now (work .entry)))
-        (now (out .entry)) (now (out .exit)) (now (work .entry)) (now (work .exit)) r ⌝ }
+    ensures { λ r. ⌜ Widening standard asciiClasses local aDocument (now (old .entry)) (now (document .entry)) (now (out .entry)) (now (work .entry))
+        (after (parted r) (now (out .exit)) (now (work .exit))) ⌝ }
 {
     of_written(widen_local_by_document(old, document, out, work))
 }
@@ -127,8 +134,8 @@ pub extern "C" fn cogarrune_widen_single_type_by_table(
     out: &mut [u8],
     work: &mut [u32],
 ) -> u64
-    ensures { λ r. ⌜ Wrote (widenedByTable standard asciiClasses singleType (now (old .entry)) (now (addition .entry)) (now (out .entry)) (now (work .entry)))
-        (now (out .entry)) (now (out .exit)) (now (work .entry)) (now (work .exit)) r ⌝ }
+    ensures { λ r. ⌜ Widening standard asciiClasses singleType aTable (now (old .entry)) (now (addition .entry)) (now (out .entry)) (now (work .entry))
+        (after (parted r) (now (out .exit)) (now (work .exit))) ⌝ }
 {
     of_written(widen_single_type_by_table(old, addition, out, work))
 }
@@ -141,8 +148,8 @@ pub extern "C" fn cogarrune_widen_single_type_by_document(
     out: &mut [u8],
     work: &mut [u32],
 ) -> u64
-    ensures { λ r. ⌜ Wrote (widenedByDocument standard asciiClasses singleType (now (old .entry)) (now (document .entry)) (now (out .entry)) (now (work .entry)))
-        (now (out .entry)) (now (out .exit)) (now (work .entry)) (now (work .exit)) r ⌝ }
+    ensures { λ r. ⌜ Widening standard asciiClasses singleType aDocument (now (old .entry)) (now (document .entry)) (now (out .entry)) (now (work .entry))
+        (after (parted r) (now (out .exit)) (now (work .exit))) ⌝ }
 {
     of_written(widen_single_type_by_document(old, document, out, work))
 }

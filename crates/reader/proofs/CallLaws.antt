@@ -149,14 +149,14 @@ module _ (s : List ℕ) (label : ℕ) (r : TableRead) (so : Reads s (readTable s
         sought-at s (labelIn s label) from _ (p .0) (p .1)
 
 module _ (table : List ℕ) (label : ℕ) (work : List ℕ) where
-  label-name-short : length work < 16384 → labelName standard asciiClasses table label work ≡ refused WorkTooShort
+  pub label-name-short : length work < 16384 → labelName standard asciiClasses table label work ≡ refused WorkTooShort
   unfolding labelName tableReads
   label-name-short h =
       ap
       (λ (o : Outcome Table). o >>= (λ g. turnBack (leb (length (g .labels)) label) OutOfRange >> given (partOfLabel (g .labels) label)))
       (lent-short work (readTable standard asciiClasses table) h)
 
-  label-name-enough : 16384 ≤ length work → labelName standard asciiClasses table label work ≡ labelIn table label
+  pub label-name-enough : 16384 ≤ length work → labelName standard asciiClasses table label work ≡ labelIn table label
   unfolding labelName tableReads labelIn
   label-name-enough h =
       ap

@@ -8,12 +8,12 @@ use Rattle.exports.proofs.answers.of_reading.Tie as tie
 
 returns : tie.Need-returns
 unfolding readingNumbers
-returns c = sym (ap (λ a. told (readingNumbers a .refusal) (readingNumbers a .value)) (c .enum-told .given .1))
+returns c = sym (ap (λ a. told (readingNumbers a)) (c .enum-told .given .1))
 
 returns-2 : tie.Need-returns-2
 unfolding readingNumbers
 returns-2 c =
-    c .of-refusal .ensures ∙ sym (ap (λ a. told (readingNumbers a .refusal) (readingNumbers a .value)) (c .before .before .answer .given .1))
+    c .of-refusal .ensures ∙ sym (ap (λ a. told (readingNumbers a)) (c .before .before .answer .given .1))
 
 pub of-reading-spec : {M : Type 1} → statement M
 of-reading-spec =

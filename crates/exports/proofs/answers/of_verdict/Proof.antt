@@ -8,16 +8,16 @@ use Rattle.exports.proofs.answers.of_verdict.Tie as tie
 
 returns : tie.Need-returns
 unfolding verdictNumbers
-returns c = sym (ap (λ a. told (verdictNumbers a .refusal) (verdictNumbers a .value)) (c .enum-told .given .1))
+returns c = sym (ap (λ a. told (verdictNumbers a)) (c .enum-told .given .1))
 
 returns-2 : tie.Need-returns-2
 unfolding verdictNumbers
-returns-2 c = sym (ap (λ a. told (verdictNumbers a .refusal) (verdictNumbers a .value)) (c .enum-told2 .given .1))
+returns-2 c = sym (ap (λ a. told (verdictNumbers a)) (c .enum-told2 .given .1))
 
 returns-3 : tie.Need-returns-3
 unfolding verdictNumbers
 returns-3 c =
-    c .of-refusal .ensures ∙ sym (ap (λ a. told (verdictNumbers a .refusal) (verdictNumbers a .value)) (c .before .before .answer .given .1))
+    c .of-refusal .ensures ∙ sym (ap (λ a. told (verdictNumbers a)) (c .before .before .answer .given .1))
 
 pub of-verdict-spec : {M : Type 1} → statement M
 of-verdict-spec =

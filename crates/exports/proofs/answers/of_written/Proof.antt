@@ -11,13 +11,13 @@ returns : tie.Need-returns
 unfolding writtenNumbers
 returns c =
     let n = c .before .answer .given .0 .0 in
-    let alone : n ≡ told 0 n = omega arith in
-    alone ∙ sym (ap (λ a. told (writtenNumbers a .refusal) (writtenNumbers a .value)) (c .before .answer .given .1))
+    let alone : n ≡ told (record { refusal = 0; value = n }) = omega arith in
+    alone ∙ sym (ap (λ a. told (writtenNumbers a)) (c .before .answer .given .1))
 
 returns-2 : tie.Need-returns-2
 unfolding writtenNumbers
 returns-2 c =
-    c .of-refusal .ensures ∙ sym (ap (λ a. told (writtenNumbers a .refusal) (writtenNumbers a .value)) (c .before .before .answer2 .given .1))
+    c .of-refusal .ensures ∙ sym (ap (λ a. told (writtenNumbers a)) (c .before .before .answer2 .given .1))
 
 pub of-written-spec : {M : Type 1} → statement M
 of-written-spec =
