@@ -1,8 +1,7 @@
 -- `bring` meets its contract: no word that is still to be copied is written over.
 use native.Mathlib.Omega.{arith}
 use mathlib.Core.Path.{_≡_, refl, ap}
-use Prim.Native.Nat.{ℕ, _+_}
-use lib.ListN.{drop, length-set}
+use lib.ListN.{length-set}
 use borrow.Author.Needs.{needs}
 use Rattle.walks.specs.TypeSets.{setAt}
 use Rattle.validator.proofs.StackLaws.{copied}
