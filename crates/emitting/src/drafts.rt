@@ -102,8 +102,9 @@ fn is_there(draft: &[u8], base: usize, count: usize, end: usize, fresh: usize) -
     false
 }
 
-// Keeps the expression after the operands as one more operand, or drops it if it is one of them.
-pub fn settle(
+// Keeps the expression after the operands as one more operand, or drops it if it is there.
+pub fn keep(
+    there: bool,
     draft: &[u8],
     base: usize,
     count: usize,
@@ -112,11 +113,12 @@ pub fn settle(
     limit: usize,
     next: usize,
 ) -> Gathering
-    requires { ⌜ Newest (now draft) base count end fresh × (end ≤ limit) ⌝ }
-    ensures { λ r. ⌜ ((q : Newest (now (draft .entry)) base count end fresh)
+    requires { ⌜ ((q : Newest (now draft) base count end fresh) × (there ≡ any (sameContent (q .newest)) (q .kept .list)))
+        × (end ≤ limit) ⌝ }
+    ensures { λ r. ⌜ ((q : Newest (now (draft .entry)) base count end fresh) → there ≡ any (sameContent (q .newest)) (q .kept .list)
         → Gathers (now (draft .entry)) (now (draft .entry)) base end limit next (gathered (q .kept .list) (q .newest ∷ [])) r) ⌝ }
 {
-    if is_there(draft, base, count, end, fresh) {
+    if there {
         return Gathering::Upto { next, count, end };
     }
     if limit < fresh {
@@ -130,6 +132,24 @@ pub fn settle(
         count: count + 1,
         end: fresh,
     }
+}
+
+// The same, with a look at the operands whether it is one of them.
+pub fn settle(
+    draft: &[u8],
+    base: usize,
+    count: usize,
+    end: usize,
+    fresh: usize,
+    limit: usize,
+    next: usize,
+) -> Gathering
+    requires { ⌜ Newest (now draft) base count end fresh × (end ≤ limit) ⌝ }
+    ensures { λ r. ⌜ ((q : Newest (now (draft .entry)) base count end fresh)
+        → Gathers (now (draft .entry)) (now (draft .entry)) base end limit next (gathered (q .kept .list) (q .newest ∷ [])) r) ⌝ }
+{
+    let there = is_there(draft, base, count, end, fresh);
+    keep(there, draft, base, count, end, fresh, limit, next)
 }
 
 // The bytes up to `end`, from two places after `start` on, moved down to `start`.
