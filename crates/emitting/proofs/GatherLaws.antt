@@ -1,7 +1,7 @@
 -- Gathering step by step:
 --   kept-row  operands stand where their bytes are kept; newest-of : and one more expression after them
 --   gathers-from, gathers-then : a gathering from a draft that keeps the operands' bytes; one gathering after another
---   nothing-added : no alternatives
+--   nothing-new, nothing-added : alternatives that are all there; no alternatives
 --   types-of, types-first : the result types of a source type; of some result types the first and the others
 use Prim.Native.Nat.{ℕ, suc, _+_, _-_, _≤_, _<_}
 use native.Mathlib.Omega.{arith}
@@ -69,21 +69,24 @@ gathers-then d d' d'' base old middle limit next ds (Upto n count end) h e g =
       },
     )
 
-pub nothing-added : (d : List ℕ) (base count end limit n next : ℕ) (k : Kept d base count end) (xs : List Content) → n ≡ next
-    → end ≤ limit → xs ≡ [] → Gathers d d base end limit next (gathered (k .list) xs) (Upto n count end)
+pub nothing-new : (d : List ℕ) (base count end limit n next : ℕ) (k : Kept d base count end) (xs : List Content) → n ≡ next
+    → end ≤ limit → gathered (k .list) xs ≡ k .list → Gathers d d base end limit next (gathered (k .list) xs) (Upto n count end)
 unfolding Gathers
-nothing-added d base count end limit n next k xs same-next h e = (
+nothing-new d base count end limit n next k xs same-next h same = (
   same-next,
   record {
-    row =
-        subst (λ (l : List Content). Row d base count l end)
-        (sym (ap (gathered (k .list)) e ∙ gather-nothing (k .list) (k .row .apart)))
-        (k .row);
+    row = subst (λ (l : List Content). Row d base count l end) (sym same) (k .row);
     fits = h;
     grows = omega arith;
     keeps = refl;
   },
 )
+
+pub nothing-added : (d : List ℕ) (base count end limit n next : ℕ) (k : Kept d base count end) (xs : List Content) → n ≡ next
+    → end ≤ limit → xs ≡ [] → Gathers d d base end limit next (gathered (k .list) xs) (Upto n count end)
+nothing-added d base count end limit n next k xs same-next h e =
+    nothing-new d base count end limit n next k xs same-next h
+    (ap (gathered (k .list)) e ∙ gather-nothing (k .list) (k .row .apart))
 
 -- result types from a place up to another
 abbrev pub typesFrom : List ℕ → ℕ → ℕ → List Content

@@ -2,7 +2,7 @@
 use crate::limits::OPERANDS;
 use reader::numbers::wide;
 ghost use Prim.Native.Nat.{_+_, _-_, _≤_};
-ghost use mathlib.Core.Bool.{true};
+ghost use mathlib.Core.Bool.{true, false};
 ghost use mathlib.Core.List.{[], _∷_};
 ghost use mathlib.Core.Logic.{_↔_};
 ghost use mathlib.Core.Path.{_≡_};
@@ -102,9 +102,8 @@ fn is_there(draft: &[u8], base: usize, count: usize, end: usize, fresh: usize) -
     false
 }
 
-// Keeps the expression after the operands as one more operand, or drops it if it is there.
+// Keeps the expression after the operands, which is not one of them, as one more operand.
 pub fn keep(
-    there: bool,
     draft: &[u8],
     base: usize,
     count: usize,
@@ -113,14 +112,11 @@ pub fn keep(
     limit: usize,
     next: usize,
 ) -> Gathering
-    requires { ⌜ ((q : Newest (now draft) base count end fresh) × (there ≡ any (sameContent (q .newest)) (q .kept .list)))
+    requires { ⌜ ((q : Newest (now draft) base count end fresh) × (any (sameContent (q .newest)) (q .kept .list) ≡ false))
         × (end ≤ limit) ⌝ }
-    ensures { λ r. ⌜ ((q : Newest (now (draft .entry)) base count end fresh) → there ≡ any (sameContent (q .newest)) (q .kept .list)
+    ensures { λ r. ⌜ ((q : Newest (now (draft .entry)) base count end fresh) → any (sameContent (q .newest)) (q .kept .list) ≡ false
         → Gathers (now (draft .entry)) (now (draft .entry)) base end limit next (gathered (q .kept .list) (q .newest ∷ [])) r) ⌝ }
 {
-    if there {
-        return Gathering::Upto { next, count, end };
-    }
     if limit < fresh {
         return Gathering::TooLarge;
     }
@@ -134,7 +130,7 @@ pub fn keep(
     }
 }
 
-// The same, with a look at the operands whether it is one of them.
+// The same, or drops it if it is one of them.
 pub fn settle(
     draft: &[u8],
     base: usize,
@@ -148,8 +144,10 @@ pub fn settle(
     ensures { λ r. ⌜ ((q : Newest (now (draft .entry)) base count end fresh)
         → Gathers (now (draft .entry)) (now (draft .entry)) base end limit next (gathered (q .kept .list) (q .newest ∷ [])) r) ⌝ }
 {
-    let there = is_there(draft, base, count, end, fresh);
-    keep(there, draft, base, count, end, fresh, limit, next)
+    if is_there(draft, base, count, end, fresh) {
+        return Gathering::Upto { next, count, end };
+    }
+    keep(draft, base, count, end, fresh, limit, next)
 }
 
 // The bytes up to `end`, from two places after `start` on, moved down to `start`.

@@ -74,11 +74,13 @@ fn gather_result(
         (gathered (q .kept .list) (type result ∷ [])) r) ⌝ }
 {
     let number = wide(result);
-    let there = has(kept, 0, number);
+    if has(kept, 0, number) {
+        return Gathering::Upto { next, count, end };
+    }
     put(kept, 0, number);
     draft[end] = 2;
     draft[end + 1] = result;
-    keep(there, draft, base, count, end, end + 2, limit, next)
+    keep(draft, base, count, end, end + 2, limit, next)
 }
 
 // The result types from `first` up to `stop` as alternatives.
