@@ -10,7 +10,7 @@ use mathlib.Core.Option.{some as just}
 use mathlib.Core.Path.{_≡_, refl, sym, _∙_, ap, subst}
 use lib.ListN.{length, getD, getElem?, take, set, length-set}
 use lib.Seq.{take-set-le, getD-set-same, getD-take}
-use Rattle.grammar.specs.Lists.{joinedOf}
+use Rattle.grammar.specs.Lists.{any, joinedOf}
 use Rattle.grammar.specs.Limits.{standard}
 use Rattle.grammar.specs.Content.{
   Content,
@@ -30,7 +30,7 @@ use Rattle.grammar.specs.Content.{
   operands,
   choiceOf,
 }
-use Rattle.grammar.specs.ReadContent.{operators}
+use Rattle.grammar.specs.ReadContent.{operators, sameContent}
 use Rattle.theory.proofs.Alternatives.{alts, altsOfEach, written, hasAlts, allHaveAlts, someLeft, sequence-has, sequence-has-not}
 use Rattle.theory.proofs.Gathering.{gathered, gathered-nothing, gather-more, written-gathered}
 use Rattle.reader.specs.ExprAt.{_upTo_, placed, exprAt, exprsAt}
@@ -41,7 +41,7 @@ use Rattle.emitting.specs.declared.emitter.Emitted.{Emitted}
 use Rattle.emitting.specs.declared.emitter.Emitted.the-variants as emitted
 use Rattle.emitting.specs.Drafts.{Row, Kept, Newest, Unfit, TooWide, Added, Gathers, Finished}
 use Rattle.pairs.specs.Walks.{listOf}
-use Rattle.emitting.specs.Emitting.{Room, Source, Sources, Seen, GathersSeen, Operands, Laid, Emits}
+use Rattle.emitting.specs.Emitting.{Room, Source, Sources, TypesKept, GathersTypes, Operands, Laid, Emits}
 use Rattle.emitting.proofs.RowLaws.{exprs-only}
 use Rattle.emitting.proofs.FinishLaws.{
   single-stands,
@@ -62,7 +62,7 @@ use Rattle.emitting.proofs.WideLaws.{
   wide-single,
 }
 use Rattle.emitting.proofs.GatherLaws.{newest-of, keeps-before, gathers-from, gathers-as, nothing-added, first-wide, then-others, told-large, told-upto, large-told}
-use Rattle.emitting.proofs.SeenLaws.{seen-more, gathers-seen-as}
+use Rattle.emitting.proofs.TypesKeptLaws.{types-same, types-plain, no-upto, gathers-types-as}
 use Rattle.emitting.proofs.SourceLaws.{
   first-deep,
   each-first,
@@ -81,11 +81,17 @@ module _ {s : List ℕ} {at n : ℕ} {types from results d : List ℕ} {base cou
   abbrev rowGives : List Content
   rowGives = joinedOf (λ xs. xs) (altsOfEach res (q .there .contents))
 
-  pub no-sources : n ≡ 0 → Gathers d d base end limit (q .there .next) (gathered (q .kept .list) rowGives) (gathering.Upto at count end)
-  no-sources z =
+  pub no-sources : n ≡ 0 → {kept : List ℕ} → TypesKept kept (q .kept .list)
+      → GathersTypes d d base end limit (q .there .next) kept (gathered (q .kept .list) rowGives) (gathering.Upto at count end)
+  unfolding any
+  no-sources z {kept} y =
       let e = none-there standard s at n (q .there) z in
-      nothing-added d base count end limit at (q .there .next) (q .kept) rowGives (e .1) (q .fits)
-      (each-none res (q .there .contents) (e .0))
+      let nothing = each-none res (q .there .contents) (e .0) in
+      record {
+        gathers = nothing-added d base count end limit at (q .there .next) (q .kept) rowGives (e .1) (q .fits) nothing;
+        types =
+            λ u. types-same y rowGives (λ t. ap (any (sameContent (type t))) nothing);
+      }
 
   module _ (some : n ≡ 0 → ⊥) where
     abbrev first : FirstThere standard s at n (q .there)
@@ -113,17 +119,17 @@ module _ {s : List ℕ} {at n : ℕ} {types from results d : List ℕ} {base cou
     both-gathered : gathered (gathered (q .kept .list) firstGives) othersGive ≡ gathered (q .kept .list) rowGives
     both-gathered = gather-more (q .kept .list) firstGives othersGive ∙ ap (gathered (q .kept .list)) (sym both-give)
 
-    module _ (d' : List ℕ) (r : Gathering) {seen : List ℕ}
-        (g : GathersSeen d d' base end limit (first .first .next) seen from results (gathered (q .kept .list) firstGives) r) where
+    module _ (d' : List ℕ) (r : Gathering) {kept : List ℕ}
+        (g : GathersTypes d d' base end limit (first .first .next) kept (gathered (q .kept .list) firstGives) r) where
       pub row-wide : r ≡ gathering.TooLarge
-          → GathersSeen d d' base end limit (q .there .next) seen from results (gathered (q .kept .list) rowGives) gathering.TooLarge
+          → GathersTypes d d' base end limit (q .there .next) kept (gathered (q .kept .list) rowGives) gathering.TooLarge
       row-wide e =
           record {
             gathers =
                 large-told d d' base end limit (q .there .next) (gathered (q .kept .list) rowGives)
                 (first-wide (limit - base) (q .kept .list) firstGives othersGive rowGives both-give
                 (told-large d d' base end limit (first .first .next) (gathered (q .kept .list) firstGives) r e (g .gathers)));
-            known = subst (Seen seen from results) both-gathered (seen-more (g .known) othersGive);
+            types = λ u. no-upto u;
           }
 
       module _ {next more last : ℕ} (e : r ≡ gathering.Upto next more last) (l : length d' ≡ length d) where
@@ -150,11 +156,11 @@ module _ {s : List ℕ} {at n : ℕ} {types from results d : List ℕ} {base cou
         pub goes-on : at < next
         goes-on = subst (λ (k : ℕ). at < k) (sym (told .0)) (first .forward)
 
-        pub row-then : (d'' : List ℕ) (o : Gathering) {seen' : List ℕ}
-            → GathersSeen d' d'' base last limit (first .others .next) seen' from results
+        pub row-then : (d'' : List ℕ) (o : Gathering) {kept' : List ℕ}
+            → GathersTypes d' d'' base last limit (first .others .next) kept'
             (gathered (gathered (q .kept .list) firstGives) othersGive) o
-            → GathersSeen d d'' base end limit (q .there .next) seen' from results (gathered (q .kept .list) rowGives) o
-        row-then d'' o {seen'} f =
+            → GathersTypes d d'' base end limit (q .there .next) kept' (gathered (q .kept .list) rowGives) o
+        row-then d'' o {kept'} f =
             record {
               gathers =
                   subst (λ (k : ℕ). Gathers d d'' base end limit k (gathered (q .kept .list) rowGives) o) (first .ends)
@@ -162,7 +168,7 @@ module _ {s : List ℕ} {at n : ℕ} {types from results d : List ℕ} {base cou
                   (told .1 .grows)
                   (told .1 .keeps)
                   (f .gathers));
-              known = subst (Seen seen' from results) both-gathered (f .known);
+              types = λ u. subst (TypesKept kept') both-gathered (f .types u);
             }
 
 -- what an answer says, once it is known which it is
@@ -637,6 +643,13 @@ module _ {s : List ℕ} {at : ℕ} {types from results d : List ℕ} {base count
     abbrev sourceGives : List Content
     sourceGives = alts res (q .there .content)
 
+    -- neither a type nor a choice
+    pub plain-gives : (getD s at 0 ≡ 2 → ⊥) → (getD s at 0 ≡ 4 → ⊥) → {kept d' : List ℕ} {o : Gathering} → TypesKept kept (q .kept .list)
+        → Gathers d d' base end limit (q .there .next) (gathered (q .kept .list) sourceGives) o
+        → GathersTypes d d' base end limit (q .there .next) kept (gathered (q .kept .list) sourceGives) o
+    plain-gives h k y g =
+        record { gathers = g; types = λ u. types-plain res s at (q .there .next) (q .there .content) (q .there .stands) h k y }
+
     pub none-gives : getD s at 0 ≡ 0
         → Gathers d d base end limit (q .there .next) (gathered (q .kept .list) sourceGives) (gathering.Upto (at + 1) count end)
     unfolding alts
@@ -674,23 +687,23 @@ module _ {s : List ℕ} {at : ℕ} {types from results d : List ℕ} {base count
             room = choice-room;
           }
 
-      pub choice-gives : (d' : List ℕ) (o : Gathering) {seen : List ℕ}
-          → GathersSeen d d' base end limit (cs .operands .next) seen from results
+      pub choice-gives : (d' : List ℕ) (o : Gathering) {kept : List ℕ}
+          → GathersTypes d d' base end limit (cs .operands .next) kept
           (gathered (q .kept .list) (joinedOf (λ xs. xs) (altsOfEach res (cs .operands .contents)))) o
-          → GathersSeen d d' base end limit (q .there .next) seen from results (gathered (q .kept .list) sourceGives) o
+          → GathersTypes d d' base end limit (q .there .next) kept (gathered (q .kept .list) sourceGives) o
       unfolding alts
       choice-gives d' o g =
-          gathers-seen-as (q .kept .list) (joinedOf (λ xs. xs) (altsOfEach res (cs .operands .contents))) sourceGives (cs .ends)
+          gathers-types-as (q .kept .list) (joinedOf (λ xs. xs) (altsOfEach res (cs .operands .contents))) sourceGives (cs .ends)
           (ap (alts res) (cs .is))
           g
 
-  pub type-gives : getD s at 0 ≡ 2 → (k : ℕ) → k ≡ getD s (at + 1) 0 → (d' : List ℕ) (o : Gathering) {seen : List ℕ}
-      → GathersSeen d d' base end limit (at + 2) seen from results (gathered (q .kept .list) (map type (listOf from results k))) o
-      → GathersSeen d d' base end limit (q .there .next) seen from results
+  pub type-gives : getD s at 0 ≡ 2 → (k : ℕ) → k ≡ getD s (at + 1) 0 → (d' : List ℕ) (o : Gathering) {kept : List ℕ}
+      → GathersTypes d d' base end limit (at + 2) kept (gathered (q .kept .list) (map type (listOf from results k))) o
+      → GathersTypes d d' base end limit (q .there .next) kept
       (gathered (q .kept .list) (alts (listOf from results) (q .there .content))) o
   unfolding alts
   type-gives e k is d' o g =
       let w = numbered-was s at (q .there .content) (q .there .next) (q .there .stands) type (ap (getElem? operators) e ∙ operator-type) in
-      gathers-seen-as (q .kept .list) (map type (listOf from results k)) (alts (listOf from results) (q .there .content)) (w .1)
+      gathers-types-as (q .kept .list) (map type (listOf from results k)) (alts (listOf from results) (q .there .content)) (w .1)
       (ap (alts (listOf from results)) (ap type is ∙ w .0))
       g

@@ -3,7 +3,7 @@ pub mod KeptLaws
 pub mod FinishLaws
 pub mod WideLaws
 pub mod GatherLaws
-pub mod SeenLaws
+pub mod TypesKeptLaws
 pub mod SourceLaws
 pub mod EmitLaws
 pub mod CompleteLaws

@@ -1,12 +1,13 @@
 -- What the emitter is given and what it answers.
 use Prim.Native.Nat.{ℕ, _+_, _-_, _*_, _≤_, _<_}
-use mathlib.Core.Bool.{true}
-use mathlib.Core.List.{List, List·Memᴰ}
+use mathlib.Core.List.{List}
 use mathlib.Core.Option.{some as just}
 use mathlib.Core.Path.{_≡_}
 use lib.ListN.{length, take}
 use Rattle.grammar.specs.Limits.{standard}
+use Rattle.grammar.specs.Lists.{any}
 use Rattle.grammar.specs.Content.{Content, type, Contents, nesting, deepest}
+use Rattle.grammar.specs.ReadContent.{sameContent}
 use Rattle.theory.proofs.Alternatives.{someLeft}
 use Rattle.sets.specs.Sets.{member}
 use Rattle.reader.specs.ExprAt.{_upTo_, exprsAt}
@@ -14,6 +15,7 @@ use Rattle.reader.specs.ContentAt.{ContentAt, ContentsAt}
 use Rattle.pairs.specs.Walks.{listOf}
 use Rattle.emitting.specs.Drafts.{Kept, Unfit, Gathers}
 use Rattle.emitting.specs.declared.drafts.Gathering.{Gathering}
+use Rattle.emitting.specs.declared.drafts.Gathering.the-variants as gathering
 use Rattle.emitting.specs.declared.emitter.Emitted.{Emitted}
 use Rattle.emitting.specs.declared.emitter.Emitted.the-variants.{TooLarge, Upto}
 
@@ -47,16 +49,15 @@ pub record Sources (content : List ℕ) (at n : ℕ) (types from results draft :
   pub small : limit ≤ base + 1024
   pub room : limit + 1026 * deepest (there .contents) ≤ length draft
 
--- a set of source types whose result types are all among the operands kept
-pub record Seen (seen from results : List ℕ) (ds : List Content) : Type 0 where
-  pub words : 2 ≤ length seen
-  pub there : (k : ℕ) → member seen 0 k ≡ true → (r : ℕ) → List·Memᴰ r (listOf from results k) → List·Memᴰ (type r) ds
+-- the set of the result types that are among the operands kept; eight words have a bit for every byte
+pub record TypesKept (kept : List ℕ) (ds : List Content) : Type 0 where
+  pub words : 8 ≤ length kept
+  pub there : (t : ℕ) → t < 256 → member kept 0 t ≡ any (sameContent (type t)) ds
 
--- the answer of a gathering, with the source types seen by then
-pub record GathersSeen (before after : List ℕ) (base old limit next : ℕ) (seen from results : List ℕ) (ds : List Content)
-    (r : Gathering) : Type 0 where
+-- the answer of a gathering; where the operands fit, with the set of the result types among them
+pub record GathersTypes (before after : List ℕ) (base old limit next : ℕ) (kept : List ℕ) (ds : List Content) (r : Gathering) : Type 0 where
   pub gathers : Gathers before after base old limit next ds r
-  pub known : Seen seen from results ds
+  pub types : {n count end : ℕ} → r ≡ gathering.Upto n count end → TypesKept kept ds
 
 -- source contents that are to be written as operands from a place on, of an expression whose bytes begin at `start`
 pub record Operands (content : List ℕ) (at n : ℕ) (types from results draft : List ℕ) (start place : ℕ) : Type 0 where

@@ -2,7 +2,7 @@
 use crate::limits::OPERANDS;
 use reader::numbers::wide;
 ghost use Prim.Native.Nat.{_+_, _-_, _≤_};
-ghost use mathlib.Core.Bool.{true};
+ghost use mathlib.Core.Bool.{true, false};
 ghost use mathlib.Core.List.{[], _∷_};
 ghost use mathlib.Core.Logic.{_↔_};
 ghost use mathlib.Core.Path.{_≡_};
@@ -102,7 +102,35 @@ fn is_there(draft: &[u8], base: usize, count: usize, end: usize, fresh: usize) -
     false
 }
 
-// Keeps the expression after the operands as one more operand, or drops it if it is one of them.
+// Keeps the expression after the operands, which is not one of them, as one more operand.
+pub fn keep(
+    draft: &[u8],
+    base: usize,
+    count: usize,
+    end: usize,
+    fresh: usize,
+    limit: usize,
+    next: usize,
+) -> Gathering
+    requires { ⌜ ((q : Newest (now draft) base count end fresh) × (any (sameContent (q .newest)) (q .kept .list) ≡ false))
+        × (end ≤ limit) ⌝ }
+    ensures { λ r. ⌜ ((q : Newest (now (draft .entry)) base count end fresh) → any (sameContent (q .newest)) (q .kept .list) ≡ false
+        → Gathers (now (draft .entry)) (now (draft .entry)) base end limit next (gathered (q .kept .list) (q .newest ∷ [])) r) ⌝ }
+{
+    if limit < fresh {
+        return Gathering::TooLarge;
+    }
+    if OPERANDS <= count {
+        return Gathering::TooLarge;
+    }
+    Gathering::Upto {
+        next,
+        count: count + 1,
+        end: fresh,
+    }
+}
+
+// The same, or drops it if it is one of them.
 pub fn settle(
     draft: &[u8],
     base: usize,
@@ -119,17 +147,7 @@ pub fn settle(
     if is_there(draft, base, count, end, fresh) {
         return Gathering::Upto { next, count, end };
     }
-    if limit < fresh {
-        return Gathering::TooLarge;
-    }
-    if OPERANDS <= count {
-        return Gathering::TooLarge;
-    }
-    Gathering::Upto {
-        next,
-        count: count + 1,
-        end: fresh,
-    }
+    keep(draft, base, count, end, fresh, limit, next)
 }
 
 // The bytes up to `end`, from two places after `start` on, moved down to `start`.

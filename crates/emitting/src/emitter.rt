@@ -3,6 +3,7 @@
 // `results` give the result types of each.
 use crate::drafts::Gathering;
 use crate::drafts::finish;
+use crate::drafts::keep;
 use crate::drafts::settle;
 use crate::limits::HEADED;
 use pairs::productive::content_has;
@@ -21,7 +22,7 @@ ghost use Rattle.theory.proofs.Alternatives.{alts, altsOfEach, written};
 ghost use Rattle.theory.proofs.Gathering.{gathered};
 ghost use Rattle.emitting.specs.Drafts.{Gathers};
 ghost use Rattle.pairs.specs.Walks.{listOf};
-ghost use Rattle.emitting.specs.Emitting.{Room, Source, Sources, Seen, GathersSeen, Operands, Emits};
+ghost use Rattle.emitting.specs.Emitting.{Room, Source, Sources, TypesKept, GathersTypes, Operands, Emits};
 
 // Where the operands of an expression end in the draft, and where the source goes on; or they do not fit.
 pub enum Emitted {
@@ -56,10 +57,36 @@ fn gather_empty(
     settle(draft, base, count, end, end + 1, limit, next)
 }
 
-// The result types from `i` up to `stop` as alternatives.
+// A result type as an alternative. `kept` is the set of the result types that are among the operands.
+fn gather_result(
+    result: u8,
+    draft: &mut [u8],
+    base: usize,
+    count: usize,
+    end: usize,
+    limit: usize,
+    next: usize,
+    kept: &mut [u32],
+) -> Gathering
+    requires { ⌜ ((q : Room (now draft) base count end limit) × TypesKept (now kept) (q .kept .list)) ⌝ }
+    ensures { λ r. ⌜ ((q : Room (now (draft .entry)) base count end limit) → TypesKept (now (kept .entry)) (q .kept .list)
+        → GathersTypes (now (draft .entry)) (now (draft .exit)) base end limit next (now (kept .exit))
+        (gathered (q .kept .list) (type result ∷ [])) r) ⌝ }
+{
+    let number = wide(result);
+    if has(kept, 0, number) {
+        return Gathering::Upto { next, count, end };
+    }
+    put(kept, 0, number);
+    draft[end] = 2;
+    draft[end + 1] = result;
+    keep(draft, base, count, end, end + 2, limit, next)
+}
+
+// The result types from `first` up to `stop` as alternatives.
 fn gather_types(
     results: &[u8],
-    i: usize,
+    first: usize,
     stop: usize,
     draft: &mut [u8],
     base: usize,
@@ -67,31 +94,47 @@ fn gather_types(
     end: usize,
     limit: usize,
     next: usize,
+    kept: &mut [u32],
 ) -> Gathering
-    requires { ⌜ Room (now draft) base count end limit ⌝ }
-    ensures { λ r. ⌜ ((q : Room (now (draft .entry)) base count end limit)
-        → Gathers (now (draft .entry)) (now (draft .exit)) base end limit next
-        (gathered (q .kept .list) (map type (take (stop - i) (drop i (now (results .entry)))))) r) ⌝ }
+    requires { ⌜ ((q : Room (now draft) base count end limit) × TypesKept (now kept) (q .kept .list)) ⌝ }
+    ensures { λ r. ⌜ ((q : Room (now (draft .entry)) base count end limit) → TypesKept (now (kept .entry)) (q .kept .list)
+        → GathersTypes (now (draft .entry)) (now (draft .exit)) base end limit next (now (kept .exit))
+        (gathered (q .kept .list) (map type (take (stop - first) (drop first (now (results .entry)))))) r) ⌝ }
 {
-    if stop <= i {
-        return Gathering::Upto { next, count, end };
+    let mut total = count;
+    let mut last = end;
+    let mut i = first;
+    while i < stop {
+        if results.len() <= i {
+            return Gathering::Upto {
+                next,
+                count: total,
+                end: last,
+            };
+        }
+        match gather_result(results[i], draft, base, total, last, limit, next, kept) {
+            Gathering::TooLarge => {
+                return Gathering::TooLarge;
+            }
+            Gathering::Upto {
+                next: _,
+                count: more,
+                end: fresh,
+            } => {
+                total = more;
+                last = fresh;
+            }
+        }
+        i += 1;
     }
-    if results.len() <= i {
-        return Gathering::Upto { next, count, end };
-    }
-    draft[end] = 2;
-    draft[end + 1] = results[i];
-    match settle(draft, base, count, end, end + 2, limit, next) {
-        Gathering::TooLarge => Gathering::TooLarge,
-        Gathering::Upto {
-            next: _,
-            count: more,
-            end: last,
-        } => gather_types(results, i + 1, stop, draft, base, more, last, limit, next),
+    Gathering::Upto {
+        next,
+        count: total,
+        end: last,
     }
 }
 
-// The result types of a source type as alternatives; those of a type in `seen` are there already.
+// The result types of a source type as alternatives.
 fn gather_type(
     k: usize,
     from: &[u8],
@@ -102,23 +145,27 @@ fn gather_type(
     end: usize,
     limit: usize,
     next: usize,
-    seen: &mut [u32],
+    kept: &mut [u32],
 ) -> Gathering
-    requires { ⌜ (k < 64)
-        × ((q : Room (now draft) base count end limit) × Seen (now seen) (now from) (now results) (q .kept .list)) ⌝ }
-    ensures { λ r. ⌜ ((q : Room (now (draft .entry)) base count end limit)
-        → Seen (now (seen .entry)) (now (from .entry)) (now (results .entry)) (q .kept .list)
-        → GathersSeen (now (draft .entry)) (now (draft .exit)) base end limit next
-        (now (seen .exit)) (now (from .entry)) (now (results .entry))
+    requires { ⌜ (k < 64) × ((q : Room (now draft) base count end limit) × TypesKept (now kept) (q .kept .list)) ⌝ }
+    ensures { λ r. ⌜ ((q : Room (now (draft .entry)) base count end limit) → TypesKept (now (kept .entry)) (q .kept .list)
+        → GathersTypes (now (draft .entry)) (now (draft .exit)) base end limit next (now (kept .exit))
         (gathered (q .kept .list) (map type (listOf (now (from .entry)) (now (results .entry)) k))) r) ⌝ }
 {
-    if has(seen, 0, k) {
-        return Gathering::Upto { next, count, end };
-    }
-    put(seen, 0, k);
-    let i = byte_or_zero(from, k);
+    let first = byte_or_zero(from, k);
     let stop = byte_or_zero(from, k + 1);
-    gather_types(results, i, stop, draft, base, count, end, limit, next)
+    gather_types(
+        results,
+        first,
+        stop,
+        draft,
+        base,
+        count,
+        end,
+        limit,
+        next,
+        kept,
+    )
 }
 
 // The alternatives that a sequence gives: one, or none if an operand has none.
@@ -245,16 +292,16 @@ fn gather_compound(
     count: usize,
     end: usize,
     limit: usize,
-    seen: &mut [u32],
+    kept: &mut [u32],
 ) -> Gathering
     requires { ⌜ (3 ≤ getD (now content) at 0)
         × ((q : Source (now content) at (now types) (now from) (now results) (now draft) base count end limit)
-        × Seen (now seen) (now from) (now results) (q .kept .list)) ⌝ }
+        × TypesKept (now kept) (q .kept .list)) ⌝ }
     ensures { λ r. ⌜ ((q : Source (now (content .entry)) at (now (types .entry)) (now (from .entry)) (now (results .entry))
         (now (draft .entry)) base count end limit)
-        → Seen (now (seen .entry)) (now (from .entry)) (now (results .entry)) (q .kept .list)
-        → GathersSeen (now (draft .entry)) (now (draft .exit)) base end limit (q .there .next)
-        (now (seen .exit)) (now (from .entry)) (now (results .entry))
+        → TypesKept (now (kept .entry)) (q .kept .list)
+        → GathersTypes (now (draft .entry)) (now (draft .exit)) base end limit (q .there .next)
+        (now (kept .exit))
         (gathered (q .kept .list) (alts (listOf (now (from .entry)) (now (results .entry))) (q .there .content))) r) ⌝ }
 {
     match wide(content[at]) {
@@ -282,7 +329,7 @@ fn gather_compound(
             count,
             end,
             limit,
-            seen,
+            kept,
         ),
         _ => gather_around(
             content,
@@ -299,8 +346,8 @@ fn gather_compound(
     }
 }
 
-// Adds to the operands in the draft the alternatives that the source content at a place gives. The result types of each source type
-// in `seen` are among the operands.
+// Adds to the operands in the draft the alternatives that the source content at a place gives. `kept` is the set of the result types
+// that are among the operands.
 pub fn gather(
     content: &[u8],
     at: usize,
@@ -312,15 +359,15 @@ pub fn gather(
     count: usize,
     end: usize,
     limit: usize,
-    seen: &mut [u32],
+    kept: &mut [u32],
 ) -> Gathering
     requires { ⌜ ((q : Source (now content) at (now types) (now from) (now results) (now draft) base count end limit)
-        × Seen (now seen) (now from) (now results) (q .kept .list)) ⌝ }
+        × TypesKept (now kept) (q .kept .list)) ⌝ }
     ensures { λ r. ⌜ ((q : Source (now (content .entry)) at (now (types .entry)) (now (from .entry)) (now (results .entry))
         (now (draft .entry)) base count end limit)
-        → Seen (now (seen .entry)) (now (from .entry)) (now (results .entry)) (q .kept .list)
-        → GathersSeen (now (draft .entry)) (now (draft .exit)) base end limit (q .there .next)
-        (now (seen .exit)) (now (from .entry)) (now (results .entry))
+        → TypesKept (now (kept .entry)) (q .kept .list)
+        → GathersTypes (now (draft .entry)) (now (draft .exit)) base end limit (q .there .next)
+        (now (kept .exit))
         (gathered (q .kept .list) (alts (listOf (now (from .entry)) (now (results .entry))) (q .there .content))) r) ⌝ }
 {
     let operator = wide(content[at]);
@@ -343,7 +390,7 @@ pub fn gather(
                 end,
                 limit,
                 at + 2,
-                seen,
+                kept,
             )
         }
         _ => gather_compound(
@@ -357,7 +404,7 @@ pub fn gather(
             count,
             end,
             limit,
-            seen,
+            kept,
         ),
     }
 }
@@ -375,15 +422,15 @@ pub fn gather_row(
     count: usize,
     end: usize,
     limit: usize,
-    seen: &mut [u32],
+    kept: &mut [u32],
 ) -> Gathering
     requires { ⌜ ((q : Sources (now content) at n (now types) (now from) (now results) (now draft) base count end limit)
-        × Seen (now seen) (now from) (now results) (q .kept .list)) ⌝ }
+        × TypesKept (now kept) (q .kept .list)) ⌝ }
     ensures { λ r. ⌜ ((q : Sources (now (content .entry)) at n (now (types .entry)) (now (from .entry)) (now (results .entry))
         (now (draft .entry)) base count end limit)
-        → Seen (now (seen .entry)) (now (from .entry)) (now (results .entry)) (q .kept .list)
-        → GathersSeen (now (draft .entry)) (now (draft .exit)) base end limit (q .there .next)
-        (now (seen .exit)) (now (from .entry)) (now (results .entry))
+        → TypesKept (now (kept .entry)) (q .kept .list)
+        → GathersTypes (now (draft .entry)) (now (draft .exit)) base end limit (q .there .next)
+        (now (kept .exit))
         (gathered (q .kept .list)
         (joinedOf (λ xs. xs) (altsOfEach (listOf (now (from .entry)) (now (results .entry))) (q .there .contents)))) r) ⌝ }
 {
@@ -405,7 +452,7 @@ pub fn gather_row(
         count,
         end,
         limit,
-        seen,
+        kept,
     ) {
         Gathering::TooLarge => Gathering::TooLarge,
         Gathering::Upto { next, count, end } => gather_row(
@@ -420,7 +467,7 @@ pub fn gather_row(
             count,
             end,
             limit,
-            seen,
+            kept,
         ),
     }
 }
@@ -449,7 +496,7 @@ fn emit_row(
             end: place,
         };
     }
-    let mut seen = [0u32; 2];
+    let mut kept = [0u32; 8];
     match gather(
         content,
         at,
@@ -461,7 +508,7 @@ fn emit_row(
         0,
         place + 2,
         start + HEADED,
-        &mut seen,
+        &mut kept,
     ) {
         Gathering::TooLarge => Emitted::TooLarge,
         Gathering::Upto { next, count, end } => {

@@ -29,8 +29,8 @@ use Rattle.pairs.proofs.ViewLaws.{content-is, seen}
 use Rattle.emitting.specs.declared.drafts.Gathering.{Gathering}
 use Rattle.emitting.specs.declared.drafts.Gathering.the-variants.{TooLarge, Upto}
 use Rattle.emitting.specs.Drafts.{Gathers}
-use Rattle.emitting.specs.Emitting.{Maps, Source}
-use Rattle.merging.specs.Merging.{Merging, Ready, GathersIn}
+use Rattle.emitting.specs.Emitting.{Maps, Source, GathersTypes}
+use Rattle.merging.specs.Merging.{Merging, Ready, GathersIn, GathersKept}
 use Rattle.merging.proofs.AgreeLaws.{alts-agree, nesting-renamed}
 
 pub first-is : {old add : List ℕ} {v : United} {u : Table} → Views old add v u → (i : ℕ) → i < v .rules
@@ -58,10 +58,14 @@ part-long words e =
     omega arith
 
 -- an answer of the emitter from the third byte on
-pub gathers-in : (d d' : List ℕ) (old next : ℕ) (ds : List Content) (r : Gathering) → Gathers d d' 2 old 1026 next ds r → GathersIn d' ds r
+gathers-in : (d d' : List ℕ) (old next : ℕ) (ds : List Content) (r : Gathering) → Gathers d d' 2 old 1026 next ds r → GathersIn d' ds r
 unfolding Gathers GathersIn
 gathers-in d d' old next ds TooLarge g = g
 gathers-in d d' old next ds (Upto m count end) g = (g .1 .row, g .1 .fits)
+
+pub gathers-kept : (d d' : List ℕ) (old next : ℕ) (set : List ℕ) (ds : List Content) (r : Gathering)
+    → GathersTypes d d' 2 old 1026 next set ds r → GathersKept d' set ds r
+gathers-kept d d' old next set ds r g = record { gathers = gathers-in d d' old next ds r (g .gathers); types = g .types }
 
 module _ {old add : List ℕ} {v : United} {types : Set4} {results : TypeLists} (q : Merging old add v types results) where
   pub maps-old : Maps (types .words) (results .old .from) (results .old .numbers)
@@ -95,7 +99,7 @@ module _ {old add : List ℕ} {v : United} {types : Set4} {results : TypeLists} 
     rule-content : contentOf (q .table) i ≡ rule .content
     rule-content = content-is (q .table) i rule (seen (q .views) i h .1)
 
-    module _ {draft : List ℕ} {count end : ℕ} (k : Ready draft count end) where
+    module _ {draft set : List ℕ} {count end : ℕ} (k : Ready draft set count end) where
       -- a rule of the old table
       module _ (is-old : i < v .«old_rules») where
         pub old-part : SourceContent old (fromIn v i) (toIn v i) (rule .content)
@@ -113,13 +117,13 @@ module _ {old add : List ℕ} {v : United} {types : Set4} {results : TypeLists} 
               room = let d = deep in let r = k .room in omega arith;
             }
 
-        pub old-gives : (after : List ℕ) (r : Gathering)
-            → GathersIn after
+        pub old-gives : (after set′ : List ℕ) (r : Gathering)
+            → GathersKept after set′
             (gathered (k .kept .list) (alts (listOf (results .old .from) (results .old .numbers)) (rule .content))) r
-            → GathersIn after (gathered (k .kept .list) (alts (q .of) (contentOf (q .table) i))) r
+            → GathersKept after set′ (gathered (k .kept .list) (alts (q .of) (contentOf (q .table) i))) r
         unfolding standard
-        old-gives after r g =
-            subst (λ (l : List Content). GathersIn after (gathered (k .kept .list) l) r)
+        old-gives after set′ r g =
+            subst (λ (l : List Content). GathersKept after set′ (gathered (k .kept .list) l) r)
             (alts-agree standard (listOf (results .old .from) (results .old .numbers)) (q .of) (q .lists .old) (rule .content) (old-part .proper)
             ∙ ap (alts (q .of)) (sym rule-content))
             g
@@ -151,13 +155,13 @@ module _ {old add : List ℕ} {v : United} {types : Set4} {results : TypeLists} 
               room = let d = source-deep in let r = k .room in omega arith;
             }
 
-        pub added-gives : (after : List ℕ) (r : Gathering)
-            → GathersIn after
+        pub added-gives : (after set′ : List ℕ) (r : Gathering)
+            → GathersKept after set′
             (gathered (k .kept .list) (alts (listOf (results .addition .from) (results .addition .numbers)) (added-part .source))) r
-            → GathersIn after (gathered (k .kept .list) (alts (q .of) (contentOf (q .table) i))) r
+            → GathersKept after set′ (gathered (k .kept .list) (alts (q .of) (contentOf (q .table) i))) r
         unfolding standard
-        added-gives after r g =
-            subst (λ (l : List Content). GathersIn after (gathered (k .kept .list) l) r)
+        added-gives after set′ r g =
+            subst (λ (l : List Content). GathersKept after set′ (gathered (k .kept .list) l) r)
             (alts-agree standard (listOf (results .addition .from) (results .addition .numbers)) (λ j. q .of (shifted standard j)) (q .lists .added)
             (added-part .source)
             (added-part .stands .proper)

@@ -15,6 +15,7 @@ use Rattle.pairs.specs.TypeLists.{ListsOf}
 use Rattle.emitting.specs.declared.drafts.Gathering.{Gathering}
 use Rattle.emitting.specs.declared.drafts.Gathering.the-variants.{TooLarge, Upto}
 use Rattle.emitting.specs.Drafts.{Row, Kept, TooWide}
+use Rattle.emitting.specs.Emitting.{TypesKept}
 
 -- its contents nest no deeper than those of a table that was read
 abbrev pub Shallow : Table → Type 0
@@ -30,9 +31,11 @@ pub record Merging (old add : List ℕ) (v : United) (types : Set4) (results : T
   pub words : length (types .words) ≡ 4
   pub typed : (k : ℕ) → k < 128 → member (types .words) 0 k ≡ someLeft of k
 
--- some operands stand in the draft from the third byte on, and there is room for what any content gives
-pub record Ready (draft : List ℕ) (count end : ℕ) : Type 0 where
+-- some operands stand in the draft from the third byte on, the set has the result types among them, and there is room for what any
+-- content gives
+pub record Ready (draft set : List ℕ) (count end : ℕ) : Type 0 where
   pub kept : Kept draft 2 count end
+  pub types : TypesKept set (kept .list)
   pub fits : end ≤ 1026
   pub room : 33858 ≤ length draft
 
@@ -40,3 +43,8 @@ pub record Ready (draft : List ℕ) (count end : ℕ) : Type 0 where
 unfoldable pub GathersIn : List ℕ → List Content → Gathering → Type 0
 GathersIn draft ds TooLarge = TooWide 1024 ds
 GathersIn draft ds (Upto next count end) = Row draft 2 count ds end × (end ≤ 1026)
+
+-- and the set has the result types among them
+pub record GathersKept (draft set : List ℕ) (ds : List Content) (r : Gathering) : Type 0 where
+  pub gathers : GathersIn draft ds r
+  pub types : {next count end : ℕ} → r ≡ Upto next count end → TypesKept set ds

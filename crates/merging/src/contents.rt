@@ -1,5 +1,6 @@
 // The content of a set of pairs of a union: what the contents of all their rules give, pair by pair and rule by rule, as one content.
-// `results` has the result types of each type of the union, and `types` is the set of the types that have some.
+// `results` has the result types of each type of the union, `types` is the set of the types that have some, and `kept` that of the
+// result types that are among the operands.
 use emitting::completing::ContentMade;
 use emitting::completing::complete;
 use emitting::drafts::Gathering;
@@ -19,9 +20,9 @@ ghost use Rattle.sets.specs.Sets.{member};
 ghost use Rattle.pairs.specs.Walks.{listOf};
 ghost use Rattle.pairs.specs.Rounds.{contentOf};
 ghost use Rattle.pairs.specs.PairNumbers.{contentsOfPair, contentsIn};
-ghost use Rattle.emitting.specs.Emitting.{Source};
+ghost use Rattle.emitting.specs.Emitting.{Source, TypesKept};
 ghost use Rattle.emitting.specs.Completing.{Regular, Made};
-ghost use Rattle.merging.specs.Merging.{Merging, Ready, GathersIn};
+ghost use Rattle.merging.specs.Merging.{Merging, Ready, GathersIn, GathersKept};
 
 // Adds what a source content gives, with the lists of its own table.
 fn gather_content(
@@ -31,14 +32,18 @@ fn gather_content(
     draft: &mut [u8],
     count: usize,
     end: usize,
+    kept: &mut [u32],
 ) -> Gathering
-    requires { ⌜ Source (now content) 0 (now types) (lists .from) (lists .numbers) (now draft) 2 count end 1026 ⌝ }
-    ensures { λ r. ⌜ ((q : Source (now (content .entry)) 0 (now (types .entry)) (lists .from) (lists .numbers) (now (draft .entry)) 2 count end 1026)
-        → GathersIn (now (draft .exit)) (gathered (q .kept .list) (alts (listOf (lists .from) (lists .numbers)) (q .there .content))) r) ⌝ }
+    requires { ⌜ ((q : Source (now content) 0 (now types) (lists .from) (lists .numbers) (now draft) 2 count end 1026)
+        × TypesKept (now kept) (q .kept .list)) ⌝ }
+    ensures { λ r. ⌜ ((q : Source (now (content .entry)) 0 (now (types .entry)) (lists .from) (lists .numbers)
+        (now (draft .entry)) 2 count end 1026)
+        → TypesKept (now (kept .entry)) (q .kept .list)
+        → GathersKept (now (draft .exit)) (now (kept .exit))
+        (gathered (q .kept .list) (alts (listOf (lists .from) (lists .numbers)) (q .there .content))) r) ⌝ }
 {
     let from = lists.from;
     let numbers = lists.numbers;
-    let mut seen = [0u32; 2];
     gather(
         content,
         0,
@@ -50,7 +55,7 @@ fn gather_content(
         count,
         end,
         HEADED,
-        &mut seen,
+        kept,
     )
 }
 
@@ -65,10 +70,13 @@ fn gather_rule(
     draft: &mut [u8],
     count: usize,
     end: usize,
+    kept: &mut [u32],
 ) -> Gathering
-    requires { ⌜ Merging (now old) (now add) v types results × (i < v .rules) × Ready (now draft) count end ⌝ }
-    ensures { λ r. ⌜ ((q : Merging (now (old .entry)) (now (add .entry)) v types results) (k : Ready (now (draft .entry)) count end)
-        → GathersIn (now (draft .exit)) (gathered (k .kept .list) (alts (q .of) (contentOf (q .table) i))) r) ⌝ }
+    requires { ⌜ Merging (now old) (now add) v types results × (i < v .rules) × Ready (now draft) (now kept) count end ⌝ }
+    ensures { λ r. ⌜ ((q : Merging (now (old .entry)) (now (add .entry)) v types results)
+        (k : Ready (now (draft .entry)) (now (kept .entry)) count end)
+        → GathersKept (now (draft .exit)) (now (kept .exit))
+        (gathered (k .kept .list) (alts (q .of) (contentOf (q .table) i))) r) ⌝ }
 {
     let content_from = v.content_from;
     let content_to = v.content_to;
@@ -77,10 +85,10 @@ fn gather_rule(
     let words = types.words;
     if i < v.old_rules {
         let lists = results.old;
-        return gather_content(&old[from..to], &words, lists, draft, count, end);
+        return gather_content(&old[from..to], &words, lists, draft, count, end, kept);
     }
     let lists = results.addition;
-    gather_content(&add[from..to], &words[2..4], lists, draft, count, end)
+    gather_content(&add[from..to], &words[2..4], lists, draft, count, end, kept)
 }
 
 // The same if the rule is asked for.
@@ -95,13 +103,16 @@ fn gather_rule_if(
     draft: &mut [u8],
     count: usize,
     end: usize,
+    kept: &mut [u32],
 ) -> Gathering
-    requires { ⌜ Merging (now old) (now add) v types results × (i < v .rules) × Ready (now draft) count end ⌝ }
-    ensures { λ r. ⌜ ((q : Merging (now (old .entry)) (now (add .entry)) v types results) (k : Ready (now (draft .entry)) count end)
-        → GathersIn (now (draft .exit)) (gathered (k .kept .list) (onlyIf on (alts (q .of) (contentOf (q .table) i)))) r) ⌝ }
+    requires { ⌜ Merging (now old) (now add) v types results × (i < v .rules) × Ready (now draft) (now kept) count end ⌝ }
+    ensures { λ r. ⌜ ((q : Merging (now (old .entry)) (now (add .entry)) v types results)
+        (k : Ready (now (draft .entry)) (now (kept .entry)) count end)
+        → GathersKept (now (draft .exit)) (now (kept .exit))
+        (gathered (k .kept .list) (onlyIf on (alts (q .of) (contentOf (q .table) i)))) r) ⌝ }
 {
     if on {
-        return gather_rule(old, add, v, i, types, results, draft, count, end);
+        return gather_rule(old, add, v, i, types, results, draft, count, end, kept);
     }
     Gathering::Upto {
         next: 0,
@@ -121,10 +132,13 @@ fn gather_pair(
     draft: &mut [u8],
     count: usize,
     end: usize,
+    kept: &mut [u32],
 ) -> Gathering
-    requires { ⌜ Merging (now old) (now add) v types results × Ready (now draft) count end ⌝ }
-    ensures { λ r. ⌜ ((q : Merging (now (old .entry)) (now (add .entry)) v types results) (k : Ready (now (draft .entry)) count end)
-        → GathersIn (now (draft .exit)) (gathered (k .kept .list) (joinedOf (alts (q .of)) (contentsOfPair (q .table) p))) r) ⌝ }
+    requires { ⌜ Merging (now old) (now add) v types results × Ready (now draft) (now kept) count end ⌝ }
+    ensures { λ r. ⌜ ((q : Merging (now (old .entry)) (now (add .entry)) v types results)
+        (k : Ready (now (draft .entry)) (now (kept .entry)) count end)
+        → GathersKept (now (draft .exit)) (now (kept .exit))
+        (gathered (k .kept .list) (joinedOf (alts (q .of)) (contentsOfPair (q .table) p))) r) ⌝ }
 {
     let firsts = v.firsts;
     let rules = v.rules;
@@ -144,6 +158,7 @@ fn gather_pair(
             draft,
             total,
             last,
+            kept,
         ) {
             Gathering::TooLarge => {
                 return Gathering::TooLarge;
@@ -178,13 +193,16 @@ fn gather_pair_if(
     draft: &mut [u8],
     count: usize,
     end: usize,
+    kept: &mut [u32],
 ) -> Gathering
-    requires { ⌜ Merging (now old) (now add) v types results × Ready (now draft) count end ⌝ }
-    ensures { λ r. ⌜ ((q : Merging (now (old .entry)) (now (add .entry)) v types results) (k : Ready (now (draft .entry)) count end)
-        → GathersIn (now (draft .exit)) (gathered (k .kept .list) (onlyIf on (joinedOf (alts (q .of)) (contentsOfPair (q .table) p)))) r) ⌝ }
+    requires { ⌜ Merging (now old) (now add) v types results × Ready (now draft) (now kept) count end ⌝ }
+    ensures { λ r. ⌜ ((q : Merging (now (old .entry)) (now (add .entry)) v types results)
+        (k : Ready (now (draft .entry)) (now (kept .entry)) count end)
+        → GathersKept (now (draft .exit)) (now (kept .exit))
+        (gathered (k .kept .list) (onlyIf on (joinedOf (alts (q .of)) (contentsOfPair (q .table) p)))) r) ⌝ }
 {
     if on {
-        return gather_pair(old, add, v, p, types, results, draft, count, end);
+        return gather_pair(old, add, v, p, types, results, draft, count, end, kept);
     }
     Gathering::Upto {
         next: 0,
@@ -208,6 +226,7 @@ fn gather_set(
         → GathersIn (now (draft .exit)) (gathered [] (joinedOf (alts (q .of)) (contentsIn (q .table) (member (set .words) 0)))) r) ⌝ }
 {
     let rules = v.rules;
+    let mut kept = [0u32; 8];
     let mut total = 0usize;
     let mut last = 2usize;
     let mut p: usize = 0;
@@ -223,6 +242,7 @@ fn gather_set(
             draft,
             total,
             last,
+            &mut kept,
         ) {
             Gathering::TooLarge => {
                 return Gathering::TooLarge;

@@ -13,7 +13,7 @@ ghost use Rattle.grammar.specs.Lists.{isIn, distinct};
 ghost use Rattle.grammar.specs.Table.{Table};
 ghost use Rattle.theory.proofs.Alternatives.{onlyIf};
 ghost use Rattle.sets.specs.Sets.{member, both};
-ghost use Rattle.pairs.specs.View.{Views, Viewed, firstIn};
+ghost use Rattle.pairs.specs.View.{Views, Viewed};
 ghost use Rattle.pairs.specs.Walks.{MetAsks};
 ghost use Rattle.pairs.specs.PairNumbers.{fruitfulOf, metIn};
 ghost use Rattle.pairs.specs.TypeLists.{ListsOf};
@@ -62,22 +62,21 @@ fn met_in_rule(
     met_in_content(&add[from..to], adds, list, count)
 }
 
-// The same, if the rule is one of this pair.
-fn met_in_rule_of(
+// The same if the rule is asked for.
+fn met_in_rule_if(
+    on: bool,
     old: &[u8],
     add: &[u8],
     v: United,
     lists: TypeLists,
-    p: usize,
     i: usize,
     list: &mut [u8],
     count: usize,
 ) -> usize
     requires { ⌜ (MeetAsks (now old) (now add) v lists (now list) count) × (i < v .rules) ⌝ }
-    ensures { λ r. ⌜ Meets (now (old .entry)) (now (add .entry)) v lists (λ u. onlyIf (eqb (firstIn v i) p) (metInRule u i)) (take count (now (list .entry))) (now (list .exit)) r ⌝ }
+    ensures { λ r. ⌜ Meets (now (old .entry)) (now (add .entry)) v lists (λ u. onlyIf on (metInRule u i)) (take count (now (list .entry))) (now (list .exit)) r ⌝ }
 {
-    let firsts = v.firsts;
-    if firsts[i] == p {
+    if on {
         return met_in_rule(old, add, v, lists, i, list, count);
     }
     count
@@ -96,11 +95,13 @@ fn met_in_pair(
     requires { ⌜ MeetAsks (now old) (now add) v lists (now list) count ⌝ }
     ensures { λ r. ⌜ Meets (now (old .entry)) (now (add .entry)) v lists (λ u. metInPair u p) (take count (now (list .entry))) (now (list .exit)) r ⌝ }
 {
+    let firsts = v.firsts;
     let rules = v.rules;
     let mut more = count;
     let mut i: usize = 0;
     while i < rules {
-        let longer = met_in_rule_of(old, add, v, lists, p, i, list, more);
+        let first = firsts[i];
+        let longer = met_in_rule_if(first == p, old, add, v, lists, i, list, more);
         more = longer;
         i += 1;
     }

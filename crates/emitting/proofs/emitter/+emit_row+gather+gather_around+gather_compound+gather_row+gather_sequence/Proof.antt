@@ -44,13 +44,14 @@ use Rattle.emitting.proofs.EmitLaws.{
   around-newest,
   around-settled,
   source-room,
+  plain-gives,
   none-gives,
   empty-gives,
   choice-sources,
   choice-gives,
   type-gives,
 }
-use Rattle.emitting.proofs.SeenLaws.{seen-nothing, seen-more}
+use Rattle.emitting.proofs.TypesKeptLaws.{no-types}
 use Prim.Native.Nat.{ℕ, _<_}
 use borrow.Fn.Kinds.{In}
 use borrow.Fn.PlainCycle.{Measures, is, falls, and}
@@ -268,7 +269,7 @@ emit-row-gather-requires t c κs =
     let some = c .before .before .if1 .left in
     let m = c .before .before .before .before .before .before .before .before .pre .0 in
     let q = c .before .before .before .before .before .before .before .before .pre .1 in
-    (omega arith, (first-operand q res some, seen-nothing _))
+    (omega arith, (first-operand q res some, no-types))
 
 emit-row-finish-requires : (t : ℕ) → emit-row-lts.Need-finish-requires (emit-row-calls t) (emit-row-at t) emit-row.Post
 emit-row-finish-requires t c κs =
@@ -276,7 +277,7 @@ emit-row-finish-requires t c κs =
     let res = listOf (a .from .now) (a .results .now) in
     let some = c .before .before .before .before .before .before .before .before .before .before .if1 .left in
     let q = c .before .before .before .before .before .before .before .before .before .before .before .before .before .before .before .before .pre .1 in
-    let g = c .before .before .before .before .before .before .before .gather .ensures (first-operand q res some) (seen-nothing _) .gathers in
+    let g = c .before .before .before .before .before .before .before .gather .ensures (first-operand q res some) no-types .gathers in
     operand-kept q res some _ _ g (c .before .before .next .given .1) (c .before .before .before .before .before .before .before .gather .kept .1 .1 .1 .1 .1 .0)
 
 emit-row-add-if2 : (t : ℕ) → emit-row-lts.Need-add-if2 (emit-row-calls t) (emit-row-at t) emit-row.Post
@@ -296,7 +297,7 @@ emit-row-returns-2 t c =
     let e = c .before .before .before .before .before .before .next .given .1 in
     let l = c .before .before .before .before .before .before .before .before .before .before .before .gather .kept .1 .1 .1 .1 .1 .0 in
     λ q.
-    let g = c .before .before .before .before .before .before .before .before .before .before .before .gather .ensures (first-operand q res some) (seen-nothing _) .gathers in
+    let g = c .before .before .before .before .before .before .before .before .before .before .before .gather .ensures (first-operand q res some) no-types .gathers in
     let f = c .before .before .before .finish .ensures (operand-kept q res some _ _ g e l) in
     operand-long q res some _ _ g e l f (c .before .before .before .finish .kept .0) (c .if2 .taken)
 
@@ -315,7 +316,7 @@ emit-row-emit-row-requires t c κs =
     let l' = c .before .before .before .before .finish .kept .0 in
     let m = c .before .before .before .before .before .before .before .before .before .before .before .before .before .before .before .before .before .before .before .before .before .pre .0 in
     let q = c .before .before .before .before .before .before .before .before .before .before .before .before .before .before .before .before .before .before .before .before .before .pre .1 in
-    let g = c .before .before .before .before .before .before .before .before .before .before .before .before .gather .ensures (first-operand q res some) (seen-nothing _) .gathers in
+    let g = c .before .before .before .before .before .before .before .before .before .before .before .before .gather .ensures (first-operand q res some) no-types .gathers in
     let f = c .before .before .before .before .finish .ensures (operand-kept q res some _ _ g e l) in
     let on = goes-on' q res some _ _ g e l in
     let others = other-operands q res some _ _ g e l f l' (c .before .if2 .left) in
@@ -327,7 +328,7 @@ emit-row-returns-3 t c =
     let a = c .before .before .before .before .before .before .before .before .before .before .before .before .before .before .args in
     let res = listOf (a .from .now) (a .results .now) in
     let some = c .before .before .before .before .before .before .before .before .if1 .left in
-    λ q. operand-wide q res some _ _ (c .before .before .before .before .before .gather .ensures (first-operand q res some) (seen-nothing _) .gathers) (c .enum-told .given .1)
+    λ q. operand-wide q res some _ _ (c .before .before .before .before .before .gather .ensures (first-operand q res some) no-types .gathers) (c .enum-told .given .1)
 
 emit-row-same-length-3 : (t : ℕ) → emit-row-lts.Need-same-length-3 (emit-row-calls t) (emit-row-at t) emit-row.Post
 emit-row-same-length-3 t c =
@@ -342,7 +343,7 @@ emit-row-returns-4 t c =
     let l = c .before .before .before .before .before .before .before .before .before .before .before .before .before .before .before .gather .kept .1 .1 .1 .1 .1 .0 in
     let l' = c .before .before .before .before .before .before .before .finish .kept .0 in
     λ q.
-    let g = c .before .before .before .before .before .before .before .before .before .before .before .before .before .before .before .gather .ensures (first-operand q res some) (seen-nothing _) .gathers in
+    let g = c .before .before .before .before .before .before .before .before .before .before .before .before .before .before .before .gather .ensures (first-operand q res some) no-types .gathers in
     let f = c .before .before .before .before .before .before .before .finish .ensures (operand-kept q res some _ _ g e l) in
     row-on q res some _ _ g e l f l' (c .before .before .before .before .if2 .left) _ _ (c .before .before .emit-row .ensures (other-operands q res some _ _ g e l f l' (c .before .before .before .before .if2 .left)))
 
@@ -400,12 +401,12 @@ gather-gather-compound-requires t c κs =
 gather-returns : (t : ℕ) → gather-lts.Need-returns (gather-calls t) (gather-at t) gather.Post
 gather-returns t c =
     let b = sym (c .before .wide .ensures .0) ∙ c .match .keys1 in
-    λ q s. record { gathers = none-gives q _ b; known = seen-more s _ }
+    λ q s. plain-gives q _ (λ z. omega arith) (λ z. omega arith) s (none-gives q _ b)
 
 gather-returns-2 : (t : ℕ) → gather-lts.Need-returns-2 (gather-calls t) (gather-at t) gather.Post
 gather-returns-2 t c =
     let b = sym (c .before .before .before .before .before .wide .ensures .0) ∙ c .before .before .before .before .match .keys2 in
-    λ q s. record { gathers = empty-gives q _ b _ _ (c .before .before .gather-empty .ensures (source-room q)); known = seen-more s _ }
+    λ q s. plain-gives q _ (λ z. omega arith) (λ z. omega arith) s (empty-gives q _ b _ _ (c .before .before .gather-empty .ensures (source-room q)))
 
 gather-returns-3 : (t : ℕ) → gather-lts.Need-returns-3 (gather-calls t) (gather-at t) gather.Post
 gather-returns-3 t c =
@@ -593,7 +594,9 @@ gather-compound-gather-around-requires t c κs =
     (omega arith, (omega arith, c .before .before .before .before .before .before .before .before .before .before .pre .1 .1 .0))
 
 gather-compound-returns : (t : ℕ) → gather-compound-lts.Need-returns (gather-compound-calls t) (gather-compound-at t) gather-compound.Post
-gather-compound-returns t c = λ q s. record { gathers = c .before .before .gather-sequence .ensures q; known = seen-more s _ }
+gather-compound-returns t c =
+    let b = sym (c .before .before .before .before .before .wide .ensures .0) ∙ c .before .before .before .before .match .keys1 in
+    λ q s. plain-gives q _ (λ z. omega arith) (λ z. omega arith) s (c .before .before .gather-sequence .ensures q)
 
 gather-compound-returns-2 : (t : ℕ) → gather-compound-lts.Need-returns-2 (gather-compound-calls t) (gather-compound-at t) gather-compound.Post
 gather-compound-returns-2 t c =
@@ -605,7 +608,13 @@ gather-compound-returns-2 t c =
     choice-gives q res cs _ _ (c .before .before .before .before .gather-row .ensures (choice-sources q res cs) s)
 
 gather-compound-returns-3 : (t : ℕ) → gather-compound-lts.Need-returns-3 (gather-compound-calls t) (gather-compound-at t) gather-compound.Post
-gather-compound-returns-3 t c = λ q s. record { gathers = c .before .before .gather-around .ensures q; known = seen-more s _ }
+gather-compound-returns-3 t c =
+    let low = c .before .before .before .before .before .before .before .before .before .before .before .before .before .pre .1 .0 in
+    let w = c .before .before .before .before .before .wide .ensures .0 in
+    let r = c .before .before .before .before .match .rest in
+    let n4 = r .1 in
+    let n3 = r .0 .1 in
+    λ q s. plain-gives q _ (λ z. omega arith) (λ z. omega arith) s (c .before .before .gather-around .ensures q)
 
 gather-row-gather-requires : (t : ℕ) → gather-row-lts.Need-gather-requires (gather-row-calls t) (gather-row-at t) gather-row.Post
 gather-row-gather-requires t c κs =
@@ -634,7 +643,7 @@ gather-row-gather-row-requires t c κs =
     let on = goes-on q res some _ _ g e l in
     let others = other-sources q res some _ _ g e l in
     let i = others .there .inside in
-    (omega arith, (others, g .known))
+    (omega arith, (others, g .types e))
 
 gather-row-returns-2 : (t : ℕ) → gather-row-lts.Need-returns-2 (gather-row-calls t) (gather-row-at t) gather-row.Post
 gather-row-returns-2 t c =
@@ -658,7 +667,7 @@ gather-row-returns-3 t c =
     let l = c .before .before .before .before .before .before .before .before .before .before .before .before .before .before .gather .kept .1 .1 .1 .1 .1 .0 in
     λ q s.
     let g = c .before .before .before .before .before .before .before .before .before .before .before .before .before .before .gather .ensures (first-source q res some) s in
-    row-then q res some _ _ g e l _ _ (c .before .before .before .before .gather-row .ensures (other-sources q res some _ _ g e l) (g .known))
+    row-then q res some _ _ g e l _ _ (c .before .before .before .before .gather-row .ensures (other-sources q res some _ _ g e l) (g .types e))
 
 gather-sequence-add-wide : (t : ℕ) → gather-sequence-lts.Need-add-wide (gather-sequence-calls t) (gather-sequence-at t) gather-sequence.Post
 gather-sequence-add-wide t c =
@@ -923,7 +932,7 @@ pub +emit-row+gather+gather-around+gather-compound+gather-row+gather-sequence-sp
     (gather-below t, gather.Post, gather-row-below t, gather-row.Post)
     (gather-row-at t)
     gather-row.Post
-    (λ c. λ q s. record { gathers = no-sources q _ (c .if1 .taken); known = seen-more s _ })
+    (λ c. λ q s. no-sources q _ (c .if1 .taken) s)
     (gather-row-gather-requires t)
     (λ c. search needs)
     (λ c. search needs)

@@ -2,32 +2,35 @@
 use Prim.Native.Nat.{_-_, _≤_}
 use native.Mathlib.Omega.{arith}
 use mathlib.Core.List.{[]}
-use mathlib.Core.Path.{_≡_, refl}
+use mathlib.Core.Path.{_≡_, refl, sym}
 use lib.ListN.{length}
 use borrow.Author.Needs.{needs}
 use Rattle.sets.specs.Sets.{member}
 use Rattle.emitting.proofs.CompleteLaws.{start-kept}
+use Rattle.emitting.proofs.TypesKeptLaws.{no-types}
 use Rattle.merging.specs.Merging.{Merging}
 use Rattle.merging.proofs.LoopLaws.{given-as, SoFar, so-far-none, ready-for, so-far-wide, so-far-next, so-far-all, pairGives, set-gives}
 use Rattle.merging.proofs.contents.gather_set.Statement.{statement}
 use Rattle.merging.proofs.contents.gather_set.Tie as tie
 
 abbrev Inv-loop : tie.InvT-loop
-Inv-loop old add v set types results draft₀ rules total₀ last₀ p₀ draft total last p =
+Inv-loop old add v set types results draft₀ rules kept₀ total₀ last₀ p₀ draft kept total last p =
     (p ≤ rules)
     × (length draft ≡ length draft₀)
+    × (length kept ≡ 8)
     × ((q : Merging old add v types results)
-    → SoFar (pairGives (q .of) (q .table) (member (set .words) 0)) rules [] draft total last p)
+    → SoFar (pairGives (q .of) (q .table) (member (set .words) 0)) rules [] draft kept total last p)
 
 abbrev μ-loop : tie.MeasureT-loop
-μ-loop old add v set types results draft₀ rules total₀ last₀ p₀ draft total last p = rules - p
+μ-loop old add v set types results draft₀ rules kept₀ total₀ last₀ p₀ draft kept total last p = rules - p
 
 loop-holds : tie.Need-loop-holds Inv-loop μ-loop
 loop-holds c =
     let room = c .before .before .before .pre .1 in (
       omega arith,
       refl,
-      λ q. so-far-none _ _ (record { kept = start-kept _ (omega arith); fits = omega arith; room = room }),
+      refl,
+      λ q. so-far-none _ _ (record { kept = start-kept _ (omega arith); types = no-types; fits = omega arith; room = room }),
     )
 
 has-requires : tie.Need-has-requires Inv-loop μ-loop
@@ -35,41 +38,44 @@ has-requires c κs = let h = c .before .before .before .before .before .pre .0 .
 
 gather-pair-if-requires : tie.Need-gather-pair-if-requires Inv-loop μ-loop
 gather-pair-if-requires c κs =
-    let start = c .before .before .before .before .before .before .before in
-    let l = c .before .before .before .loop .inv in
+    let start = c .before .before .before .before .before .before .before .before in
+    let l = c .before .before .before .before .loop .inv in
     let same = l .1 in
     let room = start .pre .1 in
-    (start .pre .0, ready-for _ _ (l .2 (start .pre .0)) (omega arith))
+    (start .pre .0, ready-for _ _ (l .3 (start .pre .0)) (omega arith))
 
 returns : tie.Need-returns Inv-loop μ-loop
 returns c =
     λ q.
-    let start = c .before .before .before .before .before .before .before .before .before .before .before .before in
-    let l = c .before .before .before .before .before .before .before .before .loop in
+    let start = c .before .before .before .before .before .before .before .before .before .before .before .before .before .before in
+    let l = c .before .before .before .before .before .before .before .before .before .before .loop in
     let same = l .inv .1 in
     let room = start .pre .1 in
-    let s = l .inv .2 q in
-    so-far-wide _ _ s (c .before .before .before .before .before .before .before .loop-test .taken) _ _
-    (given-as _ _ _ _ _ _ (c .before .before .before .before .before .before .has .ensures) (c .before .before .before .before .gather-pair-if .ensures q (ready-for _ _ s (omega arith))))
+    let s = l .inv .3 q in
+    so-far-wide _ _ s (c .before .before .before .before .before .before .before .before .before .loop-test .taken) _ _ _
+    (given-as _ _ _ _ _ _ _ (c .before .before .before .before .before .before .before .before .has .ensures) (c .before .before .before .before .before .gather-pair-if .ensures q (ready-for _ _ s (omega arith))))
     (c .enum-told .given .1)
     _
+    []
     _
     (set-gives (q .of) (q .table) (member (start .args .set .words) 0) (start .args .v .rules) (q .views .rules))
+    .gathers
 
 add-p : tie.Need-add-p Inv-loop μ-loop
-add-p c = let h = c .before .before .before .before .before .before .before .before .before .before .before .before .before .pre .0 .views .few in omega arith
+add-p c = let h = c .before .before .before .before .before .before .before .before .before .before .before .before .before .before .before .pre .0 .views .few in omega arith
 
 loop-again : tie.Need-loop-again Inv-loop μ-loop
 loop-again c = (
   omega arith,
   search needs,
+  search needs,
   λ q.
-      let l = c .before .before .before .before .before .before .before .before .before .loop in
+      let l = c .before .before .before .before .before .before .before .before .before .before .before .loop in
       let same = l .inv .1 in
-      let room = c .before .before .before .before .before .before .before .before .before .before .before .before .before .pre .1 in
-      let s = l .inv .2 q in
-      so-far-next _ _ s (c .before .before .before .before .before .before .before .before .loop-test .taken) _ _
-      (given-as _ _ _ _ _ _ (c .before .before .before .before .before .before .before .has .ensures) (c .before .before .before .before .before .gather-pair-if .ensures q (ready-for _ _ s (omega arith))))
+      let room = c .before .before .before .before .before .before .before .before .before .before .before .before .before .before .before .pre .1 in
+      let s = l .inv .3 q in
+      so-far-next _ _ s (c .before .before .before .before .before .before .before .before .before .before .loop-test .taken) _ _ _
+      (given-as _ _ _ _ _ _ _ (c .before .before .before .before .before .before .before .before .before .has .ensures) (c .before .before .before .before .before .before .gather-pair-if .ensures q (ready-for _ _ s (omega arith))))
       (c .before .more .given .1),
 )
 
@@ -77,8 +83,9 @@ returns-2 : tie.Need-returns-2 Inv-loop μ-loop
 returns-2 c =
     λ q.
     let a = c .before .before .before .before .before .args in
-    so-far-all _ _ (c .before .loop .inv .2 q) (omega arith) _
+    so-far-all _ _ (c .before .loop .inv .3 q) (omega arith) _
     (set-gives (q .of) (q .table) (member (a .set .words) 0) (a .v .rules) (q .views .rules))
+    .gathers
 
 pub gather-set-spec : {M : Type 1} → statement M
 gather-set-spec =
@@ -88,6 +95,7 @@ gather-set-spec =
     μ-loop
     loop-holds
     has-requires
+    (λ c. sym (c .before .before .before .before .loop .inv .2))
     gather-pair-if-requires
     (λ c. search needs)
     (λ c. search needs)

@@ -19,36 +19,42 @@ abbrev ofRule : United → ℕ → Table → ℕ → List ℕ
 ofRule v p u i = onlyIf (eqb (firstIn v i) p) (metInRule u i)
 
 abbrev Inv-loop : tie.InvT-loop
-Inv-loop old add v lists p list₀ count rules more₀ i₀ list more i =
+Inv-loop old add v lists p list₀ count firsts rules more₀ i₀ list more i =
     (i ≤ rules)
     × Meets old add v lists (λ u. joinedOf (ofRule v p u) (numbersBelow i)) (take count list₀) list more
     × (length list ≡ length list₀)
 
 abbrev μ-loop : tie.MeasureT-loop
-μ-loop old add v lists p list₀ count rules more₀ i₀ list more i = rules - i
+μ-loop old add v lists p list₀ count firsts rules more₀ i₀ list more i = rules - i
 
 loop-holds : tie.Need-loop-holds Inv-loop μ-loop
 loop-holds c =
-    let args = c .before .before .before .args in
-    (omega arith, meets-start (ofRule (args .v) (args .p)) _ _ (c .before .before .before .pre .once), refl)
+    let args = c .before .before .before .before .args in
+    (omega arith, meets-start (ofRule (args .v) (args .p)) _ _ (c .before .before .before .before .pre .once), refl)
 
-met-in-rule-of-requires : tie.Need-met-in-rule-of-requires Inv-loop μ-loop
-met-in-rule-of-requires c κs =
-    let pre = c .before .before .before .before .before .before .pre in
+mul-first : tie.Need-mul-first Inv-loop μ-loop
+mul-first c = let few = c .before .before .before .before .before .before .pre .viewed .views .few in omega arith
+
+array-read-first : tie.Need-array-read-first Inv-loop μ-loop
+array-read-first c = let few = c .before .before .before .before .before .before .pre .viewed .views .few in omega arith
+
+met-in-rule-if-requires : tie.Need-met-in-rule-if-requires Inv-loop μ-loop
+met-in-rule-if-requires c κs =
+    let pre = c .before .before .before .before .before .before .before .pre in
     (record { viewed = pre .viewed; listed = pre .listed; once = c .before .before .loop .inv .1 .once }, c .before .loop-test .taken)
 
 add-i : tie.Need-add-i Inv-loop μ-loop
 add-i c =
-    let few = c .before .before .before .before .before .before .before .before .before .pre .viewed .views .few in
+    let few = c .before .before .before .before .before .before .before .before .before .before .pre .viewed .views .few in
     omega arith
 
 loop-again : tie.Need-loop-again Inv-loop μ-loop
 loop-again c =
-    let args = c .before .before .before .before .before .before .before .before .before .args in
+    let args = c .before .before .before .before .before .before .before .before .before .before .args in
     let inv = c .before .before .before .before .before .loop .inv in (
       omega arith,
-      meets-next (ofRule (args .v) (args .p)) (c .before .before .before .before .before .loop .i) _ _ _ _ _ (inv .1) (c .before .before .met-in-rule-of .ensures),
-      c .before .before .met-in-rule-of .kept .1 .1 .1 .1 .1 .1 .0 ∙ inv .2,
+      meets-next (ofRule (args .v) (args .p)) (c .before .before .before .before .before .loop .i) _ _ _ _ _ (inv .1) (c .before .before .met-in-rule-if .ensures),
+      c .before .before .met-in-rule-if .kept .1 .1 .1 .1 .1 .1 .0 ∙ inv .2,
     )
 
 same-length : tie.Need-same-length Inv-loop μ-loop
@@ -56,7 +62,7 @@ same-length c = c .before .loop .inv .2
 
 returns : tie.Need-returns Inv-loop μ-loop
 returns c =
-    let args = c .before .before .before .before .before .args in
+    let args = c .before .before .before .before .before .before .args in
     let e : c .before .loop .i ≡ args .v .rules = omega arith in
     meets-same (λ u. joinedOf (ofRule (args .v) (args .p) u) (numbersBelow (c .before .loop .i))) (λ u. metInPair u (args .p)) _ _ _
     (λ u x. ap (λ (n : ℕ). joinedOf (ofRule (args .v) (args .p) u) (numbersBelow n)) e ∙ pair-met x (args .p))
@@ -69,7 +75,9 @@ met-in-pair-spec =
     Inv-loop
     μ-loop
     loop-holds
-    met-in-rule-of-requires
+    mul-first
+    array-read-first
+    met-in-rule-if-requires
     add-i
     (λ c. omega arith)
     loop-again
