@@ -1,11 +1,15 @@
 // The sample of a document as a table.
 mod limits;
-mod parents;
-mod numbering;
-mod paths;
-mod labels;
-mod sequences;
-mod contents;
-mod rules;
-mod fields;
 pub mod sample;
+
+// The nodes: the parent and the type of each, and the label of each type.
+mod labels;
+mod numbering;
+mod parents;
+mod paths;
+
+// The bytes: child sequences, contents, rules, and all fields.
+mod contents;
+mod fields;
+mod rules;
+mod sequences;
