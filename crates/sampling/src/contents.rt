@@ -62,17 +62,8 @@ fn gather(
     let mut end: usize = 4;
     let mut i: usize = 0;
     while i < nodes {
-        match one_more(
-            scratch,
-            parents,
-            types,
-            nodes,
-            children[i] as usize,
-            k,
-            i,
-            count,
-            end,
-        ) {
+        let kids = children[i] as usize;
+        match one_more(scratch, parents, types, nodes, kids, k, i, count, end) {
             Gathering::TooLarge => {
                 return Gathering::TooLarge;
             }

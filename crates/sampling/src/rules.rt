@@ -58,17 +58,9 @@ pub fn put_rules(
     let mut t: usize = 0;
     while t < count {
         let i = firsts[t];
-        match put_rule(
-            draft,
-            end,
-            scratch,
-            parents,
-            types,
-            children,
-            nodes,
-            types[i],
-            labels[t],
-        ) {
+        let k = types[i];
+        let l = labels[t];
+        match put_rule(draft, end, scratch, parents, types, children, nodes, k, l) {
             Drafted::TooLarge => {
                 return Drafted::TooLarge;
             }

@@ -28,14 +28,14 @@ loop-holds c =
     let a = c .before .before .before .before .args in
     (among-start (a .parents .now) (a .types .now) (a .nodes) (a .k) (a .scratch .now) (omega arith), omega arith, omega arith, refl)
 
-mul-one-more : tie.Need-mul-one-more Inv-loop μ-loop
-mul-one-more c = let h = c .before .before .before .before .before .before .before .pre .2 (c .before .before .loop .i) (c .before .loop-test .taken) .fits in omega arith
+mul-kids : tie.Need-mul-kids Inv-loop μ-loop
+mul-kids c = let h = c .before .before .before .before .before .before .pre .2 (c .before .loop .i) (c .loop-test .taken) .fits in omega arith
 
-shared-slice-read-one-more : tie.Need-shared-slice-read-one-more Inv-loop μ-loop
-shared-slice-read-one-more c = omega arith
+shared-slice-read-kids : tie.Need-shared-slice-read-kids Inv-loop μ-loop
+shared-slice-read-kids c = omega arith
 
-cast-one-more : tie.Need-cast-one-more Inv-loop μ-loop
-cast-one-more c = omega (arith, c .shared-slice-known4 .given (c .before .before .before .loop .i))
+cast-kids : tie.Need-cast-kids Inv-loop μ-loop
+cast-kids c = omega (arith, c .shared-slice-known4 .given (c .before .before .loop .i))
 
 one-more-requires : tie.Need-one-more-requires Inv-loop μ-loop
 one-more-requires c κs =
@@ -89,9 +89,9 @@ gather-spec =
     Inv-loop
     μ-loop
     loop-holds
-    mul-one-more
-    shared-slice-read-one-more
-    cast-one-more
+    mul-kids
+    shared-slice-read-kids
+    cast-kids
     one-more-requires
     enum-told
     same-length

@@ -60,8 +60,41 @@ shared-slice-read-i c =
     let v = q .first-nodes (c .before .before .loop .t) (c .before .loop-test .taken) in
     omega arith
 
-mul-put-rule : tie.Need-mul-put-rule Inv-loop μ-loop
-mul-put-rule c =
+mul-k : tie.Need-mul-k Inv-loop μ-loop
+mul-k c =
+    let q = c .before .before .before .before .before .before .before .before .before .before .pre .4 in
+    let few = q .few in
+    let x = q .firsts-held in
+    let y = q .labels-held in
+    let z = q .types-held in
+    let w = q .nodes-few in
+    let v = q .first-nodes (c .before .before .loop .t) (c .before .loop-test .taken) in
+    omega arith
+
+shared-slice-read-k : tie.Need-shared-slice-read-k Inv-loop μ-loop
+shared-slice-read-k c =
+    let q = c .before .before .before .before .before .before .before .before .before .before .before .pre .4 in
+    let few = q .few in
+    let x = q .firsts-held in
+    let y = q .labels-held in
+    let z = q .types-held in
+    let w = q .nodes-few in
+    let v = q .first-nodes (c .before .before .before .loop .t) (c .before .before .loop-test .taken) in
+    omega arith
+
+mul-l : tie.Need-mul-l Inv-loop μ-loop
+mul-l c =
+    let q = c .before .before .before .before .before .before .before .before .before .before .before .pre .4 in
+    let few = q .few in
+    let x = q .firsts-held in
+    let y = q .labels-held in
+    let z = q .types-held in
+    let w = q .nodes-few in
+    let v = q .first-nodes (c .before .before .before .loop .t) (c .before .before .loop-test .taken) in
+    omega arith
+
+shared-slice-read-l : tie.Need-shared-slice-read-l Inv-loop μ-loop
+shared-slice-read-l c =
     let q = c .before .before .before .before .before .before .before .before .before .before .before .before .pre .4 in
     let few = q .few in
     let x = q .firsts-held in
@@ -69,39 +102,6 @@ mul-put-rule c =
     let z = q .types-held in
     let w = q .nodes-few in
     let v = q .first-nodes (c .before .before .before .before .loop .t) (c .before .before .before .loop-test .taken) in
-    omega arith
-
-shared-slice-read-put-rule : tie.Need-shared-slice-read-put-rule Inv-loop μ-loop
-shared-slice-read-put-rule c =
-    let q = c .before .before .before .before .before .before .before .before .before .before .before .before .before .pre .4 in
-    let few = q .few in
-    let x = q .firsts-held in
-    let y = q .labels-held in
-    let z = q .types-held in
-    let w = q .nodes-few in
-    let v = q .first-nodes (c .before .before .before .before .before .loop .t) (c .before .before .before .before .loop-test .taken) in
-    omega arith
-
-mul-put-rule-2 : tie.Need-mul-put-rule-2 Inv-loop μ-loop
-mul-put-rule-2 c =
-    let q = c .before .before .before .before .before .before .before .before .before .before .before .before .before .pre .4 in
-    let few = q .few in
-    let x = q .firsts-held in
-    let y = q .labels-held in
-    let z = q .types-held in
-    let w = q .nodes-few in
-    let v = q .first-nodes (c .before .before .before .before .before .loop .t) (c .before .before .before .before .loop-test .taken) in
-    omega arith
-
-shared-slice-read-put-rule-2 : tie.Need-shared-slice-read-put-rule-2 Inv-loop μ-loop
-shared-slice-read-put-rule-2 c =
-    let q = c .before .before .before .before .before .before .before .before .before .before .before .before .before .before .pre .4 in
-    let few = q .few in
-    let x = q .firsts-held in
-    let y = q .labels-held in
-    let z = q .types-held in
-    let w = q .nodes-few in
-    let v = q .first-nodes (c .before .before .before .before .before .before .loop .t) (c .before .before .before .before .before .loop-test .taken) in
     omega arith
 
 put-rule-requires : tie.Need-put-rule-requires Inv-loop μ-loop
@@ -177,10 +177,10 @@ put-rules-spec =
     loop-holds
     mul-i
     shared-slice-read-i
-    mul-put-rule
-    shared-slice-read-put-rule
-    mul-put-rule-2
-    shared-slice-read-put-rule-2
+    mul-k
+    shared-slice-read-k
+    mul-l
+    shared-slice-read-l
     put-rule-requires
     enum-told
     same-length
