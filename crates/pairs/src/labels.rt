@@ -43,7 +43,8 @@ pub fn with_name(names: Names, from: usize, to: usize, new: bool) -> Names
 // The addition's names that are not among the old.
 pub fn new_names(old: &[u8], olds: Names, add: &[u8], adds: Names) -> Names
     requires { ⌜ (Named (now old) olds) × (Named (now add) adds) ⌝ }
-    ensures { λ r. ⌜ ((ns ms : List Name) → NamesAt (now (old .entry)) olds ns → NamesAt (now (add .entry)) adds ms → NamesAt (now (add .entry)) r (newNames ns ms)) ⌝ }
+    ensures { λ r. ⌜ ((ns ms : List Name) → NamesAt (now (old .entry)) olds ns → NamesAt (now (add .entry)) adds ms
+        → NamesAt (now (add .entry)) r (newNames ns ms)) ⌝ }
 {
     let from = adds.from;
     let to = adds.to;
@@ -75,7 +76,8 @@ pub fn united_label(
     label: usize,
 ) -> usize
     requires { ⌜ (Named (now old) olds) × (Named (now add) adds) × (Named (now add) fresh) × (label < adds .count) ⌝ }
-    ensures { λ r. ⌜ ((ns ms : List Name) → NamesAt (now (old .entry)) olds ns → NamesAt (now (add .entry)) adds ms → NamesAt (now (add .entry)) fresh (newNames ns ms) → r ≡ place sameName (getD ms label []) (unitedNames ns ms)) ⌝ }
+    ensures { λ r. ⌜ ((ns ms : List Name) → NamesAt (now (old .entry)) olds ns → NamesAt (now (add .entry)) adds ms
+        → NamesAt (now (add .entry)) fresh (newNames ns ms) → r ≡ place sameName (getD ms label []) (unitedNames ns ms)) ⌝ }
 {
     let from = adds.from;
     let to = adds.to;

@@ -38,7 +38,8 @@ pub struct Union {
 // The first rule of this type and label; the number of rules where there is none.
 pub fn pair_place(v: United, kind: usize, label: usize) -> usize
     requires { ⌜ v .rules ≤ 128 ⌝ }
-    ensures { λ r. ⌜ ((old add : List ℕ) (rs : List Rule) (x : Rule) → Views old add v (rulesOnly rs) → kind ≡ x .type → label ≡ x .label → r ≡ place samePair x rs) ⌝ }
+    ensures { λ r. ⌜ ((old add : List ℕ) (rs : List Rule) (x : Rule) → Views old add v (rulesOnly rs)
+        → kind ≡ x .type → label ≡ x .label → r ≡ place samePair x rs) ⌝ }
 {
     let types = v.types;
     let labels = v.labels;
@@ -56,7 +57,8 @@ pub fn pair_place(v: United, kind: usize, label: usize) -> usize
 // The view with one rule more.
 pub fn with_rule(v: United, kind: usize, label: usize, from: usize, to: usize) -> United
     requires { ⌜ v .rules < 128 ⌝ }
-    ensures { λ r. ⌜ (((old add : List ℕ) (rs : List Rule) (x : Rule) → Views old add v (rulesOnly rs) → NextRule old add v kind label from to x → Views old add r (rulesOnly (rs ++ (x ∷ [])))) × Grown v r) ⌝ }
+    ensures { λ r. ⌜ (((old add : List ℕ) (rs : List Rule) (x : Rule) → Views old add v (rulesOnly rs)
+        → NextRule old add v kind label from to x → Views old add r (rulesOnly (rs ++ (x ∷ [])))) × Grown v r) ⌝ }
 {
     let first = pair_place(v, kind, label);
     let n = v.rules;
@@ -88,7 +90,8 @@ pub fn no_rules(olds: usize) -> United
 // One rule more of the old table.
 pub fn with_old_rule(v: United, index: TableIndex, i: usize) -> United
     requires { ⌜ (v .rules ≡ i) × (i < index .rules) × (index .rules ≤ 64) × (v .«old_rules» ≡ index .rules) ⌝ }
-    ensures { λ r. ⌜ (((old add : List ℕ) (g : Table) → TableHeld old index g → Views old add v (rulesOnly (take i (g .rules))) → Views old add r (rulesOnly (take (i + 1) (g .rules)))) × Grown v r) ⌝ }
+    ensures { λ r. ⌜ (((old add : List ℕ) (g : Table) → TableHeld old index g
+        → Views old add v (rulesOnly (take i (g .rules))) → Views old add r (rulesOnly (take (i + 1) (g .rules)))) × Grown v r) ⌝ }
 {
     let rule_type = index.rule_type;
     let rule_label = index.rule_label;
@@ -106,7 +109,8 @@ pub fn with_old_rule(v: United, index: TableIndex, i: usize) -> United
 // The rules of the old table.
 pub fn old_rules(index: TableIndex) -> United
     requires { ⌜ index .rules ≤ 64 ⌝ }
-    ensures { λ r. ⌜ (((old add : List ℕ) (g : Table) → TableHeld old index g → Views old add r (rulesOnly (g .rules))) × (r .rules ≡ index .rules) × (r .«old_rules» ≡ index .rules)) ⌝ }
+    ensures { λ r. ⌜ (((old add : List ℕ) (g : Table) → TableHeld old index g → Views old add r (rulesOnly (g .rules)))
+        × (r .rules ≡ index .rules) × (r .«old_rules» ≡ index .rules)) ⌝ }
 {
     let mut v = no_rules(index.rules);
     let mut i: usize = 0;
@@ -129,8 +133,12 @@ pub fn with_new_rule(
     index: TableIndex,
     i: usize,
 ) -> United
-    requires { ⌜ (Adding (now old) olds (now add) adds fresh index) × (v .rules ≡ v .«old_rules» + i) × (i < index .rules) × (v .«old_rules» ≤ 64) ⌝ }
-    ensures { λ r. ⌜ (((g h : Table) → AddingTo (now (old .entry)) olds (now (add .entry)) adds fresh index g h → Views (now (old .entry)) (now (add .entry)) v (rulesOnly (g .rules ++ map (added standard g h) (take i (h .rules)))) → Views (now (old .entry)) (now (add .entry)) r (rulesOnly (g .rules ++ map (added standard g h) (take (i + 1) (h .rules))))) × Grown v r) ⌝ }
+    requires { ⌜ (Adding (now old) olds (now add) adds fresh index) × (v .rules ≡ v .«old_rules» + i) × (i < index .rules)
+        × (v .«old_rules» ≤ 64) ⌝ }
+    ensures { λ r. ⌜ (((g h : Table) → AddingTo (now (old .entry)) olds (now (add .entry)) adds fresh index g h
+        → Views (now (old .entry)) (now (add .entry)) v (rulesOnly (g .rules ++ map (added standard g h) (take i (h .rules))))
+        → Views (now (old .entry)) (now (add .entry)) r
+        (rulesOnly (g .rules ++ map (added standard g h) (take (i + 1) (h .rules))))) × Grown v r) ⌝ }
 {
     let rule_type = index.rule_type;
     let rule_label = index.rule_label;
@@ -157,7 +165,9 @@ pub fn new_rules(
     index: TableIndex,
 ) -> United
     requires { ⌜ (Adding (now old) olds (now add) adds fresh index) × (v .rules ≡ v .«old_rules») × (v .«old_rules» ≤ 64) ⌝ }
-    ensures { λ r. ⌜ ((g h : Table) → AddingTo (now (old .entry)) olds (now (add .entry)) adds fresh index g h → Views (now (old .entry)) (now (add .entry)) v (rulesOnly (g .rules)) → Views (now (old .entry)) (now (add .entry)) r (unite standard g h)) ⌝ }
+    ensures { λ r. ⌜ ((g h : Table) → AddingTo (now (old .entry)) olds (now (add .entry)) adds fresh index g h
+        → Views (now (old .entry)) (now (add .entry)) v (rulesOnly (g .rules))
+        → Views (now (old .entry)) (now (add .entry)) r (unite standard g h)) ⌝ }
 {
     let mut all = v;
     let mut i: usize = 0;
@@ -172,7 +182,8 @@ pub fn new_rules(
 // The union of two tables that were read.
 pub fn unite_tables(old: &[u8], index: TableIndex, add: &[u8], addition: TableIndex) -> Union
     requires { ⌜ (Held (now old) index) × (Held (now add) addition) ⌝ }
-    ensures { λ r. ⌜ ((g h : Table) → TableHeld (now (old .entry)) index g → TableHeld (now (add .entry)) addition h → UnionSeen (now (old .entry)) (now (add .entry)) g h r) ⌝ }
+    ensures { λ r. ⌜ ((g h : Table) → TableHeld (now (old .entry)) index g → TableHeld (now (add .entry)) addition h
+        → UnionSeen (now (old .entry)) (now (add .entry)) g h r) ⌝ }
 {
     let old_from = index.label_from;
     let old_to = index.label_to;

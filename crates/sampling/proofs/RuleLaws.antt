@@ -26,6 +26,7 @@ use Rattle.theory.proofs.ListLaws.{joined-next}
 use Rattle.emitting.specs.declared.writing.Drafted.{Drafted}
 use Rattle.emitting.specs.declared.writing.Drafted.the-variants.{Length, TooLarge}
 use Rattle.emitting.specs.Writing.{Put, Puts}
+use Rattle.sampling.specs.SampleContents.{ruleEnd}
 use Rattle.sampling.specs.SampleTable.{ContentMade, RulePuts, ruleField, RulesPut, TablePut}
 use Rattle.emitting.proofs.PutLaws.{put-none, put-join}
 
@@ -72,7 +73,7 @@ module _ (f : ℕ → List ℕ) where
 -- the bytes of a part, so many long
 -- what making a content said
 pub made-stop : (d : List ℕ) (c : Content) (r : Drafted) {stop : ℕ} → ContentMade d c r → r ≡ Length stop
-    → (exprAt d 2 ≡ just (c upTo stop)) × (stop ≤ 1026) × (contentTooLarge standard c ≡ false)
+    → (exprAt d 2 ≡ just (c upTo stop)) × (stop ≤ ruleEnd) × (contentTooLarge standard c ≡ false)
 made-stop d c r g e = subst (λ (x : Drafted). ContentMade d c x) e g
 
 pub made-over : (d : List ℕ) (c : Content) (r : Drafted) → ContentMade d c r → r ≡ TooLarge → contentTooLarge standard c ≡ true

@@ -21,7 +21,7 @@ use Rattle.emitting.specs.declared.drafts.Gathering.{Gathering}
 use Rattle.emitting.specs.declared.drafts.Gathering.the-variants.{TooLarge, Upto}
 use Rattle.emitting.specs.Drafts.{Row, Kept, Newest, TooWide, Gathers}
 use Rattle.emitting.specs.Writing.{Put}
-use Rattle.sampling.specs.SampleContents.{sequenceIn, sequencesAmong, GathersIn}
+use Rattle.sampling.specs.SampleContents.{operandsEnd, sequenceIn, sequencesAmong, GathersIn}
 use Rattle.emitting.proofs.WideLaws.{wide-gathered}
 use Rattle.sampling.proofs.NumberingLaws.{numbers-split}
 use Rattle.emitting.proofs.PutLaws.{put-length, put-kept, put-there}
@@ -65,7 +65,7 @@ module _ (parents types : List ℕ) (n k : ℕ) where
   among-start d h = record { stand = exprs-none d 4; apart = gathered-so [] []; forward = omega arith; inside = h; few = omega arith }
 
   -- a node of another type
-  pub row-other : (d : List ℕ) (count end i : ℕ) → (getD types i 0 ≡ k → ⊥) → end ≤ 1028 → (q : Kept d 4 count end)
+  pub row-other : (d : List ℕ) (count end i : ℕ) → (getD types i 0 ≡ k → ⊥) → end ≤ operandsEnd → (q : Kept d 4 count end)
       → GathersIn d (gathered (q .list) (among (i ∷ []))) (Upto 0 count end)
   row-other d count end i e h q =
       let same : q .list ≡ gathered (q .list) (among (i ∷ [])) =
@@ -98,14 +98,14 @@ module _ (parents types : List ℕ) (n k : ℕ) where
         }
 
     pub row-own : {count : ℕ} (q : Kept before 4 count end) (r : Gathering) → getD types i 0 ≡ k
-        → Gathers after after 4 end 1028 0 (gathered (q .list) (sequenceIn parents types n i ∷ [])) r
+        → Gathers after after 4 end operandsEnd 0 (gathered (q .list) (sequenceIn parents types n i ∷ [])) r
         → GathersIn after (gathered (q .list) (among (i ∷ []))) r
     unfolding Gathers
     row-own q r e g =
         subst (λ (l : List Content). GathersIn after (gathered (q .list) l) r) (sym (among-own i e))
         (gathers-in after after end (gathered (q .list) (sequenceIn parents types n i ∷ [])) r g)
       where
-        gathers-in : (d d' : List ℕ) (old : ℕ) (ds : List Content) (r : Gathering) → Gathers d d' 4 old 1028 0 ds r → GathersIn d' ds r
+        gathers-in : (d d' : List ℕ) (old : ℕ) (ds : List Content) (r : Gathering) → Gathers d d' 4 old operandsEnd 0 ds r → GathersIn d' ds r
         gathers-in d d' old ds TooLarge g = g
         gathers-in d d' old ds (Upto m count end) g = (g .1 .row, g .1 .fits)
 
@@ -119,11 +119,11 @@ module _ (parents types : List ℕ) (n k : ℕ) where
     pub gather-stop : r ≡ TooLarge → i < n → TooWide 1024 (gathered [] (among (numbersBelow n)))
     gather-stop e h = among-wide i n h (subst (λ (x : Gathering). GathersIn after (gathered [] (among (numbersBelow (i + 1)))) x) e so-far)
 
-    pub gather-next : {m c stop : ℕ} → r ≡ Upto m c stop → Row after 4 c (gathered [] (among (numbersBelow (i + 1)))) stop × (stop ≤ 1028)
+    pub gather-next : {m c stop : ℕ} → r ≡ Upto m c stop → Row after 4 c (gathered [] (among (numbersBelow (i + 1)))) stop × (stop ≤ operandsEnd)
     gather-next e = subst (λ (x : Gathering). GathersIn after (gathered [] (among (numbersBelow (i + 1)))) x) e so-far
 
 -- what a gathering's answer says
-pub upto-row : (d : List ℕ) (ds : List Content) (r : Gathering) {m c e : ℕ} → GathersIn d ds r → r ≡ Upto m c e → Row d 4 c ds e × (e ≤ 1028)
+pub upto-row : (d : List ℕ) (ds : List Content) (r : Gathering) {m c e : ℕ} → GathersIn d ds r → r ≡ Upto m c e → Row d 4 c ds e × (e ≤ operandsEnd)
 upto-row d ds r g e = subst (λ (x : Gathering). GathersIn d ds x) e g
 
 pub stop-wide : (d : List ℕ) (ds : List Content) (r : Gathering) → GathersIn d ds r → r ≡ TooLarge → TooWide 1024 ds

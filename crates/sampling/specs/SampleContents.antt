@@ -12,9 +12,20 @@ use Rattle.emitting.specs.declared.drafts.Gathering.{Gathering}
 use Rattle.emitting.specs.declared.drafts.Gathering.the-variants.{TooLarge, Upto}
 use Rattle.emitting.specs.Drafts.{Row, TooWide}
 
+-- A content is made in scratch bytes: where its operands end at most, where it ends, and how many bytes are lent.
+abbrev pub operandsEnd : ℕ
+operandsEnd = 1028
+
+abbrev pub ruleEnd : ℕ
+ruleEnd = 1026
+
+abbrev pub scratchBytes : ℕ
+scratchBytes = 2048
+
 -- the types of a node's children: the later nodes of which it is the parent
 abbrev pub kidTypes : (parents types : List ℕ) → ℕ → ℕ → List ℕ
-kidTypes parents types n i = map (λ (j : ℕ). getD types j 0) (keep (λ (j : ℕ). eqb (getD parents j 0) i) (numbersFrom (suc i) (n - suc i)))
+kidTypes parents types n i =
+    map (λ (j : ℕ). getD types j 0) (keep (λ (j : ℕ). eqb (getD parents j 0) i) (numbersFrom (suc i) (n - suc i)))
 
 -- the bytes of such a type, if it is one; and of those among the next `m` nodes
 abbrev pub kidBytes : Bool → ℕ → List ℕ
@@ -46,4 +57,4 @@ sequencesAmong parents types n k nodes = map (sequenceIn parents types n) (keep 
 -- these operands stand in a draft from the fourth place on; or they are too large for a content
 abbrev pub GathersIn : List ℕ → List Content → Gathering → Type 0
 GathersIn draft ds TooLarge = TooWide 1024 ds
-GathersIn draft ds (Upto next count end) = Row draft 4 count ds end × (end ≤ 1028)
+GathersIn draft ds (Upto next count end) = Row draft 4 count ds end × (end ≤ operandsEnd)

@@ -28,7 +28,7 @@ use Rattle.emitting.specs.declared.writing.Drafted.{Drafted}
 use Rattle.emitting.specs.declared.writing.Drafted.the-variants.{Length, TooLarge}
 use Rattle.emitting.specs.Writing.{Put}
 use Rattle.sampling.specs.SampleNodes.{nameIn, Whole, TypedTo}
-use Rattle.sampling.specs.SampleContents.{Kids, sequencesAmong}
+use Rattle.sampling.specs.SampleContents.{Kids, sequencesAmong, ruleEnd}
 
 -- the content of a type, and its rule
 abbrev pub contentIn : (parents types : List ℕ) → ℕ → ℕ → Content
@@ -45,7 +45,7 @@ ruleIn parents types firsts labels n t =
 -- the content stands in a draft from the second place on; or it is too large
 abbrev pub ContentMade : List ℕ → Content → Drafted → Type 0
 ContentMade draft c (Length stop) =
-    (exprAt draft 2 ≡ just (c upTo stop)) × (stop ≤ 1026) × (contentTooLarge standard c ≡ false)
+    (exprAt draft 2 ≡ just (c upTo stop)) × (stop ≤ ruleEnd) × (contentTooLarge standard c ≡ false)
 ContentMade draft c TooLarge = contentTooLarge standard c ≡ true
 
 -- what the nodes' arrays hold

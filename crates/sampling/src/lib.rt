@@ -1,2 +1,15 @@
 // The sample of a document as a table.
+mod limits;
 pub mod sample;
+
+// The nodes: the parent and the type of each, and the label of each type.
+mod labels;
+mod numbering;
+mod parents;
+mod paths;
+
+// The bytes: child sequences, contents, rules, and all fields.
+mod contents;
+mod fields;
+mod rules;
+mod sequences;

@@ -5,6 +5,7 @@ use native.Mathlib.Omega.{arith}
 use mathlib.Core.Bool.{Bool}
 use mathlib.Core.Path.{_≡_, refl, _∙_, ap}
 use lib.ListN.{length, getD}
+use borrow.Author.Needs.{needs}
 use Rattle.grammar.specs.Table.{Table}
 use Rattle.theory.proofs.Alternatives.{hasAlts}
 use Rattle.sets.specs.Sets.{member}
@@ -27,7 +28,7 @@ abbrev μ-loop : tie.MeasureT-loop
 μ-loop old add v types firsts rules next₀ i₀ next i = rules - i
 
 types-with-requires : tie.Need-types-with-requires Inv-loop μ-loop
-types-with-requires c κs = (views-sized (c .before .before .pre .0 .views), c .before .before .pre .1)
+types-with-requires c κs = (views-sized (c .before .before .pre .0 .views), search needs)
 
 loop-holds : tie.Need-loop-holds Inv-loop μ-loop
 loop-holds c = (omega arith, λ u x. puts-start _ _ _ _ refl, c .before .before .before .before .pre .1)

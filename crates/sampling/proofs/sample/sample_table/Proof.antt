@@ -9,8 +9,8 @@ use Rattle.sampling.proofs.sample.sample_table.Statement.{statement}
 use Rattle.sampling.proofs.sample.sample_table.Tie as tie
 use Rattle.sampling.proofs.sample.sample_table.Reads as reads
 use Rattle.sampling.proofs.sample.sample_table.Lts as lts
-use Rattle.sampling.proofs.sample.parents_of.Reads as parents-of-reads
-use Rattle.sampling.proofs.sample.types_of.Reads as types-of-reads
+use Rattle.sampling.proofs.parents.parents_of.Reads as parents-of-reads
+use Rattle.sampling.proofs.paths.types_of.Reads as types-of-reads
 use Rattle.sampling.proofs.sample.write_sample.Reads as write-sample-reads
 
 slice-aggregate-parents-of : tie.Need-slice-aggregate-parents-of

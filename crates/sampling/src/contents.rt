@@ -1,0 +1,110 @@
+// The content of a type: the choice of the child sequences of its nodes.
+use crate::limits::OPERANDS_END;
+use crate::limits::RULE;
+use crate::sequences::put_sequence;
+use emitting::drafts::Gathering;
+use emitting::drafts::finish;
+use emitting::drafts::settle;
+use emitting::writing::Drafted;
+ghost use Prim.Native.Nat.{ℕ, _≤_, _<_};
+ghost use mathlib.Core.List.{[], _∷_};
+ghost use lib.ListN.{length, getD};
+ghost use Rattle.grammar.specs.Lists.{numbersBelow};
+ghost use Rattle.theory.proofs.Gathering.{gathered};
+ghost use Rattle.emitting.specs.Drafts.{Kept};
+ghost use Rattle.sampling.specs.SampleContents.{Kids, sequencesAmong, GathersIn, operandsEnd, scratchBytes};
+ghost use Rattle.sampling.specs.SampleTable.{contentIn, ContentMade, NodesHeld};
+
+// Gathers the child sequence of a node, if it is of the type `k`, among those that stand in the draft.
+fn one_more(
+    scratch: &mut [u8],
+    parents: &[usize],
+    types: &[usize],
+    nodes: usize,
+    kids: usize,
+    k: usize,
+    i: usize,
+    count: usize,
+    end: usize,
+) -> Gathering
+    requires { ⌜ Kids (now parents) (now types) nodes i kids × Kept (now scratch) 4 count end × (end ≤ operandsEnd)
+        × (scratchBytes ≤ length (now scratch)) ⌝ }
+    ensures { λ r. ⌜ ((q : Kept (now (scratch .entry)) 4 count end)
+        → GathersIn (now (scratch .exit))
+        (gathered (q .list) (sequencesAmong (now (parents .entry)) (now (types .entry)) nodes k (i ∷ []))) r) ⌝ }
+{
+    if types[i] != k {
+        return Gathering::Upto {
+            next: 0,
+            count,
+            end,
+        };
+    }
+    let fresh = put_sequence(scratch, end, parents, types, nodes, i, kids);
+    settle(scratch, 4, count, end, fresh, OPERANDS_END, 0)
+}
+
+// Gathers the child sequences of the nodes of a type.
+fn gather(
+    scratch: &mut [u8],
+    parents: &[usize],
+    types: &[usize],
+    children: &[u16],
+    nodes: usize,
+    k: usize,
+) -> Gathering
+    requires { ⌜ (scratchBytes ≤ length (now scratch)) × (nodes ≤ length (now children))
+        × ((i : ℕ) → i < nodes → Kids (now parents) (now types) nodes i (getD (now children) i 0)) ⌝ }
+    ensures { λ r. ⌜ GathersIn (now (scratch .exit))
+        (gathered [] (sequencesAmong (now (parents .entry)) (now (types .entry)) nodes k (numbersBelow nodes))) r ⌝ }
+{
+    let mut count: usize = 0;
+    let mut end: usize = 4;
+    let mut i: usize = 0;
+    while i < nodes {
+        let kids = children[i] as usize;
+        match one_more(scratch, parents, types, nodes, kids, k, i, count, end) {
+            Gathering::TooLarge => {
+                return Gathering::TooLarge;
+            }
+            Gathering::Upto {
+                next,
+                count: more,
+                end: fresh,
+            } => {
+                count = more;
+                end = fresh;
+            }
+        }
+        i += 1;
+    }
+    Gathering::Upto {
+        next: 0,
+        count,
+        end,
+    }
+}
+
+// Makes the content of a type from the second place on: the choice of its nodes' child sequences.
+pub fn make_content(
+    scratch: &mut [u8],
+    parents: &[usize],
+    types: &[usize],
+    children: &[u16],
+    nodes: usize,
+    k: usize,
+) -> Drafted
+    requires { ⌜ (scratchBytes ≤ length (now scratch)) × NodesHeld (now parents) (now types) (now children) nodes ⌝ }
+    ensures { λ r. ⌜ ContentMade (now (scratch .exit)) (contentIn (now (parents .entry)) (now (types .entry)) nodes k) r ⌝ }
+{
+    match gather(scratch, parents, types, children, nodes, k) {
+        Gathering::TooLarge => Drafted::TooLarge,
+        Gathering::Upto { next, count, end } => {
+            let stop = finish(scratch, 2, count, end);
+            if RULE < stop {
+                return Drafted::TooLarge;
+            }
+            Drafted::Length(stop)
+        }
+    }
+}

@@ -1,0 +1,165 @@
+// The fields of a sample: labels, start, rules, end.
+use crate::rules::put_rules;
+use emitting::writing::Drafted;
+use emitting::writing::put_field;
+ghost use Prim.Native.Nat.{_+_, _≤_};
+ghost use mathlib.Core.List.{_++_};
+ghost use lib.ListN.{length};
+ghost use Rattle.grammar.specs.Lists.{joinedOf, numbersBelow};
+ghost use Rattle.emitting.specs.Writing.{Puts};
+ghost use Rattle.sampling.specs.SampleContents.{scratchBytes};
+ghost use Rattle.sampling.specs.SampleTable.{ruleIn, NodesHeld, labelField, RulesHeld, TablePut, restBytes, startBytes};
+ghost use Rattle.sampling.specs.SampleNodes.{KeysAt};
+
+// Writes the labels: each first node's name.
+fn put_labels(
+    draft: &mut [u8],
+    s: &[u8],
+    names: &[u16],
+    sizes: &[u16],
+    keys: &[usize],
+    firsts: &[usize],
+    count: usize,
+) -> Drafted
+    requires { ⌜ (32768 ≤ length (now draft)) × (count ≤ 64) × KeysAt (now s) (now names) (now sizes) (now keys) (now firsts) count ⌝ }
+    ensures { λ r. ⌜ Puts (now (draft .entry)) 0
+        (joinedOf (labelField (now (s .entry)) (now (names .entry)) (now (sizes .entry)) (now (firsts .entry))) (numbersBelow count))
+        (now (draft .exit)) r ⌝ }
+{
+    let mut end: usize = 0;
+    let mut l: usize = 0;
+    while l < count {
+        let i = firsts[l];
+        let from = names[i] as usize;
+        let to = from + sizes[i] as usize;
+        match put_field(draft, end, 0x10, &s[from..to]) {
+            Drafted::TooLarge => {
+                return Drafted::TooLarge;
+            }
+            Drafted::Length(more) => {
+                end = more;
+            }
+        }
+        l += 1;
+    }
+    Drafted::Length(end)
+}
+
+// Writes the rules and the end.
+fn put_rest(
+    draft: &mut [u8],
+    at: usize,
+    scratch: &mut [u8],
+    parents: &[usize],
+    types: &[usize],
+    children: &[u16],
+    nodes: usize,
+    firsts: &[usize],
+    labels: &[usize],
+    count: usize,
+) -> Drafted
+    requires { ⌜ (at ≤ 32768) × (32768 ≤ length (now draft)) × (scratchBytes ≤ length (now scratch))
+        × NodesHeld (now parents) (now types) (now children) nodes × RulesHeld (now types) (now firsts) (now labels) nodes count ⌝ }
+    ensures { λ r. ⌜ TablePut (now (draft .entry)) at
+        (ruleIn (now (parents .entry)) (now (types .entry)) (now (firsts .entry)) (now (labels .entry)) nodes) count
+        (restBytes (ruleIn (now (parents .entry)) (now (types .entry)) (now (firsts .entry)) (now (labels .entry)) nodes) count)
+        (now (draft .exit)) r ⌝ }
+{
+    match put_rules(
+        draft,
+        at,
+        scratch,
+        parents,
+        types,
+        children,
+        nodes,
+        firsts,
+        labels,
+        count,
+    ) {
+        Drafted::TooLarge => Drafted::TooLarge,
+        Drafted::Length(end) => put_field(draft, end, 0x1F, &scratch[0..0]),
+    }
+}
+
+// Writes the start, the rules and the end.
+fn put_start(
+    draft: &mut [u8],
+    at: usize,
+    scratch: &mut [u8],
+    parents: &[usize],
+    types: &[usize],
+    children: &[u16],
+    nodes: usize,
+    firsts: &[usize],
+    labels: &[usize],
+    count: usize,
+) -> Drafted
+    requires { ⌜ (at ≤ 32768) × (32768 ≤ length (now draft)) × (scratchBytes ≤ length (now scratch))
+        × NodesHeld (now parents) (now types) (now children) nodes × RulesHeld (now types) (now firsts) (now labels) nodes count ⌝ }
+    ensures { λ r. ⌜ TablePut (now (draft .entry)) at
+        (ruleIn (now (parents .entry)) (now (types .entry)) (now (firsts .entry)) (now (labels .entry)) nodes) count
+        (startBytes (ruleIn (now (parents .entry)) (now (types .entry)) (now (firsts .entry)) (now (labels .entry)) nodes) count)
+        (now (draft .exit)) r ⌝ }
+{
+    let root = [0u8; 1];
+    match put_field(draft, at, 0x11, &root) {
+        Drafted::TooLarge => Drafted::TooLarge,
+        Drafted::Length(end) => put_rest(
+            draft,
+            end,
+            scratch,
+            parents,
+            types,
+            children,
+            nodes,
+            firsts,
+            labels,
+            count,
+        ),
+    }
+}
+
+// Writes the table: labels, start, rules, end.
+pub fn put_table(
+    draft: &mut [u8],
+    s: &[u8],
+    names: &[u16],
+    sizes: &[u16],
+    keys: &[usize],
+    named: &[usize],
+    total: usize,
+    scratch: &mut [u8],
+    parents: &[usize],
+    types: &[usize],
+    children: &[u16],
+    nodes: usize,
+    firsts: &[usize],
+    labels: &[usize],
+    count: usize,
+) -> Drafted
+    requires { ⌜ (32768 ≤ length (now draft)) × (scratchBytes ≤ length (now scratch)) × (total ≤ 64)
+        × KeysAt (now s) (now names) (now sizes) (now keys) (now named) total
+        × NodesHeld (now parents) (now types) (now children) nodes × RulesHeld (now types) (now firsts) (now labels) nodes count ⌝ }
+    ensures { λ r. ⌜ TablePut (now (draft .entry)) 0
+        (ruleIn (now (parents .entry)) (now (types .entry)) (now (firsts .entry)) (now (labels .entry)) nodes) count
+        (joinedOf (labelField (now (s .entry)) (now (names .entry)) (now (sizes .entry)) (now (named .entry))) (numbersBelow total)
+        ++ startBytes (ruleIn (now (parents .entry)) (now (types .entry)) (now (firsts .entry)) (now (labels .entry)) nodes) count)
+        (now (draft .exit)) r ⌝ }
+{
+    match put_labels(draft, s, names, sizes, keys, named, total) {
+        Drafted::TooLarge => Drafted::TooLarge,
+        Drafted::Length(end) => put_start(
+            draft,
+            end,
+            scratch,
+            parents,
+            types,
+            children,
+            nodes,
+            firsts,
+            labels,
+            count,
+        ),
+    }
+}

@@ -1,0 +1,47 @@
+// The labels of a sample: the names of the types, in the order of the types.
+use crate::numbering::find;
+use crate::numbering::next_count;
+ghost use Prim.Native.Nat.{ℕ, _≤_};
+ghost use mathlib.Core.Path.{_≡_};
+ghost use lib.ListN.{getD};
+ghost use Rattle.sampling.specs.SampleNodes.{KeysAt, LabelledTo};
+
+// The label of each type, and the first node of each label.
+pub struct Labels {
+    pub of: [usize; 64],
+    pub firsts: [usize; 64],
+    pub count: usize,
+}
+
+// The label of each listed node by first sight. All keys are alike, so that names alone tell nodes apart.
+pub fn labels_of(
+    s: &[u8],
+    names: &[u16],
+    sizes: &[u16],
+    keys: &[usize],
+    nodes: &[usize],
+    types: usize,
+) -> Labels
+    requires { ⌜ (types ≤ 64) × KeysAt (now s) (now names) (now sizes) (now keys) (now nodes) types
+        × ((i : ℕ) → getD (now keys) i 0 ≡ 0) ⌝ }
+    ensures { λ r. ⌜ LabelledTo (now (s .entry)) (now (names .entry)) (now (sizes .entry)) (now (nodes .entry))
+        (r .of) (r .firsts) (r .count) types ⌝ }
+{
+    let mut of = [0usize; 64];
+    let mut firsts = [0usize; 64];
+    let mut count: usize = 0;
+    let mut t: usize = 0;
+    while t < types {
+        let i = nodes[t];
+        let label = find(s, names, sizes, keys, &firsts, count, i);
+        of[t] = label;
+        firsts[count] = i;
+        count = next_count(count, label);
+        t += 1;
+    }
+    Labels {
+        of: of,
+        firsts: firsts,
+        count: count,
+    }
+}
