@@ -20,7 +20,8 @@ const FILE: usize = INPUT + 1;
 // The text for the bytes of an old table and a document: of the local widening, or of the refusal.
 pub fn list(old: &[u8], document: &[u8], out: &mut [u8], work: &mut [u32], text: &mut [u8]) -> usize
     requires { ⌜ (32768 ≤ length (now out)) × (16384 ≤ length (now work)) × (202000 ≤ length (now text)) ⌝ }
-    ensures { λ r. ⌜ Put (now (text .entry)) 0 (listing standard asciiClasses (now (old .entry)) (now (document .entry))) (now (text .exit)) r ⌝ }
+    ensures { λ r. ⌜ Put (now (text .entry)) 0 (listing standard asciiClasses (now (old .entry)) (now (document .entry)))
+        (now (text .exit)) r ⌝ }
 {
     match widen_local_by_document(old, document, out, work) {
         Written::Refused(refusal) => refusal_line(refusal, text),

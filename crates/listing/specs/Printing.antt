@@ -43,6 +43,7 @@ unfoldable pub ruleOf : Table → ℕ → Rule
 ruleOf g i = getD (g .rules) i (record { type = 0; label = 0; content = none })
 
 -- This text of the table that was read is written, and it is no longer than so much.
-pub record TextPut (s : List ℕ) (index : TableIndex) (words : Table → Text) (most : ℕ) (before : List ℕ) (at : ℕ) (after : List ℕ) (r : ℕ) : Type 0 where
+pub record TextPut (s : List ℕ) (index : TableIndex) (words : Table → Text) (most : ℕ) (before : List ℕ) (at : ℕ) (after : List ℕ)
+    (r : ℕ) : Type 0 where
   pub put : (f : TableFound s index) → Put before at (words (f .table)) after r
   pub short : r ≤ at + most

@@ -38,7 +38,8 @@ fn put_name(table: &[u8], index: TableIndex, label: usize, text: &mut [u8], at: 
 // The content of a rule.
 fn put_rule_content(table: &[u8], index: TableIndex, i: usize, text: &mut [u8], at: usize) -> usize
     requires { ⌜ TableFound (now table) index × (i < index .rules) × (at + 3071 ≤ length (now text)) ⌝ }
-    ensures { λ r. ⌜ TextPut (now (table .entry)) index (λ g. contentText (ruleOf g i .content)) 3071 (now (text .entry)) at (now (text .exit)) r ⌝ }
+    ensures { λ r. ⌜ TextPut (now (table .entry)) index (λ g. contentText (ruleOf g i .content)) 3071
+        (now (text .entry)) at (now (text .exit)) r ⌝ }
 {
     let content_from = index.content_from;
     let content_to = index.content_to;
@@ -76,7 +77,8 @@ fn put_start_line(text: &mut [u8], at: usize, k: usize) -> usize
 // The lines of the starts.
 fn put_starts(table: &[u8], index: TableIndex, text: &mut [u8], at: usize) -> usize
     requires { ⌜ TableFound (now table) index × (at + 640 ≤ length (now text)) ⌝ }
-    ensures { λ r. ⌜ TextPut (now (table .entry)) index (λ g. joinedOf startLine (g .starts)) 640 (now (text .entry)) at (now (text .exit)) r ⌝ }
+    ensures { λ r. ⌜ TextPut (now (table .entry)) index (λ g. joinedOf startLine (g .starts)) 640
+        (now (text .entry)) at (now (text .exit)) r ⌝ }
 {
     let start_type = index.start_type;
     let starts = index.starts;
@@ -92,7 +94,8 @@ fn put_starts(table: &[u8], index: TableIndex, text: &mut [u8], at: usize) -> us
 // The lines of the rules.
 fn put_rules(table: &[u8], index: TableIndex, text: &mut [u8], at: usize) -> usize
     requires { ⌜ TableFound (now table) index × (at + 200960 ≤ length (now text)) ⌝ }
-    ensures { λ r. ⌜ TextPut (now (table .entry)) index (λ g. joinedOf (ruleLine g) (g .rules)) 200960 (now (text .entry)) at (now (text .exit)) r ⌝ }
+    ensures { λ r. ⌜ TextPut (now (table .entry)) index (λ g. joinedOf (ruleLine g) (g .rules)) 200960
+        (now (text .entry)) at (now (text .exit)) r ⌝ }
 {
     let rules = index.rules;
     let mut end = at;
