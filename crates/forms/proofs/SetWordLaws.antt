@@ -4,6 +4,7 @@
 --   some-put, none-put            unless it is empty
 --   new-put, old-put              unless it is there
 --   no-sets                       none yet
+--   sets-stay                     where the words stay, they stay
 --   few-put, few-many             how many they are then
 use Prim.Native.Nat.{ℕ, zero, suc, _+_, _*_, _≤_, _<_}
 use native.Mathlib.Omega.{arith}
@@ -12,7 +13,7 @@ use mathlib.Core.List.{List, [], _∷_, _++_, append-nil, List·Memᴰ, List·Me
 use mathlib.Core.Logic.{⊎-elim}
 use mathlib.Core.Option.{some as just}
 use mathlib.Core.Path.{_≡_, refl, sym, _∙_, ap, subst}
-use lib.ListN.{length, getElem?, length-append}
+use lib.ListN.{length, getElem?, take, length-append}
 use lib.Dec.{ltb}
 use borrow.Author.Tests.{ltb-true, ltb-false}
 use Rattle.grammar.specs.Lists.{any, keep, distinct, place, isIn, sameNumbers, numbersBelow}
@@ -23,7 +24,7 @@ use Rattle.theory.proofs.ListLaws.{at-below, below-at, at-joined, at-mem, just-
 use Rattle.theory.proofs.PlaceLaws.{place-found, place-some}
 use Rattle.theory.proofs.DistinctLaws.{one-more-new, one-more-old}
 use Rattle.sets.specs.Sets.{member, storeAt, Empties}
-use Rattle.sets.proofs.SetLaws.{words-store, store-before, length-store}
+use Rattle.sets.proofs.SetLaws.{words-store, store-before, length-store, set-before}
 use Rattle.reader.proofs.LabelSearch.{place-first, place-nowhere}
 use Rattle.forms.specs.declared.set_words.Counted.the-variants.{TooMany, Count}
 use Rattle.forms.specs.SetWords.{setIn, Ascending, SetsHeld, SetsCounted}
@@ -149,6 +150,20 @@ no-sets words room = (
     ascending = λ s m. elim m [ ];
   },
 )
+
+pub sets-stay : (before after : List ℕ) (n : ℕ) {sets : List TypeSet} → take n after ≡ take n before → 256 ≤ n → 256 ≤ length after
+    → SetsHeld before sets → SetsHeld after sets
+sets-stay before after n {sets} e long room held =
+    record {
+      few = held .few;
+      room = room;
+      set =
+          λ i s at.
+          let b = at-below sets i at in
+          let few = held .few in
+          set-before before after n (4 * i) e (omega arith) ∙ held .set i s at;
+      ascending = held .ascending;
+    }
 
 pub few-put : (n : ℕ) → n ≤ 64 → Few (Count n)
 few-put n h m e = let same : n ≡ m = cc in omega arith

@@ -31,11 +31,10 @@ use Rattle.theory.proofs.ListLaws.{numbers-below, numbers-length}
 use Rattle.theory.proofs.Counted.{Counted}
 use Rattle.theory.proofs.NumberedTable.{Numbered, finished-numbered}
 use Rattle.theory.proofs.FormsNumbered.{form-numbered}
-use Rattle.pairs.specs.PairNumbers.{isLeft}
 use Rattle.forms.specs.SetForms.{
   ruleBySet,
   tableBySets,
-  metWithin,
+  pairsWithin,
   localSets,
   localTable,
   singleTypeSets,
@@ -47,14 +46,10 @@ use Rattle.forms.proofs.TablesBySets.{FormOfSets}
 use Rattle.forms.proofs.SingleTypeBySets.{single-type-set, single-form, single-by-sets}
 use Rattle.forms.proofs.LocalBySets.{local-set, local-form, local-by-sets}
 
--- the sets of a kind, and within which pairs those of one label are put together
+-- the sets of a kind, and the table that is made of them
 unfoldable pub setsOf : Kind → Table → List TypeSet
 setsOf local u = localSets u
 setsOf singleType u = singleTypeSets u
-
-unfoldable pub pairsWithin : Kind → Table → TypeSet → ℕ → Bool
-pairsWithin local u = λ s. isLeft u
-pairsWithin singleType u = metWithin u
 
 unfoldable pub tableOf : Kind → Table → Table
 tableOf local u = localTable u
@@ -72,7 +67,7 @@ module _ (u : Table) (fit : UnionFit u) where
   table-of-kind singleType = single-by-sets u fit
 
   form-of-kind : (kind : Kind) → FormOfSets u (setsOf kind u) (pairsWithin kind u) (form standard kind (reduce (normalise u)))
-  unfolding form setsOf pairsWithin
+  unfolding form setsOf
   form-of-kind local = local-form u fit
   form-of-kind singleType = single-form u fit
 
@@ -85,7 +80,7 @@ module _ (u : Table) (fit : UnionFit u) where
   -- its rules are those of its sets
   pub rules-of-kind : (kind : Kind)
       → tableOf kind u .rules ≡ map (ruleBySet u (setsOf kind u) (pairsWithin kind u)) (numbersBelow (length (setsOf kind u)))
-  unfolding tableOf setsOf pairsWithin localTable singleTypeTable tableBySets
+  unfolding tableOf setsOf localTable singleTypeTable tableBySets
   rules-of-kind local = refl
   rules-of-kind singleType = refl
 

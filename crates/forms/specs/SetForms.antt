@@ -9,6 +9,7 @@ use Rattle.grammar.specs.Lists.{any, keep, place, joinedOf, isIn, sameNumbers, 
 use Rattle.grammar.specs.Limits.{standard}
 use Rattle.grammar.specs.Content.{Content}
 use Rattle.grammar.specs.Table.{Rule, Table}
+use Rattle.grammar.specs.Kinds.{Kind, local, singleType}
 use Rattle.grammar.specs.ReadTable.{isEmpty}
 use Rattle.grammar.specs.Normalise.{pairsOf, normalise}
 use Rattle.grammar.specs.Reduce.{fruitful, withoutUnfruitful, reduce}
@@ -90,3 +91,8 @@ module _ (u : Table) where
   unfoldable pub singleTypeTable : Table
   unfolding tableBySets labelSets numbersBelow
   singleTypeTable = tableBySets singleTypeSets metWithin (numbersBelow (length (labelSets (isStart u))))
+
+-- within which pairs those of one label are put together
+abbrev pub pairsWithin : Kind → Table → TypeSet → ℕ → Bool
+pairsWithin local u = λ s. isLeft u
+pairsWithin singleType u = metWithin u

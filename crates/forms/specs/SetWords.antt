@@ -7,13 +7,13 @@ use mathlib.Core.Path.{_≡_}
 use lib.ListN.{length, getElem?}
 use Rattle.grammar.specs.Lists.{keep, isIn, numbersBelow}
 use Rattle.grammar.specs.SingleTypeForm.{TypeSet}
-use Rattle.sets.specs.Sets.{member, wordsAt}
+use Rattle.sets.specs.Sets.{setAt}
 use Rattle.forms.specs.declared.set_words.Counted.{Counted}
 use Rattle.forms.specs.declared.set_words.Counted.the-variants.{TooMany, Count}
 
 -- the set of a number
 abbrev pub setIn : List ℕ → ℕ → ℕ → Bool
-setIn words i = member (wordsAt words (4 * i) 4) 0
+setIn words i = setAt words (4 * i)
 
 -- its numbers ascend, and are below 128
 abbrev pub Ascending : TypeSet → Type 0

@@ -4,3 +4,4 @@ pub mod View
 pub mod Rounds
 pub mod PairNumbers
 pub mod TypeLists
+pub mod Places

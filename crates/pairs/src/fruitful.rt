@@ -1,17 +1,20 @@
 // The fruitful pairs of a union: rounds, each over the pairs known so far, until one adds nothing.
+use crate::places::KNOWN;
 use crate::productive::content_has;
 use crate::union::United;
 use sets::four::Set4;
+use sets::words::store;
 ghost use mathlib.Core.Path.{_≡_};
-ghost use Prim.Native.Nat.{_<_};
+ghost use Prim.Native.Nat.{_≤_, _<_};
 ghost use lib.ListN.{length};
 ghost use Rattle.grammar.specs.Lists.{isIn};
 ghost use Rattle.grammar.specs.Table.{Table};
 ghost use Rattle.grammar.specs.Normalise.{normalise};
 ghost use Rattle.grammar.specs.Reduce.{fruitful};
 ghost use Rattle.theory.proofs.Alternatives.{hasAlts};
-ghost use Rattle.sets.specs.Sets.{member};
+ghost use Rattle.sets.specs.Sets.{member, setAt};
 ghost use Rattle.pairs.specs.View.{Views, Viewed, ViewSized};
+ghost use Rattle.pairs.specs.Places.{knownAt};
 ghost use Rattle.pairs.specs.Rounds.{putIf, contentOf, typesWith, afterRound};
 
 // Whether the content of a rule has alternatives, over a set of types of the union.
@@ -80,10 +83,11 @@ pub fn round(old: &[u8], add: &[u8], v: United, known: Set4) -> Set4
     next
 }
 
-// The fruitful pairs.
-pub fn fruitful_pairs(old: &[u8], add: &[u8], v: United) -> Set4
-    requires { ⌜ Viewed (now old) (now add) v ⌝ }
-    ensures { λ r. ⌜ ((u : Table) → Views (now (old .entry)) (now (add .entry)) v u → member (r .words) 0 ≡ (λ p. isIn p (fruitful (normalise u)))) × (length (r .words) ≡ 4) ⌝ }
+// Finds the fruitful pairs.
+pub fn fruitful_pairs(old: &[u8], add: &[u8], v: United, words: &mut [u32])
+    requires { ⌜ (Viewed (now old) (now add) v) × (16384 ≤ length (now words)) ⌝ }
+    ensures { λ r. ⌜ ((u : Table) → Views (now (old .entry)) (now (add .entry)) v u
+        → setAt (now (words .exit)) knownAt ≡ (λ p. isIn p (fruitful (normalise u)))) ⌝ }
 {
     let mut known = Set4::empty();
     let found = loop {
@@ -93,5 +97,5 @@ pub fn fruitful_pairs(old: &[u8], add: &[u8], v: United) -> Set4
         }
         known = next;
     };
-    found
+    store(words, KNOWN, found);
 }

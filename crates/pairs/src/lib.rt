@@ -3,5 +3,6 @@ pub mod fruitful;
 pub mod labels;
 pub mod lists;
 pub mod met;
+pub mod places;
 pub mod productive;
 pub mod union;

@@ -3,22 +3,27 @@ use crate::meeting::met_set;
 use crate::meeting::with_part;
 use pairs::lists::Lists;
 use pairs::lists::TypeLists;
+use pairs::places::LEFT;
+use pairs::places::STARTS;
 use pairs::union::United;
 use reader::numbers::wide;
 use reader::tables::TableIndex;
 use sets::four::Set4;
+use sets::words::load;
+use sets::words::store;
 ghost use mathlib.Core.Path.{_≡_};
 ghost use mathlib.Core.List.{List};
-ghost use Prim.Native.Nat.{ℕ, _<_};
+ghost use Prim.Native.Nat.{ℕ, _≤_, _<_};
 ghost use lib.ListN.{length};
 ghost use Rattle.grammar.specs.Lists.{isIn, joinedOf, numbersBelow};
 ghost use Rattle.grammar.specs.Limits.{standard};
 ghost use Rattle.grammar.specs.Table.{Table};
 ghost use Rattle.grammar.specs.Unite.{unite};
 ghost use Rattle.reader.specs.TableIndex.{startType};
-ghost use Rattle.sets.specs.Sets.{member, both};
+ghost use Rattle.sets.specs.Sets.{member, setAt, both, OthersKept};
 ghost use Rattle.pairs.specs.View.{Views, Viewed, TableHeld};
 ghost use Rattle.pairs.specs.Walks.{listOf, Listed};
+ghost use Rattle.pairs.specs.Places.{startsAt, leftAt};
 ghost use Rattle.pairs.specs.PairNumbers.{fruitfulOf, isStart, isLeft};
 ghost use Rattle.pairs.specs.TypeLists.{ListsOf};
 ghost use Rattle.reducing.specs.PairsListed.{BothListed, StartsSmall};
@@ -50,24 +55,27 @@ fn with_starts(set: Set4, lists: Lists, index: TableIndex) -> Set4
     more
 }
 
-// The fruitful pairs of the start types.
-pub fn start_pairs(lists: TypeLists, index: TableIndex, addition: TableIndex) -> Set4
-    requires { ⌜ (BothListed lists) × (StartsSmall index) × (StartsSmall addition) ⌝ }
-    ensures { λ r. ⌜ ((old add : List ℕ) (g h : Table) → TableHeld old index g → TableHeld add addition h → ListsOf (fruitfulOf (unite standard g h)) lists → member (r .words) 0 ≡ isStart (unite standard g h)) × (length (r .words) ≡ 4) ⌝ }
+// Finds the fruitful pairs of the start types.
+pub fn start_pairs(lists: TypeLists, index: TableIndex, addition: TableIndex, words: &mut [u32])
+    requires { ⌜ (BothListed lists) × (StartsSmall index) × (StartsSmall addition) × (16384 ≤ length (now words)) ⌝ }
+    ensures { λ r. ⌜ ((old add : List ℕ) (g h : Table) → TableHeld old index g → TableHeld add addition h
+        → ListsOf (fruitfulOf (unite standard g h)) lists → setAt (now (words .exit)) startsAt ≡ isStart (unite standard g h)) ⌝ }
 {
     let none = Set4::empty();
     let olds = lists.old;
     let first = with_starts(none, olds, index);
     let adds = lists.addition;
-    with_starts(first, adds, addition)
+    store(words, STARTS, with_starts(first, adds, addition));
 }
 
-// The pairs that reducing leaves.
-pub fn pairs_left(old: &[u8], add: &[u8], v: United, lists: TypeLists, starts: Set4) -> Set4
-    requires { ⌜ (Viewed (now old) (now add) v) × (BothListed lists) × (length (starts .words) ≡ 4) ⌝ }
-    ensures { λ r. ⌜ ((u : Table) → Views (now (old .entry)) (now (add .entry)) v u → ListsOf (fruitfulOf u) lists → member (starts .words) 0 ≡ isStart u → member (r .words) 0 ≡ isLeft u) × (length (r .words) ≡ 4) ⌝ }
+// Finds the pairs that reducing leaves.
+pub fn pairs_left(old: &[u8], add: &[u8], v: United, lists: TypeLists, words: &mut [u32])
+    requires { ⌜ (Viewed (now old) (now add) v) × (BothListed lists) × (16384 ≤ length (now words)) ⌝ }
+    ensures { λ r. ⌜ ((u : Table) → Views (now (old .entry)) (now (add .entry)) v u → ListsOf (fruitfulOf u) lists
+        → setAt (now (words .entry)) startsAt ≡ isStart u → setAt (now (words .exit)) leftAt ≡ isLeft u)
+        × OthersKept leftAt (now (words .entry)) (now (words .exit)) ⌝ }
 {
-    let mut seen = starts;
+    let mut seen = load(words, STARTS);
     let left = loop {
         let met = met_set(old, add, v, lists, seen);
         let next = seen.union(met);
@@ -76,5 +84,5 @@ pub fn pairs_left(old: &[u8], add: &[u8], v: United, lists: TypeLists, starts: S
         }
         seen = next;
     };
-    left
+    store(words, LEFT, left);
 }

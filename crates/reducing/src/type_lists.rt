@@ -2,8 +2,10 @@
 use pairs::fruitful::put_if;
 use pairs::lists::Lists;
 use pairs::lists::TypeLists;
+use pairs::places::KNOWN;
 use pairs::union::United;
 use sets::four::Set4;
+use sets::words::load;
 ghost use mathlib.Core.Path.{_≡_};
 ghost use mathlib.Core.Bool.{true, false};
 ghost use mathlib.Core.List.{List, [], _∷_};
@@ -14,8 +16,9 @@ ghost use Rattle.grammar.specs.Table.{Table};
 ghost use Rattle.grammar.specs.Normalise.{normalise};
 ghost use Rattle.grammar.specs.Reduce.{fruitful};
 ghost use Rattle.theory.proofs.Alternatives.{onlyIf, someLeft};
-ghost use Rattle.sets.specs.Sets.{member};
+ghost use Rattle.sets.specs.Sets.{member, setAt};
 ghost use Rattle.pairs.specs.View.{Views, ViewSized};
+ghost use Rattle.pairs.specs.Places.{knownAt};
 ghost use Rattle.pairs.specs.PairNumbers.{fruitfulOf};
 ghost use Rattle.pairs.specs.TypeLists.{ListsOf};
 ghost use Rattle.reducing.specs.PairsListed.{
@@ -97,10 +100,12 @@ fn lists_from(v: United, known: Set4, base: usize) -> Lists
 }
 
 // The fruitful pairs of each type.
-pub fn fruitful_lists(v: United, known: Set4) -> TypeLists
-    requires { ⌜ (ViewSized v) × (length (known .words) ≡ 4) ⌝ }
-    ensures { λ r. ⌜ ((old add : List ℕ) (u : Table) → Views old add v u → member (known .words) 0 ≡ (λ p. isIn p (fruitful (normalise u))) → ListsOf (fruitfulOf u) r) ⌝ }
+pub fn fruitful_lists(v: United, words: &[u32]) -> TypeLists
+    requires { ⌜ (ViewSized v) × (16384 ≤ length (now words)) ⌝ }
+    ensures { λ r. ⌜ ((old add : List ℕ) (u : Table) → Views old add v u
+        → setAt (now (words .entry)) knownAt ≡ (λ p. isIn p (fruitful (normalise u))) → ListsOf (fruitfulOf u) r) ⌝ }
 {
+    let known = load(words, KNOWN);
     let old = lists_from(v, known, 0);
     let addition = lists_from(v, known, 64);
     TypeLists { old, addition }

@@ -4,6 +4,7 @@ use mathlib.Core.Bool.{Bool}
 use mathlib.Core.List.{List}
 use mathlib.Core.Path.{_≡_, subst}
 use lib.ListN.{length}
+use Rattle.grammar.specs.Kinds.{Kind}
 use Rattle.grammar.specs.Normalise.{pairsOf, normalise}
 use Rattle.grammar.specs.Reduce.{fruitful}
 use Rattle.theory.proofs.Alternatives.{someLeft, resultsOf}
@@ -17,8 +18,8 @@ use Rattle.forms.specs.SetForms.{setNumber}
 use Rattle.forms.specs.Worklist.{NumbersOf}
 use Rattle.results.specs.Results.{RulesFrom}
 
-module _ {old add : List ℕ} {v : United} {labels : ℕ} {lists : TypeLists} {left : Set4} {words : List ℕ} {count : ℕ} {single : Bool}
-    (q : RulesFrom old add v labels lists left words count single) where
+module _ {old add : List ℕ} {v : United} {labels : ℕ} {lists : TypeLists} {words : List ℕ} {count : ℕ} {kind : Kind}
+    (q : RulesFrom old add v labels lists words count kind) where
   -- the numbers of all labels
   pub all-labels : (f : ℕ → ℕ) (list : List ℕ) → NumbersOf f labels list → NumbersOf f (length (q .in-words .table .labels)) list
   all-labels f list h = subst (λ (n : ℕ). NumbersOf f n list) (q .labels-are) h

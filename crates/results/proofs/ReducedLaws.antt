@@ -1,13 +1,15 @@
 -- What a reduced union gives to the writing of a result:
 --   names-few, labels-few                    the numbers of the union are small
---   result-from                              the sets of a kind in the words, and all that the result is written from
+--   sets-lent, sets-held, reduced-stay       the first words are lent for the sets of the result: what stands in them, and behind them
+--   result-after                             the sets of a kind and the start types in the words, and all that the result is written from
 --   widens-many, widens-put                  what is answered then, of either kind
 use Prim.Native.Nat.{ℕ, _+_, _≤_, _<_}
 use native.Mathlib.Omega.{arith}
-use mathlib.Core.Bool.{Bool, true, false}
-use mathlib.Core.List.{List, List·Memᴰ}
-use mathlib.Core.Path.{_≡_, refl, sym, _∙_, ap, subst}
-use lib.ListN.{length, length-append, getD}
+use mathlib.Core.Bool.{Bool, true}
+use mathlib.Core.List.{List, _++_, List·Memᴰ}
+use mathlib.Core.Path.{_≡_, sym, _∙_, ap, subst}
+use lib.ListN.{length, length-append, length-drop, getD, take, drop}
+use lib.Seq.{take-take, take-append-le, drop-at, length-take-le}
 use Rattle.grammar.specs.Lists.{keep, place, sameNumbers, numbersBelow}
 use Rattle.grammar.specs.Limits.{standard}
 use Rattle.grammar.specs.Names.{asciiClasses}
@@ -17,28 +19,29 @@ use Rattle.grammar.specs.SingleTypeForm.{TypeSet}
 use Rattle.grammar.specs.Unite.{unite}
 use Rattle.grammar.specs.WriteTable.{tableBytes}
 use Rattle.theory.proofs.ListLaws.{mem-at, at-below}
-use Rattle.sets.specs.Sets.{member, nothing}
-use Rattle.sets.specs.declared.four.Set4.{Set4}
+use Rattle.sets.specs.Sets.{setAt, nothing, OthersKept}
+use Rattle.sets.proofs.SetLaws.{set-after, kept-before}
 use Rattle.pairs.specs.declared.lists.TypeLists.{TypeLists}
 use Rattle.pairs.specs.declared.union.Union.{Union}
 use Rattle.pairs.specs.View.{labelIn}
+use Rattle.pairs.specs.Places.{setsEnd, startsAt, leftAt, startTypesAt}
 use Rattle.pairs.specs.Rounds.{puts}
 use Rattle.pairs.specs.PairNumbers.{isStart, isLeft}
-use Rattle.pairs.proofs.ViewLaws.{seen}
 use Rattle.emitting.specs.declared.writing.Drafted.{Drafted}
 use Rattle.emitting.specs.Completing.{Regular}
 use Rattle.sampling.specs.SampleTable.{TablePut}
 use Rattle.merging.proofs.AgreeLaws.{union-shallow}
-use Rattle.forms.specs.SetForms.{labelled, labelSets, ruleBySet, tableBySets, metWithin, localSets, localStarts, localTable, singleTypeSets, singleTypeTable}
+use Rattle.forms.specs.SetForms.{labelled, labelSets, ruleBySet, tableBySets, metWithin, pairsWithin, localSets, localStarts, localTable, singleTypeSets, singleTypeTable}
 use Rattle.forms.specs.declared.set_words.Counted.{Counted}
 use Rattle.forms.specs.declared.set_words.Counted.the-variants.{TooMany, Count}
 use Rattle.forms.specs.SetWords.{SetsHeld, SetsCounted}
 use Rattle.forms.specs.Worklist.{NumbersOf}
 use Rattle.forms.proofs.StandingPairs.{left-pair}
 use Rattle.forms.proofs.SetsFound.{start-sets-first}
+use Rattle.forms.proofs.SetWordLaws.{sets-stay}
 use Rattle.forms.proofs.UnionFit.{UnionFit, union-fit}
 use Rattle.forms.proofs.WidenedBySets as by-sets
-use Rattle.results.specs.Results.{pairsWithin, SetsIn, ResultFrom}
+use Rattle.results.specs.Results.{SetsIn, ResultFrom}
 use Rattle.results.specs.Widened.{madeOf, Widens, UnionReduced}
 use Rattle.results.specs.declared.widen.Made.{Made}
 use Rattle.results.specs.declared.widen.Made.the-variants.{TooLarge}
@@ -52,8 +55,48 @@ some-length s m =
     let b = at-below s i at in
     omega arith
 
-module _ {old add : List ℕ} {union : Union} {lists : TypeLists} {starts left : Set4} {g h : Table}
-    (r : UnionReduced old add union lists starts left g h) where
+-- the first words are lent for the sets of the result
+module _ (words : List ℕ) (room : 16384 ≤ length words) where
+  lent-long : length (take setsEnd words) ≡ setsEnd
+  lent-long = length-take-le setsEnd words (omega arith)
+
+  pub lent-room : 256 ≤ length (take setsEnd words)
+  lent-room = let e = lent-long in omega arith
+
+  pub sets-lent : {sets : List TypeSet} → SetsHeld words sets → SetsHeld (take setsEnd words) sets
+  sets-lent held =
+      sets-stay words (take setsEnd words) setsEnd (take-take setsEnd setsEnd words (omega arith)) (omega arith) lent-room held
+
+  module _ (front : List ℕ) (same : length front ≡ length (take setsEnd words)) where
+    long : length front ≡ setsEnd
+    long = same ∙ lent-long
+
+    pub room-stays : 16384 ≤ length (front ++ drop setsEnd words)
+    room-stays =
+        let a = length-append front (drop setsEnd words) in
+        let b = length-drop setsEnd words in
+        let c = long in
+        omega arith
+
+    pub sets-held : {sets : List TypeSet} → SetsHeld front sets → SetsHeld (front ++ drop setsEnd words) sets
+    sets-held held =
+        let r = room-stays in
+        let l = long in
+        sets-stay front (front ++ drop setsEnd words) setsEnd (take-append-le setsEnd front (drop setsEnd words) (omega arith)) (omega arith)
+        (omega arith) held
+
+    pub set-stays : (place : ℕ) → setsEnd ≤ place → setAt (front ++ drop setsEnd words) place ≡ setAt words place
+    set-stays place h = set-after words (front ++ drop setsEnd words) setsEnd place (drop-at front (drop setsEnd words) setsEnd long) h
+
+-- the start types are laid down
+module _ {before after : List ℕ} (kept : OthersKept startTypesAt before after) where
+  types-stay : 256 ≤ length after → {sets : List TypeSet} → SetsHeld before sets → SetsHeld after sets
+  types-stay room held = sets-stay before after startTypesAt (kept .front) (omega arith) room held
+
+  pub types-left : setAt after leftAt ≡ setAt before leftAt
+  types-left = kept-before kept leftAt (omega arith)
+
+module _ {old add : List ℕ} {union : Union} {lists : TypeLists} {words : List ℕ} {g h : Table} (r : UnionReduced old add union lists words g h) where
   abbrev u : Table
   u = unite standard g h
 
@@ -69,9 +112,22 @@ module _ {old add : List ℕ} {union : Union} {lists : TypeLists} {starts left :
   pub labels-few : length (u .labels) ≤ 128
   labels-few = union-few (r .seen)
 
-  module _ (kind : Kind) (single : Bool) (same : by-sets.pairsWithin kind u ≡ pairsWithin u single) (words : List ℕ) (count : ℕ)
-      (held : SetsHeld words (by-sets.setsOf kind u)) (many : count ≡ length (by-sets.setsOf kind u)) where
-    abbrev sets-in : SetsIn old add (union .rules) words count
+  pub reduced-stay : 16384 ≤ length words → (front : List ℕ) → length front ≡ length (take setsEnd words)
+      → UnionReduced old add union lists (front ++ drop setsEnd words) g h
+  reduced-stay room front same =
+      record {
+        first-within = r .first-within;
+        second-within = r .second-within;
+        seen = r .seen;
+        lists-are = r .lists-are;
+        starts-are = set-stays words room front same startsAt (omega arith) ∙ r .starts-are;
+        left-are = set-stays words room front same leftAt (omega arith) ∙ r .left-are;
+        some-start = r .some-start;
+      }
+
+  module _ (kind : Kind) (after : List ℕ) (count : ℕ) (held : SetsHeld after (by-sets.setsOf kind u))
+      (many : count ≡ length (by-sets.setsOf kind u)) where
+    abbrev sets-in : SetsIn old add (union .rules) after count
     sets-in =
         record {
           table = u;
@@ -85,22 +141,21 @@ module _ {old add : List ℕ} {union : Union} {lists : TypeLists} {starts left :
           pairs = λ s m p n. left-pair u p (by-sets.set-of-kind u fit kind s m .left p n) .below;
         }
 
-    pub regular : (i : ℕ) → i < count → Regular (ruleBySet u (by-sets.setsOf kind u) (pairsWithin u single) i .content)
+    pub regular : (i : ℕ) → i < count → Regular (ruleBySet u (by-sets.setsOf kind u) (pairsWithin kind u) i .content)
     regular i b =
         let x = by-sets.regular-by-set u fit kind (held .few) i (omega (arith, many)) in
-        subst (λ (w : TypeSet → ℕ → Bool). Regular (ruleBySet u (by-sets.setsOf kind u) w i .content)) same
-        (record { counted = x .counted; below = x .below })
+        record { counted = x .counted; below = x .below }
 
-    abbrev pub result-from : ResultFrom old add union lists left words count single
-    result-from =
+    abbrev result-from : 16384 ≤ length after → setAt after leftAt ≡ isLeft u → ResultFrom old add union lists after count kind
+    result-from room left =
         record {
           rules =
               record {
                 in-words = sets-in;
                 labels-are = union-count (r .seen);
                 lists-are = r .lists-are;
-                left-is = r .left-are;
-                left-room = r .left-room;
+                room = room;
+                left-is = left;
                 shallow = union-shallow asciiClasses g h (r .first-within) (r .second-within);
                 regular = regular;
               };
@@ -109,18 +164,29 @@ module _ {old add : List ℕ} {union : Union} {lists : TypeLists} {starts left :
         }
 
     pub widens-put : (types : ℕ → Bool)
-        → tableBySets u (by-sets.setsOf kind u) (pairsWithin u single) (keep types (numbersBelow count)) ≡ by-sets.tableOf kind u
-        → (before after : List ℕ) (d : Drafted)
-        → TablePut before 0 (ruleBySet u (by-sets.setsOf kind u) (pairsWithin u single)) count
-        (tableBytes (tableBySets u (by-sets.setsOf kind u) (pairsWithin u single) (keep types (numbersBelow count)))) after d
-        → Widens kind g h before after (madeOf d)
-    widens-put types e before after d put =
-        let rule : (TypeSet → ℕ → Bool) → ℕ → Rule = ruleBySet u (by-sets.setsOf kind u) in
-        put-widens g h (r .first-within) (r .second-within) kind (r .some-start .0) (r .some-start .1) (held .few) before after d
-        (subst (λ (w : TypeSet → ℕ → Bool). TablePut before 0 (rule w) (length (by-sets.setsOf kind u)) (tableBytes (by-sets.tableOf kind u)) after d)
-        (sym same)
-        (subst (λ (n : ℕ). TablePut before 0 (rule (pairsWithin u single)) n (tableBytes (by-sets.tableOf kind u)) after d) many
-        (subst (λ (t : Table). TablePut before 0 (rule (pairsWithin u single)) count (tableBytes t) after d) e put)))
+        → tableBySets u (by-sets.setsOf kind u) (pairsWithin kind u) (keep types (numbersBelow count)) ≡ by-sets.tableOf kind u
+        → (before end : List ℕ) (d : Drafted)
+        → TablePut before 0 (ruleBySet u (by-sets.setsOf kind u) (pairsWithin kind u)) count
+        (tableBytes (tableBySets u (by-sets.setsOf kind u) (pairsWithin kind u) (keep types (numbersBelow count)))) end d
+        → Widens kind g h before end (madeOf d)
+    widens-put types e before end d put =
+        let rule : ℕ → Rule = ruleBySet u (by-sets.setsOf kind u) (pairsWithin kind u) in
+        put-widens g h (r .first-within) (r .second-within) kind (r .some-start .0) (r .some-start .1) (held .few) before end d
+        (subst (λ (n : ℕ). TablePut before 0 rule n (tableBytes (by-sets.tableOf kind u)) end d) many
+        (subst (λ (t : Table). TablePut before 0 rule count (tableBytes t) end d) e put))
+
+  -- the sets of a kind are laid down in the first words, and then the start types
+  module _ (kind : Kind) (room : 16384 ≤ length words) (front : List ℕ) (same : length front ≡ length (take setsEnd words)) (count : ℕ)
+      (held : SetsHeld front (by-sets.setsOf kind u)) (many : count ≡ length (by-sets.setsOf kind u)) (last : List ℕ)
+      (kept : OthersKept startTypesAt (front ++ drop setsEnd words) last) (long : length last ≡ length (front ++ drop setsEnd words)) where
+    pub last-room : 16384 ≤ length last
+    last-room = let a = room-stays words room front same in omega arith
+
+    pub last-held : SetsHeld last (by-sets.setsOf kind u)
+    last-held = let a = last-room in types-stay kept (omega arith) (sets-held words room front same held)
+
+    abbrev pub result-after : ResultFrom old add union lists last count kind
+    result-after = result-from kind last count last-held many last-room (types-left kept ∙ reduced-stay room front same .left-are)
 
   pub widens-many : (kind : Kind) → 64 < length (by-sets.setsOf kind u) → (before after : List ℕ) → Widens kind g h before after TooLarge
   unfolding Widens
@@ -128,13 +194,13 @@ module _ {old add : List ℕ} {union : Union} {lists : TypeLists} {starts left :
 
   -- the tables of the kinds, with the start types as they are found
   pub local-table : (types : ℕ → Bool) (count : ℕ) → count ≡ length (localSets u) → keep types (numbersBelow (length (localSets u))) ≡ localStarts u
-      → tableBySets u (by-sets.setsOf local u) (pairsWithin u false) (keep types (numbersBelow count)) ≡ by-sets.tableOf local u
+      → tableBySets u (by-sets.setsOf local u) (pairsWithin local u) (keep types (numbersBelow count)) ≡ by-sets.tableOf local u
   unfolding by-sets.setsOf by-sets.tableOf localTable
   local-table types count many e =
       ap (tableBySets u (localSets u) (λ s. isLeft u)) (ap (λ (n : ℕ). keep types (numbersBelow n)) many ∙ e)
 
   pub single-type-table : (first count : ℕ) → count ≡ length (singleTypeSets u) → first ≡ length (labelSets u (isStart u))
-      → tableBySets u (by-sets.setsOf singleType u) (pairsWithin u true)
+      → tableBySets u (by-sets.setsOf singleType u) (pairsWithin singleType u)
       (keep (puts (λ t. true) (λ t. t) nothing first) (numbersBelow count))
       ≡ by-sets.tableOf singleType u
   unfolding by-sets.setsOf by-sets.tableOf singleTypeTable
@@ -143,101 +209,89 @@ module _ {old add : List ℕ} {union : Union} {lists : TypeLists} {starts left :
       let n = ap length f ∙ length-append (labelSets u (isStart u)) rest in
       ap (tableBySets u (singleTypeSets u) (metWithin u)) (first-starts first count (omega arith) ∙ ap numbersBelow e)
 
-  pub local-pairs : by-sets.pairsWithin local u ≡ pairsWithin u false
-  unfolding by-sets.pairsWithin
-  local-pairs = refl
-
-  pub single-type-pairs : by-sets.pairsWithin singleType u ≡ pairsWithin u true
-  unfolding by-sets.pairsWithin
-  single-type-pairs = refl
-
   -- the sets of the labels, counted
-  pub local-counted : (words : List ℕ) (a : Counted) → SetsCounted words (labelSets u (member (left .words) 0)) a → (count : ℕ) → a ≡ Count count
-      → (count ≡ length (by-sets.setsOf local u)) × SetsHeld words (by-sets.setsOf local u)
+  pub local-counted : (front : List ℕ) (a : Counted) (pairs : ℕ → Bool) → pairs ≡ isLeft u → SetsCounted front (labelSets u pairs) a
+      → (count : ℕ) → a ≡ Count count → (count ≡ length (by-sets.setsOf local u)) × SetsHeld front (by-sets.setsOf local u)
   unfolding by-sets.setsOf
-  local-counted words a c count e =
-      subst (λ (pairs : ℕ → Bool). SetsCounted words (labelSets u pairs) (Count count)) (r .left-are)
-      (subst (SetsCounted words (labelSets u (member (left .words) 0))) e c)
+  local-counted front a pairs are c count e =
+      subst (λ (p : ℕ → Bool). SetsCounted front (labelSets u p) (Count count)) are (subst (SetsCounted front (labelSets u pairs)) e c)
 
-  pub local-over : (words : List ℕ) (a : Counted) → SetsCounted words (labelSets u (member (left .words) 0)) a → a ≡ TooMany
+  pub local-over : (front : List ℕ) (a : Counted) (pairs : ℕ → Bool) → pairs ≡ isLeft u → SetsCounted front (labelSets u pairs) a → a ≡ TooMany
       → (before after : List ℕ) → Widens local g h before after TooLarge
   unfolding by-sets.setsOf
-  local-over words a c e before after =
+  local-over front a pairs are c e before after =
       widens-many local
-      (subst (λ (pairs : ℕ → Bool). SetsCounted words (labelSets u pairs) TooMany) (r .left-are)
-      (subst (SetsCounted words (labelSets u (member (left .words) 0))) e c))
+      (subst (λ (p : ℕ → Bool). SetsCounted front (labelSets u p) TooMany) are (subst (SetsCounted front (labelSets u pairs)) e c))
       before after
 
-  pub start-counted : (words : List ℕ) (a : Counted) → SetsCounted words (labelSets u (member (starts .words) 0)) a → (count : ℕ) → a ≡ Count count
-      → (count ≡ length (labelSets u (isStart u))) × SetsHeld words (labelSets u (isStart u))
-  start-counted words a c count e =
-      subst (λ (pairs : ℕ → Bool). SetsCounted words (labelSets u pairs) (Count count)) (r .starts-are)
-      (subst (SetsCounted words (labelSets u (member (starts .words) 0))) e c)
+  pub start-counted : (front : List ℕ) (a : Counted) (pairs : ℕ → Bool) → pairs ≡ isStart u → SetsCounted front (labelSets u pairs) a
+      → (count : ℕ) → a ≡ Count count → (count ≡ length (labelSets u (isStart u))) × SetsHeld front (labelSets u (isStart u))
+  start-counted front a pairs are c count e =
+      subst (λ (p : ℕ → Bool). SetsCounted front (labelSets u p) (Count count)) are (subst (SetsCounted front (labelSets u pairs)) e c)
 
-  pub start-over : (words : List ℕ) (a : Counted) → SetsCounted words (labelSets u (member (starts .words) 0)) a → a ≡ TooMany
+  pub start-over : (front : List ℕ) (a : Counted) (pairs : ℕ → Bool) → pairs ≡ isStart u → SetsCounted front (labelSets u pairs) a → a ≡ TooMany
       → (before after : List ℕ) → Widens singleType g h before after TooLarge
   unfolding by-sets.setsOf
-  start-over words a c e before after =
+  start-over front a pairs are c e before after =
       let few : 64 < length (labelSets u (isStart u)) =
-      subst (λ (pairs : ℕ → Bool). SetsCounted words (labelSets u pairs) TooMany) (r .starts-are)
-      (subst (SetsCounted words (labelSets u (member (starts .words) 0))) e c) in
+      subst (λ (p : ℕ → Bool). SetsCounted front (labelSets u p) TooMany) are (subst (SetsCounted front (labelSets u pairs)) e c) in
       let (rest, f) = start-sets-first u in
       let n = ap length f ∙ length-append (labelSets u (isStart u)) rest in
       widens-many singleType (omega arith) before after
 
-  pub single-type-counted : (words : List ℕ) (a : Counted) → SetsCounted words (singleTypeSets u) a → (count : ℕ) → a ≡ Count count
-      → (count ≡ length (by-sets.setsOf singleType u)) × SetsHeld words (by-sets.setsOf singleType u)
+  pub single-type-counted : (front : List ℕ) (a : Counted) → SetsCounted front (singleTypeSets u) a → (count : ℕ) → a ≡ Count count
+      → (count ≡ length (by-sets.setsOf singleType u)) × SetsHeld front (by-sets.setsOf singleType u)
   unfolding by-sets.setsOf
-  single-type-counted words a c count e = subst (SetsCounted words (singleTypeSets u)) e c
+  single-type-counted front a c count e = subst (SetsCounted front (singleTypeSets u)) e c
 
-  pub single-type-over : (words : List ℕ) (a : Counted) → SetsCounted words (singleTypeSets u) a → a ≡ TooMany
+  pub single-type-over : (front : List ℕ) (a : Counted) → SetsCounted front (singleTypeSets u) a → a ≡ TooMany
       → (before after : List ℕ) → Widens singleType g h before after TooLarge
   unfolding by-sets.setsOf
-  single-type-over words a c e before after = widens-many singleType (subst (SetsCounted words (singleTypeSets u)) e c) before after
+  single-type-over front a c e before after = widens-many singleType (subst (SetsCounted front (singleTypeSets u)) e c) before after
 
   -- the start types of the local form, as the program finds them
-  local-types : (of : List ℕ) (n : ℕ) → n ≡ length (u .labels)
-      → NumbersOf (λ l. place sameNumbers (labelled u (member (left .words) 0) l) (localSets u)) n of → (types : ℕ → Bool)
-      → types ≡ puts (member (starts .words) 0) (λ p. getD of (labelIn (union .rules) p) 0) nothing (union .rules .rules)
+  local-types : (of : List ℕ) (n : ℕ) → n ≡ length (u .labels) → (left starts : ℕ → Bool) → left ≡ isLeft u → starts ≡ isStart u
+      → NumbersOf (λ l. place sameNumbers (labelled u left l) (localSets u)) n of → (types : ℕ → Bool)
+      → types ≡ puts starts (λ p. getD of (labelIn (union .rules) p) 0) nothing (union .rules .rules)
       → keep types (numbersBelow (length (localSets u))) ≡ localStarts u
-  local-types of n labels numbers types e =
+  local-types of n labels left starts left-is starts-are numbers types e =
       let key : ℕ → ℕ = λ p. getD of (labelIn (union .rules) p) 0 in
       ap (λ (test : ℕ → Bool). keep test (numbersBelow (length (localSets u))))
       (e
-      ∙ ap (λ (s : ℕ → Bool). puts s key nothing (union .rules .rules)) (r .starts-are)
+      ∙ ap (λ (s : ℕ → Bool). puts s key nothing (union .rules .rules)) starts-are
       ∙ ap (puts (isStart u) key nothing) (r .seen .rules .rules))
       ∙ local-starts u key
       (start-key u (r .seen .rules) fit of
       (subst (λ (m : ℕ). NumbersOf (λ l. place sameNumbers (labelled u (isLeft u) l) (localSets u)) m of) labels
-      (subst (λ (set : ℕ → Bool). NumbersOf (λ l. place sameNumbers (labelled u set l) (localSets u)) n of) (r .left-are) numbers)))
+      (subst (λ (set : ℕ → Bool). NumbersOf (λ l. place sameNumbers (labelled u set l) (localSets u)) n of) left-is numbers)))
 
   -- what is answered when the result is drafted
-  pub local-drafted : (words : List ℕ) (count : ℕ) (many : count ≡ length (by-sets.setsOf local u)) (held : SetsHeld words (by-sets.setsOf local u))
-      (of : List ℕ) (n : ℕ) → n ≡ length (u .labels)
-      → NumbersOf (λ l. place sameNumbers (labelled u (member (left .words) 0) l) (localSets u)) n of → (types : ℕ → Bool)
-      → types ≡ puts (member (starts .words) 0) (λ p. getD of (labelIn (union .rules) p) 0) nothing (union .rules .rules)
-      → (before after : List ℕ) (d : Drafted) (a : Made) → a ≡ madeOf d
-      → TablePut before 0 (ruleBySet u (by-sets.setsOf local u) (pairsWithin u false)) count
-      (tableBytes (tableBySets u (by-sets.setsOf local u) (pairsWithin u false) (keep types (numbersBelow count)))) after d
-      → Widens local g h before after a
+  pub local-drafted : (after : List ℕ) (count : ℕ) (many : count ≡ length (by-sets.setsOf local u)) (held : SetsHeld after (by-sets.setsOf local u))
+      (of : List ℕ) (n : ℕ) → n ≡ length (u .labels) → (left starts : ℕ → Bool) → left ≡ isLeft u → starts ≡ isStart u
+      → NumbersOf (λ l. place sameNumbers (labelled u left l) (localSets u)) n of → (types : ℕ → Bool)
+      → types ≡ puts starts (λ p. getD of (labelIn (union .rules) p) 0) nothing (union .rules .rules)
+      → (before end : List ℕ) (d : Drafted) (a : Made) → a ≡ madeOf d
+      → TablePut before 0 (ruleBySet u (by-sets.setsOf local u) (pairsWithin local u)) count
+      (tableBytes (tableBySets u (by-sets.setsOf local u) (pairsWithin local u) (keep types (numbersBelow count)))) end d
+      → Widens local g h before end a
   unfolding by-sets.setsOf
-  local-drafted words count many held of n labels numbers types e before after d a told put =
-      subst (Widens local g h before after) (sym told)
-      (widens-put local false local-pairs words count held many types
-      (local-table types count many (local-types of n labels numbers types e))
-      before after d put)
+  local-drafted after count many held of n labels left starts left-is starts-are numbers types e before end d a told put =
+      subst (Widens local g h before end) (sym told)
+      (widens-put local after count held many types
+      (local-table types count many (local-types of n labels left starts left-is starts-are numbers types e))
+      before end d put)
 
-  pub single-type-drafted : (words : List ℕ) (count : ℕ) (many : count ≡ length (by-sets.setsOf singleType u))
-      (held : SetsHeld words (by-sets.setsOf singleType u)) (first : ℕ) → first ≡ length (labelSets u (isStart u)) → (types : ℕ → Bool)
+  pub single-type-drafted : (after : List ℕ) (count : ℕ) (many : count ≡ length (by-sets.setsOf singleType u))
+      (held : SetsHeld after (by-sets.setsOf singleType u)) (first : ℕ) → first ≡ length (labelSets u (isStart u)) → (types : ℕ → Bool)
       → types ≡ puts (λ t. true) (λ t. t) nothing first
-      → (before after : List ℕ) (d : Drafted) (a : Made) → a ≡ madeOf d
-      → TablePut before 0 (ruleBySet u (by-sets.setsOf singleType u) (pairsWithin u true)) count
-      (tableBytes (tableBySets u (by-sets.setsOf singleType u) (pairsWithin u true) (keep types (numbersBelow count)))) after d
-      → Widens singleType g h before after a
+      → (before end : List ℕ) (d : Drafted) (a : Made) → a ≡ madeOf d
+      → TablePut before 0 (ruleBySet u (by-sets.setsOf singleType u) (pairsWithin singleType u)) count
+      (tableBytes (tableBySets u (by-sets.setsOf singleType u) (pairsWithin singleType u) (keep types (numbersBelow count)))) end d
+      → Widens singleType g h before end a
   unfolding by-sets.setsOf
-  single-type-drafted words count many held first e types t before after d a told put =
-      subst (Widens singleType g h before after) (sym told)
-      (widens-put singleType true single-type-pairs words count held many types
+  single-type-drafted after count many held first e types t before end d a told put =
+      subst (Widens singleType g h before end) (sym told)
+      (widens-put singleType after count held many types
       (ap (λ (test : ℕ → Bool). tableBySets u (singleTypeSets u) (metWithin u) (keep test (numbersBelow count))) t
       ∙ single-type-table first count many e)
-      before after d put)
+      before end d put)

@@ -16,6 +16,7 @@ use Rattle.grammar.specs.Limits.{standard}
 use Rattle.grammar.specs.Names.{Name}
 use Rattle.grammar.specs.Content.{Content}
 use Rattle.grammar.specs.Table.{Table}
+use Rattle.grammar.specs.Kinds.{Kind}
 use Rattle.grammar.specs.Fields.{fieldBytes}
 use Rattle.grammar.specs.Unite.{unite}
 use Rattle.grammar.specs.WriteTable.{ruleBytes, tableBytes}
@@ -35,8 +36,8 @@ use Rattle.emitting.specs.declared.completing.ContentMade.the-variants.{TooLarg
 use Rattle.emitting.specs.Completing.{Stored, Made}
 use Rattle.reducing.proofs.NumberLaws.{joined-only}
 use Rattle.sampling.specs.SampleTable.{rulesBytes}
-use Rattle.forms.specs.SetForms.{labelsOf, tableBySets}
-use Rattle.results.specs.Results.{pairsWithin, resultRule, isUsed, LabelsIn, labelsBytes, startsBytes, bodyBytes}
+use Rattle.forms.specs.SetForms.{labelsOf, tableBySets, pairsWithin}
+use Rattle.results.specs.Results.{resultRule, isUsed, LabelsIn, labelsBytes, startsBytes, bodyBytes}
 
 -- names of labels
 module _ {old add : List ℕ} {olds news : Names} (q : LabelsIn old add olds news) (l : ℕ) where
@@ -92,15 +93,15 @@ rule-value (x ∷ y ∷ more) made rest k l end c h s =
 regroup : (a s r e : List ℕ) → a ++ (s ++ (r ++ e)) ≡ a ++ s ++ r ++ e
 regroup a s r e = sym (append-assoc (a ++ s) r e ∙ append-assoc a s (r ++ e))
 
-pub table-bytes : (u : Table) (sets : List TypeSet) (single : Bool) (count : ℕ) (names : List Name) (on starts : ℕ → Bool)
+pub table-bytes : (u : Table) (sets : List TypeSet) (kind : Kind) (count : ℕ) (names : List Name) (on starts : ℕ → Bool)
     → u .labels ≡ names
     → count ≡ length sets
     → on ≡ isUsed u sets
-    → labelsBytes names on ++ bodyBytes starts (resultRule u sets single) count
-    ≡ tableBytes (tableBySets u sets (pairsWithin u single) (keep starts (numbersBelow count)))
+    → labelsBytes names on ++ bodyBytes starts (resultRule u sets kind) count
+    ≡ tableBytes (tableBySets u sets (pairsWithin kind u) (keep starts (numbersBelow count)))
 unfolding tableBytes tableBySets labelsOf
-table-bytes u sets single count names on starts e n o =
-    let rule = resultRule u sets single in
+table-bytes u sets kind count names on starts e n o =
+    let rule = resultRule u sets kind in
     let s = startsBytes starts count in
     let end = fieldBytes 0x1F [] in
     let first : labelsBytes names on

@@ -11,6 +11,7 @@ use borrow.Author.Tests.{eq-eqb}
 use Rattle.grammar.specs.Lists.{keep, place, joinedOf, isIn, numbersBelow}
 use Rattle.grammar.specs.Content.{none}
 use Rattle.grammar.specs.Table.{Table}
+use Rattle.grammar.specs.Kinds.{Kind}
 use Rattle.grammar.specs.ReadTable.{isEmpty}
 use Rattle.grammar.specs.Normalise.{pairsOf, normalise}
 use Rattle.grammar.specs.Reduce.{fruitful}
@@ -18,17 +19,20 @@ use Rattle.grammar.specs.SingleTypeForm.{TypeSet}
 use Rattle.theory.proofs.Alternatives.{alts, written, resultsOf}
 use Rattle.theory.proofs.ListLaws.{any-of, at-mem, at-or-else}
 use Rattle.theory.proofs.TableConditions.{Labelled}
-use Rattle.sets.specs.Sets.{member, wordsAt}
-use Rattle.sets.proofs.SetLaws.{length-words}
+use Rattle.sets.specs.Sets.{member, wordsAt, OthersKept}
+use Rattle.sets.proofs.SetLaws.{length-words, kept-before}
 use Rattle.reader.proofs.TableFaults.{is-some}
+use Rattle.pairs.specs.declared.lists.TypeLists.{TypeLists}
 use Rattle.pairs.specs.declared.union.United.{United}
+use Rattle.pairs.specs.Places.{leftAt, usedAt}
 use Rattle.pairs.specs.PairNumbers.{ruleAt, contentsIn}
 use Rattle.pairs.specs.View.{Views}
 use Rattle.pairs.proofs.ViewLaws.{seen}
-use Rattle.forms.specs.SetForms.{labelled, setLabel, labelsOf, setNumber, contentBySet, ruleBySet}
+use Rattle.forms.specs.SetForms.{labelled, setLabel, labelsOf, setNumber, contentBySet, ruleBySet, pairsWithin}
 use Rattle.forms.specs.SetWords.{Ascending}
 use Rattle.forms.specs.Worklist.{LabelsSized}
-use Rattle.results.specs.Results.{pairsWithin, resultRule, isUsed, SetsIn}
+use Rattle.forms.proofs.SetWordLaws.{sets-stay}
+use Rattle.results.specs.Results.{resultRule, isUsed, SetsIn, RulesFrom}
 
 first-there : (s : List ℕ) → 0 < length s → List·Memᴰ (getD s 0 0) s
 first-there s h = at-mem s 0 (at-or-else s 0 0 h)
@@ -89,10 +93,10 @@ module _ {old add : List ℕ} {v : United} {words : List ℕ} {count : ℕ} (q :
         ∙ any-of (λ s. eqb (setLabel (q .table) s) l) among (eq-eqb (setLabel (q .table) (getD (q .sets) i [])) l (sym f))
 
 -- the content, the label and the rule of a set
-module _ (u : Table) (sets : List TypeSet) (single : Bool) (i : ℕ) where
-  pub content-is : (set within : ℕ → Bool) → set ≡ (λ p. isIn p (getD sets i [])) → within ≡ pairsWithin u single (getD sets i [])
+module _ (u : Table) (sets : List TypeSet) (kind : Kind) (i : ℕ) where
+  pub content-is : (set within : ℕ → Bool) → set ≡ (λ p. isIn p (getD sets i [])) → within ≡ pairsWithin kind u (getD sets i [])
       → written (joinedOf (alts (resultsOf (pairsOf u) (fruitful (normalise u)) (setNumber u sets within))) (contentsIn u set))
-      ≡ resultRule u sets single i .content
+      ≡ resultRule u sets kind i .content
   unfolding ruleBySet contentBySet
   content-is set within e f =
       ap
@@ -102,14 +106,42 @@ module _ (u : Table) (sets : List TypeSet) (single : Bool) (i : ℕ) where
       ∙ ap
       (λ (t : ℕ → Bool).
       written
-      (joinedOf (alts (resultsOf (pairsOf u) (fruitful (normalise u)) (setNumber u sets (pairsWithin u single (getD sets i [])))))
+      (joinedOf (alts (resultsOf (pairsOf u) (fruitful (normalise u)) (setNumber u sets (pairsWithin kind u (getD sets i [])))))
       (contentsIn u t)))
       e
 
   pub rule-is : (on : ℕ → Bool) (l : ℕ) → on ≡ isUsed u sets
       → l ≡ place eqb (setLabel u (getD sets i [])) (keep on (numbersBelow (length (u .labels))))
-      → record { type = i; label = l; content = resultRule u sets single i .content } ≡ resultRule u sets single i
+      → record { type = i; label = l; content = resultRule u sets kind i .content } ≡ resultRule u sets kind i
   unfolding ruleBySet labelsOf
   rule-is on l e f =
-      ap (λ (n : ℕ). record { type = i; label = n; content = resultRule u sets single i .content })
+      ap (λ (n : ℕ). record { type = i; label = n; content = resultRule u sets kind i .content })
       (f ∙ ap (λ (t : ℕ → Bool). place eqb (setLabel u (getD sets i [])) (keep t (numbersBelow (length (u .labels))))) e)
+
+-- what the rules are made from stays when the labels used are laid down
+module _ {old add : List ℕ} {v : United} {labels : ℕ} {lists : TypeLists} {before after : List ℕ} {count : ℕ} {kind : Kind} where
+  abbrev pub rules-stay : RulesFrom old add v labels lists before count kind → OthersKept usedAt before after → length after ≡ length before
+      → RulesFrom old add v labels lists after count kind
+  rules-stay q kept same =
+      let s = q .in-words in
+      let room = q .room in
+      record {
+        in-words =
+            record {
+              table = s .table;
+              sets = s .sets;
+              views = s .views;
+              labelled = s .labelled;
+              labels-few = s .labels-few;
+              held = sets-stay before after usedAt (kept .front) (omega arith) (omega arith) (s .held);
+              count-is = s .count-is;
+              some = s .some;
+              pairs = s .pairs;
+            };
+        labels-are = q .labels-are;
+        lists-are = q .lists-are;
+        room = omega arith;
+        left-is = kept-before kept leftAt (omega arith) ∙ q .left-is;
+        shallow = q .shallow;
+        regular = q .regular;
+      }

@@ -37,9 +37,9 @@ use Rattle.emitting.specs.declared.writing.Drafted.{Drafted}
 use Rattle.emitting.specs.declared.writing.Drafted.the-variants.{Length as Upto, TooLarge as Over}
 use Rattle.sampling.specs.SampleTable.{TablePut}
 use Rattle.sampling.proofs.TableSize.{size-over, size-fits, content-over, bytes-over, all-fit}
-use Rattle.forms.specs.SetForms.{ruleBySet}
+use Rattle.forms.specs.SetForms.{ruleBySet, pairsWithin}
 use Rattle.forms.proofs.UnionFit.{UnionFit, union-fit}
-use Rattle.forms.proofs.WidenedBySets.{setsOf, pairsWithin, tableOf, table-of-kind, rules-of-kind, rule-count, too-many-sets}
+use Rattle.forms.proofs.WidenedBySets.{setsOf, tableOf, table-of-kind, rules-of-kind, rule-count, too-many-sets}
 use Rattle.results.specs.Widened.{madeOf, Widens}
 
 -- a list that has nothing

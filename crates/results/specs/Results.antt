@@ -1,7 +1,7 @@
 -- What the table of a result is written from: the union of two tables, its fruitful pairs by type, the pairs left, and the sets of
 -- pairs that are the types of the result.
 use Prim.Native.Nat.{ℕ, _+_, _≤_, _<_}
-use mathlib.Core.Bool.{Bool, true, false}
+use mathlib.Core.Bool.{Bool}
 use mathlib.Core.List.{List, [], _∷_, _++_, List·Memᴰ}
 use mathlib.Core.Path.{_≡_}
 use lib.Dec.{eqb}
@@ -10,10 +10,10 @@ use Rattle.grammar.specs.Lists.{any, keep, joinedOf, numbersBelow}
 use Rattle.grammar.specs.Names.{Name}
 use Rattle.grammar.specs.Table.{Rule, Table}
 use Rattle.grammar.specs.Fields.{fieldBytes}
+use Rattle.grammar.specs.Kinds.{Kind}
 use Rattle.grammar.specs.SingleTypeForm.{TypeSet}
 use Rattle.theory.proofs.TableConditions.{Labelled}
-use Rattle.sets.specs.Sets.{member}
-use Rattle.sets.specs.declared.four.Set4.{Set4}
+use Rattle.sets.specs.Sets.{setAt}
 use Rattle.pairs.specs.declared.labels.Names.{Names}
 use Rattle.pairs.specs.declared.lists.TypeLists.{TypeLists}
 use Rattle.pairs.specs.declared.union.United.{United}
@@ -21,21 +21,17 @@ use Rattle.pairs.specs.declared.union.Union.{Union}
 use Rattle.pairs.specs.UnitedLabels.{NamesAt}
 use Rattle.pairs.specs.View.{Views}
 use Rattle.pairs.specs.TypeLists.{ListsOf}
+use Rattle.pairs.specs.Places.{leftAt, usedAt}
 use Rattle.pairs.specs.PairNumbers.{fruitfulOf, isLeft}
 use Rattle.emitting.specs.Completing.{Regular}
 use Rattle.merging.specs.Merging.{Shallow}
-use Rattle.forms.specs.SetForms.{metWithin, setLabel, ruleBySet}
+use Rattle.forms.specs.SetForms.{setLabel, ruleBySet, pairsWithin}
 use Rattle.forms.specs.SetWords.{SetsHeld}
 use Rattle.sampling.specs.SampleTable.{restBytes}
 
--- the pairs that form the sets named in the content of a set: single-type those met in its contents, local all that are left
-abbrev pub pairsWithin : Table → Bool → TypeSet → ℕ → Bool
-pairsWithin u true = metWithin u
-pairsWithin u false = λ s. isLeft u
-
 -- the rule of a set, by its number
-abbrev pub resultRule : Table → List TypeSet → Bool → ℕ → Rule
-resultRule u sets single = ruleBySet u sets (pairsWithin u single)
+abbrev pub resultRule : Table → List TypeSet → Kind → ℕ → Rule
+resultRule u sets kind = ruleBySet u sets (pairsWithin kind u)
 
 -- some set has the label
 abbrev pub isUsed : Table → List TypeSet → ℕ → Bool
@@ -61,32 +57,30 @@ pub record SetsIn (old add : List ℕ) (v : United) (words : List ℕ) (count : 
   pub pairs : (s : TypeSet) → List·Memᴰ s sets → (p : ℕ) → List·Memᴰ p s → p < length (table .rules)
 
 -- and what their contents are made from
-pub record RulesFrom (old add : List ℕ) (v : United) (labels : ℕ) (lists : TypeLists) (left : Set4) (words : List ℕ) (count : ℕ) (single : Bool)
-    : Type 0 where
+pub record RulesFrom (old add : List ℕ) (v : United) (labels : ℕ) (lists : TypeLists) (words : List ℕ) (count : ℕ) (kind : Kind) : Type 0 where
   pub in-words : SetsIn old add v words count
   pub labels-are : labels ≡ length (in-words .table .labels)
   pub lists-are : ListsOf (fruitfulOf (in-words .table)) lists
-  pub left-is : member (left .words) 0 ≡ isLeft (in-words .table)
-  pub left-room : length (left .words) ≡ 4
+  pub room : 16384 ≤ length words
+  pub left-is : setAt words leftAt ≡ isLeft (in-words .table)
   pub shallow : Shallow (in-words .table)
-  pub regular : (i : ℕ) → i < count → Regular (resultRule (in-words .table) (in-words .sets) single i .content)
+  pub regular : (i : ℕ) → i < count → Regular (resultRule (in-words .table) (in-words .sets) kind i .content)
 
 -- with the labels that are used
-pub record RulesWith (old add : List ℕ) (v : United) (labels : ℕ) (lists : TypeLists) (left : Set4) (words : List ℕ) (count : ℕ) (single : Bool)
-    (used : Set4) : Type 0 where
-  pub rules : RulesFrom old add v labels lists left words count single
-  pub used-are : member (used .words) 0 ≡ isUsed (rules .in-words .table) (rules .in-words .sets)
+pub record RulesWith (old add : List ℕ) (v : United) (labels : ℕ) (lists : TypeLists) (words : List ℕ) (count : ℕ) (kind : Kind) : Type 0 where
+  pub rules : RulesFrom old add v labels lists words count kind
+  pub used-are : setAt words usedAt ≡ isUsed (rules .in-words .table) (rules .in-words .sets)
 
 -- the rule of a number
-abbrev pub ruleFrom : {old add : List ℕ} {v : United} {labels : ℕ} {lists : TypeLists} {left : Set4} {words : List ℕ} {count : ℕ} {single : Bool}
-    → RulesFrom old add v labels lists left words count single
+abbrev pub ruleFrom : {old add : List ℕ} {v : United} {labels : ℕ} {lists : TypeLists} {words : List ℕ} {count : ℕ} {kind : Kind}
+    → RulesFrom old add v labels lists words count kind
     → ℕ
     → Rule
-ruleFrom {old} {add} {v} {labels} {lists} {left} {words} {count} {single} q = resultRule (q .in-words .table) (q .in-words .sets) single
+ruleFrom {old} {add} {v} {labels} {lists} {words} {count} {kind} q = resultRule (q .in-words .table) (q .in-words .sets) kind
 
 -- What a result is written from: its rules, and where the labels stand.
-pub record ResultFrom (old add : List ℕ) (union : Union) (lists : TypeLists) (left : Set4) (words : List ℕ) (count : ℕ) (single : Bool) : Type 0 where
-  pub rules : RulesFrom old add (union .rules) (union .«old_names» .count + union .«new_names» .count) lists left words count single
+pub record ResultFrom (old add : List ℕ) (union : Union) (lists : TypeLists) (words : List ℕ) (count : ℕ) (kind : Kind) : Type 0 where
+  pub rules : RulesFrom old add (union .rules) (union .«old_names» .count + union .«new_names» .count) lists words count kind
   pub names : LabelsIn old add (union .«old_names») (union .«new_names»)
   pub same : rules .in-words .table .labels ≡ names .first ++ names .second
 

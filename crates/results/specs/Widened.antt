@@ -12,13 +12,13 @@ use Rattle.grammar.specs.Outcome.{given, refused}
 use Rattle.grammar.specs.WriteTable.{tableBytes}
 use Rattle.grammar.specs.WithinLimits.{TableWithin}
 use Rattle.grammar.specs.Unite.{unite}
-use Rattle.sets.specs.Sets.{member}
-use Rattle.sets.specs.declared.four.Set4.{Set4}
+use Rattle.sets.specs.Sets.{setAt}
 use Rattle.pairs.specs.declared.lists.TypeLists.{TypeLists}
 use Rattle.pairs.specs.declared.union.Union.{Union}
 use Rattle.pairs.specs.View.{UnionSeen}
 use Rattle.pairs.specs.PairNumbers.{fruitfulOf, isStart, isLeft}
 use Rattle.pairs.specs.TypeLists.{ListsOf}
+use Rattle.pairs.specs.Places.{startsAt, leftAt}
 use Rattle.forms.specs.SetForms.{labelSets}
 use Rattle.forms.specs.SetWords.{SetsHeld}
 use Rattle.grammar.specs.Widen.{widenByTable}
@@ -53,29 +53,27 @@ unfoldable pub madeOf : Drafted → Made
 madeOf (Upto n) = Length n
 madeOf Over = TooLarge
 
--- What is known of two tables once their union is reduced: its view, its fruitful pairs by type, the start pairs, of which there is
--- one, and the pairs that are left.
-pub record UnionReduced (old add : List ℕ) (union : Union) (lists : TypeLists) (starts left : Set4) (g h : Table) : Type 0 where
+-- What is known of two tables once their union is reduced: its view, its fruitful pairs by type, and in the words the start pairs, of
+-- which there is one, and the pairs that are left.
+pub record UnionReduced (old add : List ℕ) (union : Union) (lists : TypeLists) (words : List ℕ) (g h : Table) : Type 0 where
   pub first-within : TableWithin standard asciiClasses g
   pub second-within : TableWithin standard asciiClasses h
   pub seen : UnionSeen old add g h union
   pub lists-are : ListsOf (fruitfulOf (unite standard g h)) lists
-  pub starts-are : member (starts .words) 0 ≡ isStart (unite standard g h)
-  pub starts-room : length (starts .words) ≡ 4
-  pub left-are : member (left .words) 0 ≡ isLeft (unite standard g h)
-  pub left-room : length (left .words) ≡ 4
+  pub starts-are : setAt words startsAt ≡ isStart (unite standard g h)
+  pub left-are : setAt words leftAt ≡ isLeft (unite standard g h)
   pub some-start : (p : ℕ) × (isStart (unite standard g h) p ≡ true)
 
 -- it is known of some tables
-pub record SomeReduced (old add : List ℕ) (union : Union) (lists : TypeLists) (starts left : Set4) : Type 0 where
+pub record SomeReduced (old add : List ℕ) (union : Union) (lists : TypeLists) (words : List ℕ) : Type 0 where
   pub first : Table
   pub second : Table
-  pub reduced : UnionReduced old add union lists starts left first second
+  pub reduced : UnionReduced old add union lists words first second
 
 -- and the start sets stand in the words
-pub record SomeStarts (old add : List ℕ) (union : Union) (lists : TypeLists) (starts left : Set4) (words : List ℕ) (count : ℕ) : Type 0 where
+pub record SomeStarts (old add : List ℕ) (union : Union) (lists : TypeLists) (words : List ℕ) (count : ℕ) : Type 0 where
   pub first : Table
   pub second : Table
-  pub reduced : UnionReduced old add union lists starts left first second
+  pub reduced : UnionReduced old add union lists words first second
   pub held : SetsHeld words (labelSets (unite standard first second) (isStart (unite standard first second)))
   pub many : count ≡ length (labelSets (unite standard first second) (isStart (unite standard first second)))

@@ -3,9 +3,11 @@ use emitting::writing::Drafted;
 use emitting::writing::put_field;
 use forms::label_sets::set_label;
 use pairs::labels::Names;
+use pairs::places::USED;
 use pairs::union::United;
 use sets::four::Set4;
 use sets::words::load;
+use sets::words::store;
 ghost use Prim.Native.Nat.{ℕ, _+_, _≤_, _<_};
 ghost use mathlib.Core.Bool.{true, false};
 ghost use mathlib.Core.Logic.{_⊎_};
@@ -16,14 +18,17 @@ ghost use lib.ListN.{length, getD};
 ghost use Rattle.grammar.specs.Lists.{keep, place, numbersBelow};
 ghost use Rattle.grammar.specs.Fields.{fieldBytes};
 ghost use Rattle.theory.proofs.Alternatives.{onlyIf};
-ghost use Rattle.sets.specs.Sets.{member};
+ghost use Rattle.sets.specs.Sets.{member, setAt, OthersKept};
+ghost use Rattle.pairs.specs.Places.{usedAt};
 ghost use Rattle.emitting.specs.Writing.{Puts};
 ghost use Rattle.results.specs.Results.{isUsed, LabelsIn, SetsIn, labelsBytes};
 
-// The labels that the sets in the words have.
-pub fn labels_used(v: United, words: &[u32], count: usize) -> Set4
-    requires { ⌜ ((old : List ℕ) × (add : List ℕ) × SetsIn old add v (now words) count) ⌝ }
-    ensures { λ r. ⌜ ((old add : List ℕ) (q : SetsIn old add v (now (words .entry)) count) → member (r .words) 0 ≡ isUsed (q .table) (q .sets)) ⌝ }
+// Finds the labels that the sets in the words have.
+pub fn labels_used(v: United, words: &mut [u32], count: usize)
+    requires { ⌜ ((old : List ℕ) × (add : List ℕ) × SetsIn old add v (now words) count) × (16384 ≤ length (now words)) ⌝ }
+    ensures { λ r. ⌜ ((old add : List ℕ) (q : SetsIn old add v (now (words .entry)) count)
+        → setAt (now (words .exit)) usedAt ≡ isUsed (q .table) (q .sets))
+        × OthersKept usedAt (now (words .entry)) (now (words .exit)) ⌝ }
 {
     let mut used = Set4::empty();
     let mut i: usize = 0;
@@ -33,7 +38,7 @@ pub fn labels_used(v: United, words: &[u32], count: usize) -> Set4
         used = more;
         i += 1;
     }
-    used
+    store(words, USED, used);
 }
 
 // A number, with one more if asked.
@@ -115,12 +120,13 @@ pub fn put_labels(
     add: &[u8],
     olds: Names,
     news: Names,
-    used: Set4,
+    words: &[u32],
 ) -> Drafted
-    requires { ⌜ (32768 ≤ length (now draft)) × LabelsIn (now old) (now add) olds news ⌝ }
+    requires { ⌜ (32768 ≤ length (now draft)) × (16384 ≤ length (now words)) × LabelsIn (now old) (now add) olds news ⌝ }
     ensures { λ r. ⌜ ((q : LabelsIn (now (old .entry)) (now (add .entry)) olds news)
-        → Puts (now (draft .entry)) 0 (labelsBytes (q .first ++ q .second) (member (used .words) 0)) (now (draft .exit)) r) ⌝ }
+        → Puts (now (draft .entry)) 0 (labelsBytes (q .first ++ q .second) (setAt (now (words .entry)) usedAt)) (now (draft .exit)) r) ⌝ }
 {
+    let used = load(words, USED);
     let labels = olds.count + news.count;
     let mut end: usize = 0;
     let mut l: usize = 0;

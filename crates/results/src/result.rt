@@ -3,19 +3,21 @@ use crate::labels_used::labels_used;
 use crate::labels_used::put_labels;
 use crate::rules::put_rest;
 use crate::starts::put_starts;
+use crate::widen::Kind;
 use emitting::writing::Drafted;
 use pairs::lists::TypeLists;
 use pairs::union::Union;
 use pairs::union::United;
-use sets::four::Set4;
 ghost use Prim.Native.Nat.{_≤_};
 ghost use lib.ListN.{length};
 ghost use Rattle.grammar.specs.Lists.{keep, numbersBelow};
 ghost use Rattle.grammar.specs.WriteTable.{tableBytes};
-ghost use Rattle.sets.specs.Sets.{member};
-ghost use Rattle.forms.specs.SetForms.{tableBySets};
+ghost use Rattle.sets.specs.Sets.{setAt};
+ghost use Rattle.pairs.specs.Places.{startTypesAt};
+ghost use Rattle.forms.specs.SetForms.{tableBySets, pairsWithin};
 ghost use Rattle.sampling.specs.SampleTable.{TablePut};
-ghost use Rattle.results.specs.Results.{pairsWithin, RulesWith, ResultFrom, ruleFrom, bodyBytes};
+ghost use Rattle.results.specs.Results.{RulesWith, ResultFrom, ruleFrom, bodyBytes};
+ghost use Rattle.results.specs.Widened.{kindOf};
 
 // Writes the starts, the rules and the end.
 fn put_body(
@@ -27,19 +29,17 @@ fn put_body(
     v: United,
     labels: usize,
     lists: TypeLists,
-    left: Set4,
     words: &[u32],
     count: usize,
-    single: bool,
-    used: Set4,
-    starts: Set4,
+    kind: Kind,
 ) -> Drafted
     requires { ⌜ (at ≤ 32768) × (32768 ≤ length (now draft)) × (33860 ≤ length (now scratch))
-        × RulesWith (now old) (now add) v labels lists left (now words) count single used ⌝ }
-    ensures { λ r. ⌜ ((q : RulesWith (now (old .entry)) (now (add .entry)) v labels lists left (now (words .entry)) count single used)
-        → TablePut (now (draft .entry)) at (ruleFrom (q .rules)) count (bodyBytes (member (starts .words) 0) (ruleFrom (q .rules)) count) (now (draft .exit)) r) ⌝ }
+        × RulesWith (now old) (now add) v labels lists (now words) count (kindOf kind) ⌝ }
+    ensures { λ r. ⌜ ((q : RulesWith (now (old .entry)) (now (add .entry)) v labels lists (now (words .entry)) count (kindOf kind))
+        → TablePut (now (draft .entry)) at (ruleFrom (q .rules)) count
+        (bodyBytes (setAt (now (words .entry)) startTypesAt) (ruleFrom (q .rules)) count) (now (draft .exit)) r) ⌝ }
 {
-    match put_starts(draft, at, starts, count) {
+    match put_starts(draft, at, words, count) {
         Drafted::TooLarge => Drafted::TooLarge,
         Drafted::Length(end) => put_rest(
             draft,
@@ -50,11 +50,9 @@ fn put_body(
             v,
             labels,
             lists,
-            left,
             words,
             count,
-            single,
-            used,
+            kind,
         ),
     }
 }
@@ -67,24 +65,22 @@ pub fn put_result(
     add: &[u8],
     union: Union,
     lists: TypeLists,
-    left: Set4,
-    words: &[u32],
+    words: &mut [u32],
     count: usize,
-    starts: Set4,
-    single: bool,
+    kind: Kind,
 ) -> Drafted
     requires { ⌜ (32768 ≤ length (now draft)) × (33860 ≤ length (now scratch))
-        × ResultFrom (now old) (now add) union lists left (now words) count single ⌝ }
-    ensures { λ r. ⌜ ((q : ResultFrom (now (old .entry)) (now (add .entry)) union lists left (now (words .entry)) count single)
+        × ResultFrom (now old) (now add) union lists (now words) count (kindOf kind) ⌝ }
+    ensures { λ r. ⌜ ((q : ResultFrom (now (old .entry)) (now (add .entry)) union lists (now (words .entry)) count (kindOf kind))
         → TablePut (now (draft .entry)) 0 (ruleFrom (q .rules)) count
-        (tableBytes (tableBySets (q .rules .in-words .table) (q .rules .in-words .sets) (pairsWithin (q .rules .in-words .table) single)
-        (keep (member (starts .words) 0) (numbersBelow count)))) (now (draft .exit)) r) ⌝ }
+        (tableBytes (tableBySets (q .rules .in-words .table) (q .rules .in-words .sets) (pairsWithin (kindOf kind) (q .rules .in-words .table))
+        (keep (setAt (now (words .entry)) startTypesAt) (numbersBelow count)))) (now (draft .exit)) r) ⌝ }
 {
     let v = union.rules;
     let olds = union.old_names;
     let news = union.new_names;
-    let used = labels_used(v, words, count);
-    match put_labels(draft, old, add, olds, news, used) {
+    labels_used(v, words, count);
+    match put_labels(draft, old, add, olds, news, words) {
         Drafted::TooLarge => Drafted::TooLarge,
         Drafted::Length(end) => put_body(
             draft,
@@ -95,12 +91,9 @@ pub fn put_result(
             v,
             olds.count + news.count,
             lists,
-            left,
             words,
             count,
-            single,
-            used,
-            starts,
+            kind,
         ),
     }
 }

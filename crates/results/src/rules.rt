@@ -1,5 +1,6 @@
 // The rules of a result: one for each set of pairs, in the order of the sets.
 use crate::labels_used::label_place;
+use crate::widen::Kind;
 use emitting::completing::ContentMade;
 use emitting::writing::Drafted;
 use emitting::writing::put_field;
@@ -8,6 +9,8 @@ use forms::label_sets::set_label;
 use forms::set_numbers::result_lists;
 use merging::contents::content_of_set;
 use pairs::lists::TypeLists;
+use pairs::places::LEFT;
+use pairs::places::USED;
 use pairs::union::United;
 use reducing::meeting::met_set;
 use reducing::type_lists::types_listed;
@@ -25,7 +28,9 @@ ghost use Rattle.pairs.specs.TypeLists.{ListsOf};
 ghost use Rattle.pairs.specs.PairNumbers.{fruitfulOf, isLeft};
 ghost use Rattle.emitting.specs.Completing.{Made};
 ghost use Rattle.sampling.specs.SampleTable.{RulePuts, RulesPut, TablePut, restBytes};
-ghost use Rattle.results.specs.Results.{pairsWithin, RulesFrom, RulesWith, ruleFrom};
+ghost use Rattle.forms.specs.SetForms.{pairsWithin};
+ghost use Rattle.results.specs.Results.{RulesFrom, RulesWith, ruleFrom};
+ghost use Rattle.results.specs.Widened.{kindOf};
 
 // The pairs that form the sets named in the content of a set.
 fn pairs_within(
@@ -34,18 +39,18 @@ fn pairs_within(
     v: United,
     lists: TypeLists,
     left: Set4,
-    single: bool,
+    kind: Kind,
     set: Set4,
 ) -> Set4
     requires { ⌜ ((u : Table) × Views (now old) (now add) v u × ListsOf (fruitfulOf u) lists) × (length (left .words) ≡ 4) × (length (set .words) ≡ 4) ⌝ }
     ensures { λ r. ⌜ ((u : Table) (s : TypeSet) → Views (now (old .entry)) (now (add .entry)) v u → ListsOf (fruitfulOf u) lists
-        → member (left .words) 0 ≡ isLeft u → member (set .words) 0 ≡ (λ p. isIn p s) → member (r .words) 0 ≡ pairsWithin u single s)
-        × (length (r .words) ≡ 4) ⌝ }
+        → member (left .words) 0 ≡ isLeft u → member (set .words) 0 ≡ (λ p. isIn p s)
+        → member (r .words) 0 ≡ pairsWithin (kindOf kind) u s) × (length (r .words) ≡ 4) ⌝ }
 {
-    if single {
-        return met_set(old, add, v, lists, set);
+    match kind {
+        Kind::Local => left,
+        Kind::SingleType => met_set(old, add, v, lists, set),
     }
-    left
 }
 
 // Makes the content of the set of a number at the front of the scratch bytes.
@@ -56,19 +61,19 @@ fn set_content(
     v: United,
     labels: usize,
     lists: TypeLists,
-    left: Set4,
     words: &[u32],
     count: usize,
-    single: bool,
+    kind: Kind,
     i: usize,
     set: Set4,
 ) -> ContentMade
     requires { ⌜ (33858 ≤ length (now scratch)) × (i < count) × (set .words ≡ wordsAt (now words) (4 * i) 4)
-        × RulesFrom (now old) (now add) v labels lists left (now words) count single ⌝ }
-    ensures { λ r. ⌜ ((q : RulesFrom (now (old .entry)) (now (add .entry)) v labels lists left (now (words .entry)) count single)
+        × RulesFrom (now old) (now add) v labels lists (now words) count (kindOf kind) ⌝ }
+    ensures { λ r. ⌜ ((q : RulesFrom (now (old .entry)) (now (add .entry)) v labels lists (now (words .entry)) count (kindOf kind))
         → Made (now (scratch .exit)) (ruleFrom q i .content) r) ⌝ }
 {
-    let within = pairs_within(old, add, v, lists, left, single, set);
+    let left = load(words, LEFT);
+    let within = pairs_within(old, add, v, lists, left, kind, set);
     let numbers = label_numbers(v, labels, within, words, count);
     let results = result_lists(v, lists, left, numbers);
     let types = types_listed(results);
@@ -85,19 +90,18 @@ fn put_rule(
     v: United,
     labels: usize,
     lists: TypeLists,
-    left: Set4,
     words: &[u32],
     count: usize,
-    single: bool,
-    used: Set4,
+    kind: Kind,
     i: usize,
 ) -> Drafted
     requires { ⌜ (at ≤ 32768) × (32768 ≤ length (now draft)) × (33860 ≤ length (now scratch)) × (i < count)
-        × RulesWith (now old) (now add) v labels lists left (now words) count single used ⌝ }
-    ensures { λ r. ⌜ ((q : RulesWith (now (old .entry)) (now (add .entry)) v labels lists left (now (words .entry)) count single used)
+        × RulesWith (now old) (now add) v labels lists (now words) count (kindOf kind) ⌝ }
+    ensures { λ r. ⌜ ((q : RulesWith (now (old .entry)) (now (add .entry)) v labels lists (now (words .entry)) count (kindOf kind))
         → RulePuts (now (draft .entry)) at (ruleFrom (q .rules) i) (now (draft .exit)) r) ⌝ }
 {
     let set = load(words, 4 * i);
+    let used = load(words, USED);
     let label = label_place(used, set_label(v, set));
     match set_content(
         &mut scratch[2..],
@@ -106,10 +110,9 @@ fn put_rule(
         v,
         labels,
         lists,
-        left,
         words,
         count,
-        single,
+        kind,
         i,
         set,
     ) {
@@ -133,15 +136,13 @@ fn put_rules(
     v: United,
     labels: usize,
     lists: TypeLists,
-    left: Set4,
     words: &[u32],
     count: usize,
-    single: bool,
-    used: Set4,
+    kind: Kind,
 ) -> Drafted
     requires { ⌜ (at ≤ 32768) × (32768 ≤ length (now draft)) × (33860 ≤ length (now scratch))
-        × RulesWith (now old) (now add) v labels lists left (now words) count single used ⌝ }
-    ensures { λ r. ⌜ ((q : RulesWith (now (old .entry)) (now (add .entry)) v labels lists left (now (words .entry)) count single used)
+        × RulesWith (now old) (now add) v labels lists (now words) count (kindOf kind) ⌝ }
+    ensures { λ r. ⌜ ((q : RulesWith (now (old .entry)) (now (add .entry)) v labels lists (now (words .entry)) count (kindOf kind))
         → RulesPut (now (draft .entry)) at (ruleFrom (q .rules)) count (now (draft .exit)) r) ⌝ }
 {
     let mut end = at;
@@ -156,11 +157,9 @@ fn put_rules(
             v,
             labels,
             lists,
-            left,
             words,
             count,
-            single,
-            used,
+            kind,
             i,
         ) {
             Drafted::TooLarge => {
@@ -185,15 +184,13 @@ pub fn put_rest(
     v: United,
     labels: usize,
     lists: TypeLists,
-    left: Set4,
     words: &[u32],
     count: usize,
-    single: bool,
-    used: Set4,
+    kind: Kind,
 ) -> Drafted
     requires { ⌜ (at ≤ 32768) × (32768 ≤ length (now draft)) × (33860 ≤ length (now scratch))
-        × RulesWith (now old) (now add) v labels lists left (now words) count single used ⌝ }
-    ensures { λ r. ⌜ ((q : RulesWith (now (old .entry)) (now (add .entry)) v labels lists left (now (words .entry)) count single used)
+        × RulesWith (now old) (now add) v labels lists (now words) count (kindOf kind) ⌝ }
+    ensures { λ r. ⌜ ((q : RulesWith (now (old .entry)) (now (add .entry)) v labels lists (now (words .entry)) count (kindOf kind))
         → TablePut (now (draft .entry)) at (ruleFrom (q .rules)) count (restBytes (ruleFrom (q .rules)) count) (now (draft .exit)) r) ⌝ }
 {
     match put_rules(
@@ -205,11 +202,9 @@ pub fn put_rest(
         v,
         labels,
         lists,
-        left,
         words,
         count,
-        single,
-        used,
+        kind,
     ) {
         Drafted::TooLarge => Drafted::TooLarge,
         Drafted::Length(end) => put_field(draft, end, 0x1F, &scratch[0..0]),

@@ -1,23 +1,31 @@
-// The start types of a result, as a set of numbers.
+// The start types of a result, a set of numbers in the words.
 use forms::label_sets::Numbers;
 use pairs::fruitful::put_if;
+use pairs::places::START_TYPES;
+use pairs::places::STARTS;
 use pairs::union::United;
 use reader::numbers::wide;
 use sets::four::Set4;
+use sets::words::load;
+use sets::words::store;
 ghost use mathlib.Core.Bool.{true};
 ghost use mathlib.Core.Path.{_≡_};
 ghost use Prim.Native.Nat.{ℕ, _≤_, _<_};
 ghost use lib.ListN.{length, getD};
-ghost use Rattle.sets.specs.Sets.{member, nothing};
+ghost use Rattle.sets.specs.Sets.{setAt, nothing, OthersKept};
+ghost use Rattle.pairs.specs.Places.{startsAt, startTypesAt};
 ghost use Rattle.pairs.specs.Rounds.{puts};
 ghost use Rattle.pairs.specs.View.{ViewSized, labelIn};
 ghost use Rattle.forms.specs.Worklist.{LabelsSized};
 
 // Local: the numbers of the sets of the start pairs. `numbers` are those of the labels.
-pub fn start_numbers(v: United, starts: Set4, numbers: Numbers) -> Set4
-    requires { ⌜ (ViewSized v) × (LabelsSized v) × (length (starts .words) ≡ 4) × ((l : ℕ) → getD (numbers .of) l 0 ≤ 64) ⌝ }
-    ensures { λ r. ⌜ (member (r .words) 0 ≡ puts (member (starts .words) 0) (λ p. getD (numbers .of) (labelIn v p) 0) nothing (v .rules)) × (length (r .words) ≡ 4) ⌝ }
+pub fn start_numbers(v: United, numbers: Numbers, words: &mut [u32])
+    requires { ⌜ (ViewSized v) × (LabelsSized v) × (16384 ≤ length (now words)) × ((l : ℕ) → getD (numbers .of) l 0 ≤ 64) ⌝ }
+    ensures { λ r. ⌜ (setAt (now (words .exit)) startTypesAt
+        ≡ puts (setAt (now (words .entry)) startsAt) (λ p. getD (numbers .of) (labelIn v p) 0) nothing (v .rules))
+        × OthersKept startTypesAt (now (words .entry)) (now (words .exit)) ⌝ }
 {
+    let starts = load(words, STARTS);
     let labels = v.labels;
     let of = numbers.of;
     let rules = v.rules;
@@ -29,13 +37,14 @@ pub fn start_numbers(v: United, starts: Set4, numbers: Numbers) -> Set4
         set = more;
         p += 1;
     }
-    set
+    store(words, START_TYPES, set);
 }
 
 // Single-type: the numbers of the first sets.
-pub fn first_numbers(n: usize) -> Set4
-    requires { ⌜ n ≤ 64 ⌝ }
-    ensures { λ r. ⌜ (member (r .words) 0 ≡ puts (λ t. true) (λ t. t) nothing n) × (length (r .words) ≡ 4) ⌝ }
+pub fn first_numbers(n: usize, words: &mut [u32])
+    requires { ⌜ (n ≤ 64) × (16384 ≤ length (now words)) ⌝ }
+    ensures { λ r. ⌜ (setAt (now (words .exit)) startTypesAt ≡ puts (λ t. true) (λ t. t) nothing n)
+        × OthersKept startTypesAt (now (words .entry)) (now (words .exit)) ⌝ }
 {
     let mut set = Set4::empty();
     let mut t: usize = 0;
@@ -44,5 +53,5 @@ pub fn first_numbers(n: usize) -> Set4
         set = more;
         t += 1;
     }
-    set
+    store(words, START_TYPES, set);
 }

@@ -1,13 +1,15 @@
 // The starts of a result.
 use emitting::writing::Drafted;
 use emitting::writing::put_field;
-use sets::four::Set4;
+use pairs::places::START_TYPES;
+use sets::words::load;
 ghost use Prim.Native.Nat.{_≤_, _<_};
 ghost use mathlib.Core.List.{[], _∷_};
 ghost use lib.ListN.{length};
 ghost use Rattle.grammar.specs.Fields.{fieldBytes};
 ghost use Rattle.theory.proofs.Alternatives.{onlyIf};
-ghost use Rattle.sets.specs.Sets.{member};
+ghost use Rattle.sets.specs.Sets.{setAt};
+ghost use Rattle.pairs.specs.Places.{startTypesAt};
 ghost use Rattle.emitting.specs.Writing.{Puts};
 ghost use Rattle.results.specs.Results.{startsBytes};
 
@@ -24,10 +26,11 @@ fn put_start(draft: &mut [u8], at: usize, kind: usize, on: bool) -> Drafted
 }
 
 // Writes the starts, ascending.
-pub fn put_starts(draft: &mut [u8], at: usize, starts: Set4, count: usize) -> Drafted
-    requires { ⌜ (at ≤ 32768) × (32768 ≤ length (now draft)) × (count ≤ 128) ⌝ }
-    ensures { λ r. ⌜ Puts (now (draft .entry)) at (startsBytes (member (starts .words) 0) count) (now (draft .exit)) r ⌝ }
+pub fn put_starts(draft: &mut [u8], at: usize, words: &[u32], count: usize) -> Drafted
+    requires { ⌜ (at ≤ 32768) × (32768 ≤ length (now draft)) × (16384 ≤ length (now words)) × (count ≤ 128) ⌝ }
+    ensures { λ r. ⌜ Puts (now (draft .entry)) at (startsBytes (setAt (now (words .entry)) startTypesAt) count) (now (draft .exit)) r ⌝ }
 {
+    let starts = load(words, START_TYPES);
     let mut end = at;
     let mut t: usize = 0;
     while t < count {

@@ -10,14 +10,16 @@ use forms::set_words::Counted;
 use forms::worklist::more_sets;
 use pairs::fruitful::fruitful_pairs;
 use pairs::lists::TypeLists;
+use pairs::places::LEFT;
+use pairs::places::SETS;
+use pairs::places::STARTS;
 use pairs::union::Union;
 use pairs::union::unite_tables;
 use reader::tables::TableIndex;
 use reducing::leaving::pairs_left;
 use reducing::leaving::start_pairs;
 use reducing::type_lists::fruitful_lists;
-use sets::four::Set4;
-ghost use mathlib.Core.Bool.{false, true};
+use sets::words::load;
 ghost use mathlib.Core.Path.{_≡_};
 ghost use Prim.Native.Nat.{_+_, _≤_};
 ghost use lib.ListN.{length};
@@ -69,22 +71,21 @@ fn widen_local(
     add: &[u8],
     union: Union,
     lists: TypeLists,
-    starts: Set4,
-    left: Set4,
     words: &mut [u32],
     draft: &mut [u8],
 ) -> Made
-    requires { ⌜ (SomeReduced (now old) (now add) union lists starts left) × (16384 ≤ length (now words)) × (32768 ≤ length (now draft)) ⌝ }
-    ensures { λ r. ⌜ ((g h : Table) → UnionReduced (now (old .entry)) (now (add .entry)) union lists starts left g h
+    requires { ⌜ (SomeReduced (now old) (now add) union lists (now words)) × (16384 ≤ length (now words)) × (32768 ≤ length (now draft)) ⌝ }
+    ensures { λ r. ⌜ ((g h : Table) → UnionReduced (now (old .entry)) (now (add .entry)) union lists (now (words .entry)) g h
         → Widens local g h (now (draft .entry)) (now (draft .exit)) r) ⌝ }
 {
     let v = union.rules;
     let labels = label_count(union);
-    match label_sets(v, labels, left, words) {
+    let left = load(words, LEFT);
+    match label_sets(v, labels, left, &mut words[0..SETS]) {
         Counted::TooMany => Made::TooLarge,
         Counted::Count(count) => {
             let numbers = label_numbers(v, labels, left, words, count);
-            let types = start_numbers(v, starts, numbers);
+            start_numbers(v, numbers, words);
             let mut scratch = [0u8; 33860];
             told(put_result(
                 draft,
@@ -93,11 +94,9 @@ fn widen_local(
                 add,
                 union,
                 lists,
-                left,
                 words,
                 count,
-                types,
-                false,
+                Kind::Local,
             ))
         }
     }
@@ -109,23 +108,21 @@ fn widen_from_starts(
     add: &[u8],
     union: Union,
     lists: TypeLists,
-    starts: Set4,
-    left: Set4,
     words: &mut [u32],
     first: usize,
     draft: &mut [u8],
 ) -> Made
-    requires { ⌜ (SomeStarts (now old) (now add) union lists starts left (now words) first) × (16384 ≤ length (now words)) × (32768 ≤ length (now draft)) ⌝ }
-    ensures { λ r. ⌜ ((g h : Table) → UnionReduced (now (old .entry)) (now (add .entry)) union lists starts left g h
+    requires { ⌜ (SomeStarts (now old) (now add) union lists (now words) first) × (16384 ≤ length (now words)) × (32768 ≤ length (now draft)) ⌝ }
+    ensures { λ r. ⌜ ((g h : Table) → UnionReduced (now (old .entry)) (now (add .entry)) union lists (now (words .entry)) g h
         → SetsHeld (now (words .entry)) (labelSets (unite standard g h) (isStart (unite standard g h)))
         → first ≡ length (labelSets (unite standard g h) (isStart (unite standard g h)))
         → Widens singleType g h (now (draft .entry)) (now (draft .exit)) r) ⌝ }
 {
     let v = union.rules;
-    match more_sets(old, add, v, lists, words, first) {
+    match more_sets(old, add, v, lists, &mut words[0..SETS], first) {
         Counted::TooMany => Made::TooLarge,
         Counted::Count(count) => {
-            let types = first_numbers(first);
+            first_numbers(first, words);
             let mut scratch = [0u8; 33860];
             told(put_result(
                 draft,
@@ -134,11 +131,9 @@ fn widen_from_starts(
                 add,
                 union,
                 lists,
-                left,
                 words,
                 count,
-                types,
-                true,
+                Kind::SingleType,
             ))
         }
     }
@@ -150,30 +145,19 @@ fn widen_single_type(
     add: &[u8],
     union: Union,
     lists: TypeLists,
-    starts: Set4,
-    left: Set4,
     words: &mut [u32],
     draft: &mut [u8],
 ) -> Made
-    requires { ⌜ (SomeReduced (now old) (now add) union lists starts left) × (16384 ≤ length (now words)) × (32768 ≤ length (now draft)) ⌝ }
-    ensures { λ r. ⌜ ((g h : Table) → UnionReduced (now (old .entry)) (now (add .entry)) union lists starts left g h
+    requires { ⌜ (SomeReduced (now old) (now add) union lists (now words)) × (16384 ≤ length (now words)) × (32768 ≤ length (now draft)) ⌝ }
+    ensures { λ r. ⌜ ((g h : Table) → UnionReduced (now (old .entry)) (now (add .entry)) union lists (now (words .entry)) g h
         → Widens singleType g h (now (draft .entry)) (now (draft .exit)) r) ⌝ }
 {
     let v = union.rules;
     let labels = label_count(union);
-    match label_sets(v, labels, starts, words) {
+    let starts = load(words, STARTS);
+    match label_sets(v, labels, starts, &mut words[0..SETS]) {
         Counted::TooMany => Made::TooLarge,
-        Counted::Count(first) => widen_from_starts(
-            old,
-            add,
-            union,
-            lists,
-            starts,
-            left,
-            words,
-            first,
-            draft,
-        ),
+        Counted::Count(first) => widen_from_starts(old, add, union, lists, words, first, draft),
     }
 }
 
@@ -193,15 +177,15 @@ pub fn widen_tables(
 {
     let union = unite_tables(old, index, add, addition);
     let v = union.rules;
-    let known = fruitful_pairs(old, add, v);
-    let lists = fruitful_lists(v, known);
-    let starts = start_pairs(lists, index, addition);
-    if starts.is_empty() {
+    fruitful_pairs(old, add, v, words);
+    let lists = fruitful_lists(v, words);
+    start_pairs(lists, index, addition, words);
+    if load(words, STARTS).is_empty() {
         return Made::NoDocument;
     }
-    let left = pairs_left(old, add, v, lists, starts);
+    pairs_left(old, add, v, lists, words);
     match kind {
-        Kind::Local => widen_local(old, add, union, lists, starts, left, words, draft),
-        Kind::SingleType => widen_single_type(old, add, union, lists, starts, left, words, draft),
+        Kind::Local => widen_local(old, add, union, lists, words, draft),
+        Kind::SingleType => widen_single_type(old, add, union, lists, words, draft),
     }
 }

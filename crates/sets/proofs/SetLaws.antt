@@ -1,6 +1,7 @@
 -- Sets in words, as tests on numbers. Main statements: `member-put` (putting k in adds k and nothing else), `words-store`,
--- `store-before`, `store-after` (what is laid down stands there, the words around it are kept), `member-words` (a set that is taken
--- out has the members it had), `member-zeros`, `member-union`, and `words-differ` (different words of 32 bits have different members).
+-- `store-before`, `store-after` (what is laid down stands there, the words around it are kept), `store-set`, `store-kept`, `set-before`,
+-- `set-after` (the same of sets of four words), `member-words` (a set that is taken out has the members it had), `member-zeros`,
+-- `member-union`, and `words-differ` (different words of 32 bits have different members).
 use Prim.Native.Nat.{ℕ, zero, suc, _+_, _*_, _-_, _/_, _%_, _^_, _≤_, _<_}
 use mathlib.Core.Bool.{Bool, true, false, _||_, or-comm}
 use mathlib.Core.List.{List, [], _∷_, _++_}
@@ -13,7 +14,7 @@ use lib.ListN.{length, getD, set, take, drop, replicate, length-set, length-appe
 use lib.Seq.{getD-set-same, getD-set-other, getD-take, getD-drop, take-at, drop-at, length-take-le, take-append-le, drop-append-le, drop-drop, take-take, drop-append-add}
 use borrow.Author.Tests.{eqb-true, eqb-false, eq-eqb, ne-eqb}
 use Rattle.sets.proofs.BitLaws.{bit-or, bit-one, bit-zero, bits-differ, one-shifted}
-use Rattle.sets.specs.Sets.{bitOf, member, putAt, wordsAt, storeAt, unionOf, nothing, add, both, Compares, Empties}
+use Rattle.sets.specs.Sets.{bitOf, member, putAt, wordsAt, setAt, storeAt, unionOf, nothing, add, both, Compares, Empties, OthersKept}
 
 -- ---- one number more
 
@@ -141,6 +142,43 @@ pub store-after : (words : List ℕ) (base : ℕ) (new : List ℕ) (other n : �
     → wordsAt (storeAt words base new) other n ≡ wordsAt words other n
 unfolding wordsAt
 store-after words base new other n h q = ap (take n) (drop-store words base new other h q)
+
+-- ---- sets of four words
+
+-- a set stays where the words stay that it stands in: the first n, or those after the first n
+pub set-before : (before after : List ℕ) (n other : ℕ) → take n after ≡ take n before → other + 4 ≤ n → setAt after other ≡ setAt before other
+set-before before after n other e h =
+    let first : take (other + 4) after ≡ take (other + 4) before =
+    sym (take-take (other + 4) n after h) ∙ ap (take (other + 4)) e ∙ take-take (other + 4) n before h in
+    ap (λ (w : List ℕ). member w 0)
+    (sym (words-of-take after other 4) ∙ ap (λ (l : List ℕ). wordsAt l other 4) first ∙ words-of-take before other 4)
+
+pub set-after : (before after : List ℕ) (n other : ℕ) → drop n after ≡ drop n before → n ≤ other → setAt after other ≡ setAt before other
+unfolding wordsAt
+set-after before after n other e h =
+    let more = other - n in
+    let at : n + more ≡ other = omega arith in
+    let rest : (l : List ℕ) → drop more (drop n l) ≡ drop other l = λ l. drop-drop more n l ∙ ap (λ (m : ℕ). drop m l) at in
+    ap (λ (w : List ℕ). member (take 4 w) 0) (sym (rest after) ∙ ap (drop more) e ∙ rest before)
+
+-- a set that is laid down stands there, and the others are kept
+module _ (words : List ℕ) (base : ℕ) (set after : List ℕ) (room : base + 4 ≤ length words) (four : length set ≡ 4)
+    (stored : after ≡ storeAt words base set) where
+  pub store-set : setAt after base ≡ member set 0
+  store-set =
+      ap (λ (l : List ℕ). setAt l base) stored
+      ∙ ap (λ (w : List ℕ). member w 0) (words-store words base set 4 (omega arith) four)
+
+  pub store-kept : OthersKept base words after
+  store-kept =
+      record {
+        front = ap (take base) stored ∙ take-store words base set base (omega arith) (le-refl base);
+        back = ap (drop (base + 4)) stored ∙ drop-store words base set (base + 4) (omega arith) (omega arith);
+      }
+
+pub kept-before : {base : ℕ} {before after : List ℕ} → OthersKept base before after → (other : ℕ) → other + 4 ≤ base
+    → setAt after other ≡ setAt before other
+kept-before {base} {before} {after} k other h = set-before before after base other (k .front) h
 
 -- ---- no member, and both sets' members
 

@@ -24,6 +24,10 @@ putAt words base k = set words (base + k / 32) (bitOr (getD words (base + k / 32
 unfoldable pub wordsAt : List ℕ → ℕ → ℕ → List ℕ
 wordsAt words base n = take n (drop base words)
 
+-- the set of numbers below 128 that stands at base
+abbrev pub setAt : List ℕ → ℕ → ℕ → Bool
+setAt words base = member (wordsAt words base 4) 0
+
 -- the words after `new` is laid down at base
 unfoldable pub storeAt : List ℕ → ℕ → List ℕ → List ℕ
 storeAt words base new = take base words ++ new ++ drop (base + length new) words
@@ -58,3 +62,8 @@ pub record Compares (a b : List ℕ) (r : Bool) : Type 0 where
 pub record Empties (a : List ℕ) (r : Bool) : Type 0 where
   pub none : r ≡ true → member a 0 ≡ nothing
   pub one : r ≡ false → (k : ℕ) × (k < 32 * length a) × (member a 0 k ≡ true)
+
+-- the set at base may have changed, no other word has
+pub record OthersKept (base : ℕ) (before after : List ℕ) : Type 0 where
+  pub front : take base after ≡ take base before
+  pub back : drop (base + 4) after ≡ drop (base + 4) before

@@ -1,5 +1,6 @@
 -- `fruitful_pairs` meets its contract. The loop's invariant: the known pairs are fruitful. The measure is the pairs still outside.
 use Prim.Native.Nat.{ℕ, _-_}
+use native.Mathlib.Omega.{arith}
 use mathlib.Core.Bool.{true, false≢true}
 use mathlib.Core.List.{List}
 use mathlib.Core.Path.{_≡_, sym, _∙_, ap}
@@ -10,7 +11,8 @@ use Rattle.grammar.specs.Table.{Table}
 use Rattle.grammar.specs.Normalise.{normalise}
 use Rattle.grammar.specs.Reduce.{fruitful}
 use Rattle.sets.specs.Sets.{member, size}
-use Rattle.sets.proofs.SetLaws.{member-zeros}
+use Rattle.sets.proofs.SetLaws.{member-zeros, store-set}
+use Rattle.pairs.specs.Places.{knownAt}
 use Rattle.pairs.specs.View.{Views}
 use Rattle.pairs.proofs.PutsLaws.{fewer-outside}
 use Rattle.pairs.proofs.FruitfulLaws.{round-keeps, round-sound, rounds-fruitful}
@@ -18,12 +20,12 @@ use Rattle.pairs.proofs.fruitful.fruitful_pairs.Statement.{statement}
 use Rattle.pairs.proofs.fruitful.fruitful_pairs.Tie as tie
 
 abbrev Inv-loop : tie.InvT-loop
-Inv-loop old add v known₀ known =
+Inv-loop old add v words known₀ known =
     ((u : Table) → Views old add v u → (p : ℕ) → member (known .words) 0 p ≡ true → isIn p (fruitful (normalise u)) ≡ true)
     × (length (known .words) ≡ 4)
 
 abbrev μ-loop : tie.MeasureT-loop
-μ-loop old add v known₀ known = 128 - size (member (known .words) 0) 128
+μ-loop old add v words known₀ known = 128 - size (member (known .words) 0) 128
 
 loop-holds : tie.Need-loop-holds Inv-loop μ-loop
 loop-holds c =
@@ -33,7 +35,7 @@ loop-holds c =
 
 loop-less : tie.Need-loop-less Inv-loop μ-loop
 loop-less c =
-    let some = c .before .before .before .before .before .before .before .pre in
+    let some = c .before .before .before .before .before .before .before .before .pre .0 in
     fewer-outside _ _ _ (c .before .equal .ensures)
     (λ p e. ap (λ set. set p) (c .before .before .round .ensures .0 (some .table) (some .views)) ∙ round-keeps (some .views) _ p e)
     (c .if1 .left)
@@ -45,13 +47,20 @@ loop-again c = (
   c .before .before .round .ensures .1,
 )
 
+store-requires : tie.Need-store-requires Inv-loop μ-loop
+store-requires c κs =
+    let room = c .before .before .before .before .before .before .before .before .before .pre .1 in
+    omega arith
+
 returns : tie.Need-returns Inv-loop μ-loop
-returns c = (
-  λ u x.
-      rounds-fruitful x _ (c .before .before .before .loop .inv .0 u x)
-      (sym (c .before .before .round .ensures .0 u x) ∙ ap (λ (w : List ℕ). member w 0) (sym (c .before .equal .ensures .same (c .if1 .taken)))),
-  c .before .before .before .loop .inv .1,
-)
+returns c =
+    λ u x.
+    let room = c .before .before .before .before .before .before .before .before .before .before .before .before .pre .1 in
+    let inv = c .before .before .before .before .before .before .before .loop .inv in
+    store-set _ knownAt _ _ (omega arith) (inv .1) (c .before .before .store .ensures)
+    ∙ rounds-fruitful x _ (inv .0 u x)
+    (sym (c .before .before .before .before .before .before .round .ensures .0 u x)
+    ∙ ap (λ (w : List ℕ). member w 0) (sym (c .before .before .before .before .before .equal .ensures .same (c .before .before .before .before .if1 .taken))))
 
 pub fruitful-pairs-spec : {M : Type 1} → statement M
 fruitful-pairs-spec =
@@ -61,8 +70,10 @@ fruitful-pairs-spec =
     μ-loop
     (λ c κs. search needs)
     loop-holds
-    (λ c κs. (c .before .before .before .before .pre, c .loop .inv .1))
+    (λ c κs. (c .before .before .before .before .before .pre .0, c .loop .inv .1))
     (λ c κs. search needs)
     loop-less
     loop-again
+    store-requires
+    (λ c. search needs)
     returns)

@@ -1,13 +1,15 @@
 -- `pairs_left` meets its contract. The loop's invariant: the pairs seen are left, and the starts are among them. The measure is the
 -- pairs still outside.
 use Prim.Native.Nat.{ℕ, _-_}
+use native.Mathlib.Omega.{arith}
 use mathlib.Core.List.{List}
 use mathlib.Core.Path.{_≡_, sym, _∙_, ap}
 use lib.ListN.{length}
 use borrow.Author.Needs.{needs}
 use Rattle.grammar.specs.Table.{Table}
 use Rattle.sets.specs.Sets.{member, size}
-use Rattle.sets.proofs.SetLaws.{member-union, length-union}
+use Rattle.sets.proofs.SetLaws.{member-union, length-union, length-words, store-set, store-kept}
+use Rattle.pairs.specs.Places.{startsAt, leftAt}
 use Rattle.pairs.specs.View.{Views}
 use Rattle.pairs.specs.PairNumbers.{fruitfulOf, isStart}
 use Rattle.pairs.specs.TypeLists.{ListsOf}
@@ -18,19 +20,26 @@ use Rattle.reducing.proofs.leaving.pairs_left.Statement.{statement}
 use Rattle.reducing.proofs.leaving.pairs_left.Tie as tie
 
 abbrev Inv-loop : tie.InvT-loop
-Inv-loop old add v lists seen₀ seen =
+Inv-loop old add v lists words seen₀ seen =
     ((u : Table) → Views old add v u → ListsOf (fruitfulOf u) lists → member (seen₀ .words) 0 ≡ isStart u
     → Seen u (member (seen .words) 0))
     × (length (seen .words) ≡ 4)
 
 abbrev μ-loop : tie.MeasureT-loop
-μ-loop old add v lists seen₀ seen = 128 - size (member (seen .words) 0) 128
+μ-loop old add v lists words seen₀ seen = 128 - size (member (seen .words) 0) 128
+
+load-requires : tie.Need-load-requires Inv-loop μ-loop
+load-requires c κs =
+    let room = c .before .before .before .before .pre .2 in
+    omega arith
 
 loop-holds : tie.Need-loop-holds Inv-loop μ-loop
-loop-holds c = (λ u x l e. seen-start u _ e, c .before .before .pre .2)
+loop-holds c =
+    let room = c .before .before .before .before .before .pre .2 in
+    (λ u x l e. seen-start u _ e, ap length (c .load .ensures) ∙ length-words _ startsAt 4 (omega arith))
 
 met-set-requires : tie.Need-met-set-requires Inv-loop μ-loop
-met-set-requires c κs = (c .before .before .before .pre .0, c .before .before .before .pre .1)
+met-set-requires c κs = (c .before .before .before .before .before .before .pre .0, c .before .before .before .before .before .before .pre .1)
 
 loop-less : tie.Need-loop-less Inv-loop μ-loop
 loop-less c =
@@ -53,15 +62,23 @@ loop-again c =
           ∙ c .before .before .before .before .loop .inv .1,
     )
 
+store-requires : tie.Need-store-requires Inv-loop μ-loop
+store-requires c κs =
+    let room = c .before .before .before .before .before .before .before .before .before .before .before .pre .2 in
+    omega arith
+
 returns : tie.Need-returns Inv-loop μ-loop
 returns c =
-    let seen = c .before .before .before .before .loop .seen .words in
-    let met = c .before .before .before .met-set .result .words in
-    let next = ap (λ (w : List ℕ). member w 0) (c .before .before .union .ensures) ∙ member-union seen met 0 in (
+    let seen = c .before .before .before .before .before .before .before .before .loop .seen .words in
+    let met = c .before .before .before .before .before .before .before .met-set .result .words in
+    let next = ap (λ (w : List ℕ). member w 0) (c .before .before .before .before .before .before .union .ensures) ∙ member-union seen met 0 in
+    let room = c .before .before .before .before .before .before .before .before .before .before .before .before .before .before .pre .2 in (
       λ u x l e.
-          seen-end u (member seen 0) (member met 0) (c .before .before .before .before .loop .inv .0 u x l e) (c .before .before .before .met-set .ensures .0 u x l)
-          (sym next ∙ ap (λ (w : List ℕ). member w 0) (sym (c .before .equal .ensures .same (c .if1 .taken)))),
-      c .before .before .before .before .loop .inv .1,
+          store-set _ leftAt _ _ (omega arith) (c .before .before .before .before .before .before .before .before .loop .inv .1) (c .before .before .store .ensures)
+          ∙ seen-end u (member seen 0) (member met 0) (c .before .before .before .before .before .before .before .before .loop .inv .0 u x l (ap (λ (w : List ℕ). member w 0) (c .before .before .before .before .before .before .before .before .before .load .ensures) ∙ e))
+          (c .before .before .before .before .before .before .before .met-set .ensures .0 u x l)
+          (sym next ∙ ap (λ (w : List ℕ). member w 0) (sym (c .before .before .before .before .before .equal .ensures .same (c .before .before .before .before .if1 .taken)))),
+      store-kept _ leftAt _ _ (omega arith) (c .before .before .before .before .before .before .before .before .loop .inv .1) (c .before .before .store .ensures),
     )
 
 pub pairs-left-spec : {M : Type 1} → statement M
@@ -70,10 +87,13 @@ pairs-left-spec =
     (tie.spec
     Inv-loop
     μ-loop
+    load-requires
     loop-holds
     met-set-requires
     (λ c κs. search needs)
     (λ c κs. search needs)
     loop-less
     loop-again
+    store-requires
+    (λ c. search needs)
     returns)

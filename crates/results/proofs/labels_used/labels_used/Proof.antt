@@ -7,7 +7,8 @@ use mathlib.Core.Path.{_≡_, refl, _∙_, ap}
 use lib.ListN.{length, length-replicate}
 use borrow.Author.Needs.{needs}
 use Rattle.sets.specs.Sets.{member, nothing}
-use Rattle.sets.proofs.SetLaws.{member-zeros}
+use Rattle.sets.proofs.SetLaws.{member-zeros, store-set, store-kept}
+use Rattle.pairs.specs.Places.{usedAt}
 use Rattle.pairs.specs.Rounds.{puts}
 use Rattle.pairs.proofs.PutsLaws.{put-in, puts-start, puts-step}
 use Rattle.pairs.proofs.ViewLaws.{views-sized}
@@ -42,30 +43,30 @@ loop-holds c =
 
 mul-load : tie.Need-mul-load Inv-loop μ-loop
 mul-load c =
-    let few = c .before .before .before .before .pre .2 .held .few in
-    let e = c .before .before .before .before .pre .2 .count-is in
+    let few = c .before .before .before .before .before .pre .0 .2 .held .few in
+    let e = c .before .before .before .before .before .pre .0 .2 .count-is in
     omega arith
 
 load-requires : tie.Need-load-requires Inv-loop μ-loop
-load-requires c κs = set-room (c .before .before .before .before .pre .2) (c .before .loop .i) (c .loop-test .taken)
+load-requires c κs = set-room (c .before .before .before .before .before .pre .0 .2) (c .before .before .loop .i) (c .before .loop-test .taken)
 
 set-label-requires : tie.Need-set-label-requires Inv-loop μ-loop
 set-label-requires c κs =
-    let q = c .before .before .before .before .before .pre .2 in
-    (views-sized (q .views), set-four q (c .before .before .loop .i) (c .before .loop-test .taken) _ (c .load .ensures))
+    let q = c .before .before .before .before .before .before .pre .0 .2 in
+    (views-sized (q .views), set-four q (c .before .before .before .loop .i) (c .before .before .loop-test .taken) _ (c .load .ensures))
 
 with-requires : tie.Need-with-requires Inv-loop μ-loop
 with-requires c κs =
-    let q = c .before .before .before .before .before .before .pre .2 in
-    let i = c .before .before .before .loop .i in
-    let h = c .before .before .loop-test .taken in
+    let q = c .before .before .before .before .before .before .before .pre .0 .2 in
+    let i = c .before .before .before .before .loop .i in
+    let h = c .before .before .before .loop-test .taken in
     label-small q i h _
     (c .set-label .ensures _ _ (q .table) _ (q .views) (set-held q i h _ (c .before .load .ensures)) (set-ascending q i h) (set-some q i h))
 
 add-i : tie.Need-add-i Inv-loop μ-loop
 add-i c =
-    let few = c .before .before .before .before .before .before .before .pre .2 .held .few in
-    let e = c .before .before .before .before .before .before .before .pre .2 .count-is in
+    let few = c .before .before .before .before .before .before .before .before .pre .0 .2 .held .few in
+    let e = c .before .before .before .before .before .before .before .before .pre .0 .2 .count-is in
     omega arith
 
 loop-less : tie.Need-loop-less Inv-loop μ-loop
@@ -73,28 +74,37 @@ loop-less c = omega arith
 
 loop-again : tie.Need-loop-again Inv-loop μ-loop
 loop-again c =
-    let p = c .before .before .before .before .before .before .before .pre .2 in
-    let i = c .before .before .before .before .loop .i in
-    let h = c .before .before .before .loop-test .taken in
+    let p = c .before .before .before .before .before .before .before .before .pre .0 .2 in
+    let i = c .before .before .before .before .before .loop .i in
+    let h = c .before .before .before .before .loop-test .taken in
     let small =
     label-small p i h (c .before .set-label .result)
     (c .before .set-label .ensures _ _ (p .table) _ (p .views) (set-held p i h _ (c .before .before .load .ensures)) (set-ascending p i h) (set-some p i h)) in
-    let more = put-in true (c .before .before .before .before .loop .used .words) (c .with .result .words) (c .before .set-label .result) refl (c .with .ensures) small (c .before .before .before .before .loop .inv .1) in (
+    let more = put-in true (c .before .before .before .before .before .loop .used .words) (c .with .result .words) (c .before .set-label .result) refl (c .with .ensures) small (c .before .before .before .before .before .loop .inv .1) in (
       omega arith,
       more .1,
       λ old add q.
-          puts-step (λ j. true) (labelAt (q .table) (q .sets)) nothing i _ _ true _ (c .before .before .before .before .loop .inv .2 old add q) (more .0) refl
+          puts-step (λ j. true) (labelAt (q .table) (q .sets)) nothing i _ _ true _ (c .before .before .before .before .before .loop .inv .2 old add q) (more .0) refl
           (c .before .set-label .ensures old add (q .table) _ (q .views) (set-held q i h _ (c .before .before .load .ensures)) (set-ascending q i h) (set-some q i h)),
     )
 
+store-requires : tie.Need-store-requires Inv-loop μ-loop
+store-requires c κs =
+    let room = c .before .before .before .before .before .pre .1 in
+    omega arith
+
 returns : tie.Need-returns Inv-loop μ-loop
 returns c =
-    λ old add q.
-    let count = q .count-is in
-    let e : c .before .loop .i ≡ length (q .sets) = omega arith in
-    c .before .loop .inv .2 old add q
-    ∙ ap (puts (λ j. true) (labelAt (q .table) (q .sets)) nothing) e
-    ∙ used-are (q .table) (q .sets)
+    let room = c .before .before .before .before .before .before .before .before .pre .1 in (
+      λ old add q.
+          let count = q .count-is in
+          let e : c .before .before .before .before .before .loop .i ≡ length (q .sets) = omega arith in
+          store-set _ usedAt _ _ (omega arith) (c .before .before .before .before .before .loop .inv .1) (c .before .before .store .ensures)
+          ∙ c .before .before .before .before .before .loop .inv .2 old add q
+          ∙ ap (puts (λ j. true) (labelAt (q .table) (q .sets)) nothing) e
+          ∙ used-are (q .table) (q .sets),
+      store-kept _ usedAt _ _ (omega arith) (c .before .before .before .before .before .loop .inv .1) (c .before .before .store .ensures),
+    )
 
 pub labels-used-spec : {M : Type 1} → statement M
 labels-used-spec =
@@ -111,4 +121,6 @@ labels-used-spec =
     add-i
     loop-less
     loop-again
+    store-requires
+    (λ c. search needs)
     returns)

@@ -12,25 +12,30 @@ use Rattle.theory.proofs.Alternatives.{onlyIf}
 use Rattle.sets.specs.Sets.{member}
 use Rattle.emitting.specs.Writing.{Put}
 use Rattle.sampling.proofs.RuleLaws.{up-start, step-stop, step-more}
-use Rattle.results.specs.Results.{LabelsIn}
+use Rattle.results.specs.Results.{LabelsIn, labelsBytes}
 use Rattle.results.proofs.ResultLaws.{nameField, labels-joined}
 use Rattle.results.proofs.labels_used.put_labels.Statement.{statement}
 use Rattle.results.proofs.labels_used.put_labels.Tie as tie
 
 abbrev Inv-loop : tie.InvT-loop
-Inv-loop draft₀ old add olds news used labels end₀ l₀ draft end l =
+Inv-loop draft₀ old add olds news words used labels end₀ l₀ draft end l =
     (l ≤ labels)
     × (end ≤ 32768)
     × (length draft ≡ length draft₀)
     × ((q : LabelsIn old add olds news) → Put draft₀ 0 (joinedOf (nameField q (member (used .words) 0)) (numbersBelow l)) draft end)
 
 abbrev μ-loop : tie.MeasureT-loop
-μ-loop draft₀ old add olds news used labels end₀ l₀ draft end l = labels - l
+μ-loop draft₀ old add olds news words used labels end₀ l₀ draft end l = labels - l
+
+load-requires : tie.Need-load-requires Inv-loop μ-loop
+load-requires c κs =
+    let room = c .before .before .before .before .pre .1 in
+    omega arith
 
 add-labels : tie.Need-add-labels Inv-loop μ-loop
 add-labels c =
-    let a = c .before .before .before .before .before .pre .1 .old-names .few in
-    let b = c .before .before .before .before .before .pre .1 .new-names .few in
+    let a = c .before .before .before .before .before .before .before .pre .2 .old-names .few in
+    let b = c .before .before .before .before .before .before .before .pre .2 .new-names .few in
     omega arith
 
 loop-holds : tie.Need-loop-holds Inv-loop μ-loop
@@ -38,19 +43,19 @@ loop-holds c = (
   omega arith,
   omega arith,
   refl,
-  λ q. up-start (nameField q (member (c .before .before .before .before .before .args .used .words) 0)) (c .before .before .before .before .before .args .draft .now) 0 (omega arith),
+  λ q. up-start (nameField q (member (c .before .before .load .result .words) 0)) (c .before .before .before .before .before .before .before .args .draft .now) 0 (omega arith),
 )
 
 has-requires : tie.Need-has-requires Inv-loop μ-loop
 has-requires c κs =
-    let a = c .before .before .before .before .before .before .before .before .pre .1 .old-names .few in
-    let b = c .before .before .before .before .before .before .before .before .pre .1 .new-names .few in
+    let a = c .before .before .before .before .before .before .before .before .before .before .pre .2 .old-names .few in
+    let b = c .before .before .before .before .before .before .before .before .before .before .pre .2 .new-names .few in
     omega arith
 
 put-label-requires : tie.Need-put-label-requires Inv-loop μ-loop
 put-label-requires c κs =
     let l = c .before .before .before .loop .inv .2 in
-    (c .before .before .before .loop .inv .1, omega arith, c .before .before .loop-test .taken, c .before .before .before .before .before .before .before .before .before .pre .1)
+    (c .before .before .before .loop .inv .1, omega arith, c .before .before .loop-test .taken, c .before .before .before .before .before .before .before .before .before .before .before .pre .2)
 
 enum-told : tie.Need-enum-told Inv-loop μ-loop
 enum-told c = search needs
@@ -61,14 +66,16 @@ same-length c = search needs
 returns : tie.Need-returns Inv-loop μ-loop
 returns c =
     λ q.
-    let on = member (c .before .before .before .before .before .before .before .before .before .before .before .before .before .before .args .used .words) 0 in
+    let on = member (c .before .before .before .before .before .before .before .before .before .before .before .load .result .words) 0 in
     let field = nameField q on in
     let over =
     step-stop field (c .before .before .before .before .before .before .before .before .loop .l) (c .before .before .before .before .before .before .before .before .loop .inv .3 q) _ (c .before .before .before .before .put-label .last .0) (c .before .before .before .before .put-label .result) (ap (λ (b : Bool). onlyIf b (fieldBytes 0x10 (getD (q .first ++ q .second) (c .before .before .before .before .before .before .before .before .loop .l) []))) (c .before .before .before .before .before .has .ensures)) (c .before .before .before .before .put-label .ensures q)
     (c .enum-told .given .1)
     _
     (c .before .before .before .before .before .before .before .loop-test .taken) in
-    subst (λ (b : List ℕ). 32768 < 0 + length b) (labels-joined q on) over
+    subst (λ (b : List ℕ). 32768 < 0 + length b)
+    (labels-joined q on ∙ ap (labelsBytes (q .first ++ q .second)) (ap (λ (w : List ℕ). member w 0) (c .before .before .before .before .before .before .before .before .before .before .before .load .ensures)))
+    over
 
 enum-known-more : tie.Need-enum-known-more Inv-loop μ-loop
 enum-known-more c = search needs
@@ -81,8 +88,8 @@ loop-less c = omega arith
 
 loop-again : tie.Need-loop-again Inv-loop μ-loop
 loop-again c =
-    let on = member (c .before .before .before .before .before .before .before .before .before .before .before .before .before .before .before .args .used .words) 0 in
-    let p = c .before .before .before .before .before .before .before .before .before .before .before .before .before .before .before .pre .1 in (
+    let on = member (c .before .before .before .before .before .before .before .before .before .before .before .before .load .result .words) 0 in
+    let p = c .before .before .before .before .before .before .before .before .before .before .before .before .before .before .before .before .before .pre .2 in (
       omega arith,
       step-more (nameField p on) (c .before .before .before .before .before .before .before .before .before .loop .l) (c .before .before .before .before .before .before .before .before .before .loop .inv .3 p) _ (c .before .before .before .before .before .put-label .last .0) (c .before .before .before .before .before .put-label .result) (ap (λ (b : Bool). onlyIf b (fieldBytes 0x10 (getD (p .first ++ p .second) (c .before .before .before .before .before .before .before .before .before .loop .l) []))) (c .before .before .before .before .before .before .has .ensures)) (c .before .before .before .before .before .put-label .ensures p) (c .before .more .given .1) .1,
       search needs,
@@ -95,12 +102,14 @@ same-length-2 c = search needs
 returns-2 : tie.Need-returns-2 Inv-loop μ-loop
 returns-2 c =
     λ q.
-    let on = member (c .before .before .before .before .before .before .before .args .used .words) 0 in
-    let olds = c .before .before .before .before .before .before .before .args .olds in
-    let news = c .before .before .before .before .before .before .before .args .news in
+    let on = member (c .before .before .before .before .load .result .words) 0 in
+    let olds = c .before .before .before .before .before .before .before .before .before .args .olds in
+    let news = c .before .before .before .before .before .before .before .before .before .args .news in
     let e : c .before .loop .l ≡ olds .count + news .count = omega arith in (
-      subst (λ (b : List ℕ). Put (c .before .before .before .before .before .before .before .args .draft .now) 0 b (c .before .loop .draft) (c .before .loop .end))
-          (ap (λ (n : ℕ). joinedOf (nameField q on) (numbersBelow n)) e ∙ labels-joined q on)
+      subst (λ (b : List ℕ). Put (c .before .before .before .before .before .before .before .before .before .args .draft .now) 0 b (c .before .loop .draft) (c .before .loop .end))
+          (ap (λ (n : ℕ). joinedOf (nameField q on) (numbersBelow n)) e
+          ∙ labels-joined q on
+          ∙ ap (labelsBytes (q .first ++ q .second)) (ap (λ (w : List ℕ). member w 0) (c .before .before .before .before .load .ensures)))
           (c .before .loop .inv .3 q),
       c .before .loop .inv .1,
     )
@@ -111,6 +120,7 @@ put-labels-spec =
     (tie.spec
     Inv-loop
     μ-loop
+    load-requires
     add-labels
     loop-holds
     has-requires

@@ -4,7 +4,8 @@ use mathlib.Core.List.{[]}
 use mathlib.Core.Path.{_≡_}
 use lib.ListN.{length}
 use borrow.Author.Needs.{needs}
-use Rattle.sets.specs.Sets.{member}
+use Rattle.sets.specs.Sets.{setAt}
+use Rattle.pairs.specs.Places.{startTypesAt}
 use Rattle.sampling.specs.SampleTable.{restBytes}
 use Rattle.sampling.proofs.RuleLaws.{put-length-is, put-over, put-then}
 use Rattle.results.specs.Results.{ruleFrom, startsBytes}
@@ -15,7 +16,7 @@ put-starts-requires : tie.Need-put-starts-requires
 put-starts-requires c κs =
     let few = c .before .before .before .before .before .before .pre .3 .rules .in-words .held .few in
     let e = c .before .before .before .before .before .before .pre .3 .rules .in-words .count-is in
-    (c .before .before .before .before .before .before .pre .0, c .before .before .before .before .before .before .pre .1, omega arith)
+    (c .before .before .before .before .before .before .pre .0, c .before .before .before .before .before .before .pre .1, c .before .before .before .before .before .before .pre .3 .rules .room, omega arith)
 
 enum-told : tie.Need-enum-told
 enum-told c = search needs
@@ -28,7 +29,7 @@ put-rest-requires c κs =
     let a = c .before .before .before .before .before .before .before .before .before .before .before .before .before .before .args in
     let rule = ruleFrom (c .before .before .before .before .before .before .before .before .before .before .before .before .before .before .pre .3 .rules) in
     let h =
-    put-length-is (a .draft .now) (a .at) rule (a .count) (startsBytes (member (a .starts .words) 0) (a .count)) (restBytes rule (a .count)) (c .before .before .before .before .before .before .before .put-starts .last .0) []
+    put-length-is (a .draft .now) (a .at) rule (a .count) (startsBytes (setAt (a .words .now) startTypesAt) (a .count)) (restBytes rule (a .count)) (c .before .before .before .before .before .before .before .put-starts .last .0) []
     (c .before .before .before .before .before .before .before .put-starts .result)
     (c .before .before .before .before .before .before .before .put-starts .ensures)
     (c .before .before .before .end .given .1) in
@@ -43,7 +44,7 @@ returns c =
     λ q.
     let a = c .before .before .before .before .before .before .before .before .before .before .before .args in
     let rule = ruleFrom (q .rules) in
-    put-over (a .draft .now) (a .at) rule (a .count) (startsBytes (member (a .starts .words) 0) (a .count)) (restBytes rule (a .count)) (c .before .before .before .before .put-starts .last .0)
+    put-over (a .draft .now) (a .at) rule (a .count) (startsBytes (setAt (a .words .now) startTypesAt) (a .count)) (restBytes rule (a .count)) (c .before .before .before .before .put-starts .last .0)
     (c .before .before .before .before .put-starts .last .0)
     (c .before .before .before .before .put-starts .result)
     (c .before .before .before .before .put-starts .ensures)
@@ -60,7 +61,7 @@ returns-2 c =
     λ q.
     let a = c .before .before .before .before .before .before .before .before .before .before .before .before .before .before .before .before .before .before .before .args in
     let rule = ruleFrom (q .rules) in
-    put-then (a .draft .now) (a .at) rule (a .count) (startsBytes (member (a .starts .words) 0) (a .count)) (restBytes rule (a .count)) (c .before .before .before .before .before .before .before .before .before .before .before .before .put-starts .last .0)
+    put-then (a .draft .now) (a .at) rule (a .count) (startsBytes (setAt (a .words .now) startTypesAt) (a .count)) (restBytes rule (a .count)) (c .before .before .before .before .before .before .before .before .before .before .before .before .put-starts .last .0)
     (c .before .before .before .before .put-rest .last .0)
     (c .before .before .before .before .before .before .before .before .before .before .before .before .put-starts .result)
     (c .before .before .before .before .before .before .before .before .before .before .before .before .put-starts .ensures)

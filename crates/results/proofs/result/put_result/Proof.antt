@@ -1,24 +1,38 @@
 -- `put_result` meets its contract: labels, starts, rules and the end are the bytes of the table.
 use Prim.Native.Nat.{ℕ}
 use native.Mathlib.Omega.{arith}
+use mathlib.Core.Bool.{Bool}
 use mathlib.Core.List.{List, [], _++_}
-use mathlib.Core.Path.{_≡_, subst}
+use mathlib.Core.Path.{_≡_, _∙_, ap, subst}
 use lib.ListN.{length}
 use borrow.Author.Needs.{needs}
-use Rattle.sets.specs.Sets.{member}
+use Rattle.grammar.specs.Lists.{keep, numbersBelow}
+use Rattle.grammar.specs.WriteTable.{tableBytes}
+use Rattle.sets.specs.Sets.{setAt}
+use Rattle.sets.proofs.SetLaws.{kept-before}
+use Rattle.pairs.specs.Places.{startTypesAt, usedAt}
 use Rattle.emitting.specs.declared.writing.Drafted.the-variants.{TooLarge}
 use Rattle.sampling.specs.SampleTable.{TablePut}
 use Rattle.sampling.proofs.RuleLaws.{put-length-is, put-over, put-then}
+use Rattle.forms.specs.SetForms.{tableBySets, pairsWithin}
+use Rattle.results.specs.Widened.{kindOf}
 use Rattle.results.specs.Results.{ruleFrom, labelsBytes, bodyBytes}
+use Rattle.results.proofs.SetLaws.{rules-stay}
 use Rattle.results.proofs.ResultLaws.{table-bytes}
 use Rattle.results.proofs.result.put_result.Statement.{statement}
 use Rattle.results.proofs.result.put_result.Tie as tie
 
 labels-used-requires : tie.Need-labels-used-requires
-labels-used-requires c κs = search needs
+labels-used-requires c κs =
+    let q = c .before .before .before .before .before .before .before .before .before .pre .2 .rules in
+    ((_, _, q .in-words), q .room)
 
 put-labels-requires : tie.Need-put-labels-requires
-put-labels-requires c κs = search needs
+put-labels-requires c κs =
+    let q = c .before .before .before .before .before .before .before .before .before .before .before .before .before .before .pre .2 in
+    let room = q .rules .room in
+    let same : length (c .before .before .before .before .labels-used .last .1 .0) ≡ length (c .before .before .before .before .before .before .before .before .before .before .before .before .before .before .args .words .now) = search needs in
+    (c .before .before .before .before .before .before .before .before .before .before .before .before .before .before .pre .0, omega arith, q .names)
 
 enum-told : tie.Need-enum-told
 enum-told c = search needs
@@ -31,65 +45,70 @@ add-put-body c = search needs
 
 put-body-requires : tie.Need-put-body-requires
 put-body-requires c κs =
-    let a = c .before .before .before .before .before .before .before .before .before .before .before .before .before .before .before .before .before .before .before .before .args in
-    let q = c .before .before .before .before .before .before .before .before .before .before .before .before .before .before .before .before .before .before .before .before .pre .2 in
-    let on = member (c .before .before .before .before .before .before .before .before .before .before .before .labels-used .result .words) 0 in
+    let a = c .before .before .before .before .before .before .before .before .before .before .before .before .before .before .before .before .before .before .before .before .before .before .before .before .before .args in
+    let q = c .before .before .before .before .before .before .before .before .before .before .before .before .before .before .before .before .before .before .before .before .before .before .before .before .before .pre .2 in
+    let on = setAt (c .before .before .before .before .before .before .before .before .before .before .before .before .before .before .before .labels-used .last .1 .0) usedAt in
     let rule = ruleFrom (q .rules) in
     let h =
     put-length-is (a .draft .now) 0 rule (a .count) (labelsBytes (q .names .first ++ q .names .second) on)
-    (bodyBytes (member (a .starts .words) 0) rule (a .count))
-    (c .before .before .before .before .before .before .before .before .before .put-labels .last .0)
+    (bodyBytes (setAt (a .words .now) startTypesAt) rule (a .count))
+    (c .before .before .before .before .before .before .before .before .before .before .put-labels .last .0)
     []
-    (c .before .before .before .before .before .before .before .before .before .put-labels .result)
-    (c .before .before .before .before .before .before .before .before .before .put-labels .ensures (q .names))
-    (c .before .before .before .before .before .end .given .1) in
-    let k = c .before .before .before .before .before .before .before .before .before .before .before .before .before .before .before .before .before .before .before .before .pre .0 in
-    let w : length (c .before .before .before .before .before .before .before .before .before .put-labels .last .0) ≡ length (a .draft .now) = search needs in
-    (h .1, omega arith, c .before .before .before .before .before .before .before .before .before .before .before .before .before .before .before .before .before .before .before .before .pre .1, record { rules = q .rules; used-are = c .before .before .before .before .before .before .before .before .before .before .before .labels-used .ensures _ _ (q .rules .in-words) })
-
-same-length : tie.Need-same-length
-same-length c = search needs
+    (c .before .before .before .before .before .before .before .before .before .before .put-labels .result)
+    (c .before .before .before .before .before .before .before .before .before .before .put-labels .ensures (q .names))
+    (c .before .before .before .before .before .before .end .given .1) in
+    let k = c .before .before .before .before .before .before .before .before .before .before .before .before .before .before .before .before .before .before .before .before .before .before .before .before .before .pre .0 in
+    let w : length (c .before .before .before .before .before .before .before .before .before .before .put-labels .last .0) ≡ length (a .draft .now) = search needs in
+    let same : length (c .before .before .before .before .before .before .before .before .before .before .before .before .before .before .before .labels-used .last .1 .0) ≡ length (a .words .now) = search needs in (
+      h .1,
+      omega arith,
+      c .before .before .before .before .before .before .before .before .before .before .before .before .before .before .before .before .before .before .before .before .before .before .before .before .before .pre .1,
+      record {
+        rules = rules-stay (q .rules) (c .before .before .before .before .before .before .before .before .before .before .before .before .before .before .before .labels-used .ensures .1) same;
+        used-are = c .before .before .before .before .before .before .before .before .before .before .before .before .before .before .before .labels-used .ensures .0 _ _ (q .rules .in-words);
+      },
+    )
 
 returns : tie.Need-returns
 returns c =
     λ q.
-    let a = c .before .before .before .before .before .before .before .before .before .before .before .before .before .before .before .args in
+    let a = c .before .before .before .before .before .before .before .before .before .before .before .before .before .before .before .before .before .before .before .args in
     let s = q .rules .in-words in
-    let on = member (c .before .before .before .before .before .before .labels-used .result .words) 0 in
-    let starts = member (a .starts .words) 0 in
+    let on = setAt (c .before .before .before .before .before .before .before .before .before .labels-used .last .1 .0) usedAt in
+    let starts = setAt (a .words .now) startTypesAt in
     let rule = ruleFrom (q .rules) in
     let names = q .names .first ++ q .names .second in
     subst (λ (b : List ℕ). TablePut (a .draft .now) 0 rule (a .count) b (c .before .before .before .before .put-labels .last .0) TooLarge)
-    (table-bytes (s .table) (s .sets) (a .single) (a .count) names on starts (q .same) (s .count-is) (c .before .before .before .before .before .before .labels-used .ensures _ _ s))
+    (table-bytes (s .table) (s .sets) (kindOf (a .kind)) (a .count) names on starts (q .same) (s .count-is) (c .before .before .before .before .before .before .before .before .before .labels-used .ensures .0 _ _ s))
     (put-over (a .draft .now) 0 rule (a .count) (labelsBytes names on) (bodyBytes starts rule (a .count)) (c .before .before .before .before .put-labels .last .0) (c .before .before .before .before .put-labels .last .0)
     (c .before .before .before .before .put-labels .result)
     (c .before .before .before .before .put-labels .ensures (q .names))
     (c .enum-told .given .1))
 
-same-length-2 : tie.Need-same-length-2
-same-length-2 c = search needs
-
-same-length-3 : tie.Need-same-length-3
-same-length-3 c = search needs
-
 returns-2 : tie.Need-returns-2
 returns-2 c =
     λ q.
-    let a = c .before .before .before .before .before .before .before .before .before .before .before .before .before .before .before .before .before .before .before .before .before .before .before .before .before .args in
+    let a = c .before .before .before .before .before .before .before .before .before .before .before .before .before .before .before .before .before .before .before .before .before .before .before .before .before .before .before .before .before .before .args in
     let s = q .rules .in-words in
-    let used = c .before .before .before .before .before .before .before .before .before .before .before .before .before .before .before .before .labels-used .ensures _ _ s in
-    let on = member (c .before .before .before .before .before .before .before .before .before .before .before .before .before .before .before .before .labels-used .result .words) 0 in
-    let starts = member (a .starts .words) 0 in
+    let used = c .before .before .before .before .before .before .before .before .before .before .before .before .before .before .before .before .before .before .before .before .labels-used .ensures .0 _ _ s in
+    let fits = c .before .before .before .before .before .before .before .before .before .before .before .before .before .before .before .before .before .before .before .before .labels-used .kept .1 .0 in
+    let same : length (c .before .before .before .before .before .before .before .before .before .before .before .before .before .before .before .before .before .before .before .before .labels-used .last .1 .0) ≡ length (a .words .now) = search needs in
+    let on = setAt (c .before .before .before .before .before .before .before .before .before .before .before .before .before .before .before .before .before .before .before .before .labels-used .last .1 .0) usedAt in
+    let starts = setAt (c .before .before .before .before .before .before .before .before .before .before .before .before .before .before .before .before .before .before .before .before .labels-used .last .1 .0) startTypesAt in
     let rule = ruleFrom (q .rules) in
     let names = q .names .first ++ q .names .second in
     subst (λ (b : List ℕ). TablePut (a .draft .now) 0 rule (a .count) b (c .before .before .before .before .put-body .last .0) (c .before .before .before .before .put-body .result))
-    (table-bytes (s .table) (s .sets) (a .single) (a .count) names on starts (q .same) (s .count-is) used)
-    (put-then (a .draft .now) 0 rule (a .count) (labelsBytes names on) (bodyBytes starts rule (a .count)) (c .before .before .before .before .before .before .before .before .before .before .before .before .before .before .put-labels .last .0) (c .before .before .before .before .put-body .last .0)
-    (c .before .before .before .before .before .before .before .before .before .before .before .before .before .before .put-labels .result)
-    (c .before .before .before .before .before .before .before .before .before .before .before .before .before .before .put-labels .ensures (q .names))
-    (c .before .before .before .before .before .before .before .before .before .before .end .given .1)
+    (table-bytes (s .table) (s .sets) (kindOf (a .kind)) (a .count) names on starts (q .same) (s .count-is) used
+    ∙ ap
+    (λ (t : ℕ → Bool).
+    tableBytes (tableBySets (s .table) (s .sets) (pairsWithin (kindOf (a .kind)) (s .table)) (keep t (numbersBelow (a .count)))))
+    (kept-before (c .before .before .before .before .before .before .before .before .before .before .before .before .before .before .before .before .before .before .before .before .labels-used .ensures .1) startTypesAt (omega arith)))
+    (put-then (a .draft .now) 0 rule (a .count) (labelsBytes names on) (bodyBytes starts rule (a .count)) (c .before .before .before .before .before .before .before .before .before .before .before .before .before .before .before .put-labels .last .0) (c .before .before .before .before .put-body .last .0)
+    (c .before .before .before .before .before .before .before .before .before .before .before .before .before .before .before .put-labels .result)
+    (c .before .before .before .before .before .before .before .before .before .before .before .before .before .before .before .put-labels .ensures (q .names))
+    (c .before .before .before .before .before .before .before .before .before .before .before .end .given .1)
     (c .before .before .before .before .put-body .result)
-    (c .before .before .before .before .put-body .ensures (record { rules = q .rules; used-are = used })))
+    (c .before .before .before .before .put-body .ensures (record { rules = rules-stay (q .rules) (c .before .before .before .before .before .before .before .before .before .before .before .before .before .before .before .before .before .before .before .before .labels-used .ensures .1) same; used-are = used })))
 
 pub put-result-spec : {M : Type 1} → statement M
 put-result-spec =
@@ -101,8 +120,10 @@ put-result-spec =
     enum-known-end
     add-put-body
     put-body-requires
-    same-length
+    (λ c. search needs)
+    (λ c. search needs)
     returns
-    same-length-2
-    same-length-3
+    (λ c. search needs)
+    (λ c. search needs)
+    (λ c. search needs)
     returns-2)

@@ -1,6 +1,7 @@
 -- `put_rule` meets its contract.
 use Prim.Native.Nat.{ℕ, _-_}
 use native.Mathlib.Omega.{arith}
+use mathlib.Core.List.{List}
 use mathlib.Core.Logic.{inl}
 use mathlib.Core.Path.{_≡_, _∙_, ap, subst}
 use lib.Dec.{eqb}
@@ -13,6 +14,7 @@ use Rattle.pairs.proofs.ViewLaws.{views-sized}
 use Rattle.sampling.specs.SampleTable.{RulePuts}
 use Rattle.sampling.proofs.RuleLaws.{rule-puts}
 use Rattle.results.specs.Results.{ruleFrom}
+use Rattle.results.specs.Widened.{kindOf}
 use Rattle.results.proofs.SetLaws.{set-held, set-room, set-four, set-ascending, set-some, set-labelled, label-small, label-used, rule-is}
 use Rattle.results.proofs.ResultLaws.{rule-value, scratch-long, scratch-room, made-stored, made-over}
 use Rattle.results.proofs.rules.put_rule.Statement.{statement}
@@ -24,18 +26,23 @@ mul-load c = search needs
 load-requires : tie.Need-load-requires
 load-requires c κs = set-room (c .before .before .before .before .before .pre .4 .rules .in-words) (c .before .before .before .before .before .args .i) (c .before .before .before .before .before .pre .3)
 
+load-requires-2 : tie.Need-load-requires-2
+load-requires-2 c κs =
+    let room = c .before .before .before .before .before .before .pre .4 .rules .room in
+    omega arith
+
 set-label-requires : tie.Need-set-label-requires
 set-label-requires c κs =
-    let s = c .before .before .before .before .before .before .pre .4 .rules .in-words in
-    (views-sized (s .views), set-four s (c .before .before .before .before .before .before .args .i) (c .before .before .before .before .before .before .pre .3) _ (c .load .ensures))
+    let s = c .before .before .before .before .before .before .before .pre .4 .rules .in-words in
+    (views-sized (s .views), set-four s (c .before .before .before .before .before .before .before .args .i) (c .before .before .before .before .before .before .before .pre .3) _ (c .before .load .ensures))
 
 label-place-requires : tie.Need-label-place-requires
 label-place-requires c κs =
-    let s = c .before .before .before .before .before .before .before .pre .4 .rules .in-words in
-    let i = c .before .before .before .before .before .before .before .args .i in
-    let h = c .before .before .before .before .before .before .before .pre .3 in
+    let s = c .before .before .before .before .before .before .before .before .pre .4 .rules .in-words in
+    let i = c .before .before .before .before .before .before .before .before .args .i in
+    let h = c .before .before .before .before .before .before .before .before .pre .3 in
     label-small s i h _
-    (c .set-label .ensures _ _ (s .table) _ (s .views) (set-held s i h _ (c .before .load .ensures)) (set-ascending s i h) (set-some s i h))
+    (c .set-label .ensures _ _ (s .table) _ (s .views) (set-held s i h _ (c .before .before .load .ensures)) (set-ascending s i h) (set-some s i h))
 
 sub-set-content : tie.Need-sub-set-content
 sub-set-content c = search needs
@@ -57,10 +64,10 @@ enum-known-end c = search needs
 
 cast-scratch : tie.Need-cast-scratch
 cast-scratch c =
-    let s = c .before .before .before .before .before .before .before .before .before .before .before .before .before .before .before .pre .4 .rules .in-words in
+    let s = c .before .before .before .before .before .before .before .before .before .before .before .before .before .before .before .before .pre .4 .rules .in-words in
     let few = s .held .few in
     let e = s .count-is in
-    let h = c .before .before .before .before .before .before .before .before .before .before .before .before .before .before .before .pre .3 in
+    let h = c .before .before .before .before .before .before .before .before .before .before .before .before .before .before .before .before .pre .3 in
     omega arith
 
 slice-write-scratch : tie.Need-slice-write-scratch
@@ -68,25 +75,25 @@ slice-write-scratch c = search needs
 
 cast-scratch-2 : tie.Need-cast-scratch-2
 cast-scratch-2 c =
-    let s = c .before .before .before .before .before .before .before .before .before .before .before .before .before .before .before .pre .4 .rules .in-words in
-    let i = c .before .before .before .before .before .before .before .before .before .before .before .before .before .before .before .args .i in
-    let h = c .before .before .before .before .before .before .before .before .before .before .before .before .before .before .before .pre .3 in
+    let s = c .before .before .before .before .before .before .before .before .before .before .before .before .before .before .before .before .pre .4 .rules .in-words in
+    let i = c .before .before .before .before .before .before .before .before .before .before .before .before .before .before .before .before .args .i in
+    let h = c .before .before .before .before .before .before .before .before .before .before .before .before .before .before .before .before .pre .3 in
     let small =
     label-small s i h (c .before .before .before .before .before .before .before .before .set-label .result)
-    (c .before .before .before .before .before .before .before .before .set-label .ensures _ _ (s .table) _ (s .views) (set-held s i h _ (c .before .before .before .before .before .before .before .before .before .load .ensures)) (set-ascending s i h) (set-some s i h)) in
+    (c .before .before .before .before .before .before .before .before .set-label .ensures _ _ (s .table) _ (s .views) (set-held s i h _ (c .before .before .before .before .before .before .before .before .before .before .load .ensures)) (set-ascending s i h) (set-some s i h)) in
     let few = c .before .before .before .before .before .before .before .label-place .ensures .1 in
     omega arith
 
 slice-write-scratch-2 : tie.Need-slice-write-scratch-2
 slice-write-scratch-2 c =
-    let long = c .before .before .before .before .before .before .before .before .before .before .before .before .before .before .before .pre .2 in
-    let before = c .before .before .before .before .before .before .before .before .before .before .before .before .before .before .before .args .scratch .now in
-    scratch-long before (c .before .before .before .before .before .set-content .last .0) (drop (length before - 2) (drop 2 before)) (c .before .before .before .before .before .before .before .before .before .before .before .before .before .before .before .args .i) (omega arith)
+    let long = c .before .before .before .before .before .before .before .before .before .before .before .before .before .before .before .before .pre .2 in
+    let before = c .before .before .before .before .before .before .before .before .before .before .before .before .before .before .before .before .args .scratch .now in
+    scratch-long before (c .before .before .before .before .before .set-content .last .0) (drop (length before - 2) (drop 2 before)) (c .before .before .before .before .before .before .before .before .before .before .before .before .before .before .before .before .args .i) (omega arith)
 
 add-stop : tie.Need-add-stop
 add-stop c =
-    let q = c .before .before .before .before .before .before .before .before .before .before .before .before .before .before .before .pre .4 .rules in
-    let small = made-stored _ (ruleFrom q (c .before .before .before .before .before .before .before .before .before .before .before .before .before .before .before .args .i) .content) _ (c .before .before .before .before .before .set-content .ensures q) (c .before .end .given .1) .small in
+    let q = c .before .before .before .before .before .before .before .before .before .before .before .before .before .before .before .before .pre .4 .rules in
+    let small = made-stored _ (ruleFrom q (c .before .before .before .before .before .before .before .before .before .before .before .before .before .before .before .before .args .i) .content) _ (c .before .before .before .before .before .set-content .ensures q) (c .before .end .given .1) .small in
     omega arith
 
 sub-put-field : tie.Need-sub-put-field
@@ -97,11 +104,11 @@ part-put-field-start c = search needs
 
 part-put-field-end : tie.Need-part-put-field-end
 part-put-field-end c =
-    let q = c .before .before .before .before .before .before .before .before .before .before .before .before .before .before .before .before .before .pre .4 .rules in
-    let long = c .before .before .before .before .before .before .before .before .before .before .before .before .before .before .before .before .before .pre .2 in
-    let before = c .before .before .before .before .before .before .before .before .before .before .before .before .before .before .before .before .before .args .scratch .now in
-    let made = made-stored _ (ruleFrom q (c .before .before .before .before .before .before .before .before .before .before .before .before .before .before .before .before .before .args .i) .content) _ (c .before .before .before .before .before .before .before .set-content .ensures q) (c .before .before .before .end .given .1) in
-    scratch-room before (c .before .before .before .before .before .before .before .set-content .last .0) (drop (length before - 2) (drop 2 before)) (c .before .before .before .before .before .before .before .before .before .before .before .before .before .before .before .before .before .args .i) (c .before .before .before .before .before .before .before .before .before .label-place .result) _ (omega arith)
+    let q = c .before .before .before .before .before .before .before .before .before .before .before .before .before .before .before .before .before .before .pre .4 .rules in
+    let long = c .before .before .before .before .before .before .before .before .before .before .before .before .before .before .before .before .before .before .pre .2 in
+    let before = c .before .before .before .before .before .before .before .before .before .before .before .before .before .before .before .before .before .before .args .scratch .now in
+    let made = made-stored _ (ruleFrom q (c .before .before .before .before .before .before .before .before .before .before .before .before .before .before .before .before .before .before .args .i) .content) _ (c .before .before .before .before .before .before .before .set-content .ensures q) (c .before .before .before .end .given .1) in
+    scratch-room before (c .before .before .before .before .before .before .before .set-content .last .0) (drop (length before - 2) (drop 2 before)) (c .before .before .before .before .before .before .before .before .before .before .before .before .before .before .before .before .before .before .args .i) (c .before .before .before .before .before .before .before .before .before .label-place .result) _ (omega arith)
     (made .inside)
 
 put-field-requires : tie.Need-put-field-requires
@@ -113,7 +120,7 @@ same-length c = search needs
 returns : tie.Need-returns
 returns c =
     λ q.
-    inl (made-over _ (ruleFrom (q .rules) (c .before .before .before .before .before .before .before .before .before .before .before .before .before .before .args .i) .content) _ (c .before .before .before .before .set-content .ensures (q .rules)) (c .enum-told .given .1))
+    inl (made-over _ (ruleFrom (q .rules) (c .before .before .before .before .before .before .before .before .before .before .before .before .before .before .before .args .i) .content) _ (c .before .before .before .before .set-content .ensures (q .rules)) (c .enum-told .given .1))
 
 same-length-2 : tie.Need-same-length-2
 same-length-2 c = search needs
@@ -125,23 +132,24 @@ returns-2 : tie.Need-returns-2
 returns-2 c =
     λ q.
     let s = q .rules .in-words in
-    let i = c .before .before .before .before .before .before .before .before .before .before .before .before .before .before .before .before .before .before .before .before .before .args .i in
-    let h = c .before .before .before .before .before .before .before .before .before .before .before .before .before .before .before .before .before .before .before .before .before .pre .3 in
-    let long = c .before .before .before .before .before .before .before .before .before .before .before .before .before .before .before .before .before .before .before .before .before .pre .2 in
-    let on = member (c .before .before .before .before .before .before .before .before .before .before .before .before .before .before .before .before .before .before .before .before .before .args .used .words) 0 in
+    let i = c .before .before .before .before .before .before .before .before .before .before .before .before .before .before .before .before .before .before .before .before .before .before .args .i in
+    let h = c .before .before .before .before .before .before .before .before .before .before .before .before .before .before .before .before .before .before .before .before .before .before .pre .3 in
+    let long = c .before .before .before .before .before .before .before .before .before .before .before .before .before .before .before .before .before .before .before .before .before .before .pre .2 in
+    let on = member (c .before .before .before .before .before .before .before .before .before .before .before .before .before .before .before .load2 .result .words) 0 in
+    let used = ap (λ (w : List ℕ). member w 0) (c .before .before .before .before .before .before .before .before .before .before .before .before .before .before .before .load2 .ensures) ∙ q .used-are in
     let made = made-stored _ (ruleFrom (q .rules) i .content) _ (c .before .before .before .before .before .before .before .before .before .before .before .set-content .ensures (q .rules)) (c .before .before .before .before .before .before .before .end .given .1) in
     let label : c .before .before .before .before .before .before .before .before .before .before .before .before .before .before .set-label .result ≡ _ =
-    c .before .before .before .before .before .before .before .before .before .before .before .before .before .before .set-label .ensures _ _ (s .table) _ (s .views) (set-held s i h _ (c .before .before .before .before .before .before .before .before .before .before .before .before .before .before .before .load .ensures)) (set-ascending s i h) (set-some s i h) in
+    c .before .before .before .before .before .before .before .before .before .before .before .before .before .before .set-label .ensures _ _ (s .table) _ (s .views) (set-held s i h _ (c .before .before .before .before .before .before .before .before .before .before .before .before .before .before .before .before .load .ensures)) (set-ascending s i h) (set-some s i h) in
     let below = set-labelled s i h in
     let placed =
-    c .before .before .before .before .before .before .before .before .before .before .before .before .before .label-place .ensures .0 (length (s .table .labels)) (omega arith) (label-used s i h on (c .before .before .before .before .before .before .before .before .before .before .before .before .before .before .set-label .result) (q .used-are) label)
+    c .before .before .before .before .before .before .before .before .before .before .before .before .before .label-place .ensures .0 (length (s .table .labels)) (omega arith) (label-used s i h on (c .before .before .before .before .before .before .before .before .before .before .before .before .before .before .set-label .result) used label)
     ∙ ap (λ (l : ℕ). place eqb l (keep on (numbersBelow (length (s .table .labels))))) label in
-    subst (λ (rule : Rule). RulePuts (c .before .before .before .before .before .before .before .before .before .before .before .before .before .before .before .before .before .before .before .before .before .args .draft .now) (c .before .before .before .before .before .before .before .before .before .before .before .before .before .before .before .before .before .before .before .before .before .args .at) rule (c .before .before .put-field .last .0) (c .before .before .put-field .result))
-    (rule-is (s .table) (s .sets) (c .before .before .before .before .before .before .before .before .before .before .before .before .before .before .before .before .before .before .before .before .before .args .single) i on (c .before .before .before .before .before .before .before .before .before .before .before .before .before .label-place .result) (q .used-are) placed)
-    (rule-puts (c .before .before .before .before .before .before .before .before .before .before .before .before .before .before .before .before .before .before .before .before .before .args .draft .now) (c .before .before .put-field .last .0) (c .before .before .before .before .before .before .before .before .before .before .before .before .before .before .before .before .before .before .before .before .before .args .at) _
+    subst (λ (rule : Rule). RulePuts (c .before .before .before .before .before .before .before .before .before .before .before .before .before .before .before .before .before .before .before .before .before .before .args .draft .now) (c .before .before .before .before .before .before .before .before .before .before .before .before .before .before .before .before .before .before .before .before .before .before .args .at) rule (c .before .before .put-field .last .0) (c .before .before .put-field .result))
+    (rule-is (s .table) (s .sets) (kindOf (c .before .before .before .before .before .before .before .before .before .before .before .before .before .before .before .before .before .before .before .before .before .before .args .kind)) i on (c .before .before .before .before .before .before .before .before .before .before .before .before .before .label-place .result) used placed)
+    (rule-puts (c .before .before .before .before .before .before .before .before .before .before .before .before .before .before .before .before .before .before .before .before .before .before .args .draft .now) (c .before .before .put-field .last .0) (c .before .before .before .before .before .before .before .before .before .before .before .before .before .before .before .before .before .before .before .before .before .before .args .at) _
     (record { type = i; label = c .before .before .before .before .before .before .before .before .before .before .before .before .before .label-place .result; content = ruleFrom (q .rules) i .content })
     (c .before .before .put-field .result)
-    (rule-value (c .before .before .before .before .before .before .before .before .before .before .before .before .before .before .before .before .before .before .before .before .before .args .scratch .now) (c .before .before .before .before .before .before .before .before .before .before .before .set-content .last .0) _ i (c .before .before .before .before .before .before .before .before .before .before .before .before .before .label-place .result) _ (ruleFrom (q .rules) i .content) (omega arith) made)
+    (rule-value (c .before .before .before .before .before .before .before .before .before .before .before .before .before .before .before .before .before .before .before .before .before .before .args .scratch .now) (c .before .before .before .before .before .before .before .before .before .before .before .set-content .last .0) _ i (c .before .before .before .before .before .before .before .before .before .before .before .before .before .label-place .result) _ (ruleFrom (q .rules) i .content) (omega arith) made)
     (made .fits)
     (c .before .before .put-field .ensures))
 
@@ -151,6 +159,7 @@ put-rule-spec =
     (tie.spec
     mul-load
     load-requires
+    load-requires-2
     set-label-requires
     label-place-requires
     sub-set-content

@@ -13,24 +13,25 @@ use Rattle.emitting.specs.Writing.{Put}
 use Rattle.sampling.specs.SampleTable.{ruleField}
 use Rattle.sampling.proofs.RuleLaws.{up-start, rules-stop, rules-more}
 use Rattle.results.specs.Results.{RulesWith, ruleFrom}
+use Rattle.results.specs.Widened.{kindOf}
 use Rattle.results.proofs.rules.put_rules.Statement.{statement}
 use Rattle.results.proofs.rules.put_rules.Tie as tie
 
 abbrev Inv-loop : tie.InvT-loop
-Inv-loop draft₀ at scratch₀ old add v labels lists left words count single used end₀ i₀ draft scratch end i =
+Inv-loop draft₀ at scratch₀ old add v labels lists words count kind end₀ i₀ draft scratch end i =
     (i ≤ count)
     × (end ≤ 32768)
     × (length draft ≡ length draft₀)
     × (length scratch ≡ length scratch₀)
-    × ((q : RulesWith old add v labels lists left words count single used)
+    × ((q : RulesWith old add v labels lists words count (kindOf kind))
     → Put draft₀ at (joinedOf (ruleField (ruleFrom (q .rules))) (numbersBelow i)) draft end)
-    × ((q : RulesWith old add v labels lists left words count single used)
+    × ((q : RulesWith old add v labels lists words count (kindOf kind))
     → (j : ℕ)
     → j < i
     → contentTooLarge standard (ruleFrom (q .rules) j .content) ≡ false)
 
 abbrev μ-loop : tie.MeasureT-loop
-μ-loop draft₀ at scratch₀ old add v labels lists left words count single used end₀ i₀ draft scratch end i = count - i
+μ-loop draft₀ at scratch₀ old add v labels lists words count kind end₀ i₀ draft scratch end i = count - i
 
 loop-holds : tie.Need-loop-holds Inv-loop μ-loop
 loop-holds c =

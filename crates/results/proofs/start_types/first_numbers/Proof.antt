@@ -7,18 +7,19 @@ use mathlib.Core.Path.{_≡_, refl, _∙_, ap}
 use lib.ListN.{length, length-replicate}
 use borrow.Author.Needs.{needs}
 use Rattle.sets.specs.Sets.{member, nothing}
-use Rattle.sets.proofs.SetLaws.{member-zeros}
+use Rattle.sets.proofs.SetLaws.{member-zeros, store-set, store-kept}
+use Rattle.pairs.specs.Places.{startTypesAt}
 use Rattle.pairs.specs.Rounds.{puts}
 use Rattle.pairs.proofs.PutsLaws.{puts-start, puts-step}
 use Rattle.results.proofs.start_types.first_numbers.Statement.{statement}
 use Rattle.results.proofs.start_types.first_numbers.Tie as tie
 
 abbrev Inv-loop : tie.InvT-loop
-Inv-loop n set₀ t₀ set t =
+Inv-loop n words set₀ t₀ set t =
     (t ≤ n) × (member (set .words) 0 ≡ puts (λ s. true) (λ s. s) nothing t) × (length (set .words) ≡ 4)
 
 abbrev μ-loop : tie.MeasureT-loop
-μ-loop n set₀ t₀ set t = n - t
+μ-loop n words set₀ t₀ set t = n - t
 
 loop-holds : tie.Need-loop-holds Inv-loop μ-loop
 loop-holds c =
@@ -30,12 +31,12 @@ loop-holds c =
 
 put-if-requires : tie.Need-put-if-requires Inv-loop μ-loop
 put-if-requires c κs =
-    let few = c .before .before .before .pre in
+    let few = c .before .before .before .before .pre .0 in
     (omega arith, c .before .loop .inv .2)
 
 add-t : tie.Need-add-t Inv-loop μ-loop
 add-t c =
-    let few = c .before .before .before .before .pre in
+    let few = c .before .before .before .before .before .pre .0 in
     omega arith
 
 loop-again : tie.Need-loop-again Inv-loop μ-loop
@@ -45,10 +46,20 @@ loop-again c = (
   c .put-if .ensures .1,
 )
 
+store-requires : tie.Need-store-requires Inv-loop μ-loop
+store-requires c κs =
+    let room = c .before .before .before .before .before .pre .1 in
+    omega arith
+
 returns : tie.Need-returns Inv-loop μ-loop
 returns c =
-    let e : c .before .loop .t ≡ c .before .before .before .args .n = omega arith in
-    (c .before .loop .inv .1 ∙ ap (puts (λ s. true) (λ s. s) nothing) e, c .before .loop .inv .2)
+    let room = c .before .before .before .before .before .before .before .before .pre .1 in
+    let e : c .before .before .before .before .before .loop .t ≡ c .before .before .before .before .before .before .before .before .args .n = omega arith in (
+      store-set _ startTypesAt _ _ (omega arith) (c .before .before .before .before .before .loop .inv .2) (c .before .before .store .ensures)
+          ∙ c .before .before .before .before .before .loop .inv .1
+          ∙ ap (puts (λ s. true) (λ s. s) nothing) e,
+      store-kept _ startTypesAt _ _ (omega arith) (c .before .before .before .before .before .loop .inv .2) (c .before .before .store .ensures),
+    )
 
 pub first-numbers-spec : {M : Type 1} → statement M
 first-numbers-spec =
@@ -62,4 +73,6 @@ first-numbers-spec =
     add-t
     (λ c. omega arith)
     loop-again
+    store-requires
+    (λ c. search needs)
     returns)

@@ -6,20 +6,26 @@ use mathlib.Core.Path.{_≡_, _∙_, ap}
 use lib.ListN.{length, getD, length-replicate}
 use borrow.Author.Needs.{needs}
 use Rattle.sets.specs.Sets.{member, nothing}
-use Rattle.sets.proofs.SetLaws.{member-zeros}
+use Rattle.sets.proofs.SetLaws.{member-zeros, store-set, store-kept}
+use Rattle.pairs.specs.Places.{startTypesAt}
 use Rattle.pairs.specs.Rounds.{puts}
 use Rattle.pairs.proofs.PutsLaws.{puts-start, puts-step}
 use Rattle.results.proofs.start_types.start_numbers.Statement.{statement}
 use Rattle.results.proofs.start_types.start_numbers.Tie as tie
 
 abbrev Inv-loop : tie.InvT-loop
-Inv-loop starts labels of rules set₀ p₀ set p =
+Inv-loop words starts labels of rules set₀ p₀ set p =
     (p ≤ rules)
     × (member (set .words) 0 ≡ puts (member (starts .words) 0) (λ q. getD of (getD labels q 0) 0) nothing p)
     × (length (set .words) ≡ 4)
 
 abbrev μ-loop : tie.MeasureT-loop
-μ-loop starts labels of rules set₀ p₀ set p = rules - p
+μ-loop words starts labels of rules set₀ p₀ set p = rules - p
+
+load-requires : tie.Need-load-requires Inv-loop μ-loop
+load-requires c κs =
+    let room = c .before .before .pre .2 in
+    omega arith
 
 loop-holds : tie.Need-loop-holds Inv-loop μ-loop
 loop-holds c =
@@ -31,32 +37,32 @@ loop-holds c =
 
 mul-label : tie.Need-mul-label Inv-loop μ-loop
 mul-label c =
-    let h = c .before .before .before .before .before .pre .0 .few in
+    let h = c .before .before .before .before .before .before .before .before .pre .0 .few in
     omega arith
 
 array-read-label : tie.Need-array-read-label Inv-loop μ-loop
 array-read-label c =
-    let h = c .before .before .before .before .before .pre .0 .few in
+    let h = c .before .before .before .before .before .before .before .before .pre .0 .few in
     omega arith
 
 has-requires : tie.Need-has-requires Inv-loop μ-loop
 has-requires c κs =
-    let h = c .before .before .before .before .before .pre .0 .few in
+    let h = c .before .before .before .before .before .before .before .before .pre .0 .few in
     omega arith
 
 array-read-wide : tie.Need-array-read-wide Inv-loop μ-loop
-array-read-wide c = c .before .before .before .before .before .before .pre .1 (c .before .before .loop .p) (c .before .loop-test .taken)
+array-read-wide c = c .before .before .before .before .before .before .before .before .before .pre .1 (c .before .before .loop .p) (c .before .loop-test .taken)
 
 put-if-requires : tie.Need-put-if-requires Inv-loop μ-loop
 put-if-requires c κs =
-    let args = c .before .before .before .before .before .before .before .args in
-    let small = c .before .before .before .before .before .before .before .pre .3 (getD (args .v .labels) (c .before .before .before .loop .p) 0) in
+    let args = c .before .before .before .before .before .before .before .before .before .before .args in
+    let small = c .before .before .before .before .before .before .before .before .before .before .pre .3 (getD (args .v .labels) (c .before .before .before .loop .p) 0) in
     let e = c .wide .ensures in
     (omega arith, c .before .before .before .loop .inv .2)
 
 add-p : tie.Need-add-p Inv-loop μ-loop
 add-p c =
-    let h = c .before .before .before .before .before .before .before .before .pre .0 .few in
+    let h = c .before .before .before .before .before .before .before .before .before .before .before .pre .0 .few in
     omega arith
 
 loop-again : tie.Need-loop-again Inv-loop μ-loop
@@ -67,13 +73,22 @@ loop-again c = (
   c .put-if .ensures .1,
 )
 
+store-requires : tie.Need-store-requires Inv-loop μ-loop
+store-requires c κs =
+    let room = c .before .before .before .before .before .before .before .before .before .pre .2 in
+    omega arith
+
 returns : tie.Need-returns Inv-loop μ-loop
 returns c =
-    let args = c .before .before .before .before .before .args in
-    let e : c .before .loop .p ≡ args .v .rules = omega arith in (
-      c .before .loop .inv .1
-          ∙ ap (puts (member (args .starts .words) 0) (λ q. getD (args .numbers .of) (getD (args .v .labels) q 0) 0) nothing) e,
-      c .before .loop .inv .2,
+    let args = c .before .before .before .before .before .before .before .before .before .before .before .before .args in
+    let room = c .before .before .before .before .before .before .before .before .before .before .before .before .pre .2 in
+    let key : ℕ → ℕ = λ q. getD (args .numbers .of) (getD (args .v .labels) q 0) 0 in
+    let e : c .before .before .before .before .before .loop .p ≡ args .v .rules = omega arith in (
+      store-set _ startTypesAt _ _ (omega arith) (c .before .before .before .before .before .loop .inv .2) (c .before .before .store .ensures)
+          ∙ c .before .before .before .before .before .loop .inv .1
+          ∙ ap (puts (member (c .before .before .before .before .before .before .before .before .before .load .result .words) 0) key nothing) e
+          ∙ ap (λ (w : List ℕ). puts (member w 0) key nothing (args .v .rules)) (c .before .before .before .before .before .before .before .before .before .load .ensures),
+      store-kept _ startTypesAt _ _ (omega arith) (c .before .before .before .before .before .loop .inv .2) (c .before .before .store .ensures),
     )
 
 pub start-numbers-spec : {M : Type 1} → statement M
@@ -82,6 +97,7 @@ start-numbers-spec =
     (tie.spec
     Inv-loop
     μ-loop
+    load-requires
     (λ c κs. search needs)
     loop-holds
     mul-label
@@ -93,4 +109,6 @@ start-numbers-spec =
     add-p
     (λ c. omega arith)
     loop-again
+    store-requires
+    (λ c. search needs)
     returns)

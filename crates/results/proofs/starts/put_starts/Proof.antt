@@ -13,6 +13,7 @@ use Rattle.sets.specs.Sets.{member}
 use Rattle.emitting.specs.Writing.{Put}
 use Rattle.reducing.proofs.NumberLaws.{joined-only}
 use Rattle.sampling.proofs.RuleLaws.{up-start, step-stop, step-more}
+use Rattle.results.specs.Results.{startsBytes}
 use Rattle.results.proofs.starts.put_starts.Statement.{statement}
 use Rattle.results.proofs.starts.put_starts.Tie as tie
 
@@ -20,21 +21,26 @@ abbrev startField : (ℕ → Bool) → ℕ → List ℕ
 startField on k = onlyIf (on k) (fieldBytes 0x11 (k ∷ []))
 
 abbrev Inv-loop : tie.InvT-loop
-Inv-loop draft₀ at starts count end₀ t₀ draft end t =
+Inv-loop draft₀ at words count starts end₀ t₀ draft end t =
     (t ≤ count)
     × (end ≤ 32768)
     × (length draft ≡ length draft₀)
     × Put draft₀ at (joinedOf (startField (member (starts .words) 0)) (numbersBelow t)) draft end
 
 abbrev μ-loop : tie.MeasureT-loop
-μ-loop draft₀ at starts count end₀ t₀ draft end t = count - t
+μ-loop draft₀ at words count starts end₀ t₀ draft end t = count - t
+
+load-requires : tie.Need-load-requires Inv-loop μ-loop
+load-requires c κs =
+    let room = c .before .before .pre .2 in
+    omega arith
 
 loop-holds : tie.Need-loop-holds Inv-loop μ-loop
 loop-holds c = (
   omega arith,
-  c .before .pre .0,
+  c .before .before .before .pre .0,
   refl,
-  up-start (startField (member (c .before .args .starts .words) 0)) (c .before .args .draft .now) (c .before .args .at) (omega arith),
+  up-start (startField (member (c .load .result .words) 0)) (c .before .before .before .args .draft .now) (c .before .before .before .args .at) (omega arith),
 )
 
 has-requires : tie.Need-has-requires Inv-loop μ-loop
@@ -53,14 +59,15 @@ same-length c = search needs
 
 returns : tie.Need-returns Inv-loop μ-loop
 returns c =
-    let on = member (c .before .before .before .before .before .before .before .before .before .before .args .starts .words) 0 in
-    subst (λ (b : List ℕ). 32768 < c .before .before .before .before .before .before .before .before .before .before .args .at + length b)
-    (joined-only on (λ k. fieldBytes 0x11 (k ∷ [])) (numbersBelow (c .before .before .before .before .before .before .before .before .before .before .args .count)))
+    let on = member (c .before .before .before .before .before .before .before .before .before .load .result .words) 0 in
+    subst (λ (b : List ℕ). 32768 < c .before .before .before .before .before .before .before .before .before .before .before .before .args .at + length b)
+    (joined-only on (λ k. fieldBytes 0x11 (k ∷ [])) (numbersBelow (c .before .before .before .before .before .before .before .before .before .before .before .before .args .count))
+    ∙ ap (λ (t : ℕ → Bool). startsBytes t (c .before .before .before .before .before .before .before .before .before .before .before .before .args .count)) (ap (λ (w : List ℕ). member w 0) (c .before .before .before .before .before .before .before .before .before .load .ensures)))
     (step-stop (startField on) (c .before .before .before .before .before .before .before .before .loop .t) (c .before .before .before .before .before .before .before .before .loop .inv .3) _ (c .before .before .before .before .put-start .last .0) (c .before .before .before .before .put-start .result)
     (ap (λ (b : Bool). onlyIf b (fieldBytes 0x11 (c .before .before .before .before .before .before .before .before .loop .t ∷ []))) (c .before .before .before .before .before .has .ensures))
     (c .before .before .before .before .put-start .ensures)
     (c .enum-told .given .1)
-    (c .before .before .before .before .before .before .before .before .before .before .args .count)
+    (c .before .before .before .before .before .before .before .before .before .before .before .before .args .count)
     (c .before .before .before .before .before .before .before .loop-test .taken))
 
 enum-known-more : tie.Need-enum-known-more Inv-loop μ-loop
@@ -74,7 +81,7 @@ loop-less c = omega arith
 
 loop-again : tie.Need-loop-again Inv-loop μ-loop
 loop-again c =
-    let on = member (c .before .before .before .before .before .before .before .before .before .before .before .args .starts .words) 0 in
+    let on = member (c .before .before .before .before .before .before .before .before .before .before .load .result .words) 0 in
     let more =
     step-more (startField on) (c .before .before .before .before .before .before .before .before .before .loop .t) (c .before .before .before .before .before .before .before .before .before .loop .inv .3) _ (c .before .before .before .before .before .put-start .last .0) (c .before .before .before .before .before .put-start .result)
     (ap (λ (b : Bool). onlyIf b (fieldBytes 0x11 (c .before .before .before .before .before .before .before .before .before .loop .t ∷ []))) (c .before .before .before .before .before .before .has .ensures))
@@ -87,12 +94,13 @@ same-length-2 c = search needs
 
 returns-2 : tie.Need-returns-2 Inv-loop μ-loop
 returns-2 c =
-    let on = member (c .before .before .before .args .starts .words) 0 in
-    let count = c .before .before .before .args .count in
+    let on = member (c .before .before .load .result .words) 0 in
+    let count = c .before .before .before .before .before .args .count in
     let e : c .before .loop .t ≡ count = omega arith in (
-      subst (λ (b : List ℕ). Put (c .before .before .before .args .draft .now) (c .before .before .before .args .at) b (c .before .loop .draft) (c .before .loop .end))
+      subst (λ (b : List ℕ). Put (c .before .before .before .before .before .args .draft .now) (c .before .before .before .before .before .args .at) b (c .before .loop .draft) (c .before .loop .end))
           (ap (λ (n : ℕ). joinedOf (startField on) (numbersBelow n)) e
-          ∙ joined-only on (λ k. fieldBytes 0x11 (k ∷ [])) (numbersBelow count))
+          ∙ joined-only on (λ k. fieldBytes 0x11 (k ∷ [])) (numbersBelow count)
+          ∙ ap (λ (t : ℕ → Bool). startsBytes t count) (ap (λ (w : List ℕ). member w 0) (c .before .before .load .ensures)))
           (c .before .loop .inv .3),
       c .before .loop .inv .1,
     )
@@ -103,6 +111,7 @@ put-starts-spec =
     (tie.spec
     Inv-loop
     μ-loop
+    load-requires
     loop-holds
     has-requires
     put-start-requires

@@ -1,13 +1,20 @@
 -- `widen_local` meets its contract: too many labels, or the result as it is drafted.
+use Prim.Native.Nat.{ℕ}
 use native.Mathlib.Omega.{arith}
-use mathlib.Core.Path.{_∙_}
+use mathlib.Core.List.{List, _++_}
+use mathlib.Core.Path.{_≡_, _∙_, ap}
+use lib.ListN.{length, take, drop}
 use borrow.Author.Needs.{needs}
 use Rattle.grammar.specs.Limits.{standard}
 use Rattle.grammar.specs.Kinds.{local}
 use Rattle.grammar.specs.Unite.{unite}
+use Rattle.sets.specs.Sets.{member}
+use Rattle.sets.proofs.SetLaws.{length-words}
+use Rattle.pairs.specs.Places.{setsEnd, leftAt}
 use Rattle.pairs.proofs.ViewLaws.{views-sized}
 use Rattle.forms.specs.SetForms.{localSets}
 use Rattle.forms.proofs.WidenedBySets.{setsOf}
+use Rattle.results.specs.Widened.{kindOf}
 use Rattle.results.proofs.ReducedLaws as laws
 use Rattle.results.proofs.SetLaws.{labels-sized}
 use Rattle.results.proofs.widen.widen_local.Statement.{statement}
@@ -16,56 +23,100 @@ use Rattle.results.proofs.widen.widen_local.Tie as tie
 label-count-requires : tie.Need-label-count-requires
 label-count-requires c κs = laws.names-few (c .before .before .before .before .before .pre .0 .reduced)
 
+load-requires : tie.Need-load-requires
+load-requires c κs =
+    let room = c .before .before .before .before .before .before .before .pre .1 in
+    omega arith
+
+part-label-sets-end : tie.Need-part-label-sets-end
+part-label-sets-end c =
+    let room = c .before .before .before .before .before .before .before .before .pre .1 in
+    omega arith
+
 label-sets-requires : tie.Need-label-sets-requires
 label-sets-requires c κs =
-    let r = c .before .before .before .before .before .before .before .pre .0 .reduced in
-    let room = c .before .before .before .before .before .before .before .pre .1 in
-    (views-sized (r .seen .rules), record { few = omega arith; room = omega arith; four = r .left-room })
+    let r = c .before .before .before .before .before .before .before .before .before .pre .0 .reduced in
+    let room = c .before .before .before .before .before .before .before .before .before .pre .1 in (
+      views-sized (r .seen .rules),
+      record {
+        few = omega arith;
+        room = laws.lent-room (c .before .before .before .before .before .before .before .before .before .args .words .now) room;
+        four = ap length (c .before .load .ensures) ∙ length-words _ leftAt 4 (omega arith);
+      },
+    )
 
 label-numbers-requires : tie.Need-label-numbers-requires
 label-numbers-requires c κs =
-    let r = c .before .before .before .before .before .before .before .before .before .before .before .before .before .before .pre .0 .reduced in
-    let n = c .before .before .before .before .before .before .before .before .label-count .ensures ∙ laws.label-count-is r in
+    let r = c .before .before .before .before .before .before .before .before .before .before .before .before .before .before .before .before .pre .0 .reduced in
+    let room = c .before .before .before .before .before .before .before .before .before .before .before .before .before .before .before .before .pre .1 in
+    let n = c .before .before .before .before .before .before .before .before .before .before .label-count .ensures ∙ laws.label-count-is r in
     let few = laws.labels-few r in
     let s = c .before .before .before .before .before .before .label-sets in
-    let (many, held) = laws.local-counted r _ (s .result) (s .ensures _ _ _ (r .seen .rules) n) _ (c .before .before .count .given .1) in
+    let front = s .last .1 .1 .1 .0 in
+    let (many, held) = laws.local-counted r front (s .result) _ (ap (λ (w : List ℕ). member w 0) (c .before .before .before .before .before .before .before .before .load .ensures) ∙ r .left-are) (s .ensures _ _ _ (r .seen .rules) n) _ (c .before .before .count .given .1) in
     let h = held .few in
-    (views-sized (r .seen .rules), omega arith, record { few = omega arith; room = held .room; four = r .left-room })
+    let same : length front ≡ length (take setsEnd (c .before .before .before .before .before .before .before .before .before .before .before .before .before .before .before .before .args .words .now)) = search needs in
+    let all = laws.room-stays (c .before .before .before .before .before .before .before .before .before .before .before .before .before .before .before .before .args .words .now) room front same in (
+      views-sized (r .seen .rules),
+      omega arith,
+      record { few = omega arith; room = omega arith; four = ap length (c .before .before .before .before .before .before .before .before .load .ensures) ∙ length-words _ leftAt 4 (omega arith) },
+    )
 
 start-numbers-requires : tie.Need-start-numbers-requires
 start-numbers-requires c κs =
-    let r = c .before .before .before .before .before .before .before .before .before .before .before .before .before .before .before .pre .0 .reduced in
-    (views-sized (r .seen .rules), labels-sized (r .seen .rules) (laws.fit r .labelled) (laws.labels-few r), r .starts-room, c .label-numbers .ensures .1)
+    let r = c .before .before .before .before .before .before .before .before .before .before .before .before .before .before .before .before .before .before .pre .0 .reduced in
+    let front = c .before .before .before .before .before .before .before .before .label-sets .last .1 .1 .1 .0 in
+    let same : length front ≡ length (take setsEnd (c .before .before .before .before .before .before .before .before .before .before .before .before .before .before .before .before .before .before .args .words .now)) = search needs in (
+      views-sized (r .seen .rules),
+      labels-sized (r .seen .rules) (laws.fit r .labelled) (laws.labels-few r),
+      laws.room-stays (c .before .before .before .before .before .before .before .before .before .before .before .before .before .before .before .before .before .before .args .words .now) (c .before .before .before .before .before .before .before .before .before .before .before .before .before .before .before .before .before .before .pre .1) front same,
+      c .before .label-numbers .ensures .1,
+    )
 
 put-result-requires : tie.Need-put-result-requires
+unfolding kindOf
 put-result-requires c κs =
-    let r = c .before .before .before .before .before .before .before .before .before .before .before .before .before .before .before .before .before .before .before .pre .0 .reduced in
-    let n = c .before .before .before .before .before .before .before .before .before .before .before .before .before .label-count .ensures ∙ laws.label-count-is r in
-    let s = c .before .before .before .before .before .before .before .before .before .before .before .label-sets in
-    let (many, held) = laws.local-counted r _ (s .result) (s .ensures _ _ _ (r .seen .rules) n) _ (c .before .before .before .before .before .before .before .count .given .1) in
-    (c .before .before .before .before .before .before .before .before .before .before .before .before .before .before .before .before .before .before .before .pre .2, omega arith, laws.result-from r local _ (laws.local-pairs r) _ _ held many)
+    let r = c .before .before .before .before .before .before .before .before .before .before .before .before .before .before .before .before .before .before .before .before .before .before .before .before .pre .0 .reduced in
+    let n = c .before .before .before .before .before .before .before .before .before .before .before .before .before .before .before .before .before .before .label-count .ensures ∙ laws.label-count-is r in
+    let s = c .before .before .before .before .before .before .before .before .before .before .before .before .before .before .label-sets in
+    let front = s .last .1 .1 .1 .0 in
+    let (many, held) = laws.local-counted r front (s .result) _ (ap (λ (w : List ℕ). member w 0) (c .before .before .before .before .before .before .before .before .before .before .before .before .before .before .before .before .load .ensures) ∙ r .left-are) (s .ensures _ _ _ (r .seen .rules) n) _ (c .before .before .before .before .before .before .before .before .before .before .count .given .1) in
+    let same : length front ≡ length (take setsEnd (c .before .before .before .before .before .before .before .before .before .before .before .before .before .before .before .before .before .before .before .before .before .before .before .before .args .words .now)) = search needs in
+    let long : length (c .before .before .before .before .before .start-numbers .last .1 .1 .0) ≡ length (front ++ drop setsEnd (c .before .before .before .before .before .before .before .before .before .before .before .before .before .before .before .before .before .before .before .before .before .before .before .before .args .words .now)) = search needs in
+    (c .before .before .before .before .before .before .before .before .before .before .before .before .before .before .before .before .before .before .before .before .before .before .before .before .pre .2, omega arith, laws.result-after r local (c .before .before .before .before .before .before .before .before .before .before .before .before .before .before .before .before .before .before .before .before .before .before .before .before .pre .1) front same _ held many _ (c .before .before .before .before .before .start-numbers .ensures .1) long)
 
 returns : tie.Need-returns
 returns c g h r =
-    let n = c .before .before .before .before .before .before .label-count .ensures ∙ laws.label-count-is r in
+    let n = c .before .before .before .before .before .before .before .before .label-count .ensures ∙ laws.label-count-is r in
     let s = c .before .before .before .before .label-sets in
-    laws.local-over r _ (s .result) (s .ensures _ _ _ (r .seen .rules) n) (c .enum-told .given .1) _ _
+    laws.local-over r _ (s .result) _ (ap (λ (w : List ℕ). member w 0) (c .before .before .before .before .before .before .load .ensures) ∙ r .left-are) (s .ensures _ _ _ (r .seen .rules) n) (c .enum-told .given .1) _ _
 
 returns-2 : tie.Need-returns-2
-unfolding setsOf
+unfolding setsOf kindOf
 returns-2 c g h r =
-    let n = c .before .before .before .before .before .before .before .before .before .before .before .before .before .before .before .before .before .before .label-count .ensures ∙ laws.label-count-is r in
-    let s = c .before .before .before .before .before .before .before .before .before .before .before .before .before .before .before .before .label-sets in
-    let (many, held) = laws.local-counted r _ (s .result) (s .ensures _ _ _ (r .seen .rules) n) _ (c .before .before .before .before .before .before .before .before .before .before .before .before .count .given .1) in
-    laws.local-drafted r _ _ many held (c .before .before .before .before .before .before .before .before .before .label-numbers .result .of) (c .before .before .before .before .before .before .before .before .before .before .before .before .before .before .before .before .before .before .label-count .result) n
-    (c .before .before .before .before .before .before .before .before .before .label-numbers .ensures .0 _ _ _ (localSets (unite standard g h)) (r .seen .rules) held many) _ (c .before .before .before .before .before .before .before .before .start-numbers .ensures .0) _ _ _ _
-    (c .told .ensures) (c .before .before .before .before .put-result .ensures (laws.result-from r local _ (laws.local-pairs r) _ _ held many))
+    let room = c .before .before .before .before .before .before .before .before .before .before .before .before .before .before .before .before .before .before .before .before .before .before .before .before .before .before .before .before .before .before .before .pre .1 in
+    let n = c .before .before .before .before .before .before .before .before .before .before .before .before .before .before .before .before .before .before .before .before .before .before .before .before .before .label-count .ensures ∙ laws.label-count-is r in
+    let s = c .before .before .before .before .before .before .before .before .before .before .before .before .before .before .before .before .before .before .before .before .before .label-sets in
+    let front = s .last .1 .1 .1 .0 in
+    let left = ap (λ (w : List ℕ). member w 0) (c .before .before .before .before .before .before .before .before .before .before .before .before .before .before .before .before .before .before .before .before .before .before .before .load .ensures) ∙ r .left-are in
+    let (many, held) = laws.local-counted r front (s .result) _ left (s .ensures _ _ _ (r .seen .rules) n) _ (c .before .before .before .before .before .before .before .before .before .before .before .before .before .before .before .before .before .count .given .1) in
+    let same : length front ≡ length (take setsEnd (c .before .before .before .before .before .before .before .before .before .before .before .before .before .before .before .before .before .before .before .before .before .before .before .before .before .before .before .before .before .before .before .args .words .now)) = search needs in
+    let long : length (c .before .before .before .before .before .before .before .before .before .before .before .before .start-numbers .last .1 .1 .0) ≡ length (front ++ drop setsEnd (c .before .before .before .before .before .before .before .before .before .before .before .before .before .before .before .before .before .before .before .before .before .before .before .before .before .before .before .before .before .before .before .args .words .now)) = search needs in
+    laws.local-drafted r front _ many held (c .before .before .before .before .before .before .before .before .before .before .before .before .before .before .label-numbers .result .of) (c .before .before .before .before .before .before .before .before .before .before .before .before .before .before .before .before .before .before .before .before .before .before .before .before .before .label-count .result) n _ _ left
+    (laws.reduced-stay r room front same .starts-are)
+    (c .before .before .before .before .before .before .before .before .before .before .before .before .before .before .label-numbers .ensures .0 _ _ _ (localSets (unite standard g h)) (r .seen .rules) (laws.sets-held (c .before .before .before .before .before .before .before .before .before .before .before .before .before .before .before .before .before .before .before .before .before .before .before .before .before .before .before .before .before .before .before .args .words .now) room front same held) many)
+    _ (c .before .before .before .before .before .before .before .before .before .before .before .before .start-numbers .ensures .0) _ _ _ _ (c .told .ensures)
+    (c .before .before .before .before .before .before .put-result .ensures (laws.result-after r local room front same _ held many _ (c .before .before .before .before .before .before .before .before .before .before .before .before .start-numbers .ensures .1) long))
 
 pub widen-local-spec : {M : Type 1} → statement M
 widen-local-spec =
     tie.close
     (tie.spec
     label-count-requires
+    load-requires
+    (λ c. search needs)
+    (λ c. search needs)
+    part-label-sets-end
     label-sets-requires
     (λ c. search needs)
     (λ c. search needs)

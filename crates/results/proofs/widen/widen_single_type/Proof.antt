@@ -1,7 +1,13 @@
 -- `widen_single_type` meets its contract: too many start labels, or the start sets and those met.
+use Prim.Native.Nat.{ℕ}
 use native.Mathlib.Omega.{arith}
-use mathlib.Core.Path.{_∙_}
+use mathlib.Core.List.{List}
+use mathlib.Core.Path.{_≡_, _∙_, ap}
+use lib.ListN.{length, take}
 use borrow.Author.Needs.{needs}
+use Rattle.sets.specs.Sets.{member}
+use Rattle.sets.proofs.SetLaws.{length-words}
+use Rattle.pairs.specs.Places.{setsEnd, startsAt}
 use Rattle.pairs.proofs.ViewLaws.{views-sized}
 use Rattle.results.proofs.ReducedLaws as laws
 use Rattle.results.proofs.widen.widen_single_type.Statement.{statement}
@@ -10,39 +16,74 @@ use Rattle.results.proofs.widen.widen_single_type.Tie as tie
 label-count-requires : tie.Need-label-count-requires
 label-count-requires c κs = laws.names-few (c .before .before .before .before .before .pre .0 .reduced)
 
+load-requires : tie.Need-load-requires
+load-requires c κs =
+    let room = c .before .before .before .before .before .before .before .pre .1 in
+    omega arith
+
+part-label-sets-end : tie.Need-part-label-sets-end
+part-label-sets-end c =
+    let room = c .before .before .before .before .before .before .before .before .pre .1 in
+    omega arith
+
 label-sets-requires : tie.Need-label-sets-requires
 label-sets-requires c κs =
-    let r = c .before .before .before .before .before .before .before .pre .0 .reduced in
-    let room = c .before .before .before .before .before .before .before .pre .1 in
-    (views-sized (r .seen .rules), record { few = omega arith; room = omega arith; four = r .starts-room })
+    let r = c .before .before .before .before .before .before .before .before .before .pre .0 .reduced in
+    let room = c .before .before .before .before .before .before .before .before .before .pre .1 in (
+      views-sized (r .seen .rules),
+      record {
+        few = omega arith;
+        room = laws.lent-room (c .before .before .before .before .before .before .before .before .before .args .words .now) room;
+        four = ap length (c .before .load .ensures) ∙ length-words _ startsAt 4 (omega arith);
+      },
+    )
 
 widen-from-starts-requires : tie.Need-widen-from-starts-requires
 widen-from-starts-requires c κs =
-    let q = c .before .before .before .before .before .before .before .before .before .before .before .before .before .before .before .pre .0 in
+    let q = c .before .before .before .before .before .before .before .before .before .before .before .before .before .before .before .before .before .pre .0 in
+    let room = c .before .before .before .before .before .before .before .before .before .before .before .before .before .before .before .before .before .pre .1 in
     let r = q .reduced in
-    let n = c .before .before .before .before .before .before .before .before .before .label-count .ensures ∙ laws.label-count-is r in
+    let n = c .before .before .before .before .before .before .before .before .before .before .before .label-count .ensures ∙ laws.label-count-is r in
     let s = c .before .before .before .before .before .before .before .label-sets in
-    let (many, held) = laws.start-counted r _ (s .result) (s .ensures _ _ _ (r .seen .rules) n) _ (c .before .before .before .first .given .1) in
-    (record { first = q .first; second = q .second; reduced = r; held = held; many = many }, search needs, c .before .before .before .before .before .before .before .before .before .before .before .before .before .before .before .pre .2)
+    let front = s .last .1 .1 .1 .0 in
+    let same : length front ≡ length (take setsEnd (c .before .before .before .before .before .before .before .before .before .before .before .before .before .before .before .before .before .args .words .now)) = search needs in
+    let (many, held) = laws.start-counted r front (s .result) _ (ap (λ (w : List ℕ). member w 0) (c .before .before .before .before .before .before .before .before .before .load .ensures) ∙ r .starts-are) (s .ensures _ _ _ (r .seen .rules) n) _ (c .before .before .before .first .given .1) in (
+      record {
+        first = q .first;
+        second = q .second;
+        reduced = laws.reduced-stay r room front same;
+        held = laws.sets-held (c .before .before .before .before .before .before .before .before .before .before .before .before .before .before .before .before .before .args .words .now) room front same held;
+        many = many;
+      },
+      laws.room-stays (c .before .before .before .before .before .before .before .before .before .before .before .before .before .before .before .before .before .args .words .now) room front same,
+      c .before .before .before .before .before .before .before .before .before .before .before .before .before .before .before .before .before .pre .2,
+    )
 
 returns : tie.Need-returns
 returns c g h r =
-    let n = c .before .before .before .before .before .before .label-count .ensures ∙ laws.label-count-is r in
+    let n = c .before .before .before .before .before .before .before .before .label-count .ensures ∙ laws.label-count-is r in
     let s = c .before .before .before .before .label-sets in
-    laws.start-over r _ (s .result) (s .ensures _ _ _ (r .seen .rules) n) (c .enum-told .given .1) _ _
+    laws.start-over r _ (s .result) _ (ap (λ (w : List ℕ). member w 0) (c .before .before .before .before .before .before .load .ensures) ∙ r .starts-are) (s .ensures _ _ _ (r .seen .rules) n) (c .enum-told .given .1) _ _
 
 returns-2 : tie.Need-returns-2
 returns-2 c g h r =
-    let n = c .before .before .before .before .before .before .before .before .before .before .before .before .before .before .label-count .ensures ∙ laws.label-count-is r in
+    let room = c .before .before .before .before .before .before .before .before .before .before .before .before .before .before .before .before .before .before .before .before .before .before .pre .1 in
+    let n = c .before .before .before .before .before .before .before .before .before .before .before .before .before .before .before .before .label-count .ensures ∙ laws.label-count-is r in
     let s = c .before .before .before .before .before .before .before .before .before .before .before .before .label-sets in
-    let (many, held) = laws.start-counted r _ (s .result) (s .ensures _ _ _ (r .seen .rules) n) _ (c .before .before .before .before .before .before .before .before .first .given .1) in
-    c .before .before .before .before .widen-from-starts .ensures g h r held many
+    let front = s .last .1 .1 .1 .0 in
+    let same : length front ≡ length (take setsEnd (c .before .before .before .before .before .before .before .before .before .before .before .before .before .before .before .before .before .before .before .before .before .before .args .words .now)) = search needs in
+    let (many, held) = laws.start-counted r front (s .result) _ (ap (λ (w : List ℕ). member w 0) (c .before .before .before .before .before .before .before .before .before .before .before .before .before .before .load .ensures) ∙ r .starts-are) (s .ensures _ _ _ (r .seen .rules) n) _ (c .before .before .before .before .before .before .before .before .first .given .1) in
+    c .before .before .before .before .widen-from-starts .ensures g h (laws.reduced-stay r room front same) (laws.sets-held (c .before .before .before .before .before .before .before .before .before .before .before .before .before .before .before .before .before .before .before .before .before .before .args .words .now) room front same held) many
 
 pub widen-single-type-spec : {M : Type 1} → statement M
 widen-single-type-spec =
     tie.close
     (tie.spec
     label-count-requires
+    load-requires
+    (λ c. search needs)
+    (λ c. search needs)
+    part-label-sets-end
     label-sets-requires
     (λ c. search needs)
     (λ c. search needs)

@@ -1,4 +1,7 @@
 -- `widen_tables` meets its contract: the union is reduced, no document is derived, or the result is drafted.
+use native.Mathlib.Omega.{arith}
+use mathlib.Core.Path.{_≡_}
+use lib.ListN.{length}
 use borrow.Author.Needs.{needs}
 use Rattle.pairs.proofs.ViewLaws.{views-sized}
 use Rattle.reducing.proofs.LeavingLaws.{starts-small}
@@ -10,101 +13,103 @@ use Rattle.results.proofs.widen.widen_tables.Tie as tie
 
 fruitful-pairs-requires : tie.Need-fruitful-pairs-requires
 fruitful-pairs-requires c κs =
-    let (p, q, words, draft) = c .before .before .before .before .before .before .pre in
-    laws.seen-viewed (c .before .unite-tables .ensures (p .table) (q .table) (p .held) (q .held))
+    let (p, q, words, draft) = c .before .before .before .before .before .before .before .pre in
+    (laws.seen-viewed (c .before .before .unite-tables .ensures (p .table) (q .table) (p .held) (q .held)), words)
 
 fruitful-lists-requires : tie.Need-fruitful-lists-requires
 fruitful-lists-requires c κs =
-    let (p, q, words, draft) = c .before .before .before .before .before .before .before .pre in
-    let seen = c .before .before .unite-tables .ensures (p .table) (q .table) (p .held) (q .held) in
-    (views-sized (seen .rules), c .fruitful-pairs .ensures .1)
+    let (p, q, words, draft) = c .before .before .before .before .before .before .before .before .before .before .before .pre in
+    let seen = c .before .before .before .before .before .before .unite-tables .ensures (p .table) (q .table) (p .held) (q .held) in
+    (views-sized (seen .rules), search needs)
 
 start-pairs-requires : tie.Need-start-pairs-requires
 start-pairs-requires c κs =
-    let (p, q, words, draft) = c .before .before .before .before .before .before .before .before .pre in
-    let seen = c .before .before .before .unite-tables .ensures (p .table) (q .table) (p .held) (q .held) in
-    let known = c .before .fruitful-pairs .ensures .0 _ (seen .rules) in
-    let lists = c .fruitful-lists .ensures _ _ _ (seen .rules) known in
-    (laws.listed-both lists, starts-small (p .held), starts-small (q .held))
+    let (p, q, words, draft) = c .before .before .before .before .before .before .before .before .before .before .before .before .before .pre in
+    let seen = c .before .before .before .before .before .before .before .before .unite-tables .ensures (p .table) (q .table) (p .held) (q .held) in
+    let known = c .before .before .before .before .before .fruitful-pairs .ensures _ (seen .rules) in
+    let lists = c .before .fruitful-lists .ensures _ _ _ (seen .rules) known in
+    (laws.listed-both lists, starts-small (p .held), starts-small (q .held), search needs)
+
+load-requires : tie.Need-load-requires
+load-requires c κs =
+    let (p, q, words, draft) = c .before .before .before .before .before .before .before .before .before .before .before .before .before .before .before .before .before .pre in
+    let same : length (c .before .before .before .start-pairs .last .1 .1 .1 .0) ≡ length (c .before .before .before .before .before .before .before .before .before .before .before .before .before .before .before .before .before .args .words .now) = search needs in
+    omega arith
 
 returns : tie.Need-returns
 unfolding Widens
 returns c g h p q =
-    let seen = c .before .before .before .before .before .before .unite-tables .ensures g h p q in
-    let known = c .before .before .before .before .fruitful-pairs .ensures .0 _ (seen .rules) in
-    let lists = c .before .before .before .fruitful-lists .ensures _ _ _ (seen .rules) known in
-    let starts = c .before .before .start-pairs .ensures .0 _ _ g h p q lists in
-    laws.none-started p q (c .before .before .before .before .before .before .before .before .before .before .before .args .kind) starts (c .before .is-empty .ensures) (c .if1 .taken)
+    let seen = c .before .before .before .before .before .before .before .before .before .before .before .before .before .before .before .unite-tables .ensures g h p q in
+    let known = c .before .before .before .before .before .before .before .before .before .before .before .before .fruitful-pairs .ensures _ (seen .rules) in
+    let lists = c .before .before .before .before .before .before .before .before .fruitful-lists .ensures _ _ _ (seen .rules) known in
+    let are = c .before .before .before .before .before .before .start-pairs .ensures _ _ g h p q lists in
+    laws.none-started p q (c .before .before .before .before .before .before .before .before .before .before .before .before .before .before .before .before .before .before .before .before .args .kind) _ are (c .before .before .load .ensures) (c .before .is-empty .ensures) (c .if1 .taken)
 
 pairs-left-requires : tie.Need-pairs-left-requires
 pairs-left-requires c κs =
-    let (p, q, words, draft) = c .before .before .before .before .before .before .before .before .before .before .before .pre in
-    let seen = c .before .before .before .before .before .before .unite-tables .ensures (p .table) (q .table) (p .held) (q .held) in
-    let known = c .before .before .before .before .fruitful-pairs .ensures .0 _ (seen .rules) in
-    let lists = c .before .before .before .fruitful-lists .ensures _ _ _ (seen .rules) known in
-    (laws.seen-viewed seen, laws.listed-both lists, c .before .before .start-pairs .ensures .1)
+    let (p, q, words, draft) = c .before .before .before .before .before .before .before .before .before .before .before .before .before .before .before .before .before .before .before .before .before .pre in
+    let seen = c .before .before .before .before .before .before .before .before .before .before .before .before .before .before .before .before .unite-tables .ensures (p .table) (q .table) (p .held) (q .held) in
+    let known = c .before .before .before .before .before .before .before .before .before .before .before .before .before .fruitful-pairs .ensures _ (seen .rules) in
+    let lists = c .before .before .before .before .before .before .before .before .before .fruitful-lists .ensures _ _ _ (seen .rules) known in
+    (laws.seen-viewed seen, laws.listed-both lists, search needs)
 
 widen-local-requires : tie.Need-widen-local-requires
 widen-local-requires c κs =
-    let (p, q, words, draft) = c .before .before .before .before .before .before .before .before .before .before .before .before .before .before .before .before .pre in
-    let seen = c .before .before .before .before .before .before .before .before .before .before .before .unite-tables .ensures (p .table) (q .table) (p .held) (q .held) in
-    let known = c .before .before .before .before .before .before .before .before .before .fruitful-pairs .ensures .0 _ (seen .rules) in
-    let lists = c .before .before .before .before .before .before .before .before .fruitful-lists .ensures _ _ _ (seen .rules) known in
-    let starts = c .before .before .before .before .before .before .before .start-pairs .ensures in
-    let left = c .before .before .before .before .pairs-left .ensures in
-    let are = starts .0 _ _ (p .table) (q .table) (p .held) (q .held) lists in (
+    let (p, q, words, draft) = c .before .before .before .before .before .before .before .before .before .before .before .before .before .before .before .before .before .before .before .before .before .before .before .before .before .before .before .before .pre in
+    let seen = c .before .before .before .before .before .before .before .before .before .before .before .before .before .before .before .before .before .before .before .before .before .before .before .unite-tables .ensures (p .table) (q .table) (p .held) (q .held) in
+    let known = c .before .before .before .before .before .before .before .before .before .before .before .before .before .before .before .before .before .before .before .before .fruitful-pairs .ensures _ (seen .rules) in
+    let lists = c .before .before .before .before .before .before .before .before .before .before .before .before .before .before .before .before .fruitful-lists .ensures _ _ _ (seen .rules) known in
+    let left = c .before .before .before .before .before .before .pairs-left .ensures in
+    let are = c .before .before .before .before .before .before .before .before .before .before .before .before .before .before .start-pairs .ensures _ _ (p .table) (q .table) (p .held) (q .held) lists in (
       record {
         first = p .table;
         second = q .table;
-        reduced = laws.reduced (p .held) (q .held) seen lists are (starts .1) (left .0 _ (seen .rules) lists are) (left .1) (c .before .before .before .before .before .before .is-empty .ensures) (c .before .before .before .before .before .if1 .left);
+        reduced = laws.reduced (p .held) (q .held) seen lists are (left .0 _ (seen .rules) lists are) (left .1) (c .before .before .before .before .before .before .before .before .before .before .load .ensures) (c .before .before .before .before .before .before .before .before .before .is-empty .ensures) (c .before .before .before .before .before .before .before .before .if1 .left);
       },
-      words,
+      search needs,
       draft,
     )
 
 widen-single-type-requires : tie.Need-widen-single-type-requires
 widen-single-type-requires c κs =
-    let (p, q, words, draft) = c .before .before .before .before .before .before .before .before .before .before .before .before .before .before .before .before .pre in
-    let seen = c .before .before .before .before .before .before .before .before .before .before .before .unite-tables .ensures (p .table) (q .table) (p .held) (q .held) in
-    let known = c .before .before .before .before .before .before .before .before .before .fruitful-pairs .ensures .0 _ (seen .rules) in
-    let lists = c .before .before .before .before .before .before .before .before .fruitful-lists .ensures _ _ _ (seen .rules) known in
-    let starts = c .before .before .before .before .before .before .before .start-pairs .ensures in
-    let left = c .before .before .before .before .pairs-left .ensures in
-    let are = starts .0 _ _ (p .table) (q .table) (p .held) (q .held) lists in (
+    let (p, q, words, draft) = c .before .before .before .before .before .before .before .before .before .before .before .before .before .before .before .before .before .before .before .before .before .before .before .before .before .before .before .before .pre in
+    let seen = c .before .before .before .before .before .before .before .before .before .before .before .before .before .before .before .before .before .before .before .before .before .before .before .unite-tables .ensures (p .table) (q .table) (p .held) (q .held) in
+    let known = c .before .before .before .before .before .before .before .before .before .before .before .before .before .before .before .before .before .before .before .before .fruitful-pairs .ensures _ (seen .rules) in
+    let lists = c .before .before .before .before .before .before .before .before .before .before .before .before .before .before .before .before .fruitful-lists .ensures _ _ _ (seen .rules) known in
+    let left = c .before .before .before .before .before .before .pairs-left .ensures in
+    let are = c .before .before .before .before .before .before .before .before .before .before .before .before .before .before .start-pairs .ensures _ _ (p .table) (q .table) (p .held) (q .held) lists in (
       record {
         first = p .table;
         second = q .table;
-        reduced = laws.reduced (p .held) (q .held) seen lists are (starts .1) (left .0 _ (seen .rules) lists are) (left .1) (c .before .before .before .before .before .before .is-empty .ensures) (c .before .before .before .before .before .if1 .left);
+        reduced = laws.reduced (p .held) (q .held) seen lists are (left .0 _ (seen .rules) lists are) (left .1) (c .before .before .before .before .before .before .before .before .before .before .load .ensures) (c .before .before .before .before .before .before .before .before .before .is-empty .ensures) (c .before .before .before .before .before .before .before .before .if1 .left);
       },
-      words,
+      search needs,
       draft,
     )
 
 returns-2 : tie.Need-returns-2
 unfolding kindOf
 returns-2 c g h p q =
-    let seen = c .before .before .before .before .before .before .before .before .before .before .before .before .before .before .before .before .unite-tables .ensures g h p q in
-    let known = c .before .before .before .before .before .before .before .before .before .before .before .before .before .before .fruitful-pairs .ensures .0 _ (seen .rules) in
-    let lists = c .before .before .before .before .before .before .before .before .before .before .before .before .before .fruitful-lists .ensures _ _ _ (seen .rules) known in
-    let starts = c .before .before .before .before .before .before .before .before .before .before .before .before .start-pairs .ensures in
-    let left = c .before .before .before .before .before .before .before .before .before .pairs-left .ensures in
-    let are = starts .0 _ _ g h p q lists in
+    let seen = c .before .before .before .before .before .before .before .before .before .before .before .before .before .before .before .before .before .before .before .before .before .before .before .before .before .before .before .before .unite-tables .ensures g h p q in
+    let known = c .before .before .before .before .before .before .before .before .before .before .before .before .before .before .before .before .before .before .before .before .before .before .before .before .before .fruitful-pairs .ensures _ (seen .rules) in
+    let lists = c .before .before .before .before .before .before .before .before .before .before .before .before .before .before .before .before .before .before .before .before .before .fruitful-lists .ensures _ _ _ (seen .rules) known in
+    let left = c .before .before .before .before .before .before .before .before .before .before .before .pairs-left .ensures in
+    let are = c .before .before .before .before .before .before .before .before .before .before .before .before .before .before .before .before .before .before .before .start-pairs .ensures _ _ g h p q lists in
     laws.for-kind g h _ _ _ _ Local (c .before .before .before .before .before .before .before .enum-told .given .1)
     (c .before .before .before .before .widen-local .ensures g h
-    (laws.reduced p q seen lists are (starts .1) (left .0 _ (seen .rules) lists are) (left .1) (c .before .before .before .before .before .before .before .before .before .before .before .is-empty .ensures) (c .before .before .before .before .before .before .before .before .before .before .if1 .left)))
+    (laws.reduced p q seen lists are (left .0 _ (seen .rules) lists are) (left .1) (c .before .before .before .before .before .before .before .before .before .before .before .before .before .before .before .load .ensures) (c .before .before .before .before .before .before .before .before .before .before .before .before .before .before .is-empty .ensures) (c .before .before .before .before .before .before .before .before .before .before .before .before .before .if1 .left)))
 
 returns-3 : tie.Need-returns-3
 unfolding kindOf
 returns-3 c g h p q =
-    let seen = c .before .before .before .before .before .before .before .before .before .before .before .before .before .before .before .before .unite-tables .ensures g h p q in
-    let known = c .before .before .before .before .before .before .before .before .before .before .before .before .before .before .fruitful-pairs .ensures .0 _ (seen .rules) in
-    let lists = c .before .before .before .before .before .before .before .before .before .before .before .before .before .fruitful-lists .ensures _ _ _ (seen .rules) known in
-    let starts = c .before .before .before .before .before .before .before .before .before .before .before .before .start-pairs .ensures in
-    let left = c .before .before .before .before .before .before .before .before .before .pairs-left .ensures in
-    let are = starts .0 _ _ g h p q lists in
+    let seen = c .before .before .before .before .before .before .before .before .before .before .before .before .before .before .before .before .before .before .before .before .before .before .before .before .before .before .before .before .unite-tables .ensures g h p q in
+    let known = c .before .before .before .before .before .before .before .before .before .before .before .before .before .before .before .before .before .before .before .before .before .before .before .before .before .fruitful-pairs .ensures _ (seen .rules) in
+    let lists = c .before .before .before .before .before .before .before .before .before .before .before .before .before .before .before .before .before .before .before .before .before .fruitful-lists .ensures _ _ _ (seen .rules) known in
+    let left = c .before .before .before .before .before .before .before .before .before .before .before .pairs-left .ensures in
+    let are = c .before .before .before .before .before .before .before .before .before .before .before .before .before .before .before .before .before .before .before .start-pairs .ensures _ _ g h p q lists in
     laws.for-kind g h _ _ _ _ SingleType (c .before .before .before .before .before .before .before .enum-told2 .given .1)
     (c .before .before .before .before .widen-single-type .ensures g h
-    (laws.reduced p q seen lists are (starts .1) (left .0 _ (seen .rules) lists are) (left .1) (c .before .before .before .before .before .before .before .before .before .before .before .is-empty .ensures) (c .before .before .before .before .before .before .before .before .before .before .if1 .left)))
+    (laws.reduced p q seen lists are (left .0 _ (seen .rules) lists are) (left .1) (c .before .before .before .before .before .before .before .before .before .before .before .before .before .before .before .load .ensures) (c .before .before .before .before .before .before .before .before .before .before .before .before .before .before .is-empty .ensures) (c .before .before .before .before .before .before .before .before .before .before .before .before .before .if1 .left)))
 
 pub widen-tables-spec : {M : Type 1} → statement M
 widen-tables-spec =
@@ -114,7 +119,9 @@ widen-tables-spec =
     fruitful-pairs-requires
     fruitful-lists-requires
     start-pairs-requires
+    load-requires
     (λ c κs. search needs)
+    (λ c. search needs)
     returns
     pairs-left-requires
     (λ c. search needs)
