@@ -24,19 +24,20 @@ use Rattle.grammar.specs.Limits.{standard}
 use Rattle.grammar.specs.Names.{asciiClasses}
 use Rattle.grammar.specs.Kinds.{local, singleType}
 use Rattle.grammar.specs.Outcome.{given, refused}
-use Rattle.grammar.specs.Calls.{tableReads, documentReads, labelName, tableLetsIn, tableIsLocal, tableIsSingleType, documentSample, widenedByTable, widenedByDocument}
+use Rattle.grammar.specs.Calls.{tableReads, documentReads, labelName, tableLetsIn, tableIsOfKind, documentSample, widened}
+use Rattle.grammar.specs.declared.Source.the-variants.{Table as aTable, Document as aDocument}
 use Rattle.grammar.specs.Answers.{numberAfter}
 use Rattle.grammar.specs.declared.Refusal.the-variants.{%s}
 
 work : List ℕ
 work = replicate 16384 0
 """ % ", ".join(REFUSALS)
-DECISIONS = {4: "tableLetsIn", 5: "tableIsLocal", 6: "tableIsSingleType"}
+DECISIONS = {4: ("tableLetsIn", ""), 5: ("tableIsOfKind", "local "), 6: ("tableIsOfKind", "singleType ")}
 WIDENINGS = {
-    8: ("widenedByTable local", reference.widen_local_by_table),
-    9: ("widenedByDocument local", reference.widen_local_by_document),
-    10: ("widenedByTable singleType", reference.widen_single_type_by_table),
-    11: ("widenedByDocument singleType", reference.widen_single_type_by_document),
+    8: ("local aTable", reference.widen_local_by_table),
+    9: ("local aDocument", reference.widen_local_by_document),
+    10: ("singleType aTable", reference.widen_single_type_by_table),
+    11: ("singleType aDocument", reference.widen_single_type_by_document),
 }
 
 
@@ -83,15 +84,15 @@ def equation(call, words, out, label, first, second, refusal, value):
         given = f"given (record {{ from = {value // 65536}; size = {value % 65536} }})"
         return "labelName", f"labelName {fixed} {a} {label} work ≡ {refused if refusal else given}"
     if call in DECISIONS:
-        name = DECISIONS[call]
-        inputs = f"{a} {b}" if call == 4 else a
+        name, kind = DECISIONS[call]
+        inputs = f"{a} {b}" if call == 4 else kind + a
         return name, f"{name} {fixed} {inputs} work ≡ {refused if refusal else 'given ' + ('true' if value else 'false')}"
     if call == 7:
         written = reference.sample(first, out, words).written
         return "documentSample", f"documentSample {fixed} {a} {lent} work ≡ {refused if refusal else 'given ' + numbers(written)}"
-    (name, kind), widen = WIDENINGS[call][0].split(), WIDENINGS[call][1]
+    sort, widen = WIDENINGS[call]
     written = widen(first, second, out, words).written
-    return name, f"{name} {fixed} {kind} {a} {b} {lent} work ≡ {refused if refusal else 'given ' + numbers(written)}"
+    return "widened", f"widened {fixed} {sort} {a} {b} {lent} work ≡ {refused if refusal else 'given ' + numbers(written)}"
 
 
 def chosen(folder, most, each, seed):

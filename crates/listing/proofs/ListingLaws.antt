@@ -21,8 +21,9 @@ use Rattle.grammar.specs.ReadDocument.{readDocument}
 use Rattle.grammar.specs.WriteTable.{tableBytes}
 use Rattle.grammar.specs.WithinLimits.{TableWithin}
 use Rattle.grammar.specs.Widen.{widen}
-use Rattle.grammar.specs.Calls.{tableReads, outAfter, writtenTo, widenedByDocument}
-use Rattle.grammar.specs.Answers.{written}
+use Rattle.grammar.specs.Calls.{tableReads, outAfter, writtenTo, readAddition, widened, After, after, wrote}
+use Rattle.grammar.specs.Answers.{Numbers, writtenNumbers, numbersOf}
+use Rattle.grammar.specs.declared.Source.the-variants.{Document as aDocument}
 use Rattle.grammar.specs.Listing.{outcomeText, listing}
 use Rattle.grammar.specs.declared.Refusal.{Refusal}
 use Rattle.grammar.specs.declared.Refusal.the-variants.{OutputTooShort}
@@ -33,7 +34,8 @@ use Rattle.theory.proofs.NumberedTable.{standard-agree}
 use Rattle.theory.proofs.ReadWithin.{read-within}
 use Rattle.theory.proofs.DocumentWithin.{document-within}
 use Rattle.theory.proofs.ResultWithin.{document-result-within, document-result-read-back}
-use Rattle.reader.proofs.AnswerLaws.{never-given, was-written, was-unwritten, both-then-last}
+use Rattle.theory.proofs.AnswerNumbers.{was-written, was-unwritten}
+use Rattle.reader.proofs.AnswerLaws.{never-given}
 use Rattle.reader.proofs.WorkLaws.{lent-enough}
 use Rattle.emitting.specs.Writing.{Put}
 use Rattle.listing.proofs.PrintSteps.{put-as}
@@ -48,17 +50,25 @@ module _ (old document out work : List ℕ) (words : 16384 ≤ length work) (roo
       >>= λ g. readDocument standard asciiClasses document >>= λ d. widen standard local g (byDocument d)
 
   abbrev called : Outcome (List ℕ)
-  called = widenedByDocument standard asciiClasses local old document out work
+  called = widened standard asciiClasses local aDocument old document out work
 
   called-is : called ≡ (result >>= writtenTo out)
-  unfolding widenedByDocument tableReads
+  unfolding widened tableReads readAddition
   called-is =
       ap
       (λ (o : Outcome Table).
-      o >>= λ g. readDocument standard asciiClasses document >>= λ d. widen standard local g (byDocument d) >>= writtenTo out)
+      o
+      >>= λ g. ((readDocument standard asciiClasses document >>= λ d. given (byDocument d))
+      >>= λ a. (widen standard local g a >>= λ r. writtenTo out r)))
       (lent-enough work (readTable standard asciiClasses old) words)
-      ∙ both-then-last (readTable standard asciiClasses old) (readDocument standard asciiClasses document)
-      (λ g d. widen standard local g (byDocument d)) (writtenTo out)
+      ∙ through (readTable standard asciiClasses old) (readDocument standard asciiClasses document)
+    where
+      through : (x : Outcome Table) (y : Outcome Tree)
+          → (x >>= λ g. ((y >>= λ d. given (byDocument d)) >>= λ a. (widen standard local g a >>= λ r. writtenTo out r)))
+          ≡ ((x >>= λ g. (y >>= λ d. widen standard local g (byDocument d))) >>= writtenTo out)
+      through (refused r) y = refl
+      through (given g) (refused r) = refl
+      through (given g) (given d) = refl
 
   module _ (g : Table) (e : result ≡ given g) where
     -- what was read and widened
@@ -117,21 +127,29 @@ module _ (old document out work : List ℕ) (words : 16384 ≤ length work) (roo
           ∙ ap outcomeText (p ∙ sym (result-read-back g p))
           ∙ ap (λ (b : List ℕ). outcomeText (readTable standard asciiClasses b)) same
 
-  -- by the answer, and the output as it is left
-  module _ {answer : Written} {left : List ℕ} (so : answer ≡ written called) (out-left : left ≡ outAfter called out) where
-    pub list-refused : {text after : List ℕ} {end : ℕ} (r : Refusal) → answer ≡ Unwritten r → Put text 0 (outcomeText (refused r)) after end
-        → Put text 0 (listing standard asciiClasses old document) after end
-    list-refused r e p = put-as (sym (listing-refused r (was-unwritten called r (sym so ∙ e)))) p
+  -- by what the call leaves
+  module _ {answer : Written} {left workLeft : List ℕ} (kept : after (writtenNumbers answer) left workLeft ≡ wrote standard called out work) where
+    so : writtenNumbers answer ≡ numbersOf length called
+    unfolding wrote
+    so = ap (λ (a : After Numbers). a .answer) kept
+
+    out-left : left ≡ outAfter called out
+    unfolding wrote
+    out-left = ap (λ (a : After Numbers). a .out) kept
+
+    pub list-refused : {text more : List ℕ} {end : ℕ} (r : Refusal) → answer ≡ Unwritten r → Put text 0 (outcomeText (refused r)) more end
+        → Put text 0 (listing standard asciiClasses old document) more end
+    list-refused r e p = put-as (sym (listing-refused r (was-unwritten called r (ap writtenNumbers (sym e) ∙ so)))) p
 
     module _ (n : ℕ) (e : answer ≡ Length n) where
       abbrev bytes : List ℕ
-      bytes = was-written called n (sym so ∙ e) .0
+      bytes = was-written called n (ap writtenNumbers (sym e) ∙ so) .0
 
       called-bytes : called ≡ given bytes
-      called-bytes = was-written called n (sym so ∙ e) .1
+      called-bytes = was-written called n (ap writtenNumbers (sym e) ∙ so) .1
 
       size : n ≡ length bytes
-      size = was-written called n (sym so ∙ e) .2
+      size = was-written called n (ap writtenNumbers (sym e) ∙ so) .2
 
       left-is : left ≡ bytes ++ drop (length bytes) out
       unfolding outAfter
@@ -148,9 +166,9 @@ module _ (old document out work : List ℕ) (words : 16384 ≤ length work) (roo
           let z : n - 0 ≡ length bytes = omega (arith, size) in
           ap (λ (k : ℕ). take k left) z ∙ ap (take (length bytes)) left-is ∙ take-append-seam bytes (drop (length bytes) out)
 
-      pub list-written : {text after : List ℕ} {end : ℕ}
-          → Put text 0 (outcomeText (readTable standard asciiClasses (take (n - 0) (drop 0 left)))) after end
-          → Put text 0 (listing standard asciiClasses old document) after end
+      pub list-written : {text more : List ℕ} {end : ℕ}
+          → Put text 0 (outcomeText (readTable standard asciiClasses (take (n - 0) (drop 0 left)))) more end
+          → Put text 0 (listing standard asciiClasses old document) more end
       list-written p =
           put-as
           (ap (λ (b : List ℕ). outcomeText (readTable standard asciiClasses b)) front-is ∙ sym (listing-written bytes called-bytes))
