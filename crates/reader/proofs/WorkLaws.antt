@@ -5,7 +5,7 @@ use native.Mathlib.Omega.{arith}
 use mathlib.Core.Bool.{false}
 use mathlib.Core.List.{List, _++_, append-nil}
 use mathlib.Core.Path.{_≡_, sym, _∙_, ap}
-use lib.ListN.{length, take, drop, set, replicate, length-append, length-replicate, replicate-append-replicate, drop-of-length-le}
+use lib.ListN.{length, take, drop, set, replicate, length-append, length-drop, length-replicate, replicate-append-replicate, drop-of-length-le}
 use lib.Seq.{drop-cons, set-at, append-snoc, length-take-le, drop-append-seam}
 use borrow.Author.Tests.{lt-ltb, le-ltb}
 use Rattle.grammar.specs.Limits.{standard}
@@ -55,6 +55,13 @@ module _ (work : List ℕ) where
       ap (λ (l : List ℕ). l ++ drop n work) (c ∙ ap (λ (k : ℕ). replicate k 0) (length-take-le n work h))
       ∙ ap (λ (k : ℕ). replicate k 0 ++ drop k work) e
       ∙ work-cleared (omega arith)
+
+-- the words after a call has used those that it needs: as many as before
+pub used-length : (work front : List ℕ) → 16384 ≤ length work → length front ≡ 16384 → length (front ++ drop 16384 work) ≡ length work
+used-length work front h size =
+    let rest = length-append front (drop 16384 work) in
+    let left = length-drop 16384 work in
+    omega arith
 
 -- what a call does with the words that it needs is cleared away
 pub cleared-after : (work front : List ℕ) → 16384 ≤ length work → length front ≡ 16384
