@@ -29,7 +29,8 @@ pub struct Numbers {
 // Those of some pairs that have a label.
 pub fn labelled_pairs(v: United, pairs: Set4, label: usize) -> Set4
     requires { ⌜ (ViewSized v) × (length (pairs .words) ≡ 4) ⌝ }
-    ensures { λ r. ⌜ ((old add : List ℕ) (u : Table) → Views old add v u → member (r .words) 0 ≡ (λ p. isIn p (labelled u (member (pairs .words) 0) label))) × (length (r .words) ≡ 4) ⌝ }
+    ensures { λ r. ⌜ ((old add : List ℕ) (u : Table) → Views old add v u
+        → member (r .words) 0 ≡ (λ p. isIn p (labelled u (member (pairs .words) 0) label))) × (length (r .words) ≡ 4) ⌝ }
 {
     let labels = v.labels;
     let rules = v.rules;
@@ -46,7 +47,8 @@ pub fn labelled_pairs(v: United, pairs: Set4, label: usize) -> Set4
 // The label of a set: that of its first pair.
 pub fn set_label(v: United, set: Set4) -> usize
     requires { ⌜ (ViewSized v) × (length (set .words) ≡ 4) ⌝ }
-    ensures { λ r. ⌜ ((old add : List ℕ) (u : Table) (s : TypeSet) → Views old add v u → member (set .words) 0 ≡ (λ p. isIn p s) → Ascending s → isEmpty s ≡ false → r ≡ setLabel u s) ⌝ }
+    ensures { λ r. ⌜ ((old add : List ℕ) (u : Table) (s : TypeSet) → Views old add v u → member (set .words) 0 ≡ (λ p. isIn p s)
+        → Ascending s → isEmpty s ≡ false → r ≡ setLabel u s) ⌝ }
 {
     let labels = v.labels;
     let rules = v.rules;
@@ -63,7 +65,8 @@ pub fn set_label(v: United, set: Set4) -> usize
 // One set a label, in label order, laid down in the words.
 pub fn label_sets(v: United, labels: usize, pairs: Set4, words: &mut [u32]) -> Counted
     requires { ⌜ (ViewSized v) × SetRoom (now words) 0 (pairs .words) ⌝ }
-    ensures { λ r. ⌜ ((old add : List ℕ) (u : Table) → Views old add v u → labels ≡ length (u .labels) → SetsCounted (now (words .exit)) (labelSets u (member (pairs .words) 0)) r) ⌝ }
+    ensures { λ r. ⌜ ((old add : List ℕ) (u : Table) → Views old add v u → labels ≡ length (u .labels)
+        → SetsCounted (now (words .exit)) (labelSets u (member (pairs .words) 0)) r) ⌝ }
 {
     let mut count: usize = 0;
     let mut l: usize = 0;
@@ -85,7 +88,9 @@ pub fn label_sets(v: United, labels: usize, pairs: Set4, words: &mut [u32]) -> C
 // For each label the number, among the sets in the words, of the set of those of some pairs that have it.
 pub fn label_numbers(v: United, labels: usize, pairs: Set4, words: &[u32], count: usize) -> Numbers
     requires { ⌜ (ViewSized v) × (labels ≤ 128) × SetRoom (now words) count (pairs .words) ⌝ }
-    ensures { λ r. ⌜ ((old add : List ℕ) (u : Table) (sets : List TypeSet) → Views old add v u → SetsHeld (now (words .entry)) sets → count ≡ length sets → NumbersOf (λ l. place sameNumbers (labelled u (member (pairs .words) 0) l) sets) labels (r .of)) × ((l : ℕ) → getD (r .of) l 0 ≤ 64) ⌝ }
+    ensures { λ r. ⌜ ((old add : List ℕ) (u : Table) (sets : List TypeSet) → Views old add v u → SetsHeld (now (words .entry)) sets
+        → count ≡ length sets → NumbersOf (λ l. place sameNumbers (labelled u (member (pairs .words) 0) l) sets) labels (r .of))
+        × ((l : ℕ) → getD (r .of) l 0 ≤ 64) ⌝ }
 {
     let mut of = [0u8; 128];
     let mut l: usize = 0;

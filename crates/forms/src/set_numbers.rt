@@ -27,7 +27,8 @@ ghost use Rattle.forms.specs.Worklist.{LabelsSized, NumbersOf};
 // The label of a pair, where it is left.
 pub fn label_left(v: United, left: Set4, p: usize) -> usize
     requires { ⌜ (ViewSized v) × (LabelsSized v) × (length (left .words) ≡ 4) × (p < v .rules) ⌝ }
-    ensures { λ r. ⌜ ((old add : List ℕ) (u : Table) → Views old add v u → member (left .words) 0 ≡ isLeft u → r ≡ labelLeft u p) × (r < 128) ⌝ }
+    ensures { λ r. ⌜ ((old add : List ℕ) (u : Table) → Views old add v u → member (left .words) 0 ≡ isLeft u → r ≡ labelLeft u p)
+        × (r < 128) ⌝ }
 {
     if left.has(p) {
         let labels = v.labels;
@@ -39,7 +40,8 @@ pub fn label_left(v: United, left: Set4, p: usize) -> usize
 // For each pair the number of the set of its label.
 pub fn pair_numbers(v: United, left: Set4, numbers: Numbers) -> Numbers
     requires { ⌜ (ViewSized v) × (LabelsSized v) × (length (left .words) ≡ 4) × ((l : ℕ) → getD (numbers .of) l 0 ≤ 64) ⌝ }
-    ensures { λ r. ⌜ ((old add : List ℕ) (u : Table) → Views old add v u → member (left .words) 0 ≡ isLeft u → NumbersOf (λ p. getD (numbers .of) (labelLeft u p) 0) (v .rules) (r .of)) × ((p : ℕ) → getD (r .of) p 0 ≤ 64) ⌝ }
+    ensures { λ r. ⌜ ((old add : List ℕ) (u : Table) → Views old add v u → member (left .words) 0 ≡ isLeft u
+        → NumbersOf (λ p. getD (numbers .of) (labelLeft u p) 0) (v .rules) (r .of)) × ((p : ℕ) → getD (r .of) p 0 ≤ 64) ⌝ }
 {
     let by_label = numbers.of;
     let rules = v.rules;
@@ -76,8 +78,12 @@ pub fn renumbered(lists: Lists, numbers: Numbers) -> Lists
 
 // For each type the numbers of the sets of its fruitful pairs. `numbers` are those of the labels.
 pub fn result_lists(v: United, lists: TypeLists, left: Set4, numbers: Numbers) -> TypeLists
-    requires { ⌜ (ViewSized v) × (LabelsSized v) × (length (left .words) ≡ 4) × ((l : ℕ) → getD (numbers .of) l 0 ≤ 64) × ((i : ℕ) → getD (lists .old .numbers) i 0 < 128) × ((i : ℕ) → getD (lists .addition .numbers) i 0 < 128) ⌝ }
-    ensures { λ r. ⌜ ((old add : List ℕ) (u : Table) (sets : List TypeSet) (pairs : ℕ → Bool) → Views old add v u → ListsOf (fruitfulOf u) lists → member (left .words) 0 ≡ isLeft u → Labelled u → NumbersOf (λ l. place sameNumbers (labelled u pairs l) sets) (length (u .labels)) (numbers .of) → ListsOf (resultsOf (pairsOf u) (fruitful (normalise u)) (setNumber u sets pairs)) r) ⌝ }
+    requires { ⌜ (ViewSized v) × (LabelsSized v) × (length (left .words) ≡ 4) × ((l : ℕ) → getD (numbers .of) l 0 ≤ 64)
+        × ((i : ℕ) → getD (lists .old .numbers) i 0 < 128) × ((i : ℕ) → getD (lists .addition .numbers) i 0 < 128) ⌝ }
+    ensures { λ r. ⌜ ((old add : List ℕ) (u : Table) (sets : List TypeSet) (pairs : ℕ → Bool) → Views old add v u
+        → ListsOf (fruitfulOf u) lists → member (left .words) 0 ≡ isLeft u → Labelled u
+        → NumbersOf (λ l. place sameNumbers (labelled u pairs l) sets) (length (u .labels)) (numbers .of)
+        → ListsOf (resultsOf (pairsOf u) (fruitful (normalise u)) (setNumber u sets pairs)) r) ⌝ }
 {
     let of = pair_numbers(v, left, numbers);
     let before = lists.old;

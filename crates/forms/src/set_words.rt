@@ -23,7 +23,8 @@ pub enum Counted {
 // The number of a set among those that stand in the words; how many they are, where it is not there.
 pub fn set_number(words: &[u32], count: usize, set: Set4) -> usize
     requires { ⌜ SetRoom (now words) count (set .words) ⌝ }
-    ensures { λ r. ⌜ ((sets : List TypeSet) (s : TypeSet) → SetsHeld (now (words .entry)) sets → count ≡ length sets → member (set .words) 0 ≡ (λ p. isIn p s) → Ascending s → r ≡ place sameNumbers s sets) × (r ≤ count) ⌝ }
+    ensures { λ r. ⌜ ((sets : List TypeSet) (s : TypeSet) → SetsHeld (now (words .entry)) sets → count ≡ length sets
+        → member (set .words) 0 ≡ (λ p. isIn p s) → Ascending s → r ≡ place sameNumbers s sets) × (r ≤ count) ⌝ }
 {
     let mut i: usize = 0;
     while i < count {
@@ -39,7 +40,8 @@ pub fn set_number(words: &[u32], count: usize, set: Set4) -> usize
 // Lays a set down after the others; a 65th is too many.
 pub fn put_set(words: &mut [u32], count: usize, set: Set4) -> Counted
     requires { ⌜ SetRoom (now words) count (set .words) ⌝ }
-    ensures { λ r. ⌜ ((sets : List TypeSet) (s : TypeSet) → SetsHeld (now (words .entry)) sets → count ≡ length sets → member (set .words) 0 ≡ (λ p. isIn p s) → Ascending s → SetsCounted (now (words .exit)) (sets ++ (s ∷ [])) r) × (Few r) ⌝ }
+    ensures { λ r. ⌜ ((sets : List TypeSet) (s : TypeSet) → SetsHeld (now (words .entry)) sets → count ≡ length sets
+        → member (set .words) 0 ≡ (λ p. isIn p s) → Ascending s → SetsCounted (now (words .exit)) (sets ++ (s ∷ [])) r) × (Few r) ⌝ }
 {
     if count == 64 {
         return Counted::TooMany;
@@ -51,7 +53,9 @@ pub fn put_set(words: &mut [u32], count: usize, set: Set4) -> Counted
 // The same unless it is empty.
 pub fn put_some(words: &mut [u32], count: usize, set: Set4) -> Counted
     requires { ⌜ SetRoom (now words) count (set .words) ⌝ }
-    ensures { λ r. ⌜ ((sets : List TypeSet) (s : TypeSet) → SetsHeld (now (words .entry)) sets → count ≡ length sets → member (set .words) 0 ≡ (λ p. isIn p s) → Ascending s → SetsCounted (now (words .exit)) (sets ++ keep (λ t. not (isEmpty t)) (s ∷ [])) r) × (Few r) ⌝ }
+    ensures { λ r. ⌜ ((sets : List TypeSet) (s : TypeSet) → SetsHeld (now (words .entry)) sets → count ≡ length sets
+        → member (set .words) 0 ≡ (λ p. isIn p s) → Ascending s
+        → SetsCounted (now (words .exit)) (sets ++ keep (λ t. not (isEmpty t)) (s ∷ [])) r) × (Few r) ⌝ }
 {
     if set.is_empty() {
         return Counted::Count(count);
@@ -62,7 +66,9 @@ pub fn put_some(words: &mut [u32], count: usize, set: Set4) -> Counted
 // The same unless it is there.
 pub fn add_set(words: &mut [u32], count: usize, set: Set4) -> Counted
     requires { ⌜ SetRoom (now words) count (set .words) ⌝ }
-    ensures { λ r. ⌜ ((sets : List TypeSet) (s : TypeSet) → SetsHeld (now (words .entry)) sets → count ≡ length sets → member (set .words) 0 ≡ (λ p. isIn p s) → Ascending s → distinct sameNumbers sets ≡ sets → SetsCounted (now (words .exit)) (distinct sameNumbers (sets ++ (s ∷ []))) r) × (Few r) ⌝ }
+    ensures { λ r. ⌜ ((sets : List TypeSet) (s : TypeSet) → SetsHeld (now (words .entry)) sets → count ≡ length sets
+        → member (set .words) 0 ≡ (λ p. isIn p s) → Ascending s → distinct sameNumbers sets ≡ sets
+        → SetsCounted (now (words .exit)) (distinct sameNumbers (sets ++ (s ∷ []))) r) × (Few r) ⌝ }
 {
     if set_number(words, count, set) < count {
         return Counted::Count(count);

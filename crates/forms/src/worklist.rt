@@ -29,7 +29,10 @@ ghost use Rattle.forms.specs.Worklist.{Few, setsWithin};
 // Adds the sets that the pairs met in a set give: for each pair those met that share its label, unless that set is there.
 pub fn add_met(v: United, found: Met, words: &mut [u32], count: usize) -> Counted
     requires { ⌜ (ViewSized v) × (MetHeld found) × (count ≤ 64) × (256 ≤ length (now words)) ⌝ }
-    ensures { λ r. ⌜ ((old add : List ℕ) (u : Table) (sets : List TypeSet) (s : TypeSet) → Views old add v u → SetsHeld (now (words .entry)) sets → count ≡ length sets → distinct sameNumbers sets ≡ sets → take (found .count) (found .numbers) ≡ distinct eqb (metIn u (λ q. isIn q s)) → SetsCounted (now (words .exit)) (distinct sameNumbers (sets ++ setsWithin u s)) r) × (Few r) ⌝ }
+    ensures { λ r. ⌜ ((old add : List ℕ) (u : Table) (sets : List TypeSet) (s : TypeSet) → Views old add v u
+        → SetsHeld (now (words .entry)) sets → count ≡ length sets → distinct sameNumbers sets ≡ sets
+        → take (found .count) (found .numbers) ≡ distinct eqb (metIn u (λ q. isIn q s))
+        → SetsCounted (now (words .exit)) (distinct sameNumbers (sets ++ setsWithin u s)) r) × (Few r) ⌝ }
 {
     let all = set_of(found);
     let numbers = found.numbers;
@@ -62,7 +65,9 @@ pub fn more_sets(
     count: usize,
 ) -> Counted
     requires { ⌜ (Viewed (now old) (now add) v) × (BothListed lists) × (count ≤ 64) × (256 ≤ length (now words)) ⌝ }
-    ensures { λ r. ⌜ ((u : Table) → Views (now (old .entry)) (now (add .entry)) v u → ListsOf (fruitfulOf u) lists → SetsHeld (now (words .entry)) (labelSets u (isStart u)) → count ≡ length (labelSets u (isStart u)) → SetsCounted (now (words .exit)) (singleTypeSets u) r) ⌝ }
+    ensures { λ r. ⌜ ((u : Table) → Views (now (old .entry)) (now (add .entry)) v u → ListsOf (fruitfulOf u) lists
+        → SetsHeld (now (words .entry)) (labelSets u (isStart u)) → count ≡ length (labelSets u (isStart u))
+        → SetsCounted (now (words .exit)) (singleTypeSets u) r) ⌝ }
 {
     let mut total = count;
     let mut next: usize = 0;

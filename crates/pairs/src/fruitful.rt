@@ -20,7 +20,8 @@ ghost use Rattle.pairs.specs.Rounds.{putIf, contentOf, typesWith, afterR
 // Whether the content of a rule has alternatives, over a set of types of the union.
 pub fn rule_has(old: &[u8], add: &[u8], v: United, i: usize, types: Set4) -> bool
     requires { ⌜ (Viewed (now old) (now add) v) × (i < v .rules) × (length (types .words) ≡ 4) ⌝ }
-    ensures { λ r. ⌜ ((u : Table) → Views (now (old .entry)) (now (add .entry)) v u → r ≡ hasAlts (member (types .words) 0) (contentOf u i)) ⌝ }
+    ensures { λ r. ⌜ ((u : Table) → Views (now (old .entry)) (now (add .entry)) v u
+        → r ≡ hasAlts (member (types .words) 0) (contentOf u i)) ⌝ }
 {
     let content_from = v.content_from;
     let content_to = v.content_to;
@@ -68,7 +69,8 @@ pub fn types_with(v: United, known: Set4) -> Set4
 // The known pairs with those that a round finds fruitful.
 pub fn round(old: &[u8], add: &[u8], v: United, known: Set4) -> Set4
     requires { ⌜ (Viewed (now old) (now add) v) × (length (known .words) ≡ 4) ⌝ }
-    ensures { λ r. ⌜ ((u : Table) → Views (now (old .entry)) (now (add .entry)) v u → member (r .words) 0 ≡ afterRound u v (member (known .words) 0)) × (length (r .words) ≡ 4) ⌝ }
+    ensures { λ r. ⌜ ((u : Table) → Views (now (old .entry)) (now (add .entry)) v u
+        → member (r .words) 0 ≡ afterRound u v (member (known .words) 0)) × (length (r .words) ≡ 4) ⌝ }
 {
     let types = types_with(v, known);
     let firsts = v.firsts;

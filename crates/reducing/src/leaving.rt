@@ -31,7 +31,8 @@ ghost use Rattle.reducing.specs.PairsListed.{BothListed, StartsSmall};
 // A set with the numbers of a type's list.
 fn with_list(set: Set4, lists: Lists, k: usize) -> Set4
     requires { ⌜ (length (set .words) ≡ 4) × (Listed 64 128 (lists .from) (lists .numbers)) × (k < 64) ⌝ }
-    ensures { λ r. ⌜ (member (r .words) 0 ≡ both (λ p. isIn p (listOf (lists .from) (lists .numbers) k)) (member (set .words) 0)) × (length (r .words) ≡ 4) ⌝ }
+    ensures { λ r. ⌜ (member (r .words) 0 ≡ both (λ p. isIn p (listOf (lists .from) (lists .numbers) k)) (member (set .words) 0))
+        × (length (r .words) ≡ 4) ⌝ }
 {
     let begins = lists.from;
     let numbers = lists.numbers;
@@ -41,7 +42,9 @@ fn with_list(set: Set4, lists: Lists, k: usize) -> Set4
 // A set with the numbers of the lists of a table's start types.
 fn with_starts(set: Set4, lists: Lists, index: TableIndex) -> Set4
     requires { ⌜ (length (set .words) ≡ 4) × (Listed 64 128 (lists .from) (lists .numbers)) × (StartsSmall index) ⌝ }
-    ensures { λ r. ⌜ (member (r .words) 0 ≡ both (λ p. isIn p (joinedOf (λ i. listOf (lists .from) (lists .numbers) (startType index i)) (numbersBelow (index .starts)))) (member (set .words) 0)) × (length (r .words) ≡ 4) ⌝ }
+    ensures { λ r. ⌜ (member (r .words) 0 ≡ both (λ p. isIn p
+        (joinedOf (λ i. listOf (lists .from) (lists .numbers) (startType index i)) (numbersBelow (index .starts)))) (member (set .words) 0))
+        × (length (r .words) ≡ 4) ⌝ }
 {
     let types = index.start_type;
     let starts = index.starts;

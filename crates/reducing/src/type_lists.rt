@@ -55,8 +55,10 @@ fn append_pair(
     numbers: &mut [u8],
     count: usize,
 ) -> usize
-    requires { ⌜ (p < 128) × (Filled (now numbers) count) × (isPair v (member (known .words) 0) kind p ≡ true → isIn p (take count (now numbers)) ≡ false) ⌝ }
-    ensures { λ r. ⌜ Appends (take count (now (numbers .entry))) (onlyIf (isPair v (member (known .words) 0) kind p) (p ∷ [])) (now (numbers .exit)) r ⌝ }
+    requires { ⌜ (p < 128) × (Filled (now numbers) count)
+        × (isPair v (member (known .words) 0) kind p ≡ true → isIn p (take count (now numbers)) ≡ false) ⌝ }
+    ensures { λ r. ⌜ Appends (take count (now (numbers .entry))) (onlyIf (isPair v (member (known .words) 0) kind p) (p ∷ []))
+        (now (numbers .exit)) r ⌝ }
 {
     if is_pair(v, known, kind, p) {
         numbers[count] = p as u8;
@@ -128,7 +130,8 @@ fn is_listed(lists: TypeLists, k: usize) -> bool
 
 // The types of the union that have a list that is not empty.
 pub fn types_listed(lists: TypeLists) -> Set4
-    ensures { λ r. ⌜ ((of : ℕ → List ℕ) → ListsOf of lists → (k : ℕ) → k < 128 → member (r .words) 0 k ≡ someLeft of k) × (length (r .words) ≡ 4) ⌝ }
+    ensures { λ r. ⌜ ((of : ℕ → List ℕ) → ListsOf of lists → (k : ℕ) → k < 128 → member (r .words) 0 k ≡ someLeft of k)
+        × (length (r .words) ≡ 4) ⌝ }
 {
     let mut set = Set4::empty();
     let mut k: usize = 0;

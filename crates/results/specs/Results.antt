@@ -57,7 +57,8 @@ pub record SetsIn (old add : List ℕ) (v : United) (words : List ℕ) (count : 
   pub pairs : (s : TypeSet) → List·Memᴰ s sets → (p : ℕ) → List·Memᴰ p s → p < length (table .rules)
 
 -- and what their contents are made from
-pub record RulesFrom (old add : List ℕ) (v : United) (labels : ℕ) (lists : TypeLists) (words : List ℕ) (count : ℕ) (kind : Kind) : Type 0 where
+pub record RulesFrom (old add : List ℕ) (v : United) (labels : ℕ) (lists : TypeLists) (words : List ℕ) (count : ℕ) (kind : Kind)
+    : Type 0 where
   pub in-words : SetsIn old add v words count
   pub labels-are : labels ≡ length (in-words .table .labels)
   pub lists-are : ListsOf (fruitfulOf (in-words .table)) lists
@@ -67,7 +68,8 @@ pub record RulesFrom (old add : List ℕ) (v : United) (labels : ℕ) (lists : T
   pub regular : (i : ℕ) → i < count → Regular (resultRule (in-words .table) (in-words .sets) kind i .content)
 
 -- with the labels that are used
-pub record RulesWith (old add : List ℕ) (v : United) (labels : ℕ) (lists : TypeLists) (words : List ℕ) (count : ℕ) (kind : Kind) : Type 0 where
+pub record RulesWith (old add : List ℕ) (v : United) (labels : ℕ) (lists : TypeLists) (words : List ℕ) (count : ℕ) (kind : Kind)
+    : Type 0 where
   pub rules : RulesFrom old add v labels lists words count kind
   pub used-are : setAt words usedAt ≡ isUsed (rules .in-words .table) (rules .in-words .sets)
 

@@ -55,7 +55,8 @@ fn one_more(n: usize, on: bool) -> usize
 // The place of a label among those used: how many of them come before it.
 pub fn label_place(used: Set4, label: usize) -> usize
     requires { ⌜ label < 128 ⌝ }
-    ensures { λ r. ⌜ ((n : ℕ) → label < n → member (used .words) 0 label ≡ true → r ≡ place eqb label (keep (member (used .words) 0) (numbersBelow n)))
+    ensures { λ r. ⌜ ((n : ℕ) → label < n → member (used .words) 0 label ≡ true
+        → r ≡ place eqb label (keep (member (used .words) 0) (numbersBelow n)))
         × (r ≤ label) ⌝ }
 {
     let mut place: usize = 0;
@@ -77,7 +78,8 @@ fn put_name(
     news: Names,
     label: usize,
 ) -> Drafted
-    requires { ⌜ (at ≤ 32768) × (32768 ≤ length (now draft)) × (label < olds .count + news .count) × LabelsIn (now old) (now add) olds news ⌝ }
+    requires { ⌜ (at ≤ 32768) × (32768 ≤ length (now draft)) × (label < olds .count + news .count)
+        × LabelsIn (now old) (now add) olds news ⌝ }
     ensures { λ r. ⌜ ((q : LabelsIn (now (old .entry)) (now (add .entry)) olds news)
         → Puts (now (draft .entry)) at (fieldBytes 0x10 (getD (q .first ++ q .second) label [])) (now (draft .exit)) r) ⌝ }
 {
@@ -103,7 +105,8 @@ fn put_label(
     label: usize,
     on: bool,
 ) -> Drafted
-    requires { ⌜ (at ≤ 32768) × (32768 ≤ length (now draft)) × (label < olds .count + news .count) × LabelsIn (now old) (now add) olds news ⌝ }
+    requires { ⌜ (at ≤ 32768) × (32768 ≤ length (now draft)) × (label < olds .count + news .count)
+        × LabelsIn (now old) (now add) olds news ⌝ }
     ensures { λ r. ⌜ ((q : LabelsIn (now (old .entry)) (now (add .entry)) olds news)
         → Puts (now (draft .entry)) at (onlyIf on (fieldBytes 0x10 (getD (q .first ++ q .second) label []))) (now (draft .exit)) r) ⌝ }
 {

@@ -73,7 +73,8 @@ pub fn put_result(
         × ResultFrom (now old) (now add) union lists (now words) count (kindOf kind) ⌝ }
     ensures { λ r. ⌜ ((q : ResultFrom (now (old .entry)) (now (add .entry)) union lists (now (words .entry)) count (kindOf kind))
         → TablePut (now (draft .entry)) 0 (ruleFrom (q .rules)) count
-        (tableBytes (tableBySets (q .rules .in-words .table) (q .rules .in-words .sets) (pairsWithin (kindOf kind) (q .rules .in-words .table))
+        (tableBytes (tableBySets (q .rules .in-words .table) (q .rules .in-words .sets)
+        (pairsWithin (kindOf kind) (q .rules .in-words .table))
         (keep (setAt (now (words .entry)) startTypesAt) (numbersBelow count)))) (now (draft .exit)) r) ⌝ }
 {
     let v = union.rules;

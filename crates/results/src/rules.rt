@@ -42,7 +42,8 @@ fn pairs_within(
     kind: Kind,
     set: Set4,
 ) -> Set4
-    requires { ⌜ ((u : Table) × Views (now old) (now add) v u × ListsOf (fruitfulOf u) lists) × (length (left .words) ≡ 4) × (length (set .words) ≡ 4) ⌝ }
+    requires { ⌜ ((u : Table) × Views (now old) (now add) v u × ListsOf (fruitfulOf u) lists) × (length (left .words) ≡ 4)
+        × (length (set .words) ≡ 4) ⌝ }
     ensures { λ r. ⌜ ((u : Table) (s : TypeSet) → Views (now (old .entry)) (now (add .entry)) v u → ListsOf (fruitfulOf u) lists
         → member (left .words) 0 ≡ isLeft u → member (set .words) 0 ≡ (λ p. isIn p s)
         → member (r .words) 0 ≡ pairsWithin (kindOf kind) u s) × (length (r .words) ≡ 4) ⌝ }

@@ -112,7 +112,8 @@ fn widen_from_starts(
     first: usize,
     draft: &mut [u8],
 ) -> Made
-    requires { ⌜ (SomeStarts (now old) (now add) union lists (now words) first) × (16384 ≤ length (now words)) × (32768 ≤ length (now draft)) ⌝ }
+    requires { ⌜ (SomeStarts (now old) (now add) union lists (now words) first) × (16384 ≤ length (now words))
+        × (32768 ≤ length (now draft)) ⌝ }
     ensures { λ r. ⌜ ((g h : Table) → UnionReduced (now (old .entry)) (now (add .entry)) union lists (now (words .entry)) g h
         → SetsHeld (now (words .entry)) (labelSets (unite standard g h) (isStart (unite standard g h)))
         → first ≡ length (labelSets (unite standard g h) (isStart (unite standard g h)))

@@ -43,8 +43,9 @@ loop-holds c =
 
 mul-load : tie.Need-mul-load Inv-loop μ-loop
 mul-load c =
-    let few = c .before .before .before .before .before .pre .0 .2 .held .few in
-    let e = c .before .before .before .before .before .pre .0 .2 .count-is in
+    let start = c .before .before .before .before .before in
+    let few = start .pre .0 .2 .held .few in
+    let e = start .pre .0 .2 .count-is in
     omega arith
 
 load-requires : tie.Need-load-requires Inv-loop μ-loop
@@ -65,8 +66,9 @@ with-requires c κs =
 
 add-i : tie.Need-add-i Inv-loop μ-loop
 add-i c =
-    let few = c .before .before .before .before .before .before .before .before .pre .0 .2 .held .few in
-    let e = c .before .before .before .before .before .before .before .before .pre .0 .2 .count-is in
+    let start = c .before .before .before .before .before .before .before .before in
+    let few = start .pre .0 .2 .held .few in
+    let e = start .pre .0 .2 .count-is in
     omega arith
 
 loop-less : tie.Need-loop-less Inv-loop μ-loop

@@ -34,8 +34,9 @@ load-requires c κs =
 
 add-labels : tie.Need-add-labels Inv-loop μ-loop
 add-labels c =
-    let a = c .before .before .before .before .before .before .before .pre .2 .old-names .few in
-    let b = c .before .before .before .before .before .before .before .pre .2 .new-names .few in
+    let start = c .before .before .before .before .before .before .before in
+    let a = start .pre .2 .old-names .few in
+    let b = start .pre .2 .new-names .few in
     omega arith
 
 loop-holds : tie.Need-loop-holds Inv-loop μ-loop
@@ -48,8 +49,9 @@ loop-holds c = (
 
 has-requires : tie.Need-has-requires Inv-loop μ-loop
 has-requires c κs =
-    let a = c .before .before .before .before .before .before .before .before .before .before .pre .2 .old-names .few in
-    let b = c .before .before .before .before .before .before .before .before .before .before .pre .2 .new-names .few in
+    let start = c .before .before .before .before .before .before .before .before .before .before in
+    let a = start .pre .2 .old-names .few in
+    let b = start .pre .2 .new-names .few in
     omega arith
 
 put-label-requires : tie.Need-put-label-requires Inv-loop μ-loop
@@ -101,12 +103,13 @@ same-length-2 c = search needs
 
 returns-2 : tie.Need-returns-2 Inv-loop μ-loop
 returns-2 c =
+    let start = c .before .before .before .before .before .before .before .before .before in
     λ q.
     let on = member (c .before .before .before .before .load .result .words) 0 in
-    let olds = c .before .before .before .before .before .before .before .before .before .args .olds in
-    let news = c .before .before .before .before .before .before .before .before .before .args .news in
+    let olds = start .args .olds in
+    let news = start .args .news in
     let e : c .before .loop .l ≡ olds .count + news .count = omega arith in (
-      subst (λ (b : List ℕ). Put (c .before .before .before .before .before .before .before .before .before .args .draft .now) 0 b (c .before .loop .draft) (c .before .loop .end))
+      subst (λ (b : List ℕ). Put (start .args .draft .now) 0 b (c .before .loop .draft) (c .before .loop .end))
           (ap (λ (n : ℕ). joinedOf (nameField q on) (numbersBelow n)) e
           ∙ labels-joined q on
           ∙ ap (labelsBytes (q .first ++ q .second)) (ap (λ (w : List ℕ). member w 0) (c .before .before .before .before .load .ensures)))

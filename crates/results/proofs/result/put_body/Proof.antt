@@ -14,9 +14,10 @@ use Rattle.results.proofs.result.put_body.Tie as tie
 
 put-starts-requires : tie.Need-put-starts-requires
 put-starts-requires c κs =
-    let few = c .before .before .before .before .before .before .pre .3 .rules .in-words .held .few in
-    let e = c .before .before .before .before .before .before .pre .3 .rules .in-words .count-is in
-    (c .before .before .before .before .before .before .pre .0, c .before .before .before .before .before .before .pre .1, c .before .before .before .before .before .before .pre .3 .rules .room, omega arith)
+    let start = c .before .before .before .before .before .before in
+    let few = start .pre .3 .rules .in-words .held .few in
+    let e = start .pre .3 .rules .in-words .count-is in
+    (start .pre .0, start .pre .1, start .pre .3 .rules .room, omega arith)
 
 enum-told : tie.Need-enum-told
 enum-told c = search needs
@@ -26,15 +27,16 @@ enum-known-end c = search needs
 
 put-rest-requires : tie.Need-put-rest-requires
 put-rest-requires c κs =
-    let a = c .before .before .before .before .before .before .before .before .before .before .before .before .before .before .args in
-    let rule = ruleFrom (c .before .before .before .before .before .before .before .before .before .before .before .before .before .before .pre .3 .rules) in
+    let start = c .before .before .before .before .before .before .before .before .before .before .before .before .before .before in
+    let a = start .args in
+    let rule = ruleFrom (start .pre .3 .rules) in
     let h =
     put-length-is (a .draft .now) (a .at) rule (a .count) (startsBytes (setAt (a .words .now) startTypesAt) (a .count)) (restBytes rule (a .count)) (c .before .before .before .before .before .before .before .put-starts .last .0) []
     (c .before .before .before .before .before .before .before .put-starts .result)
     (c .before .before .before .before .before .before .before .put-starts .ensures)
     (c .before .before .before .end .given .1) in
     let w : length (c .before .before .before .before .before .before .before .put-starts .last .0) ≡ length (a .draft .now) = search needs in
-    (h .1, omega arith, c .before .before .before .before .before .before .before .before .before .before .before .before .before .before .pre .2, c .before .before .before .before .before .before .before .before .before .before .before .before .before .before .pre .3)
+    (h .1, omega arith, start .pre .2, start .pre .3)
 
 same-length : tie.Need-same-length
 same-length c = search needs

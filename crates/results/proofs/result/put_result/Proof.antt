@@ -29,10 +29,12 @@ labels-used-requires c κs =
 
 put-labels-requires : tie.Need-put-labels-requires
 put-labels-requires c κs =
-    let q = c .before .before .before .before .before .before .before .before .before .before .before .before .before .before .pre .2 in
+    let start = c .before .before .before .before .before .before .before .before .before .before .before .before .before .before in
+    let q = start .pre .2 in
     let room = q .rules .room in
-    let same : length (c .before .before .before .before .labels-used .last .1 .0) ≡ length (c .before .before .before .before .before .before .before .before .before .before .before .before .before .before .args .words .now) = search needs in
-    (c .before .before .before .before .before .before .before .before .before .before .before .before .before .before .pre .0, omega arith, q .names)
+    let fits-same = c .before .before .before .before .labels-used .kept .1 .0 in
+    let same : length (c .before .before .before .before .labels-used .last .1 .0) ≡ length (start .args .words .now) = search needs in
+    (start .pre .0, omega arith, q .names)
 
 enum-told : tie.Need-enum-told
 enum-told c = search needs
@@ -45,8 +47,9 @@ add-put-body c = search needs
 
 put-body-requires : tie.Need-put-body-requires
 put-body-requires c κs =
-    let a = c .before .before .before .before .before .before .before .before .before .before .before .before .before .before .before .before .before .before .before .before .before .before .before .before .before .args in
-    let q = c .before .before .before .before .before .before .before .before .before .before .before .before .before .before .before .before .before .before .before .before .before .before .before .before .before .pre .2 in
+    let start = c .before .before .before .before .before .before .before .before .before .before .before .before .before .before .before .before .before .before .before .before .before .before .before .before .before in
+    let a = start .args in
+    let q = start .pre .2 in
     let on = setAt (c .before .before .before .before .before .before .before .before .before .before .before .before .before .before .before .labels-used .last .1 .0) usedAt in
     let rule = ruleFrom (q .rules) in
     let h =
@@ -57,12 +60,14 @@ put-body-requires c κs =
     (c .before .before .before .before .before .before .before .before .before .before .put-labels .result)
     (c .before .before .before .before .before .before .before .before .before .before .put-labels .ensures (q .names))
     (c .before .before .before .before .before .before .end .given .1) in
-    let k = c .before .before .before .before .before .before .before .before .before .before .before .before .before .before .before .before .before .before .before .before .before .before .before .before .before .pre .0 in
+    let k = start .pre .0 in
+    let fits-w = c .before .before .before .before .before .before .before .before .before .before .put-labels .kept .0 in
     let w : length (c .before .before .before .before .before .before .before .before .before .before .put-labels .last .0) ≡ length (a .draft .now) = search needs in
+    let fits-same = c .before .before .before .before .before .before .before .before .before .before .before .before .before .before .before .labels-used .kept .1 .0 in
     let same : length (c .before .before .before .before .before .before .before .before .before .before .before .before .before .before .before .labels-used .last .1 .0) ≡ length (a .words .now) = search needs in (
       h .1,
       omega arith,
-      c .before .before .before .before .before .before .before .before .before .before .before .before .before .before .before .before .before .before .before .before .before .before .before .before .before .pre .1,
+      start .pre .1,
       record {
         rules = rules-stay (q .rules) (c .before .before .before .before .before .before .before .before .before .before .before .before .before .before .before .labels-used .ensures .1) same;
         used-are = c .before .before .before .before .before .before .before .before .before .before .before .before .before .before .before .labels-used .ensures .0 _ _ (q .rules .in-words);

@@ -12,10 +12,11 @@ use Rattle.results.proofs.rules.pairs_within.Statement.{statement}
 use Rattle.results.proofs.rules.pairs_within.Tie as tie
 
 met-set-requires : tie.Need-met-set-requires
-met-set-requires c κs = (
-  record { table = c .before .before .before .before .pre .0 .0; views = c .before .before .before .before .pre .0 .1 },
-  record { old = c .before .before .before .before .pre .0 .2 .old-listed; added = c .before .before .before .before .pre .0 .2 .added-listed },
-)
+met-set-requires c κs =
+    let start = c .before .before .before .before in (
+      record { table = start .pre .0 .0; views = start .pre .0 .1 },
+      record { old = start .pre .0 .2 .old-listed; added = start .pre .0 .2 .added-listed },
+    )
 
 returns : tie.Need-returns
 unfolding kindOf

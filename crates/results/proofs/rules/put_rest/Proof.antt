@@ -31,8 +31,9 @@ part-put-field-end c = search needs
 
 put-field-requires : tie.Need-put-field-requires
 put-field-requires c κs =
-    let a = c .before .before .before .before .before .before .before .before .before .before .before .before .before .before .before .before .before .before .args in
-    let q = c .before .before .before .before .before .before .before .before .before .before .before .before .before .before .before .before .before .before .pre .3 in
+    let start = c .before .before .before .before .before .before .before .before .before .before .before .before .before .before .before .before .before .before in
+    let a = start .args in
+    let q = start .pre .3 in
     let rule = ruleFrom (q .rules) in
     let h =
     table-length-is (a .draft .now) (a .at) rule (a .count) (rulesBytes rule (a .count)) (fieldBytes 0x1F []) (c .before .before .before .before .before .before .before .before .before .before .put-rules .last .0) [] (c .before .before .before .before .before .before .before .before .before .before .put-rules .result)

@@ -24,7 +24,8 @@ mul-load : tie.Need-mul-load
 mul-load c = search needs
 
 load-requires : tie.Need-load-requires
-load-requires c κs = set-room (c .before .before .before .before .before .pre .4 .rules .in-words) (c .before .before .before .before .before .args .i) (c .before .before .before .before .before .pre .3)
+load-requires c κs =
+    let start = c .before .before .before .before .before in set-room (start .pre .4 .rules .in-words) (start .args .i) (start .pre .3)
 
 load-requires-2 : tie.Need-load-requires-2
 load-requires-2 c κs =
@@ -33,14 +34,16 @@ load-requires-2 c κs =
 
 set-label-requires : tie.Need-set-label-requires
 set-label-requires c κs =
-    let s = c .before .before .before .before .before .before .before .pre .4 .rules .in-words in
-    (views-sized (s .views), set-four s (c .before .before .before .before .before .before .before .args .i) (c .before .before .before .before .before .before .before .pre .3) _ (c .before .load .ensures))
+    let start = c .before .before .before .before .before .before .before in
+    let s = start .pre .4 .rules .in-words in
+    (views-sized (s .views), set-four s (start .args .i) (start .pre .3) _ (c .before .load .ensures))
 
 label-place-requires : tie.Need-label-place-requires
 label-place-requires c κs =
-    let s = c .before .before .before .before .before .before .before .before .pre .4 .rules .in-words in
-    let i = c .before .before .before .before .before .before .before .before .args .i in
-    let h = c .before .before .before .before .before .before .before .before .pre .3 in
+    let start = c .before .before .before .before .before .before .before .before in
+    let s = start .pre .4 .rules .in-words in
+    let i = start .args .i in
+    let h = start .pre .3 in
     label-small s i h _
     (c .set-label .ensures _ _ (s .table) _ (s .views) (set-held s i h _ (c .before .before .load .ensures)) (set-ascending s i h) (set-some s i h))
 
@@ -64,10 +67,11 @@ enum-known-end c = search needs
 
 cast-scratch : tie.Need-cast-scratch
 cast-scratch c =
-    let s = c .before .before .before .before .before .before .before .before .before .before .before .before .before .before .before .before .pre .4 .rules .in-words in
+    let start = c .before .before .before .before .before .before .before .before .before .before .before .before .before .before .before .before in
+    let s = start .pre .4 .rules .in-words in
     let few = s .held .few in
     let e = s .count-is in
-    let h = c .before .before .before .before .before .before .before .before .before .before .before .before .before .before .before .before .pre .3 in
+    let h = start .pre .3 in
     omega arith
 
 slice-write-scratch : tie.Need-slice-write-scratch
@@ -75,9 +79,10 @@ slice-write-scratch c = search needs
 
 cast-scratch-2 : tie.Need-cast-scratch-2
 cast-scratch-2 c =
-    let s = c .before .before .before .before .before .before .before .before .before .before .before .before .before .before .before .before .pre .4 .rules .in-words in
-    let i = c .before .before .before .before .before .before .before .before .before .before .before .before .before .before .before .before .args .i in
-    let h = c .before .before .before .before .before .before .before .before .before .before .before .before .before .before .before .before .pre .3 in
+    let start = c .before .before .before .before .before .before .before .before .before .before .before .before .before .before .before .before in
+    let s = start .pre .4 .rules .in-words in
+    let i = start .args .i in
+    let h = start .pre .3 in
     let small =
     label-small s i h (c .before .before .before .before .before .before .before .before .set-label .result)
     (c .before .before .before .before .before .before .before .before .set-label .ensures _ _ (s .table) _ (s .views) (set-held s i h _ (c .before .before .before .before .before .before .before .before .before .before .load .ensures)) (set-ascending s i h) (set-some s i h)) in
@@ -86,14 +91,16 @@ cast-scratch-2 c =
 
 slice-write-scratch-2 : tie.Need-slice-write-scratch-2
 slice-write-scratch-2 c =
-    let long = c .before .before .before .before .before .before .before .before .before .before .before .before .before .before .before .before .pre .2 in
-    let before = c .before .before .before .before .before .before .before .before .before .before .before .before .before .before .before .before .args .scratch .now in
-    scratch-long before (c .before .before .before .before .before .set-content .last .0) (drop (length before - 2) (drop 2 before)) (c .before .before .before .before .before .before .before .before .before .before .before .before .before .before .before .before .args .i) (omega arith)
+    let start = c .before .before .before .before .before .before .before .before .before .before .before .before .before .before .before .before in
+    let long = start .pre .2 in
+    let before = start .args .scratch .now in
+    scratch-long before (c .before .before .before .before .before .set-content .last .0) (drop (length before - 2) (drop 2 before)) (start .args .i) (omega arith)
 
 add-stop : tie.Need-add-stop
 add-stop c =
-    let q = c .before .before .before .before .before .before .before .before .before .before .before .before .before .before .before .before .pre .4 .rules in
-    let small = made-stored _ (ruleFrom q (c .before .before .before .before .before .before .before .before .before .before .before .before .before .before .before .before .args .i) .content) _ (c .before .before .before .before .before .set-content .ensures q) (c .before .end .given .1) .small in
+    let start = c .before .before .before .before .before .before .before .before .before .before .before .before .before .before .before .before in
+    let q = start .pre .4 .rules in
+    let small = made-stored _ (ruleFrom q (start .args .i) .content) _ (c .before .before .before .before .before .set-content .ensures q) (c .before .end .given .1) .small in
     omega arith
 
 sub-put-field : tie.Need-sub-put-field
@@ -104,11 +111,12 @@ part-put-field-start c = search needs
 
 part-put-field-end : tie.Need-part-put-field-end
 part-put-field-end c =
-    let q = c .before .before .before .before .before .before .before .before .before .before .before .before .before .before .before .before .before .before .pre .4 .rules in
-    let long = c .before .before .before .before .before .before .before .before .before .before .before .before .before .before .before .before .before .before .pre .2 in
-    let before = c .before .before .before .before .before .before .before .before .before .before .before .before .before .before .before .before .before .before .args .scratch .now in
-    let made = made-stored _ (ruleFrom q (c .before .before .before .before .before .before .before .before .before .before .before .before .before .before .before .before .before .before .args .i) .content) _ (c .before .before .before .before .before .before .before .set-content .ensures q) (c .before .before .before .end .given .1) in
-    scratch-room before (c .before .before .before .before .before .before .before .set-content .last .0) (drop (length before - 2) (drop 2 before)) (c .before .before .before .before .before .before .before .before .before .before .before .before .before .before .before .before .before .before .args .i) (c .before .before .before .before .before .before .before .before .before .label-place .result) _ (omega arith)
+    let start = c .before .before .before .before .before .before .before .before .before .before .before .before .before .before .before .before .before .before in
+    let q = start .pre .4 .rules in
+    let long = start .pre .2 in
+    let before = start .args .scratch .now in
+    let made = made-stored _ (ruleFrom q (start .args .i) .content) _ (c .before .before .before .before .before .before .before .set-content .ensures q) (c .before .before .before .end .given .1) in
+    scratch-room before (c .before .before .before .before .before .before .before .set-content .last .0) (drop (length before - 2) (drop 2 before)) (start .args .i) (c .before .before .before .before .before .before .before .before .before .label-place .result) _ (omega arith)
     (made .inside)
 
 put-field-requires : tie.Need-put-field-requires
@@ -130,11 +138,12 @@ same-length-3 c = search needs
 
 returns-2 : tie.Need-returns-2
 returns-2 c =
+    let start = c .before .before .before .before .before .before .before .before .before .before .before .before .before .before .before .before .before .before .before .before .before .before in
     λ q.
     let s = q .rules .in-words in
-    let i = c .before .before .before .before .before .before .before .before .before .before .before .before .before .before .before .before .before .before .before .before .before .before .args .i in
-    let h = c .before .before .before .before .before .before .before .before .before .before .before .before .before .before .before .before .before .before .before .before .before .before .pre .3 in
-    let long = c .before .before .before .before .before .before .before .before .before .before .before .before .before .before .before .before .before .before .before .before .before .before .pre .2 in
+    let i = start .args .i in
+    let h = start .pre .3 in
+    let long = start .pre .2 in
     let on = member (c .before .before .before .before .before .before .before .before .before .before .before .before .before .before .before .load2 .result .words) 0 in
     let used = ap (λ (w : List ℕ). member w 0) (c .before .before .before .before .before .before .before .before .before .before .before .before .before .before .before .load2 .ensures) ∙ q .used-are in
     let made = made-stored _ (ruleFrom (q .rules) i .content) _ (c .before .before .before .before .before .before .before .before .before .before .before .set-content .ensures (q .rules)) (c .before .before .before .before .before .before .before .end .given .1) in
@@ -144,12 +153,12 @@ returns-2 c =
     let placed =
     c .before .before .before .before .before .before .before .before .before .before .before .before .before .label-place .ensures .0 (length (s .table .labels)) (omega arith) (label-used s i h on (c .before .before .before .before .before .before .before .before .before .before .before .before .before .before .set-label .result) used label)
     ∙ ap (λ (l : ℕ). place eqb l (keep on (numbersBelow (length (s .table .labels))))) label in
-    subst (λ (rule : Rule). RulePuts (c .before .before .before .before .before .before .before .before .before .before .before .before .before .before .before .before .before .before .before .before .before .before .args .draft .now) (c .before .before .before .before .before .before .before .before .before .before .before .before .before .before .before .before .before .before .before .before .before .before .args .at) rule (c .before .before .put-field .last .0) (c .before .before .put-field .result))
-    (rule-is (s .table) (s .sets) (kindOf (c .before .before .before .before .before .before .before .before .before .before .before .before .before .before .before .before .before .before .before .before .before .before .args .kind)) i on (c .before .before .before .before .before .before .before .before .before .before .before .before .before .label-place .result) used placed)
-    (rule-puts (c .before .before .before .before .before .before .before .before .before .before .before .before .before .before .before .before .before .before .before .before .before .before .args .draft .now) (c .before .before .put-field .last .0) (c .before .before .before .before .before .before .before .before .before .before .before .before .before .before .before .before .before .before .before .before .before .before .args .at) _
+    subst (λ (rule : Rule). RulePuts (start .args .draft .now) (start .args .at) rule (c .before .before .put-field .last .0) (c .before .before .put-field .result))
+    (rule-is (s .table) (s .sets) (kindOf (start .args .kind)) i on (c .before .before .before .before .before .before .before .before .before .before .before .before .before .label-place .result) used placed)
+    (rule-puts (start .args .draft .now) (c .before .before .put-field .last .0) (start .args .at) _
     (record { type = i; label = c .before .before .before .before .before .before .before .before .before .before .before .before .before .label-place .result; content = ruleFrom (q .rules) i .content })
     (c .before .before .put-field .result)
-    (rule-value (c .before .before .before .before .before .before .before .before .before .before .before .before .before .before .before .before .before .before .before .before .before .before .args .scratch .now) (c .before .before .before .before .before .before .before .before .before .before .before .set-content .last .0) _ i (c .before .before .before .before .before .before .before .before .before .before .before .before .before .label-place .result) _ (ruleFrom (q .rules) i .content) (omega arith) made)
+    (rule-value (start .args .scratch .now) (c .before .before .before .before .before .before .before .before .before .before .before .set-content .last .0) _ i (c .before .before .before .before .before .before .before .before .before .before .before .before .before .label-place .result) _ (ruleFrom (q .rules) i .content) (omega arith) made)
     (made .fits)
     (c .before .before .put-field .ensures))
 

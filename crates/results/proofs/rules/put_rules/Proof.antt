@@ -35,9 +35,10 @@ abbrev μ-loop : tie.MeasureT-loop
 
 loop-holds : tie.Need-loop-holds Inv-loop μ-loop
 loop-holds c =
-    let a = c .before .before .before .before .before .args in (
+    let start = c .before .before .before .before .before in
+    let a = start .args in (
       omega arith,
-      c .before .before .before .before .before .pre .0,
+      start .pre .0,
       refl,
       refl,
       λ q. up-start (ruleField (ruleFrom (q .rules))) (a .draft .now) (a .at) (omega arith),
@@ -71,8 +72,9 @@ enum-known-more c = search needs
 
 add-i : tie.Need-add-i Inv-loop μ-loop
 add-i c =
-    let few = c .before .before .before .before .before .before .before .before .before .before .before .before .before .before .before .before .before .pre .3 .rules .in-words .held .few in
-    let e = c .before .before .before .before .before .before .before .before .before .before .before .before .before .before .before .before .before .pre .3 .rules .in-words .count-is in
+    let start = c .before .before .before .before .before .before .before .before .before .before .before .before .before .before .before .before .before in
+    let few = start .pre .3 .rules .in-words .held .few in
+    let e = start .pre .3 .rules .in-words .count-is in
     omega arith
 
 loop-less : tie.Need-loop-less Inv-loop μ-loop

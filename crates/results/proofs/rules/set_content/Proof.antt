@@ -9,7 +9,6 @@ use Rattle.grammar.specs.Lists.{place, sameNumbers}
 use Rattle.grammar.specs.Content.{Content}
 use Rattle.sets.specs.Sets.{member}
 use Rattle.sets.proofs.SetLaws.{length-words}
-use Rattle.pairs.specs.Places.{leftAt}
 use Rattle.pairs.proofs.ViewLaws.{views-sized}
 use Rattle.emitting.specs.Completing.{Regular, Made}
 use Rattle.forms.specs.SetForms.{labelled}
@@ -26,11 +25,12 @@ load-requires c κs =
 
 pairs-within-requires : tie.Need-pairs-within-requires
 pairs-within-requires c κs =
-    let q = c .before .before .before .before .before .pre .3 in
+    let start = c .before .before .before .before .before in
+    let q = start .pre .3 in
     let room = q .room in (
       (q .in-words .table, q .in-words .views, q .lists-are),
-      ap length (c .load .ensures) ∙ length-words _ leftAt 4 (omega arith),
-      set-four (q .in-words) (c .before .before .before .before .before .args .i) (c .before .before .before .before .before .pre .1) _ (c .before .before .before .before .before .pre .2),
+      ap length (c .load .ensures) ∙ length-words _ _ 4 (omega arith),
+      set-four (q .in-words) (start .args .i) (start .pre .1) _ (start .pre .2),
     )
 
 label-numbers-requires : tie.Need-label-numbers-requires
@@ -51,7 +51,7 @@ result-lists-requires c κs =
     let room = q .room in (
       views-sized (q .in-words .views),
       labels-sized (q .in-words .views) (q .in-words .labelled) (q .in-words .labels-few),
-      ap length (c .before .before .load .ensures) ∙ length-words _ leftAt 4 (omega arith),
+      ap length (c .before .before .load .ensures) ∙ length-words _ _ 4 (omega arith),
       c .label-numbers .ensures .1,
       q .lists-are .old-listed .below,
       q .lists-are .added-listed .below,
@@ -62,36 +62,38 @@ types-listed-requires c κs = search needs
 
 content-of-set-requires : tie.Need-content-of-set-requires
 content-of-set-requires c κs =
-    let q = c .before .before .before .before .before .before .before .before .before .before .pre .3 in
+    let start = c .before .before .before .before .before .before .before .before .before .before in
+    let q = start .pre .3 in
     let s = q .in-words in
     let within = member (c .before .before .before .before .pairs-within .result .words) 0 in
     let numbers = c .before .before .before .label-numbers .ensures .0 _ _ (s .table) (s .sets) (s .views) (s .held) (s .count-is) in
     let listed =
     c .before .before .result-lists .ensures _ _ (s .table) (s .sets) within (s .views) (q .lists-are) (ap (λ (w : List ℕ). member w 0) (c .before .before .before .before .before .load .ensures) ∙ q .left-is) (s .labelled)
     (all-labels q (λ l. place sameNumbers (labelled (s .table) within l) (s .sets)) (c .before .before .before .label-numbers .result .of) numbers) in
-    (merged q within (c .before .types-listed .result) (c .before .before .result-lists .result) listed (c .before .types-listed .ensures .1) (c .before .types-listed .ensures .0), c .before .before .before .before .before .before .before .before .before .before .pre .0)
+    (merged q within (c .before .types-listed .result) (c .before .before .result-lists .result) listed (c .before .types-listed .ensures .1) (c .before .types-listed .ensures .0), start .pre .0)
 
 same-length : tie.Need-same-length
 same-length c = search needs
 
 returns : tie.Need-returns
 returns c =
+    let start = c .before .before .before .before .before .before .before .before .before .before .before .before .before in
     λ q.
     let s = q .in-words in
     let within = member (c .before .before .before .before .before .before .before .pairs-within .result .words) 0 in
-    let i = c .before .before .before .before .before .before .before .before .before .before .before .before .before .args .i in
-    let kind = kindOf (c .before .before .before .before .before .before .before .before .before .before .before .before .before .args .kind) in
+    let i = start .args .i in
+    let kind = kindOf (start .args .kind) in
     let numbers = c .before .before .before .before .before .before .label-numbers .ensures .0 _ _ (s .table) (s .sets) (s .views) (s .held) (s .count-is) in
     let listed =
     c .before .before .before .before .before .result-lists .ensures _ _ (s .table) (s .sets) within (s .views) (q .lists-are) (ap (λ (w : List ℕ). member w 0) (c .before .before .before .before .before .before .before .before .load .ensures) ∙ q .left-is) (s .labelled)
     (all-labels q (λ l. place sameNumbers (labelled (s .table) within l) (s .sets)) (c .before .before .before .before .before .before .label-numbers .result .of) numbers) in
-    let held = set-held s i (c .before .before .before .before .before .before .before .before .before .before .before .before .before .pre .1) _ (c .before .before .before .before .before .before .before .before .before .before .before .before .before .pre .2) in
+    let held = set-held s i (start .pre .1) _ (start .pre .2) in
     let same =
-    content-is (s .table) (s .sets) kind i (member (c .before .before .before .before .before .before .before .before .before .before .before .before .before .args .set .words) 0) within held
+    content-is (s .table) (s .sets) kind i (member (start .args .set .words) 0) within held
     (c .before .before .before .before .before .before .before .pairs-within .ensures .0 (s .table) _ (s .views) (q .lists-are) (ap (λ (w : List ℕ). member w 0) (c .before .before .before .before .before .before .before .before .load .ensures) ∙ q .left-is) held) in
     let from = merged q within (c .before .before .before .before .types-listed .result) (c .before .before .before .before .before .result-lists .result) listed (c .before .before .before .before .types-listed .ensures .1) (c .before .before .before .before .types-listed .ensures .0) in
     subst (λ (d : Content). Made (c .before .before .content-of-set .last .1 .1 .1 .1 .1 .1 .0) d (c .before .before .content-of-set .result)) same
-    (c .before .before .content-of-set .ensures from (subst Regular (sym same) (q .regular i (c .before .before .before .before .before .before .before .before .before .before .before .before .before .pre .1))))
+    (c .before .before .content-of-set .ensures from (subst Regular (sym same) (q .regular i (start .pre .1))))
 
 pub set-content-spec : {M : Type 1} → statement M
 set-content-spec =

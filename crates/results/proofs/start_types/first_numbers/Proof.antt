@@ -53,8 +53,9 @@ store-requires c κs =
 
 returns : tie.Need-returns Inv-loop μ-loop
 returns c =
-    let room = c .before .before .before .before .before .before .before .before .pre .1 in
-    let e : c .before .before .before .before .before .loop .t ≡ c .before .before .before .before .before .before .before .before .args .n = omega arith in (
+    let start = c .before .before .before .before .before .before .before .before in
+    let room = start .pre .1 in
+    let e : c .before .before .before .before .before .loop .t ≡ start .args .n = omega arith in (
       store-set _ startTypesAt _ _ (omega arith) (c .before .before .before .before .before .loop .inv .2) (c .before .before .store .ensures)
           ∙ c .before .before .before .before .before .loop .inv .1
           ∙ ap (puts (λ s. true) (λ s. s) nothing) e,

@@ -55,8 +55,9 @@ array-read-wide c = c .before .before .before .before .before .before .before .b
 
 put-if-requires : tie.Need-put-if-requires Inv-loop μ-loop
 put-if-requires c κs =
-    let args = c .before .before .before .before .before .before .before .before .before .before .args in
-    let small = c .before .before .before .before .before .before .before .before .before .before .pre .3 (getD (args .v .labels) (c .before .before .before .loop .p) 0) in
+    let start = c .before .before .before .before .before .before .before .before .before .before in
+    let args = start .args in
+    let small = start .pre .3 (getD (args .v .labels) (c .before .before .before .loop .p) 0) in
     let e = c .wide .ensures in
     (omega arith, c .before .before .before .loop .inv .2)
 
@@ -80,8 +81,9 @@ store-requires c κs =
 
 returns : tie.Need-returns Inv-loop μ-loop
 returns c =
-    let args = c .before .before .before .before .before .before .before .before .before .before .before .before .args in
-    let room = c .before .before .before .before .before .before .before .before .before .before .before .before .pre .2 in
+    let start = c .before .before .before .before .before .before .before .before .before .before .before .before in
+    let args = start .args in
+    let room = start .pre .2 in
     let key : ℕ → ℕ = λ q. getD (args .numbers .of) (getD (args .v .labels) q 0) 0 in
     let e : c .before .before .before .before .before .loop .p ≡ args .v .rules = omega arith in (
       store-set _ startTypesAt _ _ (omega arith) (c .before .before .before .before .before .loop .inv .2) (c .before .before .store .ensures)

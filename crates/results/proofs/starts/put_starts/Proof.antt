@@ -36,12 +36,13 @@ load-requires c κs =
     omega arith
 
 loop-holds : tie.Need-loop-holds Inv-loop μ-loop
-loop-holds c = (
-  omega arith,
-  c .before .before .before .pre .0,
-  refl,
-  up-start (startField (member (c .load .result .words) 0)) (c .before .before .before .args .draft .now) (c .before .before .before .args .at) (omega arith),
-)
+loop-holds c =
+    let start = c .before .before .before in (
+      omega arith,
+      start .pre .0,
+      refl,
+      up-start (startField (member (c .load .result .words) 0)) (start .args .draft .now) (start .args .at) (omega arith),
+    )
 
 has-requires : tie.Need-has-requires Inv-loop μ-loop
 has-requires c κs = omega arith
@@ -59,15 +60,16 @@ same-length c = search needs
 
 returns : tie.Need-returns Inv-loop μ-loop
 returns c =
+    let start = c .before .before .before .before .before .before .before .before .before .before .before .before in
     let on = member (c .before .before .before .before .before .before .before .before .before .load .result .words) 0 in
-    subst (λ (b : List ℕ). 32768 < c .before .before .before .before .before .before .before .before .before .before .before .before .args .at + length b)
-    (joined-only on (λ k. fieldBytes 0x11 (k ∷ [])) (numbersBelow (c .before .before .before .before .before .before .before .before .before .before .before .before .args .count))
-    ∙ ap (λ (t : ℕ → Bool). startsBytes t (c .before .before .before .before .before .before .before .before .before .before .before .before .args .count)) (ap (λ (w : List ℕ). member w 0) (c .before .before .before .before .before .before .before .before .before .load .ensures)))
+    subst (λ (b : List ℕ). 32768 < start .args .at + length b)
+    (joined-only on (λ k. fieldBytes 0x11 (k ∷ [])) (numbersBelow (start .args .count))
+    ∙ ap (λ (t : ℕ → Bool). startsBytes t (start .args .count)) (ap (λ (w : List ℕ). member w 0) (c .before .before .before .before .before .before .before .before .before .load .ensures)))
     (step-stop (startField on) (c .before .before .before .before .before .before .before .before .loop .t) (c .before .before .before .before .before .before .before .before .loop .inv .3) _ (c .before .before .before .before .put-start .last .0) (c .before .before .before .before .put-start .result)
     (ap (λ (b : Bool). onlyIf b (fieldBytes 0x11 (c .before .before .before .before .before .before .before .before .loop .t ∷ []))) (c .before .before .before .before .before .has .ensures))
     (c .before .before .before .before .put-start .ensures)
     (c .enum-told .given .1)
-    (c .before .before .before .before .before .before .before .before .before .before .before .before .args .count)
+    (start .args .count)
     (c .before .before .before .before .before .before .before .loop-test .taken))
 
 enum-known-more : tie.Need-enum-known-more Inv-loop μ-loop
@@ -94,10 +96,11 @@ same-length-2 c = search needs
 
 returns-2 : tie.Need-returns-2 Inv-loop μ-loop
 returns-2 c =
+    let start = c .before .before .before .before .before in
     let on = member (c .before .before .load .result .words) 0 in
-    let count = c .before .before .before .before .before .args .count in
+    let count = start .args .count in
     let e : c .before .loop .t ≡ count = omega arith in (
-      subst (λ (b : List ℕ). Put (c .before .before .before .before .before .args .draft .now) (c .before .before .before .before .before .args .at) b (c .before .loop .draft) (c .before .loop .end))
+      subst (λ (b : List ℕ). Put (start .args .draft .now) (start .args .at) b (c .before .loop .draft) (c .before .loop .end))
           (ap (λ (n : ℕ). joinedOf (startField on) (numbersBelow n)) e
           ∙ joined-only on (λ k. fieldBytes 0x11 (k ∷ [])) (numbersBelow count)
           ∙ ap (λ (t : ℕ → Bool). startsBytes t count) (ap (λ (w : List ℕ). member w 0) (c .before .before .load .ensures)))

@@ -19,47 +19,57 @@ part-more-sets-end c =
 
 more-sets-requires : tie.Need-more-sets-requires
 more-sets-requires c κs =
-    let q = c .before .before .before .before .before .before .pre .0 in
+    let start = c .before .before .before .before .before .before in
+    let q = start .pre .0 in
     let few = q .held .few in
     let many = q .many in
-    (seen-viewed (q .reduced .seen), listed-both (q .reduced .lists-are), omega arith, laws.lent-room (c .before .before .before .before .before .before .args .words .now) (c .before .before .before .before .before .before .pre .1))
+    (seen-viewed (q .reduced .seen), listed-both (q .reduced .lists-are), omega arith, laws.lent-room (start .args .words .now) (start .pre .1))
 
 first-numbers-requires : tie.Need-first-numbers-requires
 first-numbers-requires c κs =
-    let q = c .before .before .before .before .before .before .before .before .before .before .before .before .before .pre .0 in
+    let start = c .before .before .before .before .before .before .before .before .before .before .before .before .before in
+    let q = start .pre .0 in
     let few = q .held .few in
     let many = q .many in
     let front = c .before .before .before .before .before .before .more-sets .last .1 .1 .1 .1 .0 in
-    let same : length front ≡ length (take setsEnd (c .before .before .before .before .before .before .before .before .before .before .before .before .before .args .words .now)) = search needs in
-    (omega arith, laws.room-stays (c .before .before .before .before .before .before .before .before .before .before .before .before .before .args .words .now) (c .before .before .before .before .before .before .before .before .before .before .before .before .before .pre .1) front same)
+    let fits-same = c .before .before .before .before .before .before .more-sets .kept .1 .1 .1 .1 .0 in
+    let same : length front ≡ length (take setsEnd (start .args .words .now)) = search needs in
+    (omega arith, laws.room-stays (start .args .words .now) (start .pre .1) front same)
 
 put-result-requires : tie.Need-put-result-requires
 unfolding kindOf
 put-result-requires c κs =
-    let q = c .before .before .before .before .before .before .before .before .before .before .before .before .before .before .before .before .before .before .before .pre .0 in
-    let room = c .before .before .before .before .before .before .before .before .before .before .before .before .before .before .before .before .before .before .before .pre .1 in
+    let start = c .before .before .before .before .before .before .before .before .before .before .before .before .before .before .before .before .before .before .before in
+    let q = start .pre .0 in
+    let room = start .pre .1 in
     let r = q .reduced in
     let s = c .before .before .before .before .before .before .before .before .before .before .before .before .more-sets in
     let front = s .last .1 .1 .1 .1 .0 in
-    let (many, held) = laws.single-type-counted r front (s .result) (s .ensures _ (r .seen .rules) (r .lists-are) (laws.sets-lent (c .before .before .before .before .before .before .before .before .before .before .before .before .before .before .before .before .before .before .before .args .words .now) room (q .held)) (q .many)) _ (c .before .before .before .before .before .before .before .before .count .given .1) in
-    let same : length front ≡ length (take setsEnd (c .before .before .before .before .before .before .before .before .before .before .before .before .before .before .before .before .before .before .before .args .words .now)) = search needs in
-    let long : length (c .before .before .before .before .before .first-numbers .last .1 .0) ≡ length (front ++ drop setsEnd (c .before .before .before .before .before .before .before .before .before .before .before .before .before .before .before .before .before .before .before .args .words .now)) = search needs in
-    (c .before .before .before .before .before .before .before .before .before .before .before .before .before .before .before .before .before .before .before .pre .2, omega arith, laws.result-after r singleType room front same _ held many _ (c .before .before .before .before .before .first-numbers .ensures .1) long)
+    let (many, held) = laws.single-type-counted r front (s .result) (s .ensures _ (r .seen .rules) (r .lists-are) (laws.sets-lent (start .args .words .now) room (q .held)) (q .many)) _ (c .before .before .before .before .before .before .before .before .count .given .1) in
+    let fits-same = s .kept .1 .1 .1 .1 .0 in
+    let same : length front ≡ length (take setsEnd (start .args .words .now)) = search needs in
+    let fits-long = c .before .before .before .before .before .first-numbers .kept .1 .0 in
+    let long : length (c .before .before .before .before .before .first-numbers .last .1 .0) ≡ length (front ++ drop setsEnd (start .args .words .now)) = search needs in
+    (start .pre .2, omega arith, laws.result-after r singleType room front same _ held many _ (c .before .before .before .before .before .first-numbers .ensures .1) long)
 
 returns : tie.Need-returns
 returns c g h r held many =
+    let start = c .before .before .before .before .before .before .before .before .before .before .before in
     let s = c .before .before .before .before .more-sets in
-    laws.single-type-over r _ (s .result) (s .ensures _ (r .seen .rules) (r .lists-are) (laws.sets-lent (c .before .before .before .before .before .before .before .before .before .before .before .args .words .now) (c .before .before .before .before .before .before .before .before .before .before .before .pre .1) held) many) (c .enum-told .given .1) _ _
+    laws.single-type-over r _ (s .result) (s .ensures _ (r .seen .rules) (r .lists-are) (laws.sets-lent (start .args .words .now) (start .pre .1) held) many) (c .enum-told .given .1) _ _
 
 returns-2 : tie.Need-returns-2
 unfolding kindOf
 returns-2 c g h r start-held start-many =
-    let room = c .before .before .before .before .before .before .before .before .before .before .before .before .before .before .before .before .before .before .before .before .before .before .before .before .before .before .pre .1 in
+    let start = c .before .before .before .before .before .before .before .before .before .before .before .before .before .before .before .before .before .before .before .before .before .before .before .before .before .before in
+    let room = start .pre .1 in
     let s = c .before .before .before .before .before .before .before .before .before .before .before .before .before .before .before .before .before .before .before .more-sets in
     let front = s .last .1 .1 .1 .1 .0 in
-    let (many, held) = laws.single-type-counted r front (s .result) (s .ensures _ (r .seen .rules) (r .lists-are) (laws.sets-lent (c .before .before .before .before .before .before .before .before .before .before .before .before .before .before .before .before .before .before .before .before .before .before .before .before .before .before .args .words .now) room start-held) start-many) _ (c .before .before .before .before .before .before .before .before .before .before .before .before .before .before .before .count .given .1) in
-    let same : length front ≡ length (take setsEnd (c .before .before .before .before .before .before .before .before .before .before .before .before .before .before .before .before .before .before .before .before .before .before .before .before .before .before .args .words .now)) = search needs in
-    let long : length (c .before .before .before .before .before .before .before .before .before .before .before .before .first-numbers .last .1 .0) ≡ length (front ++ drop setsEnd (c .before .before .before .before .before .before .before .before .before .before .before .before .before .before .before .before .before .before .before .before .before .before .before .before .before .before .args .words .now)) = search needs in
+    let (many, held) = laws.single-type-counted r front (s .result) (s .ensures _ (r .seen .rules) (r .lists-are) (laws.sets-lent (start .args .words .now) room start-held) start-many) _ (c .before .before .before .before .before .before .before .before .before .before .before .before .before .before .before .count .given .1) in
+    let fits-same = s .kept .1 .1 .1 .1 .0 in
+    let same : length front ≡ length (take setsEnd (start .args .words .now)) = search needs in
+    let fits-long = c .before .before .before .before .before .before .before .before .before .before .before .before .first-numbers .kept .1 .0 in
+    let long : length (c .before .before .before .before .before .before .before .before .before .before .before .before .first-numbers .last .1 .0) ≡ length (front ++ drop setsEnd (start .args .words .now)) = search needs in
     laws.single-type-drafted r front _ many held _ start-many _ (c .before .before .before .before .before .before .before .before .before .before .before .before .first-numbers .ensures .0) _ _ _ _ (c .told .ensures)
     (c .before .before .before .before .before .before .put-result .ensures (laws.result-after r singleType room front same _ held many _ (c .before .before .before .before .before .before .before .before .before .before .before .before .first-numbers .ensures .1) long))
 

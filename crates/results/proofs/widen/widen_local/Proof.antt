@@ -35,28 +35,31 @@ part-label-sets-end c =
 
 label-sets-requires : tie.Need-label-sets-requires
 label-sets-requires c κs =
-    let r = c .before .before .before .before .before .before .before .before .before .pre .0 .reduced in
-    let room = c .before .before .before .before .before .before .before .before .before .pre .1 in (
+    let start = c .before .before .before .before .before .before .before .before .before in
+    let r = start .pre .0 .reduced in
+    let room = start .pre .1 in (
       views-sized (r .seen .rules),
       record {
         few = omega arith;
-        room = laws.lent-room (c .before .before .before .before .before .before .before .before .before .args .words .now) room;
+        room = laws.lent-room (start .args .words .now) room;
         four = ap length (c .before .load .ensures) ∙ length-words _ leftAt 4 (omega arith);
       },
     )
 
 label-numbers-requires : tie.Need-label-numbers-requires
 label-numbers-requires c κs =
-    let r = c .before .before .before .before .before .before .before .before .before .before .before .before .before .before .before .before .pre .0 .reduced in
-    let room = c .before .before .before .before .before .before .before .before .before .before .before .before .before .before .before .before .pre .1 in
+    let start = c .before .before .before .before .before .before .before .before .before .before .before .before .before .before .before .before in
+    let r = start .pre .0 .reduced in
+    let room = start .pre .1 in
     let n = c .before .before .before .before .before .before .before .before .before .before .label-count .ensures ∙ laws.label-count-is r in
     let few = laws.labels-few r in
     let s = c .before .before .before .before .before .before .label-sets in
     let front = s .last .1 .1 .1 .0 in
     let (many, held) = laws.local-counted r front (s .result) _ (ap (λ (w : List ℕ). member w 0) (c .before .before .before .before .before .before .before .before .load .ensures) ∙ r .left-are) (s .ensures _ _ _ (r .seen .rules) n) _ (c .before .before .count .given .1) in
     let h = held .few in
-    let same : length front ≡ length (take setsEnd (c .before .before .before .before .before .before .before .before .before .before .before .before .before .before .before .before .args .words .now)) = search needs in
-    let all = laws.room-stays (c .before .before .before .before .before .before .before .before .before .before .before .before .before .before .before .before .args .words .now) room front same in (
+    let fits-same = s .kept .1 .1 .1 .0 in
+    let same : length front ≡ length (take setsEnd (start .args .words .now)) = search needs in
+    let all = laws.room-stays (start .args .words .now) room front same in (
       views-sized (r .seen .rules),
       omega arith,
       record { few = omega arith; room = omega arith; four = ap length (c .before .before .before .before .before .before .before .before .load .ensures) ∙ length-words _ leftAt 4 (omega arith) },
@@ -64,26 +67,31 @@ label-numbers-requires c κs =
 
 start-numbers-requires : tie.Need-start-numbers-requires
 start-numbers-requires c κs =
-    let r = c .before .before .before .before .before .before .before .before .before .before .before .before .before .before .before .before .before .before .pre .0 .reduced in
+    let start = c .before .before .before .before .before .before .before .before .before .before .before .before .before .before .before .before .before .before in
+    let r = start .pre .0 .reduced in
     let front = c .before .before .before .before .before .before .before .before .label-sets .last .1 .1 .1 .0 in
-    let same : length front ≡ length (take setsEnd (c .before .before .before .before .before .before .before .before .before .before .before .before .before .before .before .before .before .before .args .words .now)) = search needs in (
+    let fits-same = c .before .before .before .before .before .before .before .before .label-sets .kept .1 .1 .1 .0 in
+    let same : length front ≡ length (take setsEnd (start .args .words .now)) = search needs in (
       views-sized (r .seen .rules),
       labels-sized (r .seen .rules) (laws.fit r .labelled) (laws.labels-few r),
-      laws.room-stays (c .before .before .before .before .before .before .before .before .before .before .before .before .before .before .before .before .before .before .args .words .now) (c .before .before .before .before .before .before .before .before .before .before .before .before .before .before .before .before .before .before .pre .1) front same,
+      laws.room-stays (start .args .words .now) (start .pre .1) front same,
       c .before .label-numbers .ensures .1,
     )
 
 put-result-requires : tie.Need-put-result-requires
 unfolding kindOf
 put-result-requires c κs =
-    let r = c .before .before .before .before .before .before .before .before .before .before .before .before .before .before .before .before .before .before .before .before .before .before .before .before .pre .0 .reduced in
+    let start = c .before .before .before .before .before .before .before .before .before .before .before .before .before .before .before .before .before .before .before .before .before .before .before .before in
+    let r = start .pre .0 .reduced in
     let n = c .before .before .before .before .before .before .before .before .before .before .before .before .before .before .before .before .before .before .label-count .ensures ∙ laws.label-count-is r in
     let s = c .before .before .before .before .before .before .before .before .before .before .before .before .before .before .label-sets in
     let front = s .last .1 .1 .1 .0 in
     let (many, held) = laws.local-counted r front (s .result) _ (ap (λ (w : List ℕ). member w 0) (c .before .before .before .before .before .before .before .before .before .before .before .before .before .before .before .before .load .ensures) ∙ r .left-are) (s .ensures _ _ _ (r .seen .rules) n) _ (c .before .before .before .before .before .before .before .before .before .before .count .given .1) in
-    let same : length front ≡ length (take setsEnd (c .before .before .before .before .before .before .before .before .before .before .before .before .before .before .before .before .before .before .before .before .before .before .before .before .args .words .now)) = search needs in
-    let long : length (c .before .before .before .before .before .start-numbers .last .1 .1 .0) ≡ length (front ++ drop setsEnd (c .before .before .before .before .before .before .before .before .before .before .before .before .before .before .before .before .before .before .before .before .before .before .before .before .args .words .now)) = search needs in
-    (c .before .before .before .before .before .before .before .before .before .before .before .before .before .before .before .before .before .before .before .before .before .before .before .before .pre .2, omega arith, laws.result-after r local (c .before .before .before .before .before .before .before .before .before .before .before .before .before .before .before .before .before .before .before .before .before .before .before .before .pre .1) front same _ held many _ (c .before .before .before .before .before .start-numbers .ensures .1) long)
+    let fits-same = s .kept .1 .1 .1 .0 in
+    let same : length front ≡ length (take setsEnd (start .args .words .now)) = search needs in
+    let fits-long = c .before .before .before .before .before .start-numbers .kept .1 .1 .0 in
+    let long : length (c .before .before .before .before .before .start-numbers .last .1 .1 .0) ≡ length (front ++ drop setsEnd (start .args .words .now)) = search needs in
+    (start .pre .2, omega arith, laws.result-after r local (start .pre .1) front same _ held many _ (c .before .before .before .before .before .start-numbers .ensures .1) long)
 
 returns : tie.Need-returns
 returns c g h r =
@@ -94,17 +102,20 @@ returns c g h r =
 returns-2 : tie.Need-returns-2
 unfolding setsOf kindOf
 returns-2 c g h r =
-    let room = c .before .before .before .before .before .before .before .before .before .before .before .before .before .before .before .before .before .before .before .before .before .before .before .before .before .before .before .before .before .before .before .pre .1 in
+    let start = c .before .before .before .before .before .before .before .before .before .before .before .before .before .before .before .before .before .before .before .before .before .before .before .before .before .before .before .before .before .before .before in
+    let room = start .pre .1 in
     let n = c .before .before .before .before .before .before .before .before .before .before .before .before .before .before .before .before .before .before .before .before .before .before .before .before .before .label-count .ensures ∙ laws.label-count-is r in
     let s = c .before .before .before .before .before .before .before .before .before .before .before .before .before .before .before .before .before .before .before .before .before .label-sets in
     let front = s .last .1 .1 .1 .0 in
     let left = ap (λ (w : List ℕ). member w 0) (c .before .before .before .before .before .before .before .before .before .before .before .before .before .before .before .before .before .before .before .before .before .before .before .load .ensures) ∙ r .left-are in
     let (many, held) = laws.local-counted r front (s .result) _ left (s .ensures _ _ _ (r .seen .rules) n) _ (c .before .before .before .before .before .before .before .before .before .before .before .before .before .before .before .before .before .count .given .1) in
-    let same : length front ≡ length (take setsEnd (c .before .before .before .before .before .before .before .before .before .before .before .before .before .before .before .before .before .before .before .before .before .before .before .before .before .before .before .before .before .before .before .args .words .now)) = search needs in
-    let long : length (c .before .before .before .before .before .before .before .before .before .before .before .before .start-numbers .last .1 .1 .0) ≡ length (front ++ drop setsEnd (c .before .before .before .before .before .before .before .before .before .before .before .before .before .before .before .before .before .before .before .before .before .before .before .before .before .before .before .before .before .before .before .args .words .now)) = search needs in
+    let fits-same = s .kept .1 .1 .1 .0 in
+    let same : length front ≡ length (take setsEnd (start .args .words .now)) = search needs in
+    let fits-long = c .before .before .before .before .before .before .before .before .before .before .before .before .start-numbers .kept .1 .1 .0 in
+    let long : length (c .before .before .before .before .before .before .before .before .before .before .before .before .start-numbers .last .1 .1 .0) ≡ length (front ++ drop setsEnd (start .args .words .now)) = search needs in
     laws.local-drafted r front _ many held (c .before .before .before .before .before .before .before .before .before .before .before .before .before .before .label-numbers .result .of) (c .before .before .before .before .before .before .before .before .before .before .before .before .before .before .before .before .before .before .before .before .before .before .before .before .before .label-count .result) n _ _ left
     (laws.reduced-stay r room front same .starts-are)
-    (c .before .before .before .before .before .before .before .before .before .before .before .before .before .before .label-numbers .ensures .0 _ _ _ (localSets (unite standard g h)) (r .seen .rules) (laws.sets-held (c .before .before .before .before .before .before .before .before .before .before .before .before .before .before .before .before .before .before .before .before .before .before .before .before .before .before .before .before .before .before .before .args .words .now) room front same held) many)
+    (c .before .before .before .before .before .before .before .before .before .before .before .before .before .before .label-numbers .ensures .0 _ _ _ (localSets (unite standard g h)) (r .seen .rules) (laws.sets-held (start .args .words .now) room front same held) many)
     _ (c .before .before .before .before .before .before .before .before .before .before .before .before .start-numbers .ensures .0) _ _ _ _ (c .told .ensures)
     (c .before .before .before .before .before .before .put-result .ensures (laws.result-after r local room front same _ held many _ (c .before .before .before .before .before .before .before .before .before .before .before .before .start-numbers .ensures .1) long))
 

@@ -28,35 +28,38 @@ part-label-sets-end c =
 
 label-sets-requires : tie.Need-label-sets-requires
 label-sets-requires c κs =
-    let r = c .before .before .before .before .before .before .before .before .before .pre .0 .reduced in
-    let room = c .before .before .before .before .before .before .before .before .before .pre .1 in (
+    let start = c .before .before .before .before .before .before .before .before .before in
+    let r = start .pre .0 .reduced in
+    let room = start .pre .1 in (
       views-sized (r .seen .rules),
       record {
         few = omega arith;
-        room = laws.lent-room (c .before .before .before .before .before .before .before .before .before .args .words .now) room;
+        room = laws.lent-room (start .args .words .now) room;
         four = ap length (c .before .load .ensures) ∙ length-words _ startsAt 4 (omega arith);
       },
     )
 
 widen-from-starts-requires : tie.Need-widen-from-starts-requires
 widen-from-starts-requires c κs =
-    let q = c .before .before .before .before .before .before .before .before .before .before .before .before .before .before .before .before .before .pre .0 in
-    let room = c .before .before .before .before .before .before .before .before .before .before .before .before .before .before .before .before .before .pre .1 in
+    let start = c .before .before .before .before .before .before .before .before .before .before .before .before .before .before .before .before .before in
+    let q = start .pre .0 in
+    let room = start .pre .1 in
     let r = q .reduced in
     let n = c .before .before .before .before .before .before .before .before .before .before .before .label-count .ensures ∙ laws.label-count-is r in
     let s = c .before .before .before .before .before .before .before .label-sets in
     let front = s .last .1 .1 .1 .0 in
-    let same : length front ≡ length (take setsEnd (c .before .before .before .before .before .before .before .before .before .before .before .before .before .before .before .before .before .args .words .now)) = search needs in
+    let fits-same = s .kept .1 .1 .1 .0 in
+    let same : length front ≡ length (take setsEnd (start .args .words .now)) = search needs in
     let (many, held) = laws.start-counted r front (s .result) _ (ap (λ (w : List ℕ). member w 0) (c .before .before .before .before .before .before .before .before .before .load .ensures) ∙ r .starts-are) (s .ensures _ _ _ (r .seen .rules) n) _ (c .before .before .before .first .given .1) in (
       record {
         first = q .first;
         second = q .second;
         reduced = laws.reduced-stay r room front same;
-        held = laws.sets-held (c .before .before .before .before .before .before .before .before .before .before .before .before .before .before .before .before .before .args .words .now) room front same held;
+        held = laws.sets-held (start .args .words .now) room front same held;
         many = many;
       },
-      laws.room-stays (c .before .before .before .before .before .before .before .before .before .before .before .before .before .before .before .before .before .args .words .now) room front same,
-      c .before .before .before .before .before .before .before .before .before .before .before .before .before .before .before .before .before .pre .2,
+      laws.room-stays (start .args .words .now) room front same,
+      start .pre .2,
     )
 
 returns : tie.Need-returns
@@ -67,13 +70,15 @@ returns c g h r =
 
 returns-2 : tie.Need-returns-2
 returns-2 c g h r =
-    let room = c .before .before .before .before .before .before .before .before .before .before .before .before .before .before .before .before .before .before .before .before .before .before .pre .1 in
+    let start = c .before .before .before .before .before .before .before .before .before .before .before .before .before .before .before .before .before .before .before .before .before .before in
+    let room = start .pre .1 in
     let n = c .before .before .before .before .before .before .before .before .before .before .before .before .before .before .before .before .label-count .ensures ∙ laws.label-count-is r in
     let s = c .before .before .before .before .before .before .before .before .before .before .before .before .label-sets in
     let front = s .last .1 .1 .1 .0 in
-    let same : length front ≡ length (take setsEnd (c .before .before .before .before .before .before .before .before .before .before .before .before .before .before .before .before .before .before .before .before .before .before .args .words .now)) = search needs in
+    let fits-same = s .kept .1 .1 .1 .0 in
+    let same : length front ≡ length (take setsEnd (start .args .words .now)) = search needs in
     let (many, held) = laws.start-counted r front (s .result) _ (ap (λ (w : List ℕ). member w 0) (c .before .before .before .before .before .before .before .before .before .before .before .before .before .before .load .ensures) ∙ r .starts-are) (s .ensures _ _ _ (r .seen .rules) n) _ (c .before .before .before .before .before .before .before .before .first .given .1) in
-    c .before .before .before .before .widen-from-starts .ensures g h (laws.reduced-stay r room front same) (laws.sets-held (c .before .before .before .before .before .before .before .before .before .before .before .before .before .before .before .before .before .before .before .before .before .before .args .words .now) room front same held) many
+    c .before .before .before .before .widen-from-starts .ensures g h (laws.reduced-stay r room front same) (laws.sets-held (start .args .words .now) room front same held) many
 
 pub widen-single-type-spec : {M : Type 1} → statement M
 widen-single-type-spec =

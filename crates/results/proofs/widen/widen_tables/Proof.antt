@@ -32,8 +32,9 @@ start-pairs-requires c κs =
 
 load-requires : tie.Need-load-requires
 load-requires c κs =
-    let (p, q, words, draft) = c .before .before .before .before .before .before .before .before .before .before .before .before .before .before .before .before .before .pre in
-    let same : length (c .before .before .before .start-pairs .last .1 .1 .1 .0) ≡ length (c .before .before .before .before .before .before .before .before .before .before .before .before .before .before .before .before .before .args .words .now) = search needs in
+    let start = c .before .before .before .before .before .before .before .before .before .before .before .before .before .before .before .before .before in
+    let (p, q, words, draft) = start .pre in
+    let same : length (c .before .before .before .start-pairs .last .1 .1 .1 .0) ≡ length (start .args .words .now) = search needs in
     omega arith
 
 returns : tie.Need-returns
