@@ -31,15 +31,16 @@ use Rattle.grammar.specs.Content.{
 }
 use Rattle.grammar.specs.ReadContent.{contentBytes, isProper, areProper}
 use Rattle.grammar.specs.Size.{widestChoice, widestOf, contentTooLarge}
-use Rattle.theory.proofs.BoolLaws.{or-left, or-right, or-none, not-both, passes-or-fails}
-use Rattle.theory.proofs.Counted.{counted-proper}
+use Rattle.theory.specs.Conditions.{Regular}
+use Rattle.theory.proofs.lists.BoolLaws.{or-left, or-right, or-none, not-both, passes-or-fails}
+use Rattle.theory.proofs.contents.CountedContents.{counted-proper}
 use Rattle.reader.specs.ExprAt.{_upTo_, exprAt}
 use Rattle.reader.specs.Extents.{properAt}
 use Rattle.reader.specs.declared.contents.Extent.the-variants.{Nowhere, Upto}
 use Rattle.reader.proofs.ExprLaws.{same-placed, expr-kept, expr-written, expr-bytes, expr-forward}
 use Rattle.reader.proofs.ExtentLaws.{proper-yes, proper-no, proper-sequence, proper-choice, proper-first}
 use Rattle.emitting.specs.Drafts.{Kept}
-use Rattle.emitting.specs.Completing.{Regular, Stored}
+use Rattle.emitting.specs.Completing.{Stored}
 use Rattle.emitting.proofs.WideLaws.{one-long, one-wide, unfit-large}
 use Rattle.emitting.proofs.EmitLaws.{fresh-row}
 

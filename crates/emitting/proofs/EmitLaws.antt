@@ -31,17 +31,15 @@ use Rattle.grammar.specs.Content.{
   choiceOf,
 }
 use Rattle.grammar.specs.ReadContent.{operators, sameContent}
-use Rattle.theory.proofs.Alternatives.{alts, altsOfEach, written, hasAlts, allHaveAlts, someLeft, sequence-has, sequence-has-not}
-use Rattle.theory.proofs.Gathering.{gathered, gathered-nothing, gather-more, written-gathered}
+use Rattle.theory.specs.Alternatives.{alts, altsOfEach, written, hasAlts, allHaveAlts, someLeft, gathered}
+use Rattle.theory.proofs.emission.AlternativeLaws.{sequence-has, sequence-has-not}
+use Rattle.theory.proofs.emission.GatheringLaws.{gathered-nothing, gather-more, written-gathered}
 use Rattle.reader.specs.ExprAt.{_upTo_, placed, exprAt, exprsAt}
 use Rattle.reader.proofs.ExprLaws.{expr-kept, expr-forward, expr-written, exprs-none, exprs-more, alone-was, numbered-was, operator-none, operator-empty, operator-type, operator-sequence}
 use Rattle.emitting.specs.declared.drafts.Gathering.{Gathering}
 use Rattle.emitting.specs.declared.drafts.Gathering.the-variants as gathering
 use Rattle.emitting.specs.declared.emitter.Emitted.{Emitted}
 use Rattle.emitting.specs.declared.emitter.Emitted.the-variants as emitted
-use Rattle.emitting.specs.Drafts.{Row, Kept, Newest, Unfit, TooWide, Added, Gathers, Finished}
-use Rattle.pairs.specs.Walks.{listOf}
-use Rattle.emitting.specs.Emitting.{Room, Source, Sources, TypesKept, GathersTypes, Operands, Laid, Emits}
 use Rattle.emitting.proofs.RowLaws.{exprs-only}
 use Rattle.emitting.proofs.FinishLaws.{
   single-stands,
@@ -52,6 +50,9 @@ use Rattle.emitting.proofs.FinishLaws.{
   headed-before,
 }
 use Rattle.reader.proofs.ContentAtLaws.{FirstThere, first-of, others-from, none-there}
+use Rattle.pairs.specs.Walks.{listOfType}
+use Rattle.emitting.specs.Drafts.{Row, Kept, Newest, Unfit, TooWide, OperandsAdded, Gathers, Finished}
+use Rattle.emitting.specs.Emitting.{RoomForMore, Source, Sources, TypesKept, GathersTypes, Operands, Laid, Emits}
 use Rattle.emitting.proofs.WideLaws.{
   one-long,
   wide-choice,
@@ -133,7 +134,7 @@ module _ {s : List ℕ} {at n : ℕ} {types from results d : List ℕ} {base cou
           }
 
       module _ {next more last : ℕ} (e : r ≡ gathering.Upto next more last) (l : length d' ≡ length d) where
-        pub told : (next ≡ first .first .next) × Added d d' base end (gathered (q .kept .list) firstGives) limit more last
+        pub told : (next ≡ first .first .next) × OperandsAdded d d' base end (gathered (q .kept .list) firstGives) limit more last
         told = told-upto d d' base end limit (first .first .next) (gathered (q .kept .list) firstGives) r next more last e (g .gathers)
 
         pub others-room : limit + 1026 * deepest (first .others .contents) ≤ length d'
@@ -316,7 +317,7 @@ module _ {s : List ℕ} {at n : ℕ} {types from results d : List ℕ} {start pl
           d'
 
       module _ {next more last : ℕ} (e : r ≡ gathering.Upto next more last) (l : length d' ≡ length d) where
-        pub told' : (next ≡ first' .first .next) × Added d d' (place + 2) (place + 2) (gathered [] firstAlts) (start + 1026) more last
+        pub told' : (next ≡ first' .first .next) × OperandsAdded d d' (place + 2) (place + 2) (gathered [] firstAlts) (start + 1026) more last
         told' =
             told-upto d d' (place + 2) (place + 2) (start + 1026) (first' .first .next) (gathered [] firstAlts) r next more last e g
 
@@ -636,7 +637,7 @@ module _ {s : List ℕ} {at : ℕ} {types from results d : List ℕ} {base count
       let r = q .room in
       omega arith
 
-  abbrev pub source-room : Room d base count end limit
+  abbrev pub source-room : RoomForMore d base count end limit
   source-room = record { kept = q .kept; fits = q .fits; room = source-spare }
 
   module _ (res : ℕ → List ℕ) where
@@ -698,12 +699,12 @@ module _ {s : List ℕ} {at : ℕ} {types from results d : List ℕ} {base count
           g
 
   pub type-gives : getD s at 0 ≡ 2 → (k : ℕ) → k ≡ getD s (at + 1) 0 → (d' : List ℕ) (o : Gathering) {kept : List ℕ}
-      → GathersTypes d d' base end limit (at + 2) kept (gathered (q .kept .list) (map type (listOf from results k))) o
+      → GathersTypes d d' base end limit (at + 2) kept (gathered (q .kept .list) (map type (listOfType from results k))) o
       → GathersTypes d d' base end limit (q .there .next) kept
-      (gathered (q .kept .list) (alts (listOf from results) (q .there .content))) o
+      (gathered (q .kept .list) (alts (listOfType from results) (q .there .content))) o
   unfolding alts
   type-gives e k is d' o g =
       let w = numbered-was s at (q .there .content) (q .there .next) (q .there .stands) type (ap (getElem? operators) e ∙ operator-type) in
-      gathers-types-as (q .kept .list) (map type (listOf from results k)) (alts (listOf from results) (q .there .content)) (w .1)
-      (ap (alts (listOf from results)) (ap type is ∙ w .0))
+      gathers-types-as (q .kept .list) (map type (listOfType from results k)) (alts (listOfType from results) (q .there .content)) (w .1)
+      (ap (alts (listOfType from results)) (ap type is ∙ w .0))
       g

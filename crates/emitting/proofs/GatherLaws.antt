@@ -12,13 +12,14 @@ use mathlib.Core.Path.{_≡_, refl, sym, _∙_, ap, ap₂, subst}
 use lib.ListN.{length, getD, take, drop, drop-of-length-le}
 use lib.Seq.{take-take, take-nil, drop-cons}
 use Rattle.grammar.specs.Content.{Content, type, operands}
-use Rattle.theory.proofs.Gathering.{gathered, gather-nothing, gather-more}
+use Rattle.theory.specs.Alternatives.{gathered}
+use Rattle.theory.proofs.emission.GatheringLaws.{gather-nothing, gather-more}
 use Rattle.reader.specs.ExprAt.{_upTo_, exprAt}
 use Rattle.reader.proofs.ExprLaws.{exprs-kept}
-use Rattle.pairs.specs.Walks.{listOf}
+use Rattle.pairs.specs.Walks.{listOfType}
 use Rattle.emitting.specs.declared.drafts.Gathering.{Gathering}
 use Rattle.emitting.specs.declared.drafts.Gathering.the-variants.{TooLarge, Upto}
-use Rattle.emitting.specs.Drafts.{Row, Kept, Newest, TooWide, Added, Gathers}
+use Rattle.emitting.specs.Drafts.{Row, Kept, Newest, TooWide, OperandsAdded, Gathers}
 use Rattle.emitting.proofs.WideLaws.{wide-gathered}
 
 pub kept-row : (d d' : List ℕ) (base count end : ℕ) (ds : List Content) → take end d' ≡ take end d → length d' ≡ length d
@@ -93,8 +94,8 @@ abbrev pub typesFrom : List ℕ → ℕ → ℕ → List Content
 typesFrom results i stop = map type (take (stop - i) (drop i results))
 
 pub types-of : (from results : List ℕ) (k i stop : ℕ) → i ≡ getD from k 0 → stop ≡ getD from (k + 1) 0
-    → typesFrom results i stop ≡ map type (listOf from results k)
-unfolding listOf
+    → typesFrom results i stop ≡ map type (listOfType from results k)
+unfolding listOfType
 types-of from results k i stop e f = ap₂ (typesFrom results) e f
 
 pub types-none : (results : List ℕ) (i stop : ℕ) → stop ≤ i → typesFrom results i stop ≡ []
@@ -136,7 +137,7 @@ unfolding Gathers
 told-large d d' base old limit next ds r e g = subst (λ (x : Gathering). Gathers d d' base old limit next ds x) e g
 
 pub told-upto : (d d' : List ℕ) (base old limit next : ℕ) (ds : List Content) (r : Gathering) (n count end : ℕ) → r ≡ Upto n count end
-    → Gathers d d' base old limit next ds r → (n ≡ next) × Added d d' base old ds limit count end
+    → Gathers d d' base old limit next ds r → (n ≡ next) × OperandsAdded d d' base old ds limit count end
 unfolding Gathers
 told-upto d d' base old limit next ds r n count end e g =
     subst (λ (x : Gathering). Gathers d d' base old limit next ds x) e g

@@ -13,14 +13,15 @@ use lib.ListN.{length, take, drop, take-append-drop}
 use Rattle.grammar.specs.Lists.{any}
 use Rattle.grammar.specs.Content.{Content, operands}
 use Rattle.grammar.specs.ReadContent.{contentBytes, operandBytes, sameContent}
-use Rattle.theory.proofs.BoolLaws.{same-test}
-use Rattle.theory.proofs.ContentBytes.{same-content}
-use Rattle.theory.proofs.Gathering.{gathered, gathered-so, gather-old, gather-new}
+use Rattle.theory.specs.Alternatives.{gathered}
+use Rattle.theory.proofs.lists.BoolLaws.{same-test}
+use Rattle.theory.proofs.contents.ContentBytes.{same-content}
+use Rattle.theory.proofs.emission.GatheringLaws.{gathered-so, gather-old, gather-new}
+use Rattle.theory.proofs.bytes.SampleWithin.{operands-count}
 use Rattle.reader.specs.ExprAt.{_upTo_, exprAt, exprsAt}
 use Rattle.reader.proofs.ExprLaws.{same-placed, expr-written, expr-of, expr-bytes, expr-forward, exprs-forward, exprs-written}
-use Rattle.emitting.specs.Drafts.{Row, long, TooWide, unfit, many, Added, Newest}
+use Rattle.emitting.specs.Drafts.{Row, long, TooWide, unfit, many, OperandsAdded, Newest}
 use Rattle.emitting.proofs.RowLaws.{exprs-uncons, exprs-one-more}
-use Rattle.theory.proofs.SampleWithin.{operands-count}
 
 module _ (s : List ℕ) (i middle end fresh : ℕ) (x y : Content) (e : exprAt s end ≡ just (x upTo fresh)) (f : exprAt s i ≡ just (y upTo middle)) where
   equal-bytes : take (fresh - end) (drop i s) ≡ take (fresh - end) (drop end s) → x ≡ y
@@ -110,7 +111,7 @@ module _ (d : List ℕ) (base count end fresh limit : ℕ) (q : Newest d base co
   abbrev x : Content
   x = q .newest
 
-  pub old-row : any (sameContent x) ds ≡ true → Added d d base end (gathered ds (x ∷ [])) limit count end
+  pub old-row : any (sameContent x) ds ≡ true → OperandsAdded d d base end (gathered ds (x ∷ [])) limit count end
   old-row t =
       record {
         row = subst (λ (l : List Content). Row d base count l end) (sym (gather-old ds (q .kept .row .apart) x t)) (q .kept .row);
@@ -128,7 +129,7 @@ module _ (d : List ℕ) (base count end fresh limit : ℕ) (q : Newest d base co
         exprs-one-more d count base end fresh ds x (q .kept .row .stand) (q .stands)
         ∙ ap (λ (l : List Content). just (operands l upTo fresh)) is-more
 
-    pub more-row : fresh ≤ limit → count < 255 → Added d d base end (gathered ds (x ∷ [])) limit (count + 1) fresh
+    pub more-row : fresh ≤ limit → count < 255 → OperandsAdded d d base end (gathered ds (x ∷ [])) limit (count + 1) fresh
     more-row h k =
         let f = expr-forward d end x fresh (q .stands) in
         let r = q .kept .row in

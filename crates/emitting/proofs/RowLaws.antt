@@ -13,8 +13,8 @@ use Rattle.grammar.specs.Limits.{standard}
 use Rattle.grammar.specs.Content.{Content, none, empty, type, Contents, []ᶜ, _∷ᶜ_, count, operands}
 use Rattle.grammar.specs.ReadContent.{contentBytes, operandBytes, operators}
 use Rattle.grammar.specs.Tidy.{listOf}
-use Rattle.theory.proofs.ContentBytes.{content-has-bytes}
-use Rattle.theory.proofs.TidyWords.{operands-listed}
+use Rattle.theory.proofs.contents.ContentBytes.{content-has-bytes}
+use Rattle.theory.proofs.contents.TidyWords.{operands-listed}
 use Rattle.reader.specs.ExprAt.{_upTo_, placed, exprAt, exprsAt}
 use Rattle.reader.proofs.ExprLaws.{
   exprs-none,
@@ -34,7 +34,7 @@ use Rattle.reader.proofs.ExprLaws.{
   count-inside,
 }
 use Rattle.reader.proofs.ExtentLaws.{one-operand, counts}
-use Rattle.emitting.specs.Drafts.{Stands, Ends, Headed}
+use Rattle.emitting.specs.Drafts.{ExpressionAt, ExpressionsUpTo, Headed}
 
 module _ (s : List ℕ) where
   pub exprs-join : (m n at mid next : ℕ) (xs ys : List Content) → exprsAt s at m ≡ just (operands xs upTo mid)
@@ -123,7 +123,7 @@ module _ (s : List ℕ) where
         q .first-at ∙ ap (λ (m : ℕ). just (q .first upTo m)) (sym (o .1)),
       )
 
-  pub ends-join : (m n at mid next : ℕ) → Ends s at m mid → Ends s mid n next → Ends s at (m + n) next
+  pub ends-join : (m n at mid next : ℕ) → ExpressionsUpTo s at m mid → ExpressionsUpTo s mid n next → ExpressionsUpTo s at (m + n) next
   ends-join m n at mid next e f =
       record {
         contents = operands (listOf (e .contents) ++ listOf (f .contents));
@@ -143,7 +143,7 @@ count-bytes (c ∷ᶜ cs) =
     let r = count-bytes cs in
     omega arith
 
-pub ends-few : (s : List ℕ) (at n next : ℕ) → at ≤ length s → Ends s at n next → (at + n ≤ next) × (next ≤ length s)
+pub ends-few : (s : List ℕ) (at n next : ℕ) → at ≤ length s → ExpressionsUpTo s at n next → (at + n ≤ next) × (next ≤ length s)
 ends-few s at n next h e =
     let w = exprs-written s at n (e .contents) next h (e .stand) in
     let b = count-bytes (e .contents) in
@@ -151,10 +151,10 @@ ends-few s at n next h e =
 
 -- the first of some expressions
 pub record FirstOf (s : List ℕ) (at n next : ℕ) : Type 0 where
-  pub first : Stands s at
-  pub others : Ends s (first .next) (n - 1) next
+  pub first : ExpressionAt s at
+  pub others : ExpressionsUpTo s (first .next) (n - 1) next
 
-pub ends-first : (s : List ℕ) (at n next : ℕ) → 0 < n → Ends s at n next → FirstOf s at n next
+pub ends-first : (s : List ℕ) (at n next : ℕ) → 0 < n → ExpressionsUpTo s at n next → FirstOf s at n next
 ends-first s at zero next h e = absurd (omega arith)
 ends-first s at (suc n) next h e =
     let q = exprs-first s at n (e .contents) next (e .stand) in
@@ -164,21 +164,21 @@ ends-first s at (suc n) next h e =
       others = record { contents = q .others; stand = ap (exprsAt s (q .middle)) (sym k) ∙ q .others-at };
     }
 
-pub ends-past : (s : List ℕ) (at n next : ℕ) → n ≤ 0 → Ends s at n next → at ≡ next
+pub ends-past : (s : List ℕ) (at n next : ℕ) → n ≤ 0 → ExpressionsUpTo s at n next → at ≡ next
 ends-past s at zero next h e = sym (exprs-end s at (e .contents) next (e .stand) .1)
 ends-past s at (suc n) next h e = absurd (omega arith)
 
 -- past the first bytes of the first of them
 pub ends-step : (s : List ℕ) (at n next width count : ℕ) (f : FirstOf s at n next) → Headed s at width count (f .first .next)
-    → Ends s (at + width) (n - 1 + count) next
+    → ExpressionsUpTo s (at + width) (n - 1 + count) next
 ends-step s at n next width count f h =
     let z : count + (n - 1) ≡ n - 1 + count = omega arith in
-    subst (λ (k : ℕ). Ends s (at + width) k next) z
+    subst (λ (k : ℕ). ExpressionsUpTo s (at + width) k next) z
     (ends-join s count (n - 1) (at + width) (f .first .next) next (h .operands) (f .others))
 
 -- what the first bytes of an expression say of its operands
 module _ (s : List ℕ) (at : ℕ) (next : ℕ) (c : Content) (e : exprAt s at ≡ just (c upTo next)) where
-  no-operands : (n : ℕ) → n ≡ next → Ends s n 0 next
+  no-operands : (n : ℕ) → n ≡ next → ExpressionsUpTo s n 0 next
   no-operands n q = record { contents = []ᶜ; stand = exprs-none s n ∙ ap (λ (k : ℕ). just ([]ᶜ upTo k)) q }
 
   pub opens-alone : getD s at 0 ≤ 1 → Headed s at 1 0 next
@@ -209,6 +209,6 @@ module _ (s : List ℕ) (at : ℕ) (next : ℕ) (c : Content) (e : exprAt s at �
       let f = expr-forward s at c next e in
       let o = one-operand standard (getD s at 0) h (operator-known s at c next e) in
       let was = single-was s at c next e (o .operator) (o .numbered-so) in
-      let one : Ends s (at + 1) 1 next =
+      let one : ExpressionsUpTo s (at + 1) 1 next =
       record { contents = operands (was .0 ∷ []); stand = exprs-one s (at + 1) next (was .0) (was .1) } in
       record { operands = one; some = omega arith; inside = omega arith }

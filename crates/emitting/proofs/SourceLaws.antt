@@ -28,27 +28,17 @@ use Rattle.grammar.specs.Content.{
   operands,
 }
 use Rattle.grammar.specs.ReadContent.{isProper, areProper, counted, single, operators}
-use Rattle.theory.proofs.BoolLaws.{and-intro}
-use Rattle.theory.proofs.Alternatives.{
-  alts,
-  altsOfEach,
-  around,
-  written,
-  hasAlts,
-  allHaveAlts,
-  oneHasAlts,
-  someLeft,
-  around-has,
-  around-has-not,
-}
+use Rattle.theory.specs.Alternatives.{alts, altsOfEach, around, written, hasAlts, allHaveAlts, oneHasAlts, someLeft}
+use Rattle.theory.proofs.lists.BoolLaws.{and-intro}
+use Rattle.theory.proofs.emission.AlternativeLaws.{around-has, around-has-not}
 use Rattle.reader.specs.ExprAt.{_upTo_, placed, exprAt, exprsAt}
 use Rattle.reader.proofs.ExprLaws.{same-placed, exprs-more, exprs-none, expr-forward, counted-was, single-was, operator-any-number, operator-one-or-more, operator-optional}
 use Rattle.reader.proofs.ExtentLaws.{proper-number, proper-sequence, proper-choice, proper-first}
 use Rattle.reader.specs.ContentAt.{ContentAt, ContentsAt}
-use Rattle.pairs.specs.Walks.{hasAt, hasRowAt, listOf}
 use Rattle.emitting.specs.Emitting.{Maps}
 use Rattle.sets.specs.Sets.{member}
 use Rattle.reader.proofs.ContentAtLaws.{placed-of, content-inside, operands-there, operand-there}
+use Rattle.pairs.specs.Walks.{hasAt, hasRowAt, listOfType}
 use Rattle.emitting.proofs.WideLaws.{Around, around-any-number, around-one-or-more, around-optional}
 
 -- how deep they nest
@@ -231,23 +221,23 @@ module _ (lim : Limits) (f g : ℕ → Bool) (agree : (k : ℕ) → k < lim .typ
 -- what the walk finds
 module _ (types from results : List ℕ) (maps : Maps types from results) (s : List ℕ) (at : ℕ) where
   pub content-found : (there : ContentAt standard s at) (has : Bool) (next : ℕ) → hasAt (member types 0) s at ≡ just (has upTo next)
-      → (has ≡ hasAlts (someLeft (listOf from results)) (there .content)) × (next ≡ there .next)
+      → (has ≡ hasAlts (someLeft (listOfType from results)) (there .content)) × (next ≡ there .next)
   unfolding standard
   content-found there has next e =
       let f = placed-of (hasAlts (member types 0)) (exprAt s at) (there .stands) e in (
         f .0
-            ∙ has-agrees standard (member types 0) (someLeft (listOf from results)) (maps .agree) (there .content) (there .proper),
+            ∙ has-agrees standard (member types 0) (someLeft (listOfType from results)) (maps .agree) (there .content) (there .proper),
         f .1,
       )
 
   pub row-found : (n : ℕ) (there : ContentsAt standard s at n) (all one : Bool) (next : ℕ)
       → hasRowAt (member types 0) s at n ≡ just ((all, one) upTo next)
-      → (all ≡ allHaveAlts (someLeft (listOf from results)) (there .contents)) × (next ≡ there .next)
+      → (all ≡ allHaveAlts (someLeft (listOfType from results)) (there .contents)) × (next ≡ there .next)
   unfolding standard
   row-found n there all one next e =
       let f =
       placed-of (λ cs. (allHaveAlts (member types 0) cs, oneHasAlts (member types 0) cs)) (exprsAt s at n) (there .stand) e in (
         ap (λ (p : Bool × Bool). p .0) (f .0)
-            ∙ all-agree standard (member types 0) (someLeft (listOf from results)) (maps .agree) (there .contents) (there .proper),
+            ∙ all-agree standard (member types 0) (someLeft (listOfType from results)) (maps .agree) (there .contents) (there .proper),
         f .1,
       )

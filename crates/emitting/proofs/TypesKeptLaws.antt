@@ -28,20 +28,20 @@ use Rattle.grammar.specs.Content.{
 }
 use Rattle.grammar.specs.ReadContent.{contentBytes, sameContent}
 use Rattle.grammar.specs.ReadTable.{isEmpty}
-use Rattle.theory.proofs.BoolLaws.{same-test}
-use Rattle.theory.proofs.ContentBytes.{same-content}
-use Rattle.theory.proofs.ListLaws.{any-append, decided-sym, decided-trans}
-use Rattle.theory.proofs.DistinctLaws.{among-distinct}
-use Rattle.theory.proofs.Alternatives.{alts, altsOfEach, written, around, inSequence}
-use Rattle.theory.proofs.Gathering.{gathered, gather-nothing, gather-more}
+use Rattle.theory.specs.Alternatives.{alts, altsOfEach, written, around, inSequence, gathered}
+use Rattle.theory.proofs.lists.BoolLaws.{same-test}
+use Rattle.theory.proofs.contents.ContentBytes.{same-content}
+use Rattle.theory.proofs.lists.ListLaws.{any-append, decided-sym, decided-trans}
+use Rattle.theory.proofs.lists.DistinctLaws.{among-distinct}
+use Rattle.theory.proofs.emission.GatheringLaws.{gather-nothing, gather-more}
 use Rattle.sets.specs.Sets.{member, putAt}
 use Rattle.sets.proofs.SetLaws.{length-put, member-put, member-zeros}
 use Rattle.reader.specs.ExprAt.{_upTo_, exprAt}
 use Rattle.reader.proofs.ExprLaws.{expr-bytes, expr-forward}
 use Rattle.emitting.specs.declared.drafts.Gathering.{Gathering}
 use Rattle.emitting.specs.declared.drafts.Gathering.the-variants.{TooLarge, Upto}
-use Rattle.emitting.specs.Drafts.{Row, Added, Gathers}
-use Rattle.emitting.specs.Emitting.{Room, TypesKept, GathersTypes}
+use Rattle.emitting.specs.Drafts.{Row, OperandsAdded, Gathers}
+use Rattle.emitting.specs.Emitting.{RoomForMore, TypesKept, GathersTypes}
 use Rattle.emitting.proofs.GatherLaws.{gathers-as, gathers-then, told-large, told-upto, large-told, first-wide, typesFrom, types-first}
 
 -- an equal one is among what is gathered just where it was there or was given
@@ -163,11 +163,11 @@ module _ (results : List ℕ) (first stop base limit : ℕ) (ds : List Content) 
   pub record TypesSoFar (d kept : List ℕ) (total last i : ℕ) : Type 0 where
     pub list : List Content
     pub rest : list ++ typesFrom results i stop ≡ typesFrom results first stop
-    pub added : Added d₀ d base end (gathered ds list) limit total last
+    pub added : OperandsAdded d₀ d base end (gathered ds list) limit total last
     pub types : TypesKept kept (gathered ds list)
 
   module _ {d kept : List ℕ} {total last i : ℕ} (s : TypesSoFar d kept total last i) where
-    abbrev pub room-for : limit + 1026 ≤ length d → Room d base total last limit
+    abbrev pub room-for : limit + 1026 ≤ length d → RoomForMore d base total last limit
     room-for room = record { kept = record { list = gathered ds (s .list); row = s .added .row }; fits = s .added .fits; room = room }
 
     pub types-all : (next : ℕ) → typesFrom results i stop ≡ []
@@ -218,7 +218,7 @@ module _ (results : List ℕ) (first stop base limit : ℕ) (ds : List Content) 
             types = subst (TypesKept kept') (gather-more ds (s .list) one) (g .types e);
           }
 
-pub types-start : (results : List ℕ) (first stop limit : ℕ) {d kept : List ℕ} {base count end : ℕ} (q : Room d base count end limit)
+pub types-start : (results : List ℕ) (first stop limit : ℕ) {d kept : List ℕ} {base count end : ℕ} (q : RoomForMore d base count end limit)
     → TypesKept kept (q .kept .list) → TypesSoFar results first stop base limit (q .kept .list) d end d kept count end first
 types-start results first stop limit {d} {kept} {base} {count} {end} q s =
     let same = sym (gather-nothing (q .kept .list) (q .kept .row .apart)) in

@@ -17,13 +17,13 @@ use Rattle.grammar.specs.Limits.{standard}
 use Rattle.grammar.specs.Content.{Content, sequence, anyNumber, oneOrMore, optional, Contents, []ᶜ, _∷ᶜ_, nesting, operands, choiceOf}
 use Rattle.grammar.specs.ReadContent.{contentBytes, operandBytes, sameContent}
 use Rattle.grammar.specs.Size.{widestChoice, widestOf, contentTooLarge}
-use Rattle.theory.proofs.BoolLaws.{or-left, or-right}
-use Rattle.theory.proofs.ListLaws.{distinct-has}
-use Rattle.theory.proofs.ContentBytes.{same-content}
-use Rattle.theory.proofs.Alternatives.{written}
-use Rattle.theory.proofs.Gathering.{gathered, gathered-so, gather-more, gather-grows, written-gathered}
+use Rattle.theory.specs.Alternatives.{written, gathered}
+use Rattle.theory.proofs.lists.BoolLaws.{or-left, or-right}
+use Rattle.theory.proofs.lists.ListLaws.{distinct-has}
+use Rattle.theory.proofs.contents.ContentBytes.{same-content}
+use Rattle.theory.proofs.emission.GatheringLaws.{gathered-so, gather-more, gather-grows, written-gathered}
+use Rattle.theory.proofs.bytes.SampleWithin.{operands-count}
 use Rattle.emitting.specs.Drafts.{Unfit, long, wide, TooWide, unfit, many}
-use Rattle.theory.proofs.SampleWithin.{operands-count}
 
 -- the bytes and the widest choice of operands
 abbrev bytesOf : List Content → ℕ

@@ -1,21 +1,15 @@
 -- What completing a content answers.
-use Prim.Native.Nat.{ℕ, _≤_, _<_}
+use Prim.Native.Nat.{ℕ, _≤_}
 use mathlib.Core.Bool.{true, false}
-use mathlib.Core.List.{List, List·Memᴰ}
+use mathlib.Core.List.{List}
 use mathlib.Core.Path.{_≡_}
 use lib.ListN.{length, take}
 use Rattle.grammar.specs.Limits.{standard}
-use Rattle.grammar.specs.Content.{Content, typesIn}
+use Rattle.grammar.specs.Content.{Content}
 use Rattle.grammar.specs.ReadContent.{contentBytes}
 use Rattle.grammar.specs.Size.{contentTooLarge}
-use Rattle.theory.proofs.Counted.{Counted}
 use Rattle.emitting.specs.declared.completing.ContentMade.{ContentMade}
 use Rattle.emitting.specs.declared.completing.ContentMade.the-variants.{TooLarge, Upto}
-
--- proper but for the width of its choices
-pub record Regular (c : Content) : Type 0 where
-  pub counted : Counted standard c
-  pub below : (k : ℕ) → List·Memᴰ k (typesIn c) → k < 64
 
 -- the content's bytes stand at the front of the draft, and it is of a size that a table may hold
 pub record Stored (draft : List ℕ) (c : Content) (end : ℕ) : Type 0 where

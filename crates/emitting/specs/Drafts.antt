@@ -8,25 +8,25 @@ use lib.ListN.{length, take}
 use Rattle.grammar.specs.Content.{Content, Contents, operands}
 use Rattle.grammar.specs.ReadContent.{operandBytes}
 use Rattle.grammar.specs.Size.{widestOf}
-use Rattle.theory.proofs.Gathering.{Gathered}
+use Rattle.theory.specs.Alternatives.{Gathered}
 use Rattle.reader.specs.ExprAt.{_upTo_, exprAt, exprsAt}
 use Rattle.emitting.specs.declared.drafts.Gathering.{Gathering}
 use Rattle.emitting.specs.declared.drafts.Gathering.the-variants.{TooLarge, Upto}
 
 -- an expression stands at a place
-pub record Stands (s : List ℕ) (at : ℕ) : Type 0 where
+pub record ExpressionAt (s : List ℕ) (at : ℕ) : Type 0 where
   pub content : Content
   pub next : ℕ
   pub stands : exprAt s at ≡ just (content upTo next)
 
 -- some expressions that end at a place
-pub record Ends (s : List ℕ) (at n next : ℕ) : Type 0 where
+pub record ExpressionsUpTo (s : List ℕ) (at n next : ℕ) : Type 0 where
   pub contents : Contents
   pub stand : exprsAt s at n ≡ just (contents upTo next)
 
 -- What the first bytes of an expression say: its operands stand after them. There is at least one such byte.
 pub record Headed (s : List ℕ) (at width count next : ℕ) : Type 0 where
-  pub operands : Ends s (at + width) count next
+  pub operands : ExpressionsUpTo s (at + width) count next
   pub some : 1 ≤ width
   pub inside : at + width ≤ length s
 
@@ -60,7 +60,7 @@ pub data TooWide (room : ℕ) (ds : List Content) : Type 0 where
   many : 255 < length ds → TooWide room ds
 
 -- these operands stand in the draft, within the limit, and the bytes that stood before `old` are kept
-pub record Added (before after : List ℕ) (base old : ℕ) (ds : List Content) (limit count end : ℕ) : Type 0 where
+pub record OperandsAdded (before after : List ℕ) (base old : ℕ) (ds : List Content) (limit count end : ℕ) : Type 0 where
   pub row : Row after base count ds end
   pub fits : end ≤ limit
   pub grows : old ≤ end
@@ -69,7 +69,7 @@ pub record Added (before after : List ℕ) (base old : ℕ) (ds : List Content) 
 -- the answer of a gathering: these operands stand in the draft, and the source goes on at `next`; or they do not fit
 unfoldable pub Gathers : List ℕ → List ℕ → ℕ → ℕ → ℕ → ℕ → List Content → Gathering → Type 0
 Gathers before after base old limit next ds TooLarge = TooWide (limit - base) ds
-Gathers before after base old limit next ds (Upto n count end) = (n ≡ next) × Added before after base old ds limit count end
+Gathers before after base old limit next ds (Upto n count end) = (n ≡ next) × OperandsAdded before after base old ds limit count end
 
 -- one finished content stands at a place, and the bytes before it are kept
 pub record Finished (before after : List ℕ) (start : ℕ) (c : Content) (end : ℕ) : Type 0 where

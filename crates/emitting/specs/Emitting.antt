@@ -8,11 +8,11 @@ use Rattle.grammar.specs.Limits.{standard}
 use Rattle.grammar.specs.Lists.{any}
 use Rattle.grammar.specs.Content.{Content, type, Contents, nesting, deepest}
 use Rattle.grammar.specs.ReadContent.{sameContent}
-use Rattle.theory.proofs.Alternatives.{someLeft}
+use Rattle.theory.specs.Alternatives.{someLeft}
 use Rattle.sets.specs.Sets.{member}
 use Rattle.reader.specs.ExprAt.{_upTo_, exprsAt}
 use Rattle.reader.specs.ContentAt.{ContentAt, ContentsAt}
-use Rattle.pairs.specs.Walks.{listOf}
+use Rattle.pairs.specs.Walks.{listOfType}
 use Rattle.emitting.specs.Drafts.{Kept, Unfit, Gathers}
 use Rattle.emitting.specs.declared.drafts.Gathering.{Gathering}
 use Rattle.emitting.specs.declared.drafts.Gathering.the-variants as gathering
@@ -22,10 +22,10 @@ use Rattle.emitting.specs.declared.emitter.Emitted.the-variants.{TooLarg
 -- the set of the source types that have result types
 pub record Maps (types from results : List ℕ) : Type 0 where
   pub words : 2 ≤ length types
-  pub agree : (k : ℕ) → k < 64 → member types 0 k ≡ someLeft (listOf from results) k
+  pub agree : (k : ℕ) → k < 64 → member types 0 k ≡ someLeft (listOfType from results) k
 
 -- some operands stand in the draft, within the limit, and there is room for one more of a few bytes
-pub record Room (draft : List ℕ) (base count end limit : ℕ) : Type 0 where
+pub record RoomForMore (draft : List ℕ) (base count end limit : ℕ) : Type 0 where
   pub kept : Kept draft base count end
   pub fits : end ≤ limit
   pub room : limit + 1026 ≤ length draft
@@ -55,7 +55,8 @@ pub record TypesKept (kept : List ℕ) (ds : List Content) : Type 0 where
   pub there : (t : ℕ) → t < 256 → member kept 0 t ≡ any (sameContent (type t)) ds
 
 -- the answer of a gathering; where the operands fit, with the set of the result types among them
-pub record GathersTypes (before after : List ℕ) (base old limit next : ℕ) (kept : List ℕ) (ds : List Content) (r : Gathering) : Type 0 where
+pub record GathersTypes (before after : List ℕ) (base old limit next : ℕ) (kept : List ℕ) (ds : List Content)
+    (r : Gathering) : Type 0 where
   pub gathers : Gathers before after base old limit next ds r
   pub types : {n count end : ℕ} → r ≡ gathering.Upto n count end → TypesKept kept ds
 

@@ -5,8 +5,9 @@ use reader::contents::expression;
 use reader::limits::CONTENT;
 use reader::limits::NESTING;
 ghost use Rattle.grammar.specs.Content.{choiceOf};
+ghost use Rattle.theory.specs.Conditions.{Regular};
 ghost use Rattle.emitting.specs.Drafts.{Kept};
-ghost use Rattle.emitting.specs.Completing.{Regular, Made};
+ghost use Rattle.emitting.specs.Completing.{Made};
 
 pub enum ContentMade {
     TooLarge,

@@ -11,8 +11,8 @@ ghost use lib.Seq.{paste};
 ghost use Rattle.grammar.specs.Lists.{any};
 ghost use Rattle.grammar.specs.Content.{choiceOf};
 ghost use Rattle.grammar.specs.ReadContent.{sameContent};
-ghost use Rattle.theory.proofs.Gathering.{gathered};
-ghost use Rattle.emitting.specs.Drafts.{Stands, Headed, Kept, Newest, Gathers, Finished};
+ghost use Rattle.theory.specs.Alternatives.{gathered};
+ghost use Rattle.emitting.specs.Drafts.{ExpressionAt, Headed, Kept, Newest, Gathers, Finished};
 
 // The operands after gathering, and where the source goes on; or they do not fit.
 pub enum Gathering {
@@ -46,8 +46,8 @@ fn same_bytes(draft: &[u8], a: usize, b: usize, n: usize) -> bool
 }
 
 fn opening(draft: &[u8], at: usize) -> Head
-    requires { ⌜ Stands (now draft) at ⌝ }
-    ensures { λ r. ⌜ ((q : Stands (now (draft .entry)) at) → Headed (now (draft .entry)) at (r .width) (r .operands) (q .next)) ⌝ }
+    requires { ⌜ ExpressionAt (now draft) at ⌝ }
+    ensures { λ r. ⌜ ((q : ExpressionAt (now (draft .entry)) at) → Headed (now (draft .entry)) at (r .width) (r .operands) (q .next)) ⌝ }
 {
     let operator = wide(draft[at]);
     match operator {
@@ -72,8 +72,8 @@ fn opening(draft: &[u8], at: usize) -> Head
 
 // The place after an expression.
 fn after(draft: &[u8], at: usize) -> usize
-    requires { ⌜ Stands (now draft) at ⌝ }
-    ensures { λ r. ⌜ ((q : Stands (now (draft .entry)) at) → r ≡ q .next) ⌝ }
+    requires { ⌜ ExpressionAt (now draft) at ⌝ }
+    ensures { λ r. ⌜ ((q : ExpressionAt (now (draft .entry)) at) → r ≡ q .next) ⌝ }
 {
     let mut left = 1usize;
     let mut i = at;

@@ -18,11 +18,10 @@ ghost use mathlib.Core.Path.{_≡_};
 ghost use lib.ListN.{take, drop, getD};
 ghost use Rattle.grammar.specs.Lists.{joinedOf};
 ghost use Rattle.grammar.specs.Content.{empty, type, operands};
-ghost use Rattle.theory.proofs.Alternatives.{alts, altsOfEach, written};
-ghost use Rattle.theory.proofs.Gathering.{gathered};
+ghost use Rattle.theory.specs.Alternatives.{alts, altsOfEach, written, gathered};
+ghost use Rattle.pairs.specs.Walks.{listOfType};
 ghost use Rattle.emitting.specs.Drafts.{Gathers};
-ghost use Rattle.pairs.specs.Walks.{listOf};
-ghost use Rattle.emitting.specs.Emitting.{Room, Source, Sources, TypesKept, GathersTypes, Operands, Emits};
+ghost use Rattle.emitting.specs.Emitting.{RoomForMore, Source, Sources, TypesKept, GathersTypes, Operands, Emits};
 
 // Where the operands of an expression end in the draft, and where the source goes on; or they do not fit.
 pub enum Emitted {
@@ -49,8 +48,8 @@ fn gather_empty(
     limit: usize,
     next: usize,
 ) -> Gathering
-    requires { ⌜ Room (now draft) base count end limit ⌝ }
-    ensures { λ r. ⌜ ((q : Room (now (draft .entry)) base count end limit)
+    requires { ⌜ RoomForMore (now draft) base count end limit ⌝ }
+    ensures { λ r. ⌜ ((q : RoomForMore (now (draft .entry)) base count end limit)
         → Gathers (now (draft .entry)) (now (draft .exit)) base end limit next (gathered (q .kept .list) (empty ∷ [])) r) ⌝ }
 {
     draft[end] = 1;
@@ -68,8 +67,8 @@ fn gather_result(
     next: usize,
     kept: &mut [u32],
 ) -> Gathering
-    requires { ⌜ ((q : Room (now draft) base count end limit) × TypesKept (now kept) (q .kept .list)) ⌝ }
-    ensures { λ r. ⌜ ((q : Room (now (draft .entry)) base count end limit) → TypesKept (now (kept .entry)) (q .kept .list)
+    requires { ⌜ ((q : RoomForMore (now draft) base count end limit) × TypesKept (now kept) (q .kept .list)) ⌝ }
+    ensures { λ r. ⌜ ((q : RoomForMore (now (draft .entry)) base count end limit) → TypesKept (now (kept .entry)) (q .kept .list)
         → GathersTypes (now (draft .entry)) (now (draft .exit)) base end limit next (now (kept .exit))
         (gathered (q .kept .list) (type result ∷ [])) r) ⌝ }
 {
@@ -96,8 +95,8 @@ fn gather_types(
     next: usize,
     kept: &mut [u32],
 ) -> Gathering
-    requires { ⌜ ((q : Room (now draft) base count end limit) × TypesKept (now kept) (q .kept .list)) ⌝ }
-    ensures { λ r. ⌜ ((q : Room (now (draft .entry)) base count end limit) → TypesKept (now (kept .entry)) (q .kept .list)
+    requires { ⌜ ((q : RoomForMore (now draft) base count end limit) × TypesKept (now kept) (q .kept .list)) ⌝ }
+    ensures { λ r. ⌜ ((q : RoomForMore (now (draft .entry)) base count end limit) → TypesKept (now (kept .entry)) (q .kept .list)
         → GathersTypes (now (draft .entry)) (now (draft .exit)) base end limit next (now (kept .exit))
         (gathered (q .kept .list) (map type (take (stop - first) (drop first (now (results .entry)))))) r) ⌝ }
 {
@@ -147,10 +146,10 @@ fn gather_type(
     next: usize,
     kept: &mut [u32],
 ) -> Gathering
-    requires { ⌜ (k < 64) × ((q : Room (now draft) base count end limit) × TypesKept (now kept) (q .kept .list)) ⌝ }
-    ensures { λ r. ⌜ ((q : Room (now (draft .entry)) base count end limit) → TypesKept (now (kept .entry)) (q .kept .list)
+    requires { ⌜ (k < 64) × ((q : RoomForMore (now draft) base count end limit) × TypesKept (now kept) (q .kept .list)) ⌝ }
+    ensures { λ r. ⌜ ((q : RoomForMore (now (draft .entry)) base count end limit) → TypesKept (now (kept .entry)) (q .kept .list)
         → GathersTypes (now (draft .entry)) (now (draft .exit)) base end limit next (now (kept .exit))
-        (gathered (q .kept .list) (map type (listOf (now (from .entry)) (now (results .entry)) k))) r) ⌝ }
+        (gathered (q .kept .list) (map type (listOfType (now (from .entry)) (now (results .entry)) k))) r) ⌝ }
 {
     let first = byte_or_zero(from, k);
     let stop = byte_or_zero(from, k + 1);
@@ -186,7 +185,7 @@ fn gather_sequence(
     ensures { λ r. ⌜ ((q : Source (now (content .entry)) at (now (types .entry)) (now (from .entry)) (now (results .entry))
         (now (draft .entry)) base count end limit)
         → Gathers (now (draft .entry)) (now (draft .exit)) base end limit (q .there .next)
-        (gathered (q .kept .list) (alts (listOf (now (from .entry)) (now (results .entry))) (q .there .content))) r) ⌝ }
+        (gathered (q .kept .list) (alts (listOfType (now (from .entry)) (now (results .entry))) (q .there .content))) r) ⌝ }
 {
     let n = wide(content[at + 1]);
     let asked = row_has(content, at + 2, n, types, 0);
@@ -241,7 +240,7 @@ fn gather_around(
     ensures { λ r. ⌜ ((q : Source (now (content .entry)) at (now (types .entry)) (now (from .entry)) (now (results .entry))
         (now (draft .entry)) base count end limit)
         → Gathers (now (draft .entry)) (now (draft .exit)) base end limit (q .there .next)
-        (gathered (q .kept .list) (alts (listOf (now (from .entry)) (now (results .entry))) (q .there .content))) r) ⌝ }
+        (gathered (q .kept .list) (alts (listOfType (now (from .entry)) (now (results .entry))) (q .there .content))) r) ⌝ }
 {
     let operator = content[at];
     let asked = content_has(content, at + 1, types, 0);
@@ -302,7 +301,7 @@ fn gather_compound(
         → TypesKept (now (kept .entry)) (q .kept .list)
         → GathersTypes (now (draft .entry)) (now (draft .exit)) base end limit (q .there .next)
         (now (kept .exit))
-        (gathered (q .kept .list) (alts (listOf (now (from .entry)) (now (results .entry))) (q .there .content))) r) ⌝ }
+        (gathered (q .kept .list) (alts (listOfType (now (from .entry)) (now (results .entry))) (q .there .content))) r) ⌝ }
 {
     match wide(content[at]) {
         3 => gather_sequence(
@@ -368,7 +367,7 @@ pub fn gather(
         → TypesKept (now (kept .entry)) (q .kept .list)
         → GathersTypes (now (draft .entry)) (now (draft .exit)) base end limit (q .there .next)
         (now (kept .exit))
-        (gathered (q .kept .list) (alts (listOf (now (from .entry)) (now (results .entry))) (q .there .content))) r) ⌝ }
+        (gathered (q .kept .list) (alts (listOfType (now (from .entry)) (now (results .entry))) (q .there .content))) r) ⌝ }
 {
     let operator = wide(content[at]);
     match operator {
@@ -432,7 +431,7 @@ pub fn gather_row(
         → GathersTypes (now (draft .entry)) (now (draft .exit)) base end limit (q .there .next)
         (now (kept .exit))
         (gathered (q .kept .list)
-        (joinedOf (λ xs. xs) (altsOfEach (listOf (now (from .entry)) (now (results .entry))) (q .there .contents)))) r) ⌝ }
+        (joinedOf (λ xs. xs) (altsOfEach (listOfType (now (from .entry)) (now (results .entry))) (q .there .contents)))) r) ⌝ }
 {
     if n == 0 {
         return Gathering::Upto {
@@ -488,7 +487,7 @@ fn emit_row(
     ensures { λ r. ⌜ ((q : Operands (now (content .entry)) at n (now (types .entry)) (now (from .entry)) (now (results .entry))
         (now (draft .entry)) start place)
         → Emits (now (draft .entry)) (now (draft .exit)) start place n (q .there .next)
-        (operands (map written (altsOfEach (listOf (now (from .entry)) (now (results .entry))) (q .there .contents)))) r) ⌝ }
+        (operands (map written (altsOfEach (listOfType (now (from .entry)) (now (results .entry))) (q .there .contents)))) r) ⌝ }
 {
     if n == 0 {
         return Emitted::Upto {

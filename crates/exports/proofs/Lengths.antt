@@ -22,9 +22,9 @@ use Rattle.grammar.specs.Widen.{ofSize, sampleTable, widenByTable, widen}
 use Rattle.grammar.specs.Calls.{writtenTo, tableReads, documentReads, documentSample, readAddition, widened}
 use Rattle.grammar.specs.declared.Source.{Source}
 use Rattle.grammar.specs.declared.Refusal.the-variants.{ResultTooLarge, OutputTooShort}
-use Rattle.theory.proofs.OutcomeLaws.{was-given, had-no-fault, given-eq}
-use Rattle.theory.proofs.NumberedTable.{table-small}
-use Rattle.theory.proofs.WidenLeast as widening
+use Rattle.theory.proofs.bytes.OutcomeLaws.{was-given, had-no-fault, given-eq}
+use Rattle.theory.proofs.bytes.NumberedTable.{table-small}
+use Rattle.theory.proofs.theorems.WidenLeast as widening
 
 -- the value told for an outcome is below 2^32
 abbrev Below : Outcome (List ℕ) → Type 0

@@ -106,7 +106,8 @@ pub extern "C" fn cogarrune_widen_local_by_table(
     out: &mut [u8],
     work: &mut [u32],
 ) -> u64
-    ensures { λ r. ⌜ Widening standard asciiClasses local aTable (now (old .entry)) (now (addition .entry)) (now (out .entry)) (now (work .entry))
+    ensures { λ r. ⌜ Widening standard asciiClasses local aTable (now (old .entry)) (now (addition .entry)) (now (out .entry))
+        (now (work .entry))
         (after (parted r) (now (out .exit)) (now (work .exit))) ⌝ }
 {
     of_written(widen_local_by_table(old, addition, out, work))
@@ -120,7 +121,8 @@ pub extern "C" fn cogarrune_widen_local_by_document(
     out: &mut [u8],
     work: &mut [u32],
 ) -> u64
-    ensures { λ r. ⌜ Widening standard asciiClasses local aDocument (now (old .entry)) (now (document .entry)) (now (out .entry)) (now (work .entry))
+    ensures { λ r. ⌜ Widening standard asciiClasses local aDocument (now (old .entry)) (now (document .entry)) (now (out .entry))
+        (now (work .entry))
         (after (parted r) (now (out .exit)) (now (work .exit))) ⌝ }
 {
     of_written(widen_local_by_document(old, document, out, work))
@@ -134,7 +136,8 @@ pub extern "C" fn cogarrune_widen_single_type_by_table(
     out: &mut [u8],
     work: &mut [u32],
 ) -> u64
-    ensures { λ r. ⌜ Widening standard asciiClasses singleType aTable (now (old .entry)) (now (addition .entry)) (now (out .entry)) (now (work .entry))
+    ensures { λ r. ⌜ Widening standard asciiClasses singleType aTable (now (old .entry)) (now (addition .entry)) (now (out .entry))
+        (now (work .entry))
         (after (parted r) (now (out .exit)) (now (work .exit))) ⌝ }
 {
     of_written(widen_single_type_by_table(old, addition, out, work))
@@ -148,7 +151,8 @@ pub extern "C" fn cogarrune_widen_single_type_by_document(
     out: &mut [u8],
     work: &mut [u32],
 ) -> u64
-    ensures { λ r. ⌜ Widening standard asciiClasses singleType aDocument (now (old .entry)) (now (document .entry)) (now (out .entry)) (now (work .entry))
+    ensures { λ r. ⌜ Widening standard asciiClasses singleType aDocument (now (old .entry)) (now (document .entry))
+        (now (out .entry)) (now (work .entry))
         (after (parted r) (now (out .exit)) (now (work .exit))) ⌝ }
 {
     of_written(widen_single_type_by_document(old, document, out, work))

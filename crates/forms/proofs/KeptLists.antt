@@ -30,8 +30,8 @@ use mathlib.Core.Path.{_≡_, refl, sym, _∙_, ap, ap₂}
 use lib.ListN.{length, length-append, getElem?, getD}
 use borrow.Author.Tests.{not-true}
 use Rattle.grammar.specs.Lists.{any, keep, distinct, allDistinct, place, isIn, numbersFrom, numbersBelow}
-use Rattle.theory.proofs.BoolLaws.{and-left, and-right, same-test, false-of, not-both, or-false}
-use Rattle.theory.proofs.ListLaws.{
+use Rattle.theory.proofs.lists.BoolLaws.{and-left, and-right, same-test, false-of, not-both, or-false}
+use Rattle.theory.proofs.lists.ListLaws.{
   any-of,
   keep-no,
   keep-all,
@@ -50,7 +50,7 @@ use Rattle.theory.proofs.ListLaws.{
   numbers-joined,
   keep-on,
 }
-use Rattle.theory.proofs.DistinctLaws.{keep-append, keep-within, distinct-grows, distinct-finer}
+use Rattle.theory.proofs.lists.DistinctLaws.{keep-append, keep-within, distinct-grows, distinct-finer}
 
 module _ {A : Type 0} where
   pub keep-nothing : (test : A → Bool) (xs : List A) → ((x : A) → List·Memᴰ x xs → test x ≡ false) → keep test xs ≡ []

@@ -16,31 +16,31 @@ use Rattle.grammar.specs.Content.{none}
 use Rattle.grammar.specs.ReadTable.{isEmpty}
 use Rattle.grammar.specs.Table.{Rule, Table}
 use Rattle.grammar.specs.SingleTypeForm.{TypeSet}
-use Rattle.theory.proofs.BoolLaws.{not-both}
-use Rattle.theory.proofs.ListLaws.{at-else, mem-in, numbers-end}
-use Rattle.theory.proofs.DistinctLaws.{keep-append}
+use Rattle.theory.proofs.lists.BoolLaws.{not-both}
+use Rattle.theory.proofs.lists.ListLaws.{at-else, mem-in, numbers-end}
+use Rattle.theory.proofs.lists.DistinctLaws.{keep-append}
 use Rattle.pairs.specs.declared.union.United.{United}
 use Rattle.pairs.specs.View.{Views, labelIn}
-use Rattle.pairs.specs.PairNumbers.{ruleAt}
+use Rattle.pairs.specs.PairNumbers.{ruleNumbered}
 use Rattle.pairs.proofs.ViewLaws.{seen}
-use Rattle.forms.specs.SetForms.{labelled, labelSets, setLabel}
 use Rattle.forms.specs.declared.set_words.Counted.{Counted}
 use Rattle.forms.specs.declared.set_words.Counted.the-variants.{TooMany, Count}
 use Rattle.forms.specs.SetWords.{Ascending, SetsCounted}
+use Rattle.forms.specs.SetForms.{pairsLabelled, labelSets, setLabel}
 use Rattle.forms.proofs.NumberLists.{keep-below, first-kept}
 
 module _ {old add : List ℕ} {v : United} {u : Table} (x : Views old add v u) where
-  pub label-at : (i : ℕ) → i < v .rules → labelIn v i ≡ ruleAt u i .label
+  pub label-at : (i : ℕ) → i < v .rules → labelIn v i ≡ ruleNumbered u i .label
   label-at i h =
       let s = seen x i h in
       s .2 .label ∙ ap (λ (r : Rule). r .label) (sym (at-else (u .rules) i (record { type = 0; label = 0; content = none }) (s .1)))
 
-  pub labelled-is : (pairs : ℕ → Bool) (l : ℕ) → keep (λ p. pairs p && eqb (labelIn v p) l) (numbersBelow (v .rules)) ≡ labelled u pairs l
-  unfolding labelled
+  pub labelled-is : (pairs : ℕ → Bool) (l : ℕ) → keep (λ p. pairs p && eqb (labelIn v p) l) (numbersBelow (v .rules)) ≡ pairsLabelled u pairs l
+  unfolding pairsLabelled
   labelled-is pairs l =
-      keep-below (λ p. pairs p && eqb (labelIn v p) l) (λ p. pairs p && eqb (ruleAt u p .label) l) (v .rules)
+      keep-below (λ p. pairs p && eqb (labelIn v p) l) (λ p. pairs p && eqb (ruleNumbered u p .label) l) (v .rules)
       (λ p h. ap (λ (k : ℕ). pairs p && eqb k l) (label-at p h))
-      ∙ ap (λ (n : ℕ). keep (λ p. pairs p && eqb (ruleAt u p .label) l) (numbersBelow n)) (x .rules)
+      ∙ ap (λ (n : ℕ). keep (λ p. pairs p && eqb (ruleNumbered u p .label) l) (numbersBelow n)) (x .rules)
 
   pub few-rules : length (u .rules) ≤ 128
   few-rules = omega (arith, x .rules, x .few)
@@ -52,7 +52,7 @@ module _ {old add : List ℕ} {v : United} {u : Table} (x : Views old add v u) w
     label-first p h e before =
         let first : getD s 0 0 ≡ p =
         ap (λ (l : List ℕ). getD l 0 0) (sym a) ∙ first-kept (λ q. isIn q s) p e 128 (omega (arith, x .few)) before in
-        label-at p h ∙ ap (λ (q : ℕ). ruleAt u q .label) (sym first)
+        label-at p h ∙ ap (λ (q : ℕ). ruleNumbered u q .label) (sym first)
 
   pub label-none : (s : TypeSet) → isEmpty s ≡ false → ((q : ℕ) → q < v .rules → isIn q s ≡ false) → 0 ≡ setLabel u s
   unfolding setLabel
@@ -68,23 +68,23 @@ module _ {old add : List ℕ} {v : United} {u : Table} (x : Views old add v u) w
 -- the sets of the labels up to one
 module _ (u : Table) (pairs : ℕ → Bool) where
   abbrev pub setsUp : ℕ → List TypeSet
-  setsUp n = keep (λ s. not (isEmpty s)) (map (labelled u pairs) (numbersBelow n))
+  setsUp n = keep (λ s. not (isEmpty s)) (map (pairsLabelled u pairs) (numbersBelow n))
 
   pub up-none : setsUp 0 ≡ []
   unfolding numbersBelow keep
   up-none = refl
 
-  pub up-next : (n : ℕ) → setsUp (n + 1) ≡ setsUp n ++ keep (λ s. not (isEmpty s)) (labelled u pairs n ∷ [])
+  pub up-next : (n : ℕ) → setsUp (n + 1) ≡ setsUp n ++ keep (λ s. not (isEmpty s)) (pairsLabelled u pairs n ∷ [])
   up-next n =
-      ap (λ (l : List ℕ). keep (λ s. not (isEmpty s)) (map (labelled u pairs) l)) (numbers-end n)
-      ∙ ap (keep (λ s. not (isEmpty s))) (map-append (labelled u pairs) (numbersBelow n) (n ∷ []))
-      ∙ keep-append (λ s. not (isEmpty s)) (map (labelled u pairs) (numbersBelow n)) (labelled u pairs n ∷ [])
+      ap (λ (l : List ℕ). keep (λ s. not (isEmpty s)) (map (pairsLabelled u pairs) l)) (numbers-end n)
+      ∙ ap (keep (λ s. not (isEmpty s))) (map-append (pairsLabelled u pairs) (numbersBelow n) (n ∷ []))
+      ∙ keep-append (λ s. not (isEmpty s)) (map (pairsLabelled u pairs) (numbersBelow n)) (pairsLabelled u pairs n ∷ [])
 
   longer : (n d : ℕ) → length (setsUp n) ≤ length (setsUp (n + d))
   longer n zero = let z : n + 0 ≡ n = omega arith in let e = ap (λ (m : ℕ). length (setsUp m)) z in omega arith
   longer n (suc d) =
       let z : n + suc d ≡ n + d + 1 = omega arith in
-      let e = ap (λ (m : ℕ). length (setsUp m)) z ∙ ap length (up-next (n + d)) ∙ length-append (setsUp (n + d)) (keep (λ s. not (isEmpty s)) (labelled u pairs (n + d) ∷ [])) in
+      let e = ap (λ (m : ℕ). length (setsUp m)) z ∙ ap length (up-next (n + d)) ∙ length-append (setsUp (n + d)) (keep (λ s. not (isEmpty s)) (pairsLabelled u pairs (n + d) ∷ [])) in
       let ih = longer n d in
       omega arith
 
@@ -97,16 +97,16 @@ module _ (u : Table) (pairs : ℕ → Bool) where
 
   -- one label more, as the program finds it
   module _ (n : ℕ) (words : List ℕ) (r : Counted)
-      (put : SetsCounted words (setsUp n ++ keep (λ s. not (isEmpty s)) (labelled u pairs n ∷ [])) r) where
+      (put : SetsCounted words (setsUp n ++ keep (λ s. not (isEmpty s)) (pairsLabelled u pairs n ∷ [])) r) where
     pub up-more : (count : ℕ) → r ≡ Count count → SetsCounted words (setsUp (n + 1)) (Count count)
     up-more count e =
         subst (λ (l : List TypeSet). SetsCounted words l (Count count)) (sym (up-next n))
-        (subst (SetsCounted words (setsUp n ++ keep (λ s. not (isEmpty s)) (labelled u pairs n ∷ []))) e put)
+        (subst (SetsCounted words (setsUp n ++ keep (λ s. not (isEmpty s)) (pairsLabelled u pairs n ∷ []))) e put)
 
     pub up-many : r ≡ TooMany → (labels : ℕ) → n < labels → labels ≡ length (u .labels) → 64 < length (labelSets u pairs)
     up-many e labels h f =
-        let many : 64 < length (setsUp n ++ keep (λ s. not (isEmpty s)) (labelled u pairs n ∷ [])) =
-        subst (SetsCounted words (setsUp n ++ keep (λ s. not (isEmpty s)) (labelled u pairs n ∷ []))) e put in
+        let many : 64 < length (setsUp n ++ keep (λ s. not (isEmpty s)) (pairsLabelled u pairs n ∷ [])) =
+        subst (SetsCounted words (setsUp n ++ keep (λ s. not (isEmpty s)) (pairsLabelled u pairs n ∷ []))) e put in
         let a = ap length (up-next n) in
         let b = up-longer (n + 1) labels (omega arith) in
         let c = ap length (up-whole labels f) in

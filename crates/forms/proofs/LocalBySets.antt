@@ -19,8 +19,9 @@ use Rattle.grammar.specs.Reduce.{fruitful, withoutUnfruitful, withoutUnreached,
 use Rattle.grammar.specs.LocalForm.{labelOf, typeOfLabel, ruleOfLabel, localForm}
 use Rattle.grammar.specs.SingleTypeForm.{TypeSet}
 use Rattle.grammar.specs.Tidy.{tidy, tidyTable}
-use Rattle.theory.proofs.BoolLaws.{same-test}
-use Rattle.theory.proofs.ListLaws.{
+use Rattle.theory.specs.Alternatives.{alts, written, resultsOf}
+use Rattle.theory.proofs.lists.BoolLaws.{same-test}
+use Rattle.theory.proofs.lists.ListLaws.{
   any-found,
   any-of,
   kept,
@@ -34,13 +35,12 @@ use Rattle.theory.proofs.ListLaws.{
   some-mem,
   mem-some,
 }
-use Rattle.theory.proofs.PlaceLaws.{place-of, place-image}
-use Rattle.theory.proofs.Alternatives.{alts, written, resultsOf}
-use Rattle.theory.proofs.EmittedRule.{pairContents, pairsStanding, local-content}
-use Rattle.theory.proofs.UsedLabelsDocuments.{used-differ}
-use Rattle.pairs.specs.PairNumbers.{ruleAt, isLeft, contentsIn}
+use Rattle.theory.proofs.lists.PlaceLaws.{place-of, place-image}
+use Rattle.theory.proofs.emission.EmittedRule.{pairContents, pairsStanding, local-content}
+use Rattle.theory.proofs.steps.UsedLabelsDocuments.{used-differ}
+use Rattle.pairs.specs.PairNumbers.{ruleNumbered, isLeft, contentsIn}
 use Rattle.forms.specs.SetForms.{
-  labelled,
+  pairsLabelled,
   labelSets,
   labelLeft,
   setNumber,
@@ -70,7 +70,7 @@ module _ (u : Table) where
   reduced = reduce (normalise u)
 
   abbrev setOf : ℕ → TypeSet
-  setOf = labelled u (isLeft u)
+  setOf = pairsLabelled u (isLeft u)
 
   -- the labels used are those that have a set
   labels-used : usedLabels (reduce (normalise u)) ≡ labelsWithSet u (isLeft u)
@@ -96,13 +96,13 @@ module _ (u : Table) where
       back l e =
           let (p, m) = some-mem (setOf l) e in
           let h = labelled-pair u (isLeft u) l p .0 m in
-          any-of (λ (r : Rule). eqb (r .label) l) (left-rule u p (h .listed)) (eq-eqb (ruleAt u p .label) l (h .label))
+          any-of (λ (r : Rule). eqb (r .label) l) (left-rule u p (h .listed)) (eq-eqb (ruleNumbered u p .label) l (h .label))
 
-  local-sets : labelSets u (isLeft u) ≡ map (labelled u (isLeft u)) (usedLabels (reduce (normalise u)))
+  local-sets : labelSets u (isLeft u) ≡ map (pairsLabelled u (isLeft u)) (usedLabels (reduce (normalise u)))
   local-sets = label-sets-are u (isLeft u) ∙ ap (map setOf) (sym labels-used)
 
   -- a used label has a set with a member
-  used-member : {l : ℕ} → List·Memᴰ l (usedLabels (reduce (normalise u))) → (p : ℕ) × List·Memᴰ p (labelled u (isLeft u) l)
+  used-member : {l : ℕ} → List·Memᴰ l (usedLabels (reduce (normalise u))) → (p : ℕ) × List·Memᴰ p (pairsLabelled u (isLeft u) l)
   used-member {l} m =
       some-mem (setOf l)
       (kept (λ l. not (isEmpty (setOf l))) (numbersBelow (length (u .labels)))
@@ -110,7 +110,7 @@ module _ (u : Table) where
 
   -- the number of a label's set is that of the label among the used ones
   set-place : (l : ℕ) → typeOfLabel (reduce (normalise u)) l
-      ≡ place sameNumbers (labelled u (isLeft u) l) (labelSets u (isLeft u))
+      ≡ place sameNumbers (pairsLabelled u (isLeft u) l) (labelSets u (isLeft u))
   unfolding typeOfLabel
   set-place l =
       place-image setOf eqb sameNumbers l (usedLabels reduced)
@@ -123,17 +123,17 @@ module _ (u : Table) where
   set-number = fun-ext (λ p. ap (typeOfLabel reduced) (left-label u p) ∙ set-place (labelLeft u p))
 
   label-contents : (l : ℕ) → joinedOf (pairContents u) (keep (λ (s : Rule). eqb (s .label) l) (pairsStanding u))
-      ≡ contentsIn u (λ p. isIn p (labelled u (isLeft u) l))
-  unfolding labelled
+      ≡ contentsIn u (λ p. isIn p (pairsLabelled u (isLeft u) l))
+  unfolding pairsLabelled
   label-contents l =
       set-contents u (λ p. isIn p (setOf l))
       (λ p e. labelled-pair u (isLeft u) l p .0 (in-mem p (setOf l) e) .listed)
       (λ (s : Rule). eqb (s .label) l)
       (λ p e.
       sym
-      (in-kept (λ q. isLeft u q && eqb (ruleAt u q .label) l) p (numbersBelow (length (u .rules)))
+      (in-kept (λ q. isLeft u q && eqb (ruleNumbered u q .label) l) p (numbersBelow (length (u .rules)))
       (numbers-below (length (u .rules)) p .1 (left-pair u p e .below))
-      ∙ ap (λ (b : Bool). b && eqb (ruleAt u p .label) l) e))
+      ∙ ap (λ (b : Bool). b && eqb (ruleNumbered u p .label) l) e))
 
   module _ (fit : UnionFit u) where
     pub local-set : (s : TypeSet) → List·Memᴰ s (localSets u) → SetOfLabel u s
@@ -143,7 +143,7 @@ module _ (u : Table) where
         subst (SetOfLabel u) e (set-of-label u fit (isLeft u) (λ q h. h) l o)
 
     content-of-label : (l : ℕ) → tidy (ruleOfLabel (reduce (normalise u)) l .content)
-        ≡ contentBySet u (labelSets u (isLeft u)) (isLeft u) (labelled u (isLeft u) l)
+        ≡ contentBySet u (labelSets u (isLeft u)) (isLeft u) (pairsLabelled u (isLeft u) l)
     unfolding contentBySet
     content-of-label l =
         local-content u (fit .labelled) l

@@ -14,8 +14,8 @@ use lib.ListN.{getD}
 use lib.Dec.{eqb}
 use borrow.Author.Tests.{eqb-true, eqb-false}
 use Rattle.grammar.specs.Lists.{keep, isIn, numbersFrom, numbersBelow}
-use Rattle.theory.proofs.BoolLaws.{same-test}
-use Rattle.theory.proofs.ListLaws.{keep-yes, keep-no, kept, keep-mem, in-mem, mem-in, numbers-below, keep-on}
+use Rattle.theory.proofs.lists.BoolLaws.{same-test}
+use Rattle.theory.proofs.lists.ListLaws.{keep-yes, keep-no, kept, keep-mem, in-mem, mem-in, numbers-below, keep-on}
 use Rattle.sets.specs.Sets.{nothing}
 use Rattle.pairs.specs.Rounds.{puts}
 use Rattle.pairs.proofs.PutsLaws.{puts-was, puts-has}

@@ -20,16 +20,27 @@ use Rattle.grammar.specs.Table.{Rule, Table}
 use Rattle.grammar.specs.Normalise.{pairsOf, normalise}
 use Rattle.grammar.specs.Reduce.{fruitful}
 use Rattle.grammar.specs.SingleTypeForm.{TypeSet}
-use Rattle.theory.proofs.Alternatives.{resultsOf}
-use Rattle.theory.proofs.ListLaws.{kept, below-at, at-else, at-mem, numbers-below, map-on, take-map, drop-map, set-up-to, zeros-at}
-use Rattle.theory.proofs.TableConditions.{Labelled}
+use Rattle.theory.specs.Alternatives.{resultsOf}
+use Rattle.theory.specs.Conditions.{Labelled}
+use Rattle.theory.proofs.lists.ListLaws.{
+  kept,
+  below-at,
+  at-else,
+  at-mem,
+  numbers-below,
+  map-on,
+  take-map,
+  drop-map,
+  set-up-to,
+  zeros-at,
+}
 use Rattle.pairs.specs.declared.lists.TypeLists.{TypeLists}
-use Rattle.pairs.specs.Walks.{listOf, Listed}
-use Rattle.pairs.specs.PairNumbers.{ruleAt, fruitfulOf, isLeft}
 use Rattle.pairs.specs.TypeLists.{ListsOf}
+use Rattle.pairs.specs.Walks.{listOfType, Listed}
+use Rattle.pairs.specs.PairNumbers.{ruleNumbered, fruitfulOf, isLeft}
 use Rattle.pairs.proofs.PairLists.{pairs-are}
-use Rattle.forms.specs.SetForms.{labelled, labelLeft, setNumber}
 use Rattle.forms.specs.Worklist.{NumbersOf}
+use Rattle.forms.specs.SetForms.{pairsLabelled, labelLeft, setNumber}
 
 -- one number more
 module _ (n : ℕ) (list : List ℕ) (x : ℕ) (h : n < length list) where
@@ -51,7 +62,7 @@ all-numbers f before after n p q h =
     ext-getD 0 after (map f before) (q ∙ sym (length-map before f ∙ p)) (λ i l. h i (omega arith) ∙ sym (map-at f before i (omega arith)))
 
 -- the label of a pair
-pub label-if-left : (u : Table) (p : ℕ) (b : Bool) (l : ℕ) → b ≡ true → b ≡ isLeft u p → l ≡ ruleAt u p .label → l ≡ labelLeft u p
+pub label-if-left : (u : Table) (p : ℕ) (b : Bool) (l : ℕ) → b ≡ true → b ≡ isLeft u p → l ≡ ruleNumbered u p .label → l ≡ labelLeft u p
 unfolding labelLeft
 label-if-left u p b l e f g = g ∙ rw (sym f ∙ e, labelLeft)
 
@@ -63,7 +74,7 @@ label-below : (u : Table) → Labelled u → (p : ℕ) → p < length (u .rules)
 unfolding labelLeft
 label-below u labels p h = go (isLeft u p) refl
   where
-    at : ruleAt u p .label < length (u .labels)
+    at : ruleNumbered u p .label < length (u .labels)
     at =
         let r = below-at (u .rules) p h in
         let e = at-else (u .rules) p _ (r .1) in
@@ -75,7 +86,7 @@ label-below u labels p h = go (isLeft u p) refl
 
 -- the numbers of the sets by pair
 pub numbers-left : (u : Table) (sets : List TypeSet) (pairs : ℕ → Bool) (by of : List ℕ) (n : ℕ) → Labelled u → n ≡ length (u .rules)
-    → NumbersOf (λ l. place sameNumbers (labelled u pairs l) sets) (length (u .labels)) by
+    → NumbersOf (λ l. place sameNumbers (pairsLabelled u pairs l) sets) (length (u .labels)) by
     → NumbersOf (λ p. getD by (labelLeft u p) 0) n of
     → NumbersOf (setNumber u sets pairs) (length (u .rules)) of
 unfolding setNumber
@@ -112,8 +123,8 @@ module _ (of : List ℕ) (small : (p : ℕ) → getD of p 0 ≤ 64) where
           let q = List·getD-eq-default (map numberOf numbers) 0 {n = i} (omega arith) in
           omega arith
 
-  side-list : (from numbers : List ℕ) (k : ℕ) → listOf from (map numberOf numbers) k ≡ map numberOf (listOf from numbers k)
-  unfolding listOf
+  side-list : (from numbers : List ℕ) (k : ℕ) → listOfType from (map numberOf numbers) k ≡ map numberOf (listOfType from numbers k)
+  unfolding listOfType
   side-list from numbers k =
       ap (take (getD from (k + 1) 0 - getD from k 0)) (drop-map numberOf (getD from k 0) numbers)
       ∙ take-map numberOf (getD from (k + 1) 0 - getD from k 0) (drop (getD from k 0) numbers)
@@ -133,10 +144,10 @@ module _ (of : List ℕ) (small : (p : ℕ) → getD of p 0 ≤ 64) where
         added-listed =
             subst (λ (l : List ℕ). Listed 64 128 l (r .addition .numbers)) (sym g)
             (subst (Listed 64 128 (lists .addition .from)) (sym m) (side-listed (lists .addition .from) (lists .addition .numbers) (x .added-listed)));
-        old = λ k l. ap₂ (λ (a b : List ℕ). listOf a b k) f n ∙ side-list (lists .old .from) (lists .old .numbers) k ∙ ap (map numberOf) (x .old k l) ∙ same k;
+        old = λ k l. ap₂ (λ (a b : List ℕ). listOfType a b k) f n ∙ side-list (lists .old .from) (lists .old .numbers) k ∙ ap (map numberOf) (x .old k l) ∙ same k;
         added =
             λ k l.
-            ap₂ (λ (a b : List ℕ). listOf a b k) g m
+            ap₂ (λ (a b : List ℕ). listOfType a b k) g m
             ∙ side-list (lists .addition .from) (lists .addition .numbers) k
             ∙ ap (map numberOf) (x .added k l)
             ∙ same (shifted standard k);

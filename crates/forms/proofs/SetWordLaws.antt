@@ -19,10 +19,23 @@ use borrow.Author.Tests.{ltb-true, ltb-false}
 use Rattle.grammar.specs.Lists.{any, keep, distinct, place, isIn, sameNumbers, numbersBelow}
 use Rattle.grammar.specs.ReadTable.{isEmpty}
 use Rattle.grammar.specs.SingleTypeForm.{TypeSet}
-use Rattle.theory.proofs.BoolLaws.{false-of}
-use Rattle.theory.proofs.ListLaws.{at-below, below-at, at-joined, at-mem, just-eq, same-numbers, same-numbers-refl, numbers-decide, keep-yes, decided-sym, mem-some, in-mem}
-use Rattle.theory.proofs.PlaceLaws.{place-found, place-some}
-use Rattle.theory.proofs.DistinctLaws.{one-more-new, one-more-old}
+use Rattle.theory.proofs.lists.BoolLaws.{false-of}
+use Rattle.theory.proofs.lists.ListLaws.{
+  at-below,
+  below-at,
+  at-joined,
+  at-mem,
+  just-eq,
+  same-numbers,
+  same-numbers-refl,
+  numbers-decide,
+  keep-yes,
+  decided-sym,
+  mem-some,
+  in-mem,
+}
+use Rattle.theory.proofs.lists.PlaceLaws.{place-found, place-some}
+use Rattle.theory.proofs.lists.DistinctLaws.{one-more-new, one-more-old}
 use Rattle.sets.specs.Sets.{member, storeAt, Empties}
 use Rattle.sets.proofs.SetLaws.{words-store, store-before, length-store, set-before}
 use Rattle.reader.proofs.LabelSearch.{place-first, place-nowhere}

@@ -15,14 +15,14 @@ use Rattle.grammar.specs.Reduce.{fruitful, withoutUnfruitful, withoutUnreached,
 use Rattle.grammar.specs.LocalForm.{labelOf}
 use Rattle.grammar.specs.SingleTypeForm.{TypeSet, ofLabel, typesMet, contentOfSet, ruleOfSet, singleTypeForm}
 use Rattle.grammar.specs.Tidy.{tidy, tidyTable}
-use Rattle.theory.proofs.ListLaws.{at-mem, at-map, just-eq, in-mem, mem-in}
-use Rattle.theory.proofs.Alternatives.{alts, written, resultsOf}
-use Rattle.theory.proofs.EmittedRule.{set-content}
-use Rattle.theory.proofs.SetsClosed.{OneLabelSet, sets-induct, set-met, start-set}
-use Rattle.theory.proofs.SingleTypeMerge.{single-type-form-length, single-type-form-place}
+use Rattle.theory.specs.Alternatives.{alts, written, resultsOf}
+use Rattle.theory.proofs.lists.ListLaws.{at-mem, at-map, just-eq, in-mem, mem-in}
+use Rattle.theory.proofs.emission.EmittedRule.{set-content}
+use Rattle.theory.proofs.steps.SetsClosed.{OneLabelSet, sets-induct, set-met, start-set}
+use Rattle.theory.proofs.steps.SingleTypeMerge.{single-type-form-length, single-type-form-place}
 use Rattle.pairs.specs.PairNumbers.{metIn}
 use Rattle.forms.specs.SetForms.{
-  labelled,
+  pairsLabelled,
   labelLeft,
   setNumber,
   setLabel,

@@ -21,8 +21,9 @@ use Rattle.grammar.specs.Normalise.{pairOf, pairsOf, normalise}
 use Rattle.grammar.specs.Reduce.{fruitful, reduce, withoutUnfruitful}
 use Rattle.grammar.specs.LocalForm.{labelOf}
 use Rattle.grammar.specs.SingleTypeForm.{TypeSet, ofLabel, typesMet}
-use Rattle.theory.proofs.BoolLaws.{and-left, and-right, and-intro, same-test, not-both}
-use Rattle.theory.proofs.ListLaws.{
+use Rattle.theory.specs.Alternatives.{pairsMet}
+use Rattle.theory.proofs.lists.BoolLaws.{and-left, and-right, and-intro, same-test, not-both}
+use Rattle.theory.proofs.lists.ListLaws.{
   any-found,
   any-of,
   kept,
@@ -40,20 +41,19 @@ use Rattle.theory.proofs.ListLaws.{
   keep-on,
   joined-on,
 }
-use Rattle.theory.proofs.Reached.{start-reached}
-use Rattle.theory.proofs.PlaceLaws.{place-found}
-use Rattle.theory.proofs.DistinctLaws.{keep-within}
-use Rattle.theory.proofs.KindTests.{same-pair-sym}
-use Rattle.theory.proofs.NormaliseDocuments.{pair-refl, pair-same, same-pair, pairs-of}
-use Rattle.theory.proofs.Alternatives.{pairsMet}
-use Rattle.theory.proofs.EmittedContent.{joined-map}
-use Rattle.theory.proofs.EmittedRule.{firstRules, pairsStanding, pairContents, ruleLeft, left-rules, set-met}
-use Rattle.pairs.specs.Rounds.{contentOf}
-use Rattle.pairs.specs.PairNumbers.{ruleAt, fruitfulOf, isLeft, contentsOfPair, contentsIn, metIn}
+use Rattle.theory.proofs.steps.Reached.{start-reached}
+use Rattle.theory.proofs.lists.PlaceLaws.{place-found}
+use Rattle.theory.proofs.lists.DistinctLaws.{keep-within}
+use Rattle.theory.proofs.tables.KindTests.{same-pair-sym}
+use Rattle.theory.proofs.steps.NormaliseDocuments.{pair-refl, pair-same, same-pair, pairs-of}
+use Rattle.theory.proofs.emission.EmittedContent.{joined-map}
+use Rattle.theory.proofs.emission.EmittedRule.{firstRules, pairsStanding, pairContents, ruleLeft, left-rules, set-met}
+use Rattle.pairs.specs.Rounds.{contentOfRule}
+use Rattle.pairs.specs.PairNumbers.{ruleNumbered, fruitfulOf, isLeft, contentsOfPair, contentsIn, metIn}
 use Rattle.pairs.proofs.PairLists.{firsts-are, noRule}
 use Rattle.pairs.proofs.MetLaws.{met-hold}
 use Rattle.pairs.proofs.ReachedLaws.{start-pairs, met-reached, reached-set}
-use Rattle.forms.specs.SetForms.{labelled, labelLeft}
+use Rattle.forms.specs.SetForms.{pairsLabelled, labelLeft}
 use Rattle.forms.proofs.KeptLists.{map-itself, numbered, first-itself}
 
 -- all of a set are left
@@ -63,8 +63,8 @@ AllLeft u s = (p : ℕ) → List·Memᴰ p s → isLeft u p ≡ true
 -- a pair by its number: that of its first rule, which stands there
 pub record LeftPair (u : Table) (p : ℕ) : Type 0 where
   pub below : p < length (u .rules)
-  pub there : List·Memᴰ (ruleAt u p) (u .rules)
-  pub first : pairOf u (ruleAt u p) ≡ p
+  pub there : List·Memᴰ (ruleNumbered u p) (u .rules)
+  pub first : pairOf u (ruleNumbered u p) ≡ p
   pub is-fruitful : isIn p (fruitful (normalise u)) ≡ true
 
 module _ (u : Table) where
@@ -74,12 +74,12 @@ module _ (u : Table) where
   abbrev leftNumbers : List ℕ
   leftNumbers = keep (isLeft u) numbers
 
-  pub rule-there : (i : ℕ) → i < length (u .rules) → List·Memᴰ (ruleAt u i) (u .rules)
+  pub rule-there : (i : ℕ) → i < length (u .rules) → List·Memᴰ (ruleNumbered u i) (u .rules)
   rule-there i h = at-mem (u .rules) i (at-or-else (u .rules) i noRule h)
 
   -- the number of a rule's pair
   pair-at : (r : Rule) → List·Memᴰ r (u .rules)
-      → (pairOf u r < length (u .rules)) × (pairOf u (ruleAt u (pairOf u r)) ≡ pairOf u r)
+      → (pairOf u r < length (u .rules)) × (pairOf u (ruleNumbered u (pairOf u r)) ≡ pairOf u r)
   unfolding pairOf
   pair-at r m =
       let (s, at, e) = place-found samePair r (u .rules) (any-of (samePair r) m (pair-refl r)) in
@@ -122,7 +122,7 @@ module _ (u : Table) where
       record {
         below = b;
         there = rule-there p b;
-        first = subst (λ (i : ℕ). pairOf u (ruleAt u i) ≡ i) same first;
+        first = subst (λ (i : ℕ). pairOf u (ruleNumbered u i) ≡ i) same first;
         is-fruitful = and-left (isIn p (fruitful (normalise u))) some t;
       }
 
@@ -133,9 +133,9 @@ module _ (u : Table) where
   number-left p e = keep-mem (isLeft u) (numbers-below (length (u .rules)) p .1 (left-pair p e .below)) e
 
   -- the pairs that stand, by their numbers
-  left-first : (q : ℕ) → (isLeft u (pairOf u (ruleAt u q)) && eqb (pairOf u (ruleAt u q)) q) ≡ isLeft u q
+  left-first : (q : ℕ) → (isLeft u (pairOf u (ruleNumbered u q)) && eqb (pairOf u (ruleNumbered u q)) q) ≡ isLeft u q
   left-first q =
-      let p = pairOf u (ruleAt u q) in
+      let p = pairOf u (ruleNumbered u q) in
       same-test (isLeft u p && eqb p q) (isLeft u q) (
         λ e. subst (λ (i : ℕ). isLeft u i ≡ true) (eqb-true p q (and-right (isLeft u p) (eqb p q) e)) (and-left (isLeft u p) (eqb p q) e),
         λ e.
@@ -143,36 +143,36 @@ module _ (u : Table) where
             and-intro (isLeft u p) (eqb p q) (subst (λ (i : ℕ). isLeft u i ≡ true) (sym f) e) (eq-eqb p q f),
       )
 
-  pub standing : pairsStanding u ≡ map (ruleAt u) (keep (isLeft u) (numbersBelow (length (u .rules))))
+  pub standing : pairsStanding u ≡ map (ruleNumbered u) (keep (isLeft u) (numbersBelow (length (u .rules))))
   unfolding pairOf
   standing =
       let stands : (Rule → Bool) = λ r. isLeft u (pairOf u r) in
       keep-within stands (λ r. isIn (pairOf u r) (fruitful (normalise u))) (firstRules u)
       (λ r e. left-pair (pairOf u r) e .is-fruitful)
       ∙ sym
-      (map-map (ruleAt u) (pairOf u) (keep stands (firstRules u))
-      ∙ map-itself (λ r. ruleAt u (pairOf u r)) (keep stands (firstRules u))
+      (map-map (ruleNumbered u) (pairOf u) (keep stands (firstRules u))
+      ∙ map-itself (λ r. ruleNumbered u (pairOf u r)) (keep stands (firstRules u))
       (λ r m.
       first-itself samePair pair-refl same-pair-sym noRule (u .rules)
       (kept stands (firstRules u) m .0)))
-      ∙ ap (map (ruleAt u))
+      ∙ ap (map (ruleNumbered u))
       (firsts-are samePair pair-refl same-pair-sym noRule stands (u .rules)
       ∙ ap (λ test. keep test numbers) (fun-ext left-first))
 
   abbrev ruleOf : ℕ → Rule
-  ruleOf q = ruleLeft u (ruleAt u q)
+  ruleOf q = ruleLeft u (ruleNumbered u q)
 
   pub left-rules-are : reduce (normalise u) .rules
-      ≡ map (λ q. ruleLeft u (ruleAt u q)) (keep (isLeft u) (numbersBelow (length (u .rules))))
-  left-rules-are = left-rules u ∙ ap (map (ruleLeft u)) standing ∙ map-map (ruleLeft u) (ruleAt u) leftNumbers
+      ≡ map (λ q. ruleLeft u (ruleNumbered u q)) (keep (isLeft u) (numbersBelow (length (u .rules))))
+  left-rules-are = left-rules u ∙ ap (map (ruleLeft u)) standing ∙ map-map (ruleLeft u) (ruleNumbered u) leftNumbers
 
   pub rule-left : (r : Rule) → List·Memᴰ r (reduce (normalise u) .rules)
-      → (q : ℕ) × (isLeft u q ≡ true) × (ruleLeft u (ruleAt u q) ≡ r)
+      → (q : ℕ) × (isLeft u q ≡ true) × (ruleLeft u (ruleNumbered u q) ≡ r)
   rule-left r m =
       let (q, n, e) = Memᴰ·of-map ruleOf leftNumbers (subst (λ (l : List Rule). List·Memᴰ r l) left-rules-are m) in
       (q, left-number n, e)
 
-  pub left-rule : (q : ℕ) → isLeft u q ≡ true → List·Memᴰ (ruleLeft u (ruleAt u q)) (reduce (normalise u) .rules)
+  pub left-rule : (q : ℕ) → isLeft u q ≡ true → List·Memᴰ (ruleLeft u (ruleNumbered u q)) (reduce (normalise u) .rules)
   left-rule q e = subst (λ (l : List Rule). List·Memᴰ (ruleOf q) l) (sym left-rules-are) (Memᴰ·map ruleOf (number-left q e))
 
   pub left-label : (p : ℕ) → labelOf (reduce (normalise u)) p ≡ labelLeft u p
@@ -184,13 +184,13 @@ module _ (u : Table) where
 
       -- the pair of a rule of this type
       is-of : {r : Rule} → List·Memᴰ r (keep of-type (reduce (normalise u) .rules))
-          → (isLeft u p ≡ true) × (ruleAt u p .label ≡ r .label)
+          → (isLeft u p ≡ true) × (ruleNumbered u p .label ≡ r .label)
       is-of {r} m =
           let (n, t) = kept of-type (reduce (normalise u) .rules) m in
           let (q, e, f) = rule-left r n in
           let same = sym (left-pair q e .first) ∙ ap (λ (s : Rule). s .type) f ∙ eqb-true (r .type) p t in (
             subst (λ (i : ℕ). isLeft u i ≡ true) same e,
-            ap (λ (i : ℕ). ruleAt u i .label) (sym same) ∙ ap (λ (s : Rule). s .label) f,
+            ap (λ (i : ℕ). ruleNumbered u i .label) (sym same) ∙ ap (λ (s : Rule). s .label) f,
           )
 
       first : {r : Rule} {rs : List Rule} → keep of-type (reduce (normalise u) .rules) ≡ r ∷ rs
@@ -208,8 +208,8 @@ module _ (u : Table) where
 
   -- the types of a label among some
   pub label-set : (types : List ℕ) → AllLeft u types → (l : ℕ)
-      → ofLabel (reduce (normalise u)) types l ≡ labelled u (λ p. isIn p types) l
-  unfolding ofLabel labelled
+      → ofLabel (reduce (normalise u)) types l ≡ pairsLabelled u (λ p. isIn p types) l
+  unfolding ofLabel pairsLabelled
   label-set types left l =
       ap (λ (rs : List Rule). map (λ (r : Rule). r .type) (keep test rs)) left-rules-are
       ∙ ap (map (λ (r : Rule). r .type)) (keep-map ruleOf test leftNumbers)
@@ -218,16 +218,16 @@ module _ (u : Table) where
       (λ q m. left-pair q (left-number (kept (λ p. test (ruleOf p)) leftNumbers m .0)) .first)
       ∙ keep-on (λ q. test (ruleOf q)) has leftNumbers
       (λ q m.
-      ap (λ (p : ℕ). eqb (ruleAt u q .label) l && isIn p types) (left-pair q (left-number m) .first)
-      ∙ turn (eqb (ruleAt u q .label) l) (isIn q types))
+      ap (λ (p : ℕ). eqb (ruleNumbered u q .label) l && isIn p types) (left-pair q (left-number m) .first)
+      ∙ turn (eqb (ruleNumbered u q .label) l) (isIn q types))
       ∙ keep-within has (isLeft u) numbers
-      (λ q e. left q (in-mem q types (and-left (isIn q types) (eqb (ruleAt u q .label) l) e)))
+      (λ q e. left q (in-mem q types (and-left (isIn q types) (eqb (ruleNumbered u q .label) l) e)))
     where
       test : Rule → Bool
       test r = eqb (r .label) l && isIn (r .type) types
 
       has : ℕ → Bool
-      has p = isIn p types && eqb (ruleAt u p .label) l
+      has p = isIn p types && eqb (ruleNumbered u p .label) l
 
       turn : (a b : Bool) → (a && b) ≡ (b && a)
       turn true true = refl
@@ -236,48 +236,48 @@ module _ (u : Table) where
       turn false false = refl
 
   -- the contents of a left pair
-  content-at : (i : ℕ) → ruleAt u i .content ≡ contentOf u i
-  unfolding contentOf
+  content-at : (i : ℕ) → ruleNumbered u i .content ≡ contentOfRule u i
+  unfolding contentOfRule
   content-at i = go (getElem? (u .rules) i) refl
     where
-      go : (o : Option Rule) → getElem? (u .rules) i ≡ o → ruleAt u i .content ≡ contentOf u i
+      go : (o : Option Rule) → getElem? (u .rules) i ≡ o → ruleNumbered u i .content ≡ contentOfRule u i
       go nowhere e =
-          rw (e, contentOf)
+          rw (e, contentOfRule)
           (ap (λ (s : Rule). s .content) (List·getD-eq-default (u .rules) noRule (past-end (u .rules) i e)))
-      go (just r) e = rw (e, contentOf) (ap (λ (s : Rule). s .content) (at-else (u .rules) i noRule e))
+      go (just r) e = rw (e, contentOfRule) (ap (λ (s : Rule). s .content) (at-else (u .rules) i noRule e))
 
-  pair-contents : (q : ℕ) → isLeft u q ≡ true → pairContents u (ruleAt u q) ≡ contentsOfPair u q
+  pair-contents : (q : ℕ) → isLeft u q ≡ true → pairContents u (ruleNumbered u q) ≡ contentsOfPair u q
   unfolding contentsOfPair
   pair-contents q e =
       let l = left-pair q e in
-      let like : (Rule → Bool) = samePair (ruleAt u q) in
+      let like : (Rule → Bool) = samePair (ruleNumbered u q) in
       ap (λ (rs : List Rule). map (λ (r : Rule). r .content) (keep like rs)) (numbered noRule (u .rules))
-      ∙ ap (map (λ (r : Rule). r .content)) (keep-map (ruleAt u) like numbers)
-      ∙ map-map (λ (r : Rule). r .content) (ruleAt u) (keep (λ i. like (ruleAt u i)) numbers)
+      ∙ ap (map (λ (r : Rule). r .content)) (keep-map (ruleNumbered u) like numbers)
+      ∙ map-map (λ (r : Rule). r .content) (ruleNumbered u) (keep (λ i. like (ruleNumbered u i)) numbers)
       ∙ ap₂ (λ (f : ℕ → Content) (is : List ℕ). map f is) (fun-ext content-at)
-      (keep-on (λ i. like (ruleAt u i)) (λ i. eqb (pairOf u (ruleAt u i)) q) numbers
+      (keep-on (λ i. like (ruleNumbered u i)) (λ i. eqb (pairOf u (ruleNumbered u i)) q) numbers
       (λ i m.
       let there = rule-there i (numbers-below (length (u .rules)) i .0 m) in
-      same-test (like (ruleAt u i)) (eqb (pairOf u (ruleAt u i)) q) (
-        λ s. eq-eqb (pairOf u (ruleAt u i)) q (sym (pair-same u (ruleAt u q) (ruleAt u i) s) ∙ l .first),
+      same-test (like (ruleNumbered u i)) (eqb (pairOf u (ruleNumbered u i)) q) (
+        λ s. eq-eqb (pairOf u (ruleNumbered u i)) q (sym (pair-same u (ruleNumbered u q) (ruleNumbered u i) s) ∙ l .first),
         λ s.
-            same-pair u (ruleAt u q) (ruleAt u i) (record { of-table = l .there; numbered = l .first })
-            (record { of-table = there; numbered = eqb-true (pairOf u (ruleAt u i)) q s }),
+            same-pair u (ruleNumbered u q) (ruleNumbered u i) (record { of-table = l .there; numbered = l .first })
+            (record { of-table = there; numbered = eqb-true (pairOf u (ruleNumbered u i)) q s }),
       )))
 
   -- the contents of the standing pairs that pass a test, where that is a test of left numbers
   pub set-contents : (test : ℕ → Bool) → ((p : ℕ) → test p ≡ true → isLeft u p ≡ true) → (ofRule : Rule → Bool)
-      → ((p : ℕ) → isLeft u p ≡ true → ofRule (ruleAt u p) ≡ test p)
+      → ((p : ℕ) → isLeft u p ≡ true → ofRule (ruleNumbered u p) ≡ test p)
       → joinedOf (pairContents u) (keep ofRule (pairsStanding u)) ≡ contentsIn u test
   unfolding contentsIn
   set-contents test left ofRule same =
       ap (λ (rs : List Rule). joinedOf (pairContents u) (keep ofRule rs)) standing
-      ∙ ap (joinedOf (pairContents u)) (keep-map (ruleAt u) ofRule leftNumbers)
-      ∙ joined-map (pairContents u) (ruleAt u) (keep (λ q. ofRule (ruleAt u q)) leftNumbers)
-      ∙ ap (joinedOf (λ q. pairContents u (ruleAt u q)))
-      (keep-on (λ q. ofRule (ruleAt u q)) test leftNumbers (λ q m. same q (left-number m))
+      ∙ ap (joinedOf (pairContents u)) (keep-map (ruleNumbered u) ofRule leftNumbers)
+      ∙ joined-map (pairContents u) (ruleNumbered u) (keep (λ q. ofRule (ruleNumbered u q)) leftNumbers)
+      ∙ ap (joinedOf (λ q. pairContents u (ruleNumbered u q)))
+      (keep-on (λ q. ofRule (ruleNumbered u q)) test leftNumbers (λ q m. same q (left-number m))
       ∙ keep-within test (isLeft u) numbers left)
-      ∙ joined-on (λ q. pairContents u (ruleAt u q)) (contentsOfPair u) (keep test numbers)
+      ∙ joined-on (λ q. pairContents u (ruleNumbered u q)) (contentsOfPair u) (keep test numbers)
       (λ q m. pair-contents q (left q (kept test numbers m .1)))
 
   module _ (s : TypeSet) (left : AllLeft u s) where
@@ -295,17 +295,17 @@ module _ (u : Table) where
     types-met = set-met u s ∙ ap (joinedOf (pairsMet (fruitfulOf u))) contents-of-set
 
     pub met-left : AllLeft u (metIn u (λ p. isIn p s))
-    unfolding metIn contentsIn contentsOfPair contentOf
+    unfolding metIn contentsIn contentsOfPair contentOfRule
     met-left p m =
         let (c, n, e) = joined-from (pairsMet (fruitfulOf u)) (contentsIn u (λ p. isIn p s)) m in
         let (q, o, f) = joined-from (contentsOfPair u) (keep (λ p. isIn p s) numbers) n in
         let l = set-left q (kept (λ p. isIn p s) numbers o .1) in
-        let ofPair : (ℕ → Bool) = λ i. eqb (pairOf u (ruleAt u i)) q in
-        let (i, at, d) = Memᴰ·of-map (contentOf u) (keep ofPair numbers) f in
+        let ofPair : (ℕ → Bool) = λ i. eqb (pairOf u (ruleNumbered u i)) q in
+        let (i, at, d) = Memᴰ·of-map (contentOfRule u) (keep ofPair numbers) f in
         let (b, t) = kept ofPair numbers at in
-        let same = eqb-true (pairOf u (ruleAt u i)) q t in
+        let same = eqb-true (pairOf u (ruleNumbered u i)) q t in
         mem-in
-        (met-reached u (ruleAt u i) p (rule-there i (numbers-below (length (u .rules)) i .0 b))
+        (met-reached u (ruleNumbered u i) p (rule-there i (numbers-below (length (u .rules)) i .0 b))
         (ap (λ (x : ℕ). isIn x (fruitful (normalise u))) same ∙ left-pair q l .is-fruitful)
         (ap (λ (x : ℕ). isLeft u x) same ∙ l)
         (subst (λ (x : Content). List·Memᴰ p (pairsMet (fruitfulOf u) x)) (sym (content-at i ∙ d)) e))

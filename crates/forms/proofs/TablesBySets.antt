@@ -15,7 +15,7 @@ use Rattle.grammar.specs.Table.{Rule, Table}
 use Rattle.grammar.specs.UsedLabels.{usedLabels, withUsedLabels}
 use Rattle.grammar.specs.SingleTypeForm.{TypeSet}
 use Rattle.grammar.specs.Tidy.{tidy, tidyTable}
-use Rattle.theory.proofs.ListLaws.{at-map, at-else, at-below, below-at, numbers-at, numbers-length}
+use Rattle.theory.proofs.lists.ListLaws.{at-map, at-else, at-below, below-at, numbers-at, numbers-length}
 use Rattle.forms.specs.SetForms.{setLabel, labelsOf, contentBySet, ruleBySet, tableBySets}
 use Rattle.forms.proofs.KeptLists.{same-at, any-map}
 

@@ -13,11 +13,12 @@ use Rattle.grammar.specs.Unite.{added, unite}
 use Rattle.grammar.specs.Normalise.{normalise}
 use Rattle.grammar.specs.Reduce.{reduce}
 use Rattle.grammar.specs.Widen.{reducedUnion}
-use Rattle.theory.proofs.TableConditions.{Labelled, within-labelled}
-use Rattle.theory.proofs.UniteDocuments.{unite-labelled}
-use Rattle.theory.proofs.ReducedTable.{ReducedTable}
-use Rattle.theory.proofs.ReducedUnion.{reduced-union}
-use Rattle.theory.proofs.CountedTables.{RulesCounted, within-counted, union-counted, union-name}
+use Rattle.theory.specs.Conditions.{Labelled}
+use Rattle.theory.proofs.tables.TableConditions.{within-labelled}
+use Rattle.theory.proofs.steps.UniteDocuments.{unite-labelled}
+use Rattle.theory.proofs.tables.ReducedTable.{ReducedTable}
+use Rattle.theory.proofs.steps.ReducedUnion.{reduced-union}
+use Rattle.theory.proofs.bytes.CountedTables.{RulesCounted, within-counted, union-counted, union-name}
 
 pub record UnionFit (u : Table) : Type 0 where
   pub labelled : Labelled u

@@ -15,7 +15,6 @@ use borrow.Author.Tests.{lt-ltb}
 use Rattle.grammar.specs.Lists.{any, numbersBelow}
 use Rattle.grammar.specs.Limits.{standard}
 use Rattle.grammar.specs.Names.{asciiClasses}
-use Rattle.grammar.specs.Content.{Content, typesIn}
 use Rattle.grammar.specs.Table.{Rule, Table}
 use Rattle.grammar.specs.WriteTable.{tableBytes}
 use Rattle.grammar.specs.Size.{contentTooLarge, tooLarge}
@@ -26,20 +25,12 @@ use Rattle.grammar.specs.Reduce.{reduce}
 use Rattle.grammar.specs.SingleTypeForm.{TypeSet}
 use Rattle.grammar.specs.Tidy.{tidyTable}
 use Rattle.grammar.specs.Widen.{form}
-use Rattle.theory.proofs.BoolLaws.{or-left}
-use Rattle.theory.proofs.ListLaws.{numbers-below, numbers-length}
-use Rattle.theory.proofs.Counted.{Counted}
-use Rattle.theory.proofs.NumberedTable.{Numbered, finished-numbered}
-use Rattle.theory.proofs.FormsNumbered.{form-numbered}
-use Rattle.forms.specs.SetForms.{
-  ruleBySet,
-  tableBySets,
-  pairsWithin,
-  localSets,
-  localTable,
-  singleTypeSets,
-  singleTypeTable,
-}
+use Rattle.theory.specs.Conditions.{Regular}
+use Rattle.theory.proofs.lists.BoolLaws.{or-left}
+use Rattle.theory.proofs.lists.ListLaws.{numbers-below, numbers-length}
+use Rattle.theory.proofs.bytes.NumberedTable.{Numbered, finished-numbered}
+use Rattle.theory.proofs.bytes.FormsNumbered.{form-numbered}
+use Rattle.forms.specs.SetForms.{ruleBySet, tableBySets, pairsWithin, localSets, localTable, singleTypeSets, singleTypeTable}
 use Rattle.forms.proofs.UnionFit.{UnionFit}
 use Rattle.forms.proofs.SetsFound.{SetOfLabel}
 use Rattle.forms.proofs.TablesBySets.{FormOfSets}
@@ -54,11 +45,6 @@ setsOf singleType u = singleTypeSets u
 unfoldable pub tableOf : Kind → Table → Table
 tableOf local u = localTable u
 tableOf singleType u = singleTypeTable u
-
--- counted, and its types are numbers of at most 64
-pub record ContentRegular (c : Content) : Type 0 where
-  pub counted : Counted standard c
-  pub below : (k : ℕ) → List·Memᴰ k (typesIn c) → k < 64
 
 module _ (u : Table) (fit : UnionFit u) where
   pub table-of-kind : (kind : Kind) → tidyTable (withUsedLabels (form standard kind (reduce (normalise u)))) ≡ tableOf kind u
@@ -102,7 +88,7 @@ module _ (u : Table) (fit : UnionFit u) where
       ∙ numbers-length zero (length (setsOf kind u))
 
   pub regular-by-set : (kind : Kind) → length (setsOf kind u) ≤ 64 → (i : ℕ) → i < length (setsOf kind u)
-      → ContentRegular (ruleBySet u (setsOf kind u) (pairsWithin kind u) i .content)
+      → Regular (ruleBySet u (setsOf kind u) (pairsWithin kind u) i .content)
   regular-by-set kind few i h =
       let rule = ruleBySet u (setsOf kind u) (pairsWithin kind u) i in
       let t = table-numbered kind few in

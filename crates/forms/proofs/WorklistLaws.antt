@@ -15,23 +15,23 @@ use lib.Dec.{eqb}
 use Rattle.grammar.specs.Lists.{distinct, isIn, sameNumbers}
 use Rattle.grammar.specs.SingleTypeForm.{TypeSet}
 use Rattle.grammar.specs.Table.{Table}
-use Rattle.theory.proofs.Alternatives.{pairsMet}
-use Rattle.theory.proofs.ListLaws.{distinct-was, joined-from, below-at, numbers-decide, taken-mem}
-use Rattle.theory.proofs.DistinctLaws.{distinct-left, distinct-again}
+use Rattle.theory.specs.Alternatives.{pairsMet}
+use Rattle.theory.proofs.lists.ListLaws.{distinct-was, joined-from, below-at, numbers-decide, taken-mem}
+use Rattle.theory.proofs.lists.DistinctLaws.{distinct-left, distinct-again}
 use Rattle.sets.specs.Sets.{member}
 use Rattle.pairs.specs.declared.union.United.{United}
 use Rattle.pairs.specs.View.{Views, labelIn}
-use Rattle.pairs.specs.PairNumbers.{ruleAt, fruitfulOf, contentsIn, metIn}
+use Rattle.pairs.specs.PairNumbers.{ruleNumbered, fruitfulOf, contentsIn, metIn}
 use Rattle.pairs.proofs.MetLaws.{met-hold}
 use Rattle.reducing.proofs.MeetingLaws.{distinct-in}
 use Rattle.forms.specs.declared.set_words.Counted.{Counted}
 use Rattle.forms.specs.declared.set_words.Counted.the-variants.{TooMany, Count}
-use Rattle.forms.specs.SetForms.{labelled, metWithin, singleTypeSets}
 use Rattle.forms.specs.SetWords.{setIn, SetsHeld, SetsCounted}
 use Rattle.forms.specs.Worklist.{setsWithin}
+use Rattle.forms.specs.SetForms.{pairsLabelled, metWithin, singleTypeSets}
 use Rattle.forms.proofs.LabelLaws.{label-at}
 use Rattle.forms.proofs.ResultLaws.{fruitful-below}
-use Rattle.forms.proofs.SetsFound.{Found, part-many, found-next, found-all, found-many}
+use Rattle.forms.proofs.SetsFound.{SetFound, part-many, found-next, found-all, found-many}
 
 met-below : (u : Table) (set : ℕ → Bool) (p : ℕ) → List·Memᴰ p (metIn u set) → p < length (u .rules)
 unfolding metIn
@@ -51,17 +51,17 @@ up-once sets more i = distinct-again sameNumbers numbers-decide (sets ++ take i 
 module _ {old add : List ℕ} {v : United} {u : Table} (x : Views old add v u) (s : TypeSet) (numbers : List ℕ) (count : ℕ)
     (met : take count numbers ≡ distinct eqb (metIn u (λ q. isIn q s))) (held : count ≤ length numbers) where
   abbrev given : ℕ → TypeSet
-  given p = labelled u (metWithin u s) (ruleAt u p .label)
+  given p = pairsLabelled u (metWithin u s) (ruleNumbered u p .label)
 
   many : length (setsWithin u s) ≡ count
   many = length-map (distinct eqb (metIn u (λ q. isIn q s))) given ∙ ap length (sym met) ∙ length-take-le count numbers held
 
   pub set-given : (all : List ℕ) → member all 0 ≡ (λ p. isIn p (take count numbers)) → (i : ℕ) → i < count
-      → labelled u (member all 0) (labelIn v (getD numbers i 0)) ≡ given (getD numbers i 0)
+      → pairsLabelled u (member all 0) (labelIn v (getD numbers i 0)) ≡ given (getD numbers i 0)
   set-given all e i h =
       let here = subst (λ (l : List ℕ). List·Memᴰ (getD numbers i 0) l) met (taken-mem numbers i count h (omega arith)) in
       let below = met-below u (λ q. isIn q s) (getD numbers i 0) (distinct-was eqb (metIn u (λ q. isIn q s)) here) in
-      ap₂ (labelled u)
+      ap₂ (pairsLabelled u)
       (e ∙ ap (λ (l : List ℕ). λ (p : ℕ). isIn p l) met ∙ distinct-in (metIn u (λ q. isIn q s)))
       (label-at x (getD numbers i 0) (omega (arith, x .rules)))
 
@@ -111,7 +111,7 @@ module _ {old add : List ℕ} {v : United} {u : Table} (x : Views old add v u) (
 -- The sets that stand in the words are found.
 pub record Standing (u : Table) (next : ℕ) (words : List ℕ) (count : ℕ) : Type 0 where
   pub sets : List TypeSet
-  pub found : Found u next sets
+  pub found : SetFound u next sets
   pub counted : count ≡ length sets
   pub held : SetsHeld words sets
 

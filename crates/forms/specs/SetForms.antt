@@ -14,32 +14,32 @@ use Rattle.grammar.specs.ReadTable.{isEmpty}
 use Rattle.grammar.specs.Normalise.{pairsOf, normalise}
 use Rattle.grammar.specs.Reduce.{fruitful, withoutUnfruitful, reduce}
 use Rattle.grammar.specs.SingleTypeForm.{TypeSet, allSets}
-use Rattle.theory.proofs.Alternatives.{alts, written, resultsOf}
-use Rattle.pairs.specs.PairNumbers.{ruleAt, isLeft, isStart, contentsIn, metIn}
+use Rattle.theory.specs.Alternatives.{alts, written, resultsOf}
+use Rattle.pairs.specs.PairNumbers.{ruleNumbered, isLeft, isStart, contentsIn, metIn}
 
 module _ (u : Table) where
   -- those of some pairs that have a label
-  unfoldable pub labelled : (ℕ → Bool) → ℕ → TypeSet
+  unfoldable pub pairsLabelled : (ℕ → Bool) → ℕ → TypeSet
   unfolding keep numbersBelow
-  labelled pairs l = keep (λ p. pairs p && eqb (ruleAt u p .label) l) (numbersBelow (length (u .rules)))
+  pairsLabelled pairs l = keep (λ p. pairs p && eqb (ruleNumbered u p .label) l) (numbersBelow (length (u .rules)))
 
   -- one set a label, in label order
   unfoldable pub labelSets : (ℕ → Bool) → List TypeSet
-  unfolding keep labelled numbersBelow
-  labelSets pairs = keep (λ s. not (isEmpty s)) (map (labelled pairs) (numbersBelow (length (u .labels))))
+  unfolding keep pairsLabelled numbersBelow
+  labelSets pairs = keep (λ s. not (isEmpty s)) (map (pairsLabelled pairs) (numbersBelow (length (u .labels))))
 
   -- the label of a pair, where it is left
   unfoldable pub labelLeft : ℕ → ℕ
-  labelLeft p = elim (isLeft u p) [ true ↦ ruleAt u p .label | false ↦ 0 ]
+  labelLeft p = elim (isLeft u p) [ true ↦ ruleNumbered u p .label | false ↦ 0 ]
 
   -- the number of the set, among some sets, of those pairs that share the label of a pair
   unfoldable pub setNumber : List TypeSet → (pairs : ℕ → Bool) → ℕ → ℕ
-  unfolding place sameNumbers labelled labelLeft
-  setNumber sets pairs p = place sameNumbers (labelled pairs (labelLeft p)) sets
+  unfolding place sameNumbers pairsLabelled labelLeft
+  setNumber sets pairs p = place sameNumbers (pairsLabelled pairs (labelLeft p)) sets
 
   -- the label of a set, and the labels of some sets, ascending
   unfoldable pub setLabel : TypeSet → ℕ
-  setLabel s = ruleAt u (getD s 0 0) .label
+  setLabel s = ruleNumbered u (getD s 0 0) .label
 
   unfoldable pub labelsOf : List TypeSet → List ℕ
   unfolding keep any setLabel numbersBelow

@@ -9,10 +9,10 @@ use Rattle.grammar.specs.Table.{Table}
 use Rattle.grammar.specs.SingleTypeForm.{TypeSet}
 use Rattle.pairs.specs.declared.union.United.{United}
 use Rattle.pairs.specs.View.{labelIn}
-use Rattle.pairs.specs.PairNumbers.{ruleAt, metIn}
+use Rattle.pairs.specs.PairNumbers.{ruleNumbered, metIn}
 use Rattle.forms.specs.declared.set_words.Counted.{Counted}
 use Rattle.forms.specs.declared.set_words.Counted.the-variants.{Count}
-use Rattle.forms.specs.SetForms.{labelled, metWithin}
+use Rattle.forms.specs.SetForms.{pairsLabelled, metWithin}
 
 -- the words have room for 64 sets, of which so many stand there, and the set is one of four words
 pub record SetRoom (words : List ℕ) (count : ℕ) (set : List ℕ) : Type 0 where
@@ -26,7 +26,7 @@ Few r = (n : ℕ) → r ≡ Count n → n ≤ 64
 
 -- for each pair met in the contents of a set, in meeting order, the set of those met that share its label
 abbrev pub setsWithin : Table → TypeSet → List TypeSet
-setsWithin u s = map (λ p. labelled u (metWithin u s) (ruleAt u p .label)) (distinct eqb (metIn u (λ q. isIn q s)))
+setsWithin u s = map (λ p. pairsLabelled u (metWithin u s) (ruleNumbered u p .label)) (distinct eqb (metIn u (λ q. isIn q s)))
 
 -- the labels of the rules are below 128
 abbrev pub LabelsSized : United → Type 0

@@ -17,9 +17,9 @@ ghost use Rattle.grammar.specs.SingleTypeForm.{TypeSet};
 ghost use Rattle.grammar.specs.Table.{Table};
 ghost use Rattle.sets.specs.Sets.{member};
 ghost use Rattle.pairs.specs.View.{Views, ViewSized};
-ghost use Rattle.forms.specs.SetForms.{labelled, labelSets, setLabel};
 ghost use Rattle.forms.specs.SetWords.{Ascending, SetsHeld, SetsCounted};
 ghost use Rattle.forms.specs.Worklist.{SetRoom, NumbersOf};
+ghost use Rattle.forms.specs.SetForms.{pairsLabelled, labelSets, setLabel};
 
 // A number for each label, or for each pair.
 pub struct Numbers {
@@ -30,7 +30,7 @@ pub struct Numbers {
 pub fn labelled_pairs(v: United, pairs: Set4, label: usize) -> Set4
     requires { ⌜ (ViewSized v) × (length (pairs .words) ≡ 4) ⌝ }
     ensures { λ r. ⌜ ((old add : List ℕ) (u : Table) → Views old add v u
-        → member (r .words) 0 ≡ (λ p. isIn p (labelled u (member (pairs .words) 0) label))) × (length (r .words) ≡ 4) ⌝ }
+        → member (r .words) 0 ≡ (λ p. isIn p (pairsLabelled u (member (pairs .words) 0) label))) × (length (r .words) ≡ 4) ⌝ }
 {
     let labels = v.labels;
     let rules = v.rules;
@@ -89,7 +89,7 @@ pub fn label_sets(v: United, labels: usize, pairs: Set4, words: &mut [u32]) -> C
 pub fn label_numbers(v: United, labels: usize, pairs: Set4, words: &[u32], count: usize) -> Numbers
     requires { ⌜ (ViewSized v) × (labels ≤ 128) × SetRoom (now words) count (pairs .words) ⌝ }
     ensures { λ r. ⌜ ((old add : List ℕ) (u : Table) (sets : List TypeSet) → Views old add v u → SetsHeld (now (words .entry)) sets
-        → count ≡ length sets → NumbersOf (λ l. place sameNumbers (labelled u (member (pairs .words) 0) l) sets) labels (r .of))
+        → count ≡ length sets → NumbersOf (λ l. place sameNumbers (pairsLabelled u (member (pairs .words) 0) l) sets) labels (r .of))
         × ((l : ℕ) → getD (r .of) l 0 ≤ 64) ⌝ }
 {
     let mut of = [0u8; 128];

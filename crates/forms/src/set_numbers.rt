@@ -15,14 +15,14 @@ ghost use Rattle.grammar.specs.SingleTypeForm.{TypeSet};
 ghost use Rattle.grammar.specs.Table.{Table};
 ghost use Rattle.grammar.specs.Normalise.{pairsOf, normalise};
 ghost use Rattle.grammar.specs.Reduce.{fruitful};
-ghost use Rattle.theory.proofs.Alternatives.{resultsOf};
-ghost use Rattle.theory.proofs.TableConditions.{Labelled};
+ghost use Rattle.theory.specs.Alternatives.{resultsOf};
+ghost use Rattle.theory.specs.Conditions.{Labelled};
 ghost use Rattle.sets.specs.Sets.{member};
 ghost use Rattle.pairs.specs.View.{Views, ViewSized};
 ghost use Rattle.pairs.specs.PairNumbers.{isLeft, fruitfulOf};
 ghost use Rattle.pairs.specs.TypeLists.{ListsOf};
-ghost use Rattle.forms.specs.SetForms.{labelled, labelLeft, setNumber};
 ghost use Rattle.forms.specs.Worklist.{LabelsSized, NumbersOf};
+ghost use Rattle.forms.specs.SetForms.{pairsLabelled, labelLeft, setNumber};
 
 // The label of a pair, where it is left.
 pub fn label_left(v: United, left: Set4, p: usize) -> usize
@@ -82,7 +82,7 @@ pub fn result_lists(v: United, lists: TypeLists, left: Set4, numbers: Numbers) -
         × ((i : ℕ) → getD (lists .old .numbers) i 0 < 128) × ((i : ℕ) → getD (lists .addition .numbers) i 0 < 128) ⌝ }
     ensures { λ r. ⌜ ((old add : List ℕ) (u : Table) (sets : List TypeSet) (pairs : ℕ → Bool) → Views old add v u
         → ListsOf (fruitfulOf u) lists → member (left .words) 0 ≡ isLeft u → Labelled u
-        → NumbersOf (λ l. place sameNumbers (labelled u pairs l) sets) (length (u .labels)) (numbers .of)
+        → NumbersOf (λ l. place sameNumbers (pairsLabelled u pairs l) sets) (length (u .labels)) (numbers .of)
         → ListsOf (resultsOf (pairsOf u) (fruitful (normalise u)) (setNumber u sets pairs)) r) ⌝ }
 {
     let of = pair_numbers(v, left, numbers);

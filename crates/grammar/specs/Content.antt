@@ -34,9 +34,9 @@ pub record Joined (L M : Language) (w : List ℕ) : Type 0 where
   pub back-in : M back
 
 -- every joining of zero or more words of a language
-pub data Repeated (L : Language) : List ℕ → Type 0 where
-  no-more : Repeated L []
-  one-more : {u v : List ℕ} → L u → Repeated L v → Repeated L (u ++ v)
+pub data RepeatedWords (L : Language) : List ℕ → Type 0 where
+  no-more : RepeatedWords L []
+  one-more : {u v : List ℕ} → L u → RepeatedWords L v → RepeatedWords L (u ++ v)
 
 -- None has no word, empty only the word of no types, a type only the word of that one type. A sequence has the words made of
 -- one word of each operand, joined in order; a choice has the words of all its operands. Then: any number of, one or more of, optional.
@@ -47,8 +47,8 @@ abbrev mutual
   Word (type k) = λ w. w ≡ k ∷ []
   Word (sequence cs) = λ w. InTurn cs w
   Word (choice cs) = λ w. OfOne cs w
-  Word (anyNumber c) = λ w. Repeated (Word c) w
-  Word (oneOrMore c) = λ w. Joined (Word c) (Repeated (Word c)) w
+  Word (anyNumber c) = λ w. RepeatedWords (Word c) w
+  Word (oneOrMore c) = λ w. Joined (Word c) (RepeatedWords (Word c)) w
   Word (optional c) = λ w. (w ≡ []) ⊎ Word c w
 
   pub InTurn : Contents → Language

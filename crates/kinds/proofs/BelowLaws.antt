@@ -6,7 +6,7 @@ use mathlib.Core.Logic.{⊎-elim}
 use mathlib.Core.Path.{_≡_, sym, _∙_, ap}
 use lib.Dec.{eqb}
 use borrow.Author.Tests.{eqb-true, eqb-false}
-use Rattle.theory.proofs.BoolLaws.{or-cases, or-left, or-right, false-of, not-both, passes-or-fails}
+use Rattle.theory.proofs.lists.BoolLaws.{or-cases, or-left, or-right, false-of, not-both, passes-or-fails}
 use Rattle.kinds.specs.RulesAt.{anyBelow}
 
 module _ (test : ℕ → Bool) where

@@ -20,9 +20,9 @@ use Rattle.grammar.specs.Content.{typesIn}
 use Rattle.grammar.specs.Table.{Rule, Table}
 use Rattle.grammar.specs.Kinds.{NoneCompete}
 use Rattle.grammar.specs.KindTests.{sameLabel, samePair, isLocal, noneCompete, isSingleType}
-use Rattle.theory.proofs.BoolLaws.{and-left, and-right, and-intro, false-of, not-both, passes-or-fails, same-test}
-use Rattle.theory.proofs.ListLaws.{differ-at, all-differ, mem-at, at-mem, at-below, below-at, in-mem, mem-in, all-of, all-at}
-use Rattle.theory.proofs.KindTests.{none-compete, same-label-sym, same-pair-sym}
+use Rattle.theory.proofs.lists.BoolLaws.{and-left, and-right, and-intro, false-of, not-both, passes-or-fails, same-test}
+use Rattle.theory.proofs.lists.ListLaws.{differ-at, all-differ, mem-at, at-mem, at-below, below-at, in-mem, mem-in, all-of, all-at}
+use Rattle.theory.proofs.tables.KindTests.{none-compete, same-label-sym, same-pair-sym}
 use Rattle.sets.specs.Sets.{member}
 use Rattle.reader.specs.declared.tables.TableIndex.{TableIndex}
 use Rattle.reader.specs.TableIndex.{ruleType, ruleLabel, Indexes}

@@ -11,8 +11,8 @@ use lib.ListN.{length, getD, replicate}
 use borrow.Author.Tests.{eqb-true, eq-eqb}
 use Rattle.grammar.specs.Lists.{isIn}
 use Rattle.grammar.specs.Table.{Table}
-use Rattle.theory.proofs.BoolLaws.{same-test}
-use Rattle.theory.proofs.ListLaws.{in-mem, mem-in, mem-at, at-mem, at-below}
+use Rattle.theory.proofs.lists.BoolLaws.{same-test}
+use Rattle.theory.proofs.lists.ListLaws.{in-mem, mem-in, mem-at, at-mem, at-below}
 use Rattle.sets.specs.Sets.{member, putAt, nothing}
 use Rattle.sets.proofs.SetLaws.{member-put, member-zeros}
 use Rattle.reader.specs.declared.tables.TableIndex.{TableIndex}

@@ -1,5 +1,5 @@
 -- The types that stand in a content, found by walking its bytes operator by operator from front to back, whatever the operators are
--- operands of. `Left`: from this place on contents stand, one after the other, and the types seen before it together with those that
+-- operands of. `TypesLeft`: from this place on contents stand, one after the other, and the types seen before it together with those that
 -- stand in them are the types looked for.
 --
 --   left-start : so it is at the front of a content's bytes, with no type seen
@@ -18,7 +18,7 @@ use lib.Seq.{drop-cons}
 use Rattle.grammar.specs.Content.{Content, none, empty, type, sequence, choice, anyNumber, oneOrMore, optional, Contents, []ᶜ, _∷ᶜ_, count, typesIn, typesInAll}
 use Rattle.grammar.specs.Lists.{isIn}
 use Rattle.grammar.specs.ReadContent.{contentBytes, operandBytes}
-use Rattle.theory.proofs.BoolLaws.{or-turn}
+use Rattle.theory.proofs.lists.BoolLaws.{or-turn}
 use Rattle.sets.specs.Sets.{member, putAt, nothing}
 use Rattle.sets.proofs.SetLaws.{member-put}
 use Rattle.kinds.specs.RulesAt.{Holds}
@@ -30,18 +30,18 @@ record Standing (bytes types : List ℕ) : Type 0 where
   types-are : types ≡ typesInAll contents
 
 -- some contents, then others
-unfoldable both : Contents → Contents → Contents
-both []ᶜ ds = ds
-both (c ∷ᶜ cs) ds = c ∷ᶜ both cs ds
+unfoldable followedBy : Contents → Contents → Contents
+followedBy []ᶜ ds = ds
+followedBy (c ∷ᶜ cs) ds = c ∷ᶜ followedBy cs ds
 
-both-bytes : (cs ds : Contents) → operandBytes (both cs ds) ≡ operandBytes cs ++ operandBytes ds
-unfolding both contentBytes
+both-bytes : (cs ds : Contents) → operandBytes (followedBy cs ds) ≡ operandBytes cs ++ operandBytes ds
+unfolding followedBy contentBytes
 both-bytes []ᶜ ds = refl
 both-bytes (c ∷ᶜ cs) ds =
     ap (λ (l : List ℕ). contentBytes c ++ l) (both-bytes cs ds) ∙ sym (append-assoc (contentBytes c) (operandBytes cs) (operandBytes ds))
 
-both-types : (cs ds : Contents) → typesInAll (both cs ds) ≡ typesInAll cs ++ typesInAll ds
-unfolding both typesIn
+both-types : (cs ds : Contents) → typesInAll (followedBy cs ds) ≡ typesInAll cs ++ typesInAll ds
+unfolding followedBy typesIn
 both-types []ᶜ ds = refl
 both-types (c ∷ᶜ cs) ds =
     ap (λ (l : List ℕ). typesIn c ++ l) (both-types cs ds) ∙ sym (append-assoc (typesIn c) (typesInAll cs) (typesInAll ds))
@@ -56,7 +56,7 @@ after-count : (b : ℕ) (bytes : List ℕ) (ds cs : Contents) → 2 < b → b < 
     → After b bytes (typesInAll ds ++ typesInAll cs)
 after-count b bytes ds cs p q e =
     a-count (count ds) (operandBytes ds ++ operandBytes cs) p q e
-    (record { contents = both ds cs; bytes-are = sym (both-bytes ds cs); types-are = sym (both-types ds cs) })
+    (record { contents = followedBy ds cs; bytes-are = sym (both-bytes ds cs); types-are = sym (both-types ds cs) })
 
 after-of : (cs : Contents) (b : ℕ) (bytes : List ℕ) → b ∷ bytes ≡ operandBytes cs → After b bytes (typesInAll cs)
 unfolding contentBytes typesIn
@@ -89,13 +89,13 @@ after : (b : ℕ) (bytes types : List ℕ) → Standing (b ∷ bytes) types → 
 after b bytes types w = subst (After b bytes) (sym (w .types-are)) (after-of (w .contents) b bytes (w .bytes-are))
 
 -- the types seen, and those that stand from a place on
-pub record Left (bytes seen types : List ℕ) (at : ℕ) : Type 0 where
+pub record TypesLeft (bytes seen types : List ℕ) (at : ℕ) : Type 0 where
   others : List ℕ
   standing : Standing (drop at bytes) others
   together : (k : ℕ) → (member seen 0 k || isIn k others) ≡ isIn k types
 
 pub left-start : (seen : List ℕ) (c : Content) (bytes : List ℕ) → member seen 0 ≡ nothing → bytes ≡ contentBytes c
-    → Left bytes seen (typesIn c) 0
+    → TypesLeft bytes seen (typesIn c) 0
 unfolding contentBytes typesIn
 left-start seen c bytes fresh e =
     record {
@@ -117,7 +117,7 @@ seen-more seen k others h j =
     ap (λ (b : Bool). b || isIn j others) (ap (λ (p : ℕ → Bool). p j) (member-put seen 0 k h))
     ∙ sym (or-turn (member seen 0 j) (eqb j k) (isIn j others))
 
-module _ (bytes seen types : List ℕ) (at : ℕ) (left : Left bytes seen types at) where
+module _ (bytes seen types : List ℕ) (at : ℕ) (left : TypesLeft bytes seen types at) where
   next : at < length bytes → After (getD bytes at 0) (drop (suc at) bytes) (left .others)
   next h =
       after (getD bytes at 0) (drop (suc at) bytes) (left .others)
@@ -135,11 +135,11 @@ module _ (bytes seen types : List ℕ) (at : ℕ) (left : Left bytes seen types 
       (omega arith, ap (λ (i : ℕ). getD bytes i 0) (add-one at) ∙ n-is, ap (λ (i : ℕ). drop i bytes) (add-two at) ∙ rest-is)
 
   pub left-type : at < length bytes → getD bytes at 0 ≡ 2
-      → (at + 1 < length bytes) × ((k : ℕ) → k ≡ getD bytes (at + 1) 0 → 0 + k / 32 < length seen → Left bytes (putAt seen 0 k) types (at + 2))
+      → (at + 1 < length bytes) × ((k : ℕ) → k ≡ getD bytes (at + 1) 0 → 0 + k / 32 < length seen → TypesLeft bytes (putAt seen 0 k) types (at + 2))
   left-type h e = go (next h)
     where
       go : After (getD bytes at 0) (drop (suc at) bytes) (left .others)
-          → (at + 1 < length bytes) × ((k : ℕ) → k ≡ getD bytes (at + 1) 0 → 0 + k / 32 < length seen → Left bytes (putAt seen 0 k) types (at + 2))
+          → (at + 1 < length bytes) × ((k : ℕ) → k ≡ getD bytes (at + 1) 0 → 0 + k / 32 < length seen → TypesLeft bytes (putAt seen 0 k) types (at + 2))
       go (a-type n rest others p q r w) =
           let s = second n rest q in (
             s .0,
@@ -156,10 +156,10 @@ module _ (bytes seen types : List ℕ) (at : ℕ) (left : Left bytes seen types 
       go (a-count n rest p q r w) = absurd (omega arith)
       go (alone p w) = absurd (⊎-elim (λ t. omega arith) (λ t. omega arith) p)
 
-  pub left-count : at < length bytes → 2 < getD bytes at 0 → getD bytes at 0 < 5 → (at + 1 < length bytes) × Left bytes seen types (at + 2)
+  pub left-count : at < length bytes → 2 < getD bytes at 0 → getD bytes at 0 < 5 → (at + 1 < length bytes) × TypesLeft bytes seen types (at + 2)
   left-count h a b = go (next h)
     where
-      go : After (getD bytes at 0) (drop (suc at) bytes) (left .others) → (at + 1 < length bytes) × Left bytes seen types (at + 2)
+      go : After (getD bytes at 0) (drop (suc at) bytes) (left .others) → (at + 1 < length bytes) × TypesLeft bytes seen types (at + 2)
       go (a-type k rest others p q r w) = absurd (omega arith)
       go (a-count n rest p q r w) =
           let s = second n rest r in (
@@ -173,10 +173,10 @@ module _ (bytes seen types : List ℕ) (at : ℕ) (left : Left bytes seen types 
       go (alone p w) = absurd (⊎-elim (λ t. omega arith) (λ t. omega arith) p)
 
   pub left-alone : at < length bytes → (getD bytes at 0 ≡ 2 → ⊥) → ((2 < getD bytes at 0) → (getD bytes at 0 < 5) → ⊥)
-      → Left bytes seen types (at + 1)
+      → TypesLeft bytes seen types (at + 1)
   left-alone h a b = go (next h)
     where
-      go : After (getD bytes at 0) (drop (suc at) bytes) (left .others) → Left bytes seen types (at + 1)
+      go : After (getD bytes at 0) (drop (suc at) bytes) (left .others) → TypesLeft bytes seen types (at + 1)
       go (a-type k rest others p q r w) = absurd (a p)
       go (a-count n rest p q r w) = absurd (b p q)
       go (alone p w) =

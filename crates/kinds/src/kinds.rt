@@ -1,9 +1,9 @@
 // The kinds of a table, by its index: local, and single-type.
 //
 // The types of one content, or the starts, are a set at the front of the lent words. Eight words have a bit for each value of a byte.
-use reader::work::clear;
 use reader::numbers::wide;
 use reader::tables::TableIndex;
+use reader::work::clear;
 use sets::words::has;
 use sets::words::put;
 ghost use mathlib.Core.Path.{_≡_};
@@ -18,7 +18,7 @@ ghost use Rattle.grammar.specs.ReadContent.{contentBytes};
 ghost use Rattle.grammar.specs.Table.{Rule, Table};
 ghost use Rattle.grammar.specs.Lists.{all, allDistinct};
 ghost use Rattle.grammar.specs.KindTests.{samePair, noneCompete, isLocal, isSingleType};
-ghost use Rattle.reader.specs.TableIndex.{Indexes, Indexed};
+ghost use Rattle.reader.specs.TableIndex.{Indexes, TableIndexed};
 ghost use Rattle.kinds.specs.RulesAt.{anyBelow, sameLabelAt, samePairAt, rivals, rivalsAt, Holds, IsContent};
 
 // An earlier rule has the label of this one.
@@ -198,7 +198,7 @@ fn none_compete(index: TableIndex, words: &[u32]) -> bool
 
 // No two different types that stand in the content of this rule have rules with one label.
 fn none_compete_in(table: &[u8], index: TableIndex, i: usize, words: &mut [u32]) -> bool
-    requires { ⌜ (Indexed (now table) index) × (i < index .rules) × (8 ≤ length (now words)) ⌝ }
+    requires { ⌜ (TableIndexed (now table) index) × (i < index .rules) × (8 ≤ length (now words)) ⌝ }
     ensures { λ r. ⌜ ((g : Table) (rule : Rule) → Indexes (now (table .entry)) index g → getElem? (g .rules) i ≡ some rule
         → r ≡ noneCompete g (typesIn (rule .content))) ⌝ }
 {
@@ -212,7 +212,7 @@ fn none_compete_in(table: &[u8], index: TableIndex, i: usize, words: &mut [u32])
 
 // The same of every content.
 fn none_compete_in_any(table: &[u8], index: TableIndex, words: &mut [u32]) -> bool
-    requires { ⌜ (Indexed (now table) index) × (8 ≤ length (now words)) ⌝ }
+    requires { ⌜ (TableIndexed (now table) index) × (8 ≤ length (now words)) ⌝ }
     ensures { λ r. ⌜ ((g : Table) → Indexes (now (table .entry)) index g
         → r ≡ all (λ (rule : Rule). noneCompete g (typesIn (rule .content))) (g .rules)) ⌝ }
 {
@@ -230,7 +230,7 @@ fn none_compete_in_any(table: &[u8], index: TableIndex, words: &mut [u32]) -> bo
 
 // No two rules have one type and label, and no two different types compete among the starts or in a content.
 pub fn single_type_table(table: &[u8], index: TableIndex, words: &mut [u32]) -> bool
-    requires { ⌜ (Indexed (now table) index) × (8 ≤ length (now words)) ⌝ }
+    requires { ⌜ (TableIndexed (now table) index) × (8 ≤ length (now words)) ⌝ }
     ensures { λ r. ⌜ ((g : Table) → Indexes (now (table .entry)) index g → r ≡ isSingleType g) ⌝ }
 {
     if distinct_pairs(index) {

@@ -29,7 +29,7 @@ use Rattle.grammar.specs.declared.Refusal.the-variants.{
   OutputTooShort,
 }
 use Rattle.grammar.specs.Listing.{digitsWithin, decimal, typeText}
-use Rattle.theory.proofs.BoolLaws.{passes-or-fails}
+use Rattle.theory.proofs.lists.BoolLaws.{passes-or-fails}
 
 digits-one : (n k : ℕ) → ltb k 10 ≡ true → digitsWithin (suc n) k ≡ (0x30 + k) ∷ []
 unfolding digitsWithin

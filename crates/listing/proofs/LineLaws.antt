@@ -16,14 +16,16 @@ use Rattle.grammar.specs.Table.{Rule, Table}
 use Rattle.grammar.specs.ReadContent.{contentBytes}
 use Rattle.grammar.specs.WithinLimits.{ContentWithin}
 use Rattle.grammar.specs.Listing.{Text, typeText, contentText, startLine, ruleLine}
-use Rattle.theory.proofs.ListLaws.{at-else, joined-end}
+use Rattle.theory.proofs.lists.ListLaws.{at-else, joined-end}
 use Rattle.reader.specs.declared.tables.TableIndex.{TableIndex}
-use Rattle.reader.specs.TableIndex.{labelFrom, labelTo, ruleType, ruleLabel, contentFrom, contentTo, part, Stands, RuleAt}
-use Rattle.reader.proofs.TableFound.{TableFound, RuleFound, label-found-at, rule-found-at, content-in-part}
 use Rattle.reader.specs.ContentAt.{ContentAt}
+use Rattle.reader.specs.TableIndex.{labelFrom, labelTo, ruleType, ruleLabel, contentFrom, contentTo, part, BytesStand, RuleAt}
+use Rattle.reader.specs.TableFound.{TableFound}
+use Rattle.reader.proofs.TableFoundLaws.{RuleFound, label-found-at, rule-found-at, content-in-part}
+use Rattle.pairs.specs.PairNumbers.{ruleNumbered}
 use Rattle.emitting.specs.Writing.{Put}
 use Rattle.listing.specs.declared.contents.Ends.{Ends}
-use Rattle.listing.specs.Printing.{ruleOf, Printable, Printed}
+use Rattle.listing.specs.Printing.{Printable, Printed}
 use Rattle.listing.proofs.DecimalLaws.{type-size}
 use Rattle.listing.proofs.RoomLaws.{content-short}
 
@@ -37,10 +39,10 @@ module _ {s : List ℕ} {index : TableIndex} (f : TableFound s index) where
   g = f .table
 
   module _ (l : ℕ) (h : l < index .labels) where
-    pub name-stands : Stands s (labelFrom index l) (labelTo index l) (getD (g .labels) l [])
+    pub name-stands : BytesStand s (labelFrom index l) (labelTo index l) (getD (g .labels) l [])
     name-stands =
         let a = label-found-at (f .indexes) (f .within) l h in
-        subst (λ (n : Name). Stands s (labelFrom index l) (labelTo index l) n) (sym (at-else (g .labels) l [] (a .1))) (a .2)
+        subst (λ (n : Name). BytesStand s (labelFrom index l) (labelTo index l) n) (sym (at-else (g .labels) l [] (a .1))) (a .2)
 
     pub name-size : length (getD (g .labels) l []) ≤ 63
     unfolding standard
@@ -55,42 +57,41 @@ module _ {s : List ℕ} {index : TableIndex} (f : TableFound s index) where
     found : RuleFound s index g i
     found = rule-found-at (f .indexes) (f .within) i h
 
-    rule-is : found .rule ≡ ruleOf g i
-    unfolding ruleOf
+    rule-is : found .rule ≡ ruleNumbered g i
     rule-is = sym (at-else (g .rules) i (record { type = 0; label = 0; content = none }) (found .listed))
 
-    rule-stands : RuleAt s index i (ruleOf g i)
+    rule-stands : RuleAt s index i (ruleNumbered g i)
     rule-stands = subst (RuleAt s index i) rule-is (found .at)
 
-    content-within : ContentWithin standard (ruleOf g i .content)
+    content-within : ContentWithin standard (ruleNumbered g i .content)
     content-within = subst (λ (r : Rule). ContentWithin standard (r .content)) rule-is (found .within .content)
 
-    pub rule-type-is : ruleType index i ≡ ruleOf g i .type
+    pub rule-type-is : ruleType index i ≡ ruleNumbered g i .type
     rule-type-is = rule-stands .type
 
-    pub rule-label-is : ruleLabel index i ≡ ruleOf g i .label
+    pub rule-label-is : ruleLabel index i ≡ ruleNumbered g i .label
     rule-label-is = rule-stands .label
 
-    pub content-stands : Stands s (contentFrom index i) (contentTo index i) (contentBytes (ruleOf g i .content))
+    pub content-stands : BytesStand s (contentFrom index i) (contentTo index i) (contentBytes (ruleNumbered g i .content))
     content-stands = rule-stands .content
 
-    pub content-size : length (contentText (ruleOf g i .content)) ≤ 3071
+    pub content-size : length (contentText (ruleNumbered g i .content)) ≤ 3071
     unfolding standard
     content-size =
-        let b = content-short (ruleOf g i .content) (content-within .proper) in
+        let b = content-short (ruleNumbered g i .content) (content-within .proper) in
         let c = content-within .size in
         omega arith
 
     abbrev content-there : ContentAt standard (part s (contentFrom index i) (contentTo index i)) 0
     content-there =
         record {
-          content = ruleOf g i .content;
+          content = ruleNumbered g i .content;
           next = contentTo index i - contentFrom index i;
-          stands = content-in-part (ruleOf g i .content) content-stands;
+          stands = content-in-part (ruleNumbered g i .content) content-stands;
           proper = content-within .proper;
         }
 
-    content-room : (at room : ℕ) → at + 3071 ≤ room → at + length (contentText (ruleOf g i .content)) ≤ room
+    content-room : (at room : ℕ) → at + 3071 ≤ room → at + length (contentText (ruleNumbered g i .content)) ≤ room
     content-room at room r = let z = content-size in omega arith
 
     pub content-asks : {text : List ℕ} {at : ℕ} → at + 3071 ≤ length text
@@ -100,11 +101,10 @@ module _ {s : List ℕ} {index : TableIndex} (f : TableFound s index) where
     pub content-put : {text : List ℕ} {at : ℕ} {after : List ℕ} {r : Ends} → at + 3071 ≤ length text
         → ((q : Printable (part s (contentFrom index i) (contentTo index i)) 0 text at)
         → Printed text at (contentText (q .there .content)) (q .there .next) after r)
-        → Put text at (contentText (ruleOf g i .content)) after (r .text)
+        → Put text at (contentText (ruleNumbered g i .content)) after (r .text)
     content-put {text} {at} r walk = walk (record { there = content-there; room = content-room at (length text) r }) .put
 
-    pub lines-next : joinedOf (ruleLine g) (take i (g .rules)) ++ ruleLine g (ruleOf g i) ≡ joinedOf (ruleLine g) (take (i + 1) (g .rules))
-    unfolding ruleOf
+    pub lines-next : joinedOf (ruleLine g) (take i (g .rules)) ++ ruleLine g (ruleNumbered g i) ≡ joinedOf (ruleLine g) (take (i + 1) (g .rules))
     lines-next =
         joined-next (ruleLine g) (g .rules) i (record { type = 0; label = 0; content = none }) (omega (arith, f .indexes .rules))
 

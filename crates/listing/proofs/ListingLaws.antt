@@ -29,12 +29,12 @@ use Rattle.grammar.specs.declared.Refusal.{Refusal}
 use Rattle.grammar.specs.declared.Refusal.the-variants.{OutputTooShort}
 use Rattle.grammar.specs.declared.Written.{Written}
 use Rattle.grammar.specs.declared.Written.the-variants.{Length, Refused as Unwritten}
-use Rattle.theory.proofs.OutcomeLaws.{no-fault, was-given, given-eq}
-use Rattle.theory.proofs.NumberedTable.{standard-agree}
-use Rattle.theory.proofs.ReadWithin.{read-within}
-use Rattle.theory.proofs.DocumentWithin.{document-within}
-use Rattle.theory.proofs.ResultWithin.{document-result-within, document-result-read-back}
-use Rattle.theory.proofs.AnswerNumbers.{was-written, was-unwritten}
+use Rattle.theory.proofs.bytes.OutcomeLaws.{no-fault, was-given, given-eq}
+use Rattle.theory.proofs.bytes.NumberedTable.{standard-agree}
+use Rattle.theory.proofs.bytes.ReadWithin.{read-within}
+use Rattle.theory.proofs.bytes.DocumentWithin.{document-within}
+use Rattle.theory.proofs.theorems.ResultWithin.{document-result-within, document-result-read-back}
+use Rattle.theory.proofs.theorems.AnswerNumbers.{was-written, was-unwritten}
 use Rattle.reader.proofs.AnswerLaws.{never-given}
 use Rattle.reader.proofs.WorkLaws.{lent-enough}
 use Rattle.emitting.specs.Writing.{Put}

@@ -4,12 +4,12 @@ use mathlib.Core.List.{List, [], _∷_, _++_}
 use mathlib.Core.Path.{_≡_}
 use lib.ListN.{length, getD}
 use Rattle.grammar.specs.Limits.{standard}
-use Rattle.grammar.specs.Content.{none, Contents, []ᶜ, _∷ᶜ_}
-use Rattle.grammar.specs.Table.{Rule, Table}
+use Rattle.grammar.specs.Content.{Contents, []ᶜ, _∷ᶜ_}
+use Rattle.grammar.specs.Table.{Table}
 use Rattle.grammar.specs.Listing.{Text, contentText, continued}
 use Rattle.reader.specs.declared.tables.TableIndex.{TableIndex}
-use Rattle.reader.proofs.TableFound.{TableFound}
 use Rattle.reader.specs.ContentAt.{ContentAt, ContentsAt}
+use Rattle.reader.specs.TableFound.{TableFound}
 use Rattle.emitting.specs.Writing.{Put}
 use Rattle.listing.specs.declared.contents.Ends.{Ends}
 
@@ -37,10 +37,6 @@ pub record RowPrintable (content : List ℕ) (at n first mark : ℕ) (text : Lis
 pub record Printed (before : List ℕ) (at : ℕ) (bytes : Text) (next : ℕ) (after : List ℕ) (r : Ends) : Type 0 where
   pub content : r .content ≡ next
   pub put : Put before at bytes after (r .text)
-
--- the rule of a number
-unfoldable pub ruleOf : Table → ℕ → Rule
-ruleOf g i = getD (g .rules) i (record { type = 0; label = 0; content = none })
 
 -- This text of the table that was read is written, and it is no longer than so much.
 pub record TextPut (s : List ℕ) (index : TableIndex) (words : Table → Text) (most : ℕ) (before : List ℕ) (at : ℕ) (after : List ℕ)

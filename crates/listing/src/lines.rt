@@ -6,8 +6,8 @@ use crate::pieces::put_decimal;
 use crate::pieces::put_type;
 use grammar::Reading;
 use grammar::Refusal;
-use reader::refusals::number_of;
 use reader::numbers::wide;
+use reader::refusals::number_of;
 use reader::tables::TableIndex;
 use reader::tables::read_table;
 ghost use Prim.Native.Nat.{_+_, _≤_, _<_};
@@ -19,9 +19,10 @@ ghost use Rattle.grammar.specs.Names.{asciiClasses};
 ghost use Rattle.grammar.specs.Outcome.{refused};
 ghost use Rattle.grammar.specs.ReadTable.{readTable};
 ghost use Rattle.grammar.specs.Listing.{contentText, startLine, ruleLine, localText, outcomeText};
-ghost use Rattle.reader.proofs.TableFound.{TableFound};
+ghost use Rattle.reader.specs.TableFound.{TableFound};
+ghost use Rattle.pairs.specs.PairNumbers.{ruleNumbered};
 ghost use Rattle.emitting.specs.Writing.{Put};
-ghost use Rattle.listing.specs.Printing.{ruleOf, TextPut};
+ghost use Rattle.listing.specs.Printing.{TextPut};
 
 // A label's name.
 fn put_name(table: &[u8], index: TableIndex, label: usize, text: &mut [u8], at: usize) -> usize
@@ -38,7 +39,7 @@ fn put_name(table: &[u8], index: TableIndex, label: usize, text: &mut [u8], at: 
 // The content of a rule.
 fn put_rule_content(table: &[u8], index: TableIndex, i: usize, text: &mut [u8], at: usize) -> usize
     requires { ⌜ TableFound (now table) index × (i < index .rules) × (at + 3071 ≤ length (now text)) ⌝ }
-    ensures { λ r. ⌜ TextPut (now (table .entry)) index (λ g. contentText (ruleOf g i .content)) 3071
+    ensures { λ r. ⌜ TextPut (now (table .entry)) index (λ g. contentText (ruleNumbered g i .content)) 3071
         (now (text .entry)) at (now (text .exit)) r ⌝ }
 {
     let content_from = index.content_from;
@@ -52,7 +53,8 @@ fn put_rule_content(table: &[u8], index: TableIndex, i: usize, text: &mut [u8], 
 // The line of a rule: type, name and content.
 fn put_rule_line(table: &[u8], index: TableIndex, i: usize, text: &mut [u8], at: usize) -> usize
     requires { ⌜ TableFound (now table) index × (i < index .rules) × (at + 3140 ≤ length (now text)) ⌝ }
-    ensures { λ r. ⌜ TextPut (now (table .entry)) index (λ g. ruleLine g (ruleOf g i)) 3140 (now (text .entry)) at (now (text .exit)) r ⌝ }
+    ensures { λ r. ⌜ TextPut (now (table .entry)) index (λ g. ruleLine g (ruleNumbered g i)) 3140 (now (text .entry)) at
+        (now (text .exit)) r ⌝ }
 {
     let rule_type = index.rule_type;
     let rule_label = index.rule_label;
@@ -69,8 +71,8 @@ fn put_start_line(text: &mut [u8], at: usize, k: usize) -> usize
     requires { ⌜ (k < 100) × (at + 10 ≤ length (now text)) ⌝ }
     ensures { λ r. ⌜ Put (now (text .entry)) at (startLine k) (now (text .exit)) r ⌝ }
 {
-    let kind = put_bytes(text, at, b"start ");
-    let end = put_type(text, kind, k);
+    let behind = put_bytes(text, at, b"start ");
+    let end = put_type(text, behind, k);
     put_byte(text, end, b'\n')
 }
 
@@ -130,7 +132,8 @@ pub fn refusal_line(refusal: Refusal, text: &mut [u8]) -> usize
 // What some bytes read as: the text of the table, or the line of the refusal.
 pub fn list_bytes(table: &[u8], text: &mut [u8]) -> usize
     requires { ⌜ 202000 ≤ length (now text) ⌝ }
-    ensures { λ r. ⌜ Put (now (text .entry)) 0 (outcomeText (readTable standard asciiClasses (now (table .entry)))) (now (text .exit)) r ⌝ }
+    ensures { λ r. ⌜ Put (now (text .entry)) 0 (outcomeText (readTable standard asciiClasses (now (table .entry))))
+        (now (text .exit)) r ⌝ }
 {
     let read = read_table(table);
     let answer = read.answer;

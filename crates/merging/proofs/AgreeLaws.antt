@@ -31,7 +31,7 @@ use Rattle.grammar.specs.Table.{Rule, Table}
 use Rattle.grammar.specs.ReadContent.{isProper, areProper}
 use Rattle.grammar.specs.WithinLimits.{TableWithin}
 use Rattle.grammar.specs.Unite.{shifted, added, unite}
-use Rattle.theory.proofs.Alternatives.{alts, altsOfEach, around, inSequence}
+use Rattle.theory.specs.Alternatives.{alts, altsOfEach, around, inSequence}
 use Rattle.reader.proofs.ExtentLaws.{proper-number, proper-sequence, proper-choice, proper-first}
 use Rattle.merging.specs.Merging.{Shallow}
 

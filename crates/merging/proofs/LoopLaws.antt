@@ -17,22 +17,23 @@ use Rattle.grammar.specs.Content.{Content, choiceOf}
 use Rattle.grammar.specs.Size.{contentTooLarge}
 use Rattle.grammar.specs.Table.{Table}
 use Rattle.grammar.specs.Normalise.{pairOf}
-use Rattle.theory.proofs.ListLaws.{keep-yes, keep-no}
-use Rattle.theory.proofs.Alternatives.{alts, written, onlyIf}
-use Rattle.theory.proofs.EmittedContent.{joined-map, joined-twice}
-use Rattle.theory.proofs.Gathering.{gathered, gather-nothing, gather-more, written-gathered}
-use Rattle.pairs.specs.Rounds.{contentOf}
-use Rattle.pairs.specs.PairNumbers.{ruleAt, contentsOfPair, contentsIn}
+use Rattle.theory.specs.Alternatives.{alts, written, onlyIf, gathered}
+use Rattle.theory.specs.Conditions.{Regular}
+use Rattle.theory.proofs.lists.ListLaws.{keep-yes, keep-no}
+use Rattle.theory.proofs.emission.EmittedContent.{joined-map, joined-twice}
+use Rattle.theory.proofs.emission.GatheringLaws.{gather-nothing, gather-more, written-gathered}
+use Rattle.pairs.specs.Rounds.{contentOfRule}
+use Rattle.pairs.specs.PairNumbers.{ruleNumbered, contentsOfPair, contentsIn}
 use Rattle.emitting.specs.declared.drafts.Gathering.{Gathering}
 use Rattle.emitting.specs.declared.drafts.Gathering.the-variants.{TooLarge, Upto}
 use Rattle.emitting.specs.declared.completing.ContentMade.{ContentMade}
 use Rattle.emitting.specs.declared.completing.ContentMade.the-variants as made
 use Rattle.emitting.specs.Drafts.{Row, Kept, TooWide}
-use Rattle.emitting.specs.Completing.{Regular, Made}
 use Rattle.emitting.specs.Emitting.{TypesKept}
+use Rattle.emitting.specs.Completing.{Made}
 use Rattle.emitting.proofs.WideLaws.{wide-gathered, too-large}
 use Rattle.emitting.proofs.TypesKeptLaws.{no-upto}
-use Rattle.merging.specs.Merging.{Ready, GathersIn, GathersKept}
+use Rattle.merging.specs.Merging.{Ready, GathersInContent, GathersKept}
 
 -- what is asked for, and what is not
 pub given-on : (draft set : List ℕ) (ds xs : List Content) (r : Gathering) (on : Bool) → on ≡ true → GathersKept draft set (gathered ds xs) r
@@ -42,7 +43,7 @@ given-on draft set ds xs r on e g = subst (λ (b : Bool). GathersKept draft set 
 
 pub given-off : (draft set : List ℕ) (count end : ℕ) (xs : List Content) (on : Bool) → on ≡ false → (k : Ready draft set count end)
     → GathersKept draft set (gathered (k .kept .list) (onlyIf on xs)) (Upto 0 count end)
-unfolding onlyIf GathersIn
+unfolding onlyIf GathersInContent
 given-off draft set count end xs on e k =
     let ds = k .kept .list in
     let same : ds ≡ gathered ds (onlyIf on xs) =
@@ -61,7 +62,7 @@ module _ (give : ℕ → List Content) (n : ℕ) where
   abbrev pub restFrom : ℕ → List Content
   restFrom i = joinedOf give (numbersFrom i (n - i))
 
-  pub record SoFar (ds : List Content) (draft set : List ℕ) (count end i : ℕ) : Type 0 where
+  pub record MergedSoFar (ds : List Content) (draft set : List ℕ) (count end i : ℕ) : Type 0 where
     pub list : List Content
     pub types : TypesKept set (gathered ds list)
     pub row : Row draft 2 count (gathered ds list) end
@@ -80,7 +81,7 @@ module _ (give : ℕ → List Content) (n : ℕ) where
   unfolding joinedOf numbersFrom
   rest-none = let z : n - n ≡ 0 = omega arith in ap (λ (m : ℕ). joinedOf give (numbersFrom n m)) z
 
-  pub so-far-none : {draft set : List ℕ} {count end : ℕ} (k : Ready draft set count end) → SoFar (k .kept .list) draft set count end 0
+  pub so-far-none : {draft set : List ℕ} {count end : ℕ} (k : Ready draft set count end) → MergedSoFar (k .kept .list) draft set count end 0
   unfolding numbersBelow
   so-far-none {draft} {set} {count} {end} k =
       let same = sym (gather-nothing (k .kept .list) (k .kept .row .apart)) in
@@ -92,7 +93,7 @@ module _ (give : ℕ → List Content) (n : ℕ) where
         rest = let z : n - 0 ≡ n = omega arith in ap (λ (m : ℕ). joinedOf give (numbersFrom 0 m)) z;
       }
 
-  module _ {ds : List Content} {draft set : List ℕ} {count end i : ℕ} (s : SoFar ds draft set count end i) where
+  module _ {ds : List Content} {draft set : List ℕ} {count end i : ℕ} (s : MergedSoFar ds draft set count end i) where
     -- ready for the next number
     abbrev pub ready-for : 33858 ≤ length draft → Ready draft set count end
     ready-for room =
@@ -102,8 +103,8 @@ module _ (give : ℕ → List Content) (n : ℕ) where
       abbrev next-list : List Content
       next-list = s .list ++ give i
 
-      next-gathers : GathersIn after (gathered ds next-list) r
-      next-gathers = subst (λ (l : List Content). GathersIn after l r) (gather-more ds (s .list) (give i)) (g .gathers)
+      next-gathers : GathersInContent after (gathered ds next-list) r
+      next-gathers = subst (λ (l : List Content). GathersInContent after l r) (gather-more ds (s .list) (give i)) (g .gathers)
 
       next-rest : next-list ++ restFrom (i + 1) ≡ joinedOf give (numbersBelow n)
       next-rest =
@@ -113,21 +114,21 @@ module _ (give : ℕ → List Content) (n : ℕ) where
 
       pub so-far-wide : r ≡ TooLarge → (last set″ : List ℕ) (all : List Content) → joinedOf give (numbersBelow n) ≡ all
           → GathersKept last set″ (gathered ds all) TooLarge
-      unfolding GathersIn
+      unfolding GathersInContent
       so-far-wide e last set″ all whole =
           record {
             gathers =
                 subst (λ (l : List Content). TooWide 1024 (gathered ds l)) (next-rest ∙ whole)
                 (wide-gathered 1024 ds next-list (restFrom (i + 1))
-                (subst (λ (x : Gathering). GathersIn after (gathered ds next-list) x) e next-gathers));
+                (subst (λ (x : Gathering). GathersInContent after (gathered ds next-list) x) e next-gathers));
             types = λ u. no-upto u;
           }
 
-      pub so-far-next : {m c stop : ℕ} → r ≡ Upto m c stop → SoFar ds after set′ c stop (i + 1)
-      unfolding GathersIn
+      pub so-far-next : {m c stop : ℕ} → r ≡ Upto m c stop → MergedSoFar ds after set′ c stop (i + 1)
+      unfolding GathersInContent
       so-far-next {m} {c} {stop} e =
           let t : Row after 2 c (gathered ds next-list) stop × (stop ≤ 1026) =
-          subst (λ (x : Gathering). GathersIn after (gathered ds next-list) x) e next-gathers in
+          subst (λ (x : Gathering). GathersInContent after (gathered ds next-list) x) e next-gathers in
           record {
             list = next-list;
             types = subst (TypesKept set′) (gather-more ds (s .list) (give i)) (g .types e);
@@ -138,7 +139,7 @@ module _ (give : ℕ → List Content) (n : ℕ) where
 
     pub so-far-all : i ≡ n → (all : List Content) → joinedOf give (numbersBelow n) ≡ all
         → GathersKept draft set (gathered ds all) (Upto 0 count end)
-    unfolding GathersIn
+    unfolding GathersInContent
     so-far-all e all whole =
         subst (λ (l : List Content). GathersKept draft set (gathered ds l) (Upto 0 count end))
         (sym (append-nil (s .list)) ∙ ap (λ (l : List Content). s .list ++ l) (sym (ap restFrom e ∙ rest-none)) ∙ s .rest ∙ whole)
@@ -165,7 +166,7 @@ joined-kept {A} {B} f test (x ∷ xs) = go (test x) refl (joined-kept f test xs)
 module _ (of : ℕ → List ℕ) (u : Table) where
   -- what a rule gives to a pair, and a pair to a set
   abbrev pub ruleGives : (p i : ℕ) → List Content
-  ruleGives p i = onlyIf (eqb (pairOf u (ruleAt u i)) p) (alts of (contentOf u i))
+  ruleGives p i = onlyIf (eqb (pairOf u (ruleNumbered u i)) p) (alts of (contentOfRule u i))
 
   abbrev pub pairGives : (ℕ → Bool) → ℕ → List Content
   pairGives set p = onlyIf (set p) (joinedOf (alts of) (contentsOfPair u p))
@@ -173,10 +174,10 @@ module _ (of : ℕ → List ℕ) (u : Table) where
   pub pair-gives : (p n : ℕ) → n ≡ length (u .rules) → joinedOf (ruleGives p) (numbersBelow n) ≡ joinedOf (alts of) (contentsOfPair u p)
   unfolding contentsOfPair
   pair-gives p n e =
-      let own : ℕ → Bool = λ i. eqb (pairOf u (ruleAt u i)) p in
+      let own : ℕ → Bool = λ i. eqb (pairOf u (ruleNumbered u i)) p in
       ap (λ (m : ℕ). joinedOf (ruleGives p) (numbersBelow m)) e
-      ∙ sym (joined-kept (λ i. alts of (contentOf u i)) own (numbersBelow (length (u .rules))))
-      ∙ sym (joined-map (alts of) (contentOf u) (keep own (numbersBelow (length (u .rules)))))
+      ∙ sym (joined-kept (λ i. alts of (contentOfRule u i)) own (numbersBelow (length (u .rules))))
+      ∙ sym (joined-map (alts of) (contentOfRule u) (keep own (numbersBelow (length (u .rules)))))
 
   pub set-gives : (set : ℕ → Bool) (n : ℕ) → n ≡ length (u .rules)
       → joinedOf (pairGives set) (numbersBelow n) ≡ joinedOf (alts of) (contentsIn u set)
@@ -187,17 +188,17 @@ module _ (of : ℕ → List ℕ) (u : Table) where
       ∙ sym (joined-twice (alts of) (contentsOfPair u) (keep set (numbersBelow (length (u .rules)))))
 
 -- the content of all
-module _ (draft : List ℕ) (xs : List Content) (r : Gathering) (g : GathersIn draft (gathered [] xs) r) where
+module _ (draft : List ℕ) (xs : List Content) (r : Gathering) (g : GathersInContent draft (gathered [] xs) r) where
   pub made-wide : r ≡ TooLarge → (after : List ℕ) → Made after (written xs) made.TooLarge
-  unfolding GathersIn Made
+  unfolding GathersInContent Made
   made-wide e after =
       ap (λ (l : List Content). contentTooLarge standard (written l)) (sym (append-nil xs))
-      ∙ too-large xs [] (subst (λ (x : Gathering). GathersIn draft (gathered [] xs) x) e g)
+      ∙ too-large xs [] (subst (λ (x : Gathering). GathersInContent draft (gathered [] xs) x) e g)
 
   pub made-row : {m count end : ℕ} → r ≡ Upto m count end → Row draft 2 count (gathered [] xs) end
-  unfolding GathersIn
+  unfolding GathersInContent
   made-row {m} {count} {end} e =
-      let t : Row draft 2 count (gathered [] xs) end × (end ≤ 1026) = subst (λ (x : Gathering). GathersIn draft (gathered [] xs) x) e g in
+      let t : Row draft 2 count (gathered [] xs) end × (end ≤ 1026) = subst (λ (x : Gathering). GathersInContent draft (gathered [] xs) x) e g in
       t .0
 
   abbrev pub made-kept : {m count end : ℕ} → r ≡ Upto m count end → Kept draft 2 count end

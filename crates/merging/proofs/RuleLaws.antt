@@ -14,27 +14,27 @@ use Rattle.grammar.specs.Content.{Content, none, nesting}
 use Rattle.grammar.specs.Table.{Rule, Table}
 use Rattle.grammar.specs.Unite.{shifted}
 use Rattle.grammar.specs.Normalise.{pairOf}
-use Rattle.theory.proofs.ListLaws.{at-mem, at-else}
-use Rattle.theory.proofs.Alternatives.{alts, someLeft, alts-renamed}
-use Rattle.theory.proofs.Gathering.{gathered}
+use Rattle.theory.specs.Alternatives.{alts, someLeft, gathered}
+use Rattle.theory.proofs.lists.ListLaws.{at-mem, at-else}
+use Rattle.theory.proofs.emission.AlternativeLaws.{alts-renamed}
 use Rattle.sets.specs.Sets.{bitOf, member}
 use Rattle.sets.specs.declared.four.Set4.{Set4}
 use Rattle.pairs.specs.declared.lists.TypeLists.{TypeLists}
 use Rattle.pairs.specs.declared.union.United.{United}
-use Rattle.pairs.specs.Walks.{listOf}
 use Rattle.pairs.specs.View.{SourceContent, FromAddition, Views, fromIn, toIn, firstIn}
-use Rattle.pairs.specs.Rounds.{contentOf}
-use Rattle.pairs.specs.PairNumbers.{ruleAt}
+use Rattle.pairs.specs.Walks.{listOfType}
+use Rattle.pairs.specs.Rounds.{contentOfRule}
+use Rattle.pairs.specs.PairNumbers.{ruleNumbered}
 use Rattle.pairs.proofs.ViewLaws.{content-is, seen}
 use Rattle.emitting.specs.declared.drafts.Gathering.{Gathering}
 use Rattle.emitting.specs.declared.drafts.Gathering.the-variants.{TooLarge, Upto}
 use Rattle.emitting.specs.Drafts.{Gathers}
 use Rattle.emitting.specs.Emitting.{Maps, Source, GathersTypes}
-use Rattle.merging.specs.Merging.{Merging, Ready, GathersIn, GathersKept}
+use Rattle.merging.specs.Merging.{Merging, Ready, GathersInContent, GathersKept}
 use Rattle.merging.proofs.AgreeLaws.{alts-agree, nesting-renamed}
 
 pub first-is : {old add : List ℕ} {v : United} {u : Table} → Views old add v u → (i : ℕ) → i < v .rules
-    → firstIn v i ≡ pairOf u (ruleAt u i)
+    → firstIn v i ≡ pairOf u (ruleNumbered u i)
 first-is {u = u} x i h =
     let s = seen x i h in
     s .2 .first ∙ ap (pairOf u) (sym (at-else (u .rules) i (record { type = 0; label = 0; content = none }) (s .1)))
@@ -58,8 +58,8 @@ part-long words e =
     omega arith
 
 -- an answer of the emitter from the third byte on
-gathers-in : (d d' : List ℕ) (old next : ℕ) (ds : List Content) (r : Gathering) → Gathers d d' 2 old 1026 next ds r → GathersIn d' ds r
-unfolding Gathers GathersIn
+gathers-in : (d d' : List ℕ) (old next : ℕ) (ds : List Content) (r : Gathering) → Gathers d d' 2 old 1026 next ds r → GathersInContent d' ds r
+unfolding Gathers GathersInContent
 gathers-in d d' old next ds TooLarge g = g
 gathers-in d d' old next ds (Upto m count end) g = (g .1 .row, g .1 .fits)
 
@@ -96,7 +96,7 @@ module _ {old add : List ℕ} {v : United} {types : Set4} {results : TypeLists} 
     pub deep : nesting (rule .content) ≤ 32
     deep = q .shallow rule (at-mem (q .table .rules) i (seen (q .views) i h .1))
 
-    rule-content : contentOf (q .table) i ≡ rule .content
+    rule-content : contentOfRule (q .table) i ≡ rule .content
     rule-content = content-is (q .table) i rule (seen (q .views) i h .1)
 
     module _ {draft set : List ℕ} {count end : ℕ} (k : Ready draft set count end) where
@@ -119,12 +119,12 @@ module _ {old add : List ℕ} {v : United} {types : Set4} {results : TypeLists} 
 
         pub old-gives : (after set′ : List ℕ) (r : Gathering)
             → GathersKept after set′
-            (gathered (k .kept .list) (alts (listOf (results .old .from) (results .old .numbers)) (rule .content))) r
-            → GathersKept after set′ (gathered (k .kept .list) (alts (q .of) (contentOf (q .table) i))) r
+            (gathered (k .kept .list) (alts (listOfType (results .old .from) (results .old .numbers)) (rule .content))) r
+            → GathersKept after set′ (gathered (k .kept .list) (alts (q .of) (contentOfRule (q .table) i))) r
         unfolding standard
         old-gives after set′ r g =
             subst (λ (l : List Content). GathersKept after set′ (gathered (k .kept .list) l) r)
-            (alts-agree standard (listOf (results .old .from) (results .old .numbers)) (q .of) (q .lists .old) (rule .content) (old-part .proper)
+            (alts-agree standard (listOfType (results .old .from) (results .old .numbers)) (q .of) (q .lists .old) (rule .content) (old-part .proper)
             ∙ ap (alts (q .of)) (sym rule-content))
             g
 
@@ -157,12 +157,12 @@ module _ {old add : List ℕ} {v : United} {types : Set4} {results : TypeLists} 
 
         pub added-gives : (after set′ : List ℕ) (r : Gathering)
             → GathersKept after set′
-            (gathered (k .kept .list) (alts (listOf (results .addition .from) (results .addition .numbers)) (added-part .source))) r
-            → GathersKept after set′ (gathered (k .kept .list) (alts (q .of) (contentOf (q .table) i))) r
+            (gathered (k .kept .list) (alts (listOfType (results .addition .from) (results .addition .numbers)) (added-part .source))) r
+            → GathersKept after set′ (gathered (k .kept .list) (alts (q .of) (contentOfRule (q .table) i))) r
         unfolding standard
         added-gives after set′ r g =
             subst (λ (l : List Content). GathersKept after set′ (gathered (k .kept .list) l) r)
-            (alts-agree standard (listOf (results .addition .from) (results .addition .numbers)) (λ j. q .of (shifted standard j)) (q .lists .added)
+            (alts-agree standard (listOfType (results .addition .from) (results .addition .numbers)) (λ j. q .of (shifted standard j)) (q .lists .added)
             (added-part .source)
             (added-part .stands .proper)
             ∙ sym (alts-renamed (shifted standard) (q .of) (added-part .source))

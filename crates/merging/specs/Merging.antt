@@ -5,7 +5,7 @@ use mathlib.Core.Path.{_≡_}
 use lib.ListN.{length}
 use Rattle.grammar.specs.Content.{Content, nesting}
 use Rattle.grammar.specs.Table.{Rule, Table}
-use Rattle.theory.proofs.Alternatives.{someLeft}
+use Rattle.theory.specs.Alternatives.{someLeft}
 use Rattle.sets.specs.Sets.{member}
 use Rattle.sets.specs.declared.four.Set4.{Set4}
 use Rattle.pairs.specs.declared.lists.TypeLists.{TypeLists}
@@ -40,11 +40,11 @@ pub record Ready (draft set : List ℕ) (count end : ℕ) : Type 0 where
   pub room : 33858 ≤ length draft
 
 -- these operands stand there; or they are too large for a content
-unfoldable pub GathersIn : List ℕ → List Content → Gathering → Type 0
-GathersIn draft ds TooLarge = TooWide 1024 ds
-GathersIn draft ds (Upto next count end) = Row draft 2 count ds end × (end ≤ 1026)
+unfoldable pub GathersInContent : List ℕ → List Content → Gathering → Type 0
+GathersInContent draft ds TooLarge = TooWide 1024 ds
+GathersInContent draft ds (Upto next count end) = Row draft 2 count ds end × (end ≤ 1026)
 
 -- and the set has the result types among them
 pub record GathersKept (draft set : List ℕ) (ds : List Content) (r : Gathering) : Type 0 where
-  pub gathers : GathersIn draft ds r
+  pub gathers : GathersInContent draft ds r
   pub types : {next count end : ℕ} → r ≡ Upto next count end → TypesKept set ds

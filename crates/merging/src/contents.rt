@@ -14,15 +14,15 @@ ghost use Prim.Native.Nat.{_≤_, _<_};
 ghost use mathlib.Core.List.{[]};
 ghost use lib.ListN.{length};
 ghost use Rattle.grammar.specs.Lists.{joinedOf};
-ghost use Rattle.theory.proofs.Alternatives.{alts, written, onlyIf};
-ghost use Rattle.theory.proofs.Gathering.{gathered};
+ghost use Rattle.theory.specs.Alternatives.{alts, written, onlyIf, gathered};
+ghost use Rattle.theory.specs.Conditions.{Regular};
 ghost use Rattle.sets.specs.Sets.{member};
-ghost use Rattle.pairs.specs.Walks.{listOf};
-ghost use Rattle.pairs.specs.Rounds.{contentOf};
 ghost use Rattle.pairs.specs.PairNumbers.{contentsOfPair, contentsIn};
+ghost use Rattle.pairs.specs.Walks.{listOfType};
+ghost use Rattle.pairs.specs.Rounds.{contentOfRule};
 ghost use Rattle.emitting.specs.Emitting.{Source, TypesKept};
-ghost use Rattle.emitting.specs.Completing.{Regular, Made};
-ghost use Rattle.merging.specs.Merging.{Merging, Ready, GathersIn, GathersKept};
+ghost use Rattle.emitting.specs.Completing.{Made};
+ghost use Rattle.merging.specs.Merging.{Merging, Ready, GathersInContent, GathersKept};
 
 // Adds what a source content gives, with the lists of its own table.
 fn gather_content(
@@ -40,7 +40,7 @@ fn gather_content(
         (now (draft .entry)) 2 count end 1026)
         → TypesKept (now (kept .entry)) (q .kept .list)
         → GathersKept (now (draft .exit)) (now (kept .exit))
-        (gathered (q .kept .list) (alts (listOf (lists .from) (lists .numbers)) (q .there .content))) r) ⌝ }
+        (gathered (q .kept .list) (alts (listOfType (lists .from) (lists .numbers)) (q .there .content))) r) ⌝ }
 {
     let from = lists.from;
     let numbers = lists.numbers;
@@ -76,7 +76,7 @@ fn gather_rule(
     ensures { λ r. ⌜ ((q : Merging (now (old .entry)) (now (add .entry)) v types results)
         (k : Ready (now (draft .entry)) (now (kept .entry)) count end)
         → GathersKept (now (draft .exit)) (now (kept .exit))
-        (gathered (k .kept .list) (alts (q .of) (contentOf (q .table) i))) r) ⌝ }
+        (gathered (k .kept .list) (alts (q .of) (contentOfRule (q .table) i))) r) ⌝ }
 {
     let content_from = v.content_from;
     let content_to = v.content_to;
@@ -109,7 +109,7 @@ fn gather_rule_if(
     ensures { λ r. ⌜ ((q : Merging (now (old .entry)) (now (add .entry)) v types results)
         (k : Ready (now (draft .entry)) (now (kept .entry)) count end)
         → GathersKept (now (draft .exit)) (now (kept .exit))
-        (gathered (k .kept .list) (onlyIf on (alts (q .of) (contentOf (q .table) i)))) r) ⌝ }
+        (gathered (k .kept .list) (onlyIf on (alts (q .of) (contentOfRule (q .table) i)))) r) ⌝ }
 {
     if on {
         return gather_rule(old, add, v, i, types, results, draft, count, end, kept);
@@ -223,7 +223,8 @@ fn gather_set(
 ) -> Gathering
     requires { ⌜ Merging (now old) (now add) v types results × (33858 ≤ length (now draft)) ⌝ }
     ensures { λ r. ⌜ ((q : Merging (now (old .entry)) (now (add .entry)) v types results)
-        → GathersIn (now (draft .exit)) (gathered [] (joinedOf (alts (q .of)) (contentsIn (q .table) (member (set .words) 0)))) r) ⌝ }
+        → GathersInContent (now (draft .exit))
+        (gathered [] (joinedOf (alts (q .of)) (contentsIn (q .table) (member (set .words) 0)))) r) ⌝ }
 {
     let rules = v.rules;
     let mut kept = [0u32; 8];

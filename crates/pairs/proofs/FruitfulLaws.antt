@@ -15,17 +15,17 @@ use Rattle.grammar.specs.Table.{Rule, Table}
 use Rattle.grammar.specs.KindTests.{samePair}
 use Rattle.grammar.specs.Normalise.{pairOf, pairsOf, normalise}
 use Rattle.grammar.specs.Reduce.{newlyFruitful, fruitful}
-use Rattle.theory.proofs.BoolLaws.{and-left, and-right, and-intro, or-cases, or-left, or-right, same-test}
-use Rattle.theory.proofs.ListLaws.{any-found, any-of, kept, keep-mem, distinct-has, in-mem, mem-in, at-mem}
-use Rattle.theory.proofs.Rounds.{not-known, rounds-hold, closed-has}
-use Rattle.theory.proofs.Fruitful.{fruitful-closed}
-use Rattle.theory.proofs.NormaliseDocuments.{pair-refl, pair-trans, pair-same, pairs-of}
-use Rattle.theory.proofs.Alternatives.{hasAlts, allHaveAlts, oneHasAlts, hasLeft}
-use Rattle.theory.proofs.EmittedRule.{firstRules, pairContents, newly-fruitful}
+use Rattle.theory.specs.Alternatives.{hasAlts, allHaveAlts, oneHasAlts, hasLeft}
+use Rattle.theory.proofs.lists.BoolLaws.{and-left, and-right, and-intro, or-cases, or-left, or-right, same-test}
+use Rattle.theory.proofs.lists.ListLaws.{any-found, any-of, kept, keep-mem, distinct-has, in-mem, mem-in, at-mem}
+use Rattle.theory.proofs.steps.Rounds.{not-known, rounds-hold, closed-has}
+use Rattle.theory.proofs.steps.Fruitful.{fruitful-closed}
+use Rattle.theory.proofs.steps.NormaliseDocuments.{pair-refl, pair-trans, pair-same, pairs-of}
+use Rattle.theory.proofs.emission.EmittedRule.{firstRules, pairContents, newly-fruitful}
 use Rattle.sets.specs.Sets.{nothing}
 use Rattle.pairs.specs.declared.union.United.{United}
 use Rattle.pairs.specs.View.{Views, firstIn, typeIn}
-use Rattle.pairs.specs.Rounds.{puts, contentOf, typesWith, afterRound}
+use Rattle.pairs.specs.Rounds.{puts, contentOfRule, typesWith, afterRound}
 use Rattle.pairs.proofs.PutsLaws.{puts-was, puts-has, puts-keeps}
 use Rattle.pairs.proofs.ViewLaws.{content-is, seen, rule-seen}
 
@@ -144,7 +144,7 @@ module _ {old add : List ℕ} {v : United} {u : Table} (x : Views old add v u) (
   -- a round keeps what is known
   pub round-keeps : (p : ℕ) → known p ≡ true → afterRound u v known p ≡ true
   unfolding afterRound
-  round-keeps p e = puts-keeps (λ i. hasAlts (typesWith v known) (contentOf u i)) (firstIn v) known (v .rules) p e
+  round-keeps p e = puts-keeps (λ i. hasAlts (typesWith v known) (contentOfRule u i)) (firstIn v) known (v .rules) p e
 
   pub round-sound : ((p : ℕ) → known p ≡ true → isIn p (fruitful (normalise u)) ≡ true) → (p : ℕ) → afterRound u v known p ≡ true
       → isIn p (fruitful (normalise u)) ≡ true
@@ -159,7 +159,7 @@ module _ {old add : List ℕ} {v : United} {u : Table} (x : Views old add v u) (
       (s .0 .content) alts in
       let m = fruitful-on u (s .0) (at-mem (u .rules) (q .number) (s .1)) more in
       mem-in (Memᴰ·cast (sym (q .keyed) ∙ s .2 .first) m))
-      (puts-was (λ i. hasAlts (typesWith v known) (contentOf u i)) (firstIn v) known (v .rules) p e)
+      (puts-was (λ i. hasAlts (typesWith v known) (contentOfRule u i)) (firstIn v) known (v .rules) p e)
 
   -- where a round adds nothing, every fruitful pair is known
   round-complete : afterRound u v known ≡ known → (p : ℕ) → List·Memᴰ p (fruitful (normalise u)) → known p ≡ true
@@ -171,11 +171,11 @@ module _ {old add : List ℕ} {v : United} {u : Table} (x : Views old add v u) (
       let s = rule-seen x (n .rule) (n .of-table) in
       let i = s .0 in
       let alts = more-alts (hasLeft (pairsOf u) list) (typesWith v known) (left-types list h) (n .rule .content) (n .alts) in
-      let is-on : hasAlts (typesWith v known) (contentOf u i) ≡ true =
+      let is-on : hasAlts (typesWith v known) (contentOfRule u i) ≡ true =
       ap (hasAlts (typesWith v known)) (content-is u i (n .rule) (s .2)) ∙ alts in
       ap known (sym (s .3 .first ∙ n .of-pair))
       ∙ sym (ap (λ (f : ℕ → Bool). f (firstIn v i)) closed)
-      ∙ puts-has (λ j. hasAlts (typesWith v known) (contentOf u j)) (firstIn v) known (v .rules) i (s .1) is-on)
+      ∙ puts-has (λ j. hasAlts (typesWith v known) (contentOfRule u j)) (firstIn v) known (v .rules) i (s .1) is-on)
       (length (normalise u .rules))
       []
       (λ p m. absurd (List·Memᴰ·not-nil m))

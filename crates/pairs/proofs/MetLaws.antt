@@ -15,9 +15,9 @@ use Rattle.grammar.specs.Lists.{distinct}
 use Rattle.grammar.specs.ReadTable.{isEmpty}
 use Rattle.grammar.specs.Content.{Content, none, empty, type, sequence, choice, anyNumber, oneOrMore, optional, Contents, []ᶜ, _∷ᶜ_}
 use Rattle.grammar.specs.ReadContent.{operators}
-use Rattle.theory.proofs.ListLaws.{eqb-decides}
-use Rattle.theory.proofs.Alternatives.{hasAlts, allHaveAlts, oneHasAlts, someLeft, onlyIf, pairsMet, pairsMetAll}
-use Rattle.theory.proofs.DistinctLaws.{distinct-left}
+use Rattle.theory.specs.Alternatives.{hasAlts, allHaveAlts, oneHasAlts, someLeft, onlyIf, pairsMet, pairsMetAll}
+use Rattle.theory.proofs.lists.ListLaws.{eqb-decides}
+use Rattle.theory.proofs.lists.DistinctLaws.{distinct-left}
 use Rattle.sets.specs.Sets.{member, putAt}
 use Rattle.sets.specs.declared.four.Set4.{Set4}
 use Rattle.reader.specs.ExprAt.{_upTo_, placed, exprAt, exprsAt}
@@ -40,8 +40,22 @@ use Rattle.reader.proofs.ExprLaws.{
 }
 use Rattle.pairs.specs.declared.met.MetOne.{MetOne}
 use Rattle.pairs.specs.declared.met.MetRow.{MetRow}
-use Rattle.pairs.specs.Walks.{listOf, Listed, Once, Adds, Seen, TypeMet, metAt, metRowAt, MetAsks, MetRowAsks, MetFinds, MetRowFinds, sequenceMet}
 use Rattle.reader.proofs.ContentAtLaws.{placed-of, content-inside, type-there, count-there, operands-there, first-of, others-there}
+use Rattle.pairs.specs.Walks.{
+  listOfType,
+  Listed,
+  Once,
+  Adds,
+  SeenListed,
+  TypeMet,
+  metAt,
+  metRowAt,
+  MetAsks,
+  MetRowAsks,
+  MetFinds,
+  MetRowFinds,
+  sequenceMet,
+}
 use Rattle.pairs.proofs.ProductiveLaws.{placed-through}
 use Rattle.pairs.proofs.OnceLaws.{adds-once, adds-same, front-kept, part-below}
 use Rattle.pairs.proofs.SeenLaws.{seen-again, seen-put}
@@ -193,8 +207,8 @@ not-empty [] n e = sym (le-ltb 0 n (omega arith))
 not-empty (x ∷ l) n e = sym (lt-ltb 0 n (omega arith))
 
 pub some-listed : (from pairs : List ℕ) (k : ℕ) → getD from k 0 ≤ getD from (k + 1) 0 → getD from (k + 1) 0 ≤ length pairs
-    → ltb (getD from k 0) (getD from (k + 1) 0) ≡ someLeft (listOf from pairs) k
-unfolding someLeft listOf
+    → ltb (getD from k 0) (getD from (k + 1) 0) ≡ someLeft (listOfType from pairs) k
+unfolding someLeft listOfType
 some-listed from pairs k h i =
     let d = length-drop (getD from k 0) pairs in
     let l = length-take-le (getD from (k + 1) 0 - getD from k 0) (drop (getD from k 0) pairs) (omega arith) in
@@ -210,32 +224,32 @@ some-listed from pairs k h i =
 
 -- a type's numbers as a part, and their bound
 listed-part : (from pairs : List ℕ) (k first end : ℕ) → first ≡ getD from k 0 → end ≡ getD from (k + 1) 0
-    → take (end - first) (drop first pairs) ≡ listOf from pairs k
-unfolding listOf
+    → take (end - first) (drop first pairs) ≡ listOfType from pairs k
+unfolding listOfType
 listed-part from pairs k first end p q = ap₂ (λ (a b : ℕ). take (b - a) (drop a pairs)) p q
 
 pub listed-below : (types bound : ℕ) (from pairs : List ℕ) → Listed types bound from pairs → (k p : ℕ)
-    → List·Memᴰ p (listOf from pairs k) → p < bound
-unfolding listOf
+    → List·Memᴰ p (listOfType from pairs k) → p < bound
+unfolding listOfType
 listed-below types bound from pairs h k p m =
     part-below pairs bound (h .below) (getD from k 0) (getD from (k + 1) 0 - getD from k 0) p m
 
 -- the numbers of a type: those of one that was seen are there already
 module _ (from pairs list : List ℕ) (count k first end next : ℕ) (seen : Set4) (small : k < 64) (lists : Listed 64 128 from pairs)
-    (once : Once 128 list count) (known : Seen (seen .words) (listOf from pairs) (take count list)) (f : first ≡ getD from k 0)
+    (once : Once 128 list count) (known : SeenListed (seen .words) (listOfType from pairs) (take count list)) (f : first ≡ getD from k 0)
     (g : end ≡ getD from (k + 1) 0) where
-  some-there : ltb first end ≡ someLeft (listOf from pairs) k
+  some-there : ltb first end ≡ someLeft (listOfType from pairs) k
   some-there = ap₂ ltb f g ∙ some-listed from pairs k (lists .order k small) (lists .inside k small)
 
   pub type-again : member (seen .words) 0 k ≡ true
-      → TypeMet (listOf from pairs) (take count list) k next list
+      → TypeMet (listOfType from pairs) (take count list) k next list
       (record { has = ltb first end; count = count; next = next; seen = seen })
   type-again e = record { has = some-there; adds = seen-again once known k e; next = refl; known = known }
 
   pub type-new : (list′ : List ℕ) (more : ℕ) (after : Set4)
       → Adds (take count list) (take (end - first) (drop first pairs)) list′ more
       → after .words ≡ putAt (seen .words) 0 k
-      → TypeMet (listOf from pairs) (take count list) k next list′
+      → TypeMet (listOfType from pairs) (take count list) k next list′
       (record { has = ltb first end; count = more; next = next; seen = after })
   type-new list′ more after a put =
       let adds = adds-same (listed-part from pairs k first end f g) a in
@@ -287,26 +301,26 @@ row-finds-adds left numbers s at n list r cs next e f =
 -- after a content the list is as it was asked to be
 pub finds-once : (s : List ℕ) (at : ℕ) (from pairs list : List ℕ) (count : ℕ) (list′ : List ℕ) (r : MetOne)
     → MetAsks s at from pairs list count
-    → MetFinds (listOf from pairs) (take count list) s at list′ r
+    → MetFinds (listOfType from pairs) (take count list) s at list′ r
     → length list′ ≡ length list
     → Once 128 list′ (r .count)
 finds-once s at from pairs list count list′ r a f e =
     let c = a .there .content in
-    let d = finds-adds (listOf from pairs) (take count list) s at list′ r c (a .there .next) (a .there .stands) f .2 in
-    adds-once 128 list count (a .once) (pairsMet (listOf from pairs) c) list′ (r .count)
-    (met-hold (listOf from pairs) (λ p. p < 128) (listed-below 64 128 from pairs (a .lists)) c)
+    let d = finds-adds (listOfType from pairs) (take count list) s at list′ r c (a .there .next) (a .there .stands) f .2 in
+    adds-once 128 list count (a .once) (pairsMet (listOfType from pairs) c) list′ (r .count)
+    (met-hold (listOfType from pairs) (λ p. p < 128) (listed-below 64 128 from pairs (a .lists)) c)
     d
     e
 
 module _ (s : List ℕ) (at : ℕ) (from pairs list : List ℕ) (count : ℕ) where
   abbrev left : ℕ → List ℕ
-  left = listOf from pairs
+  left = listOfType from pairs
 
   abbrev numbers : List ℕ
   numbers = take count list
 
-  pub none-finds : (seen : Set4) → MetAsks s at from pairs list count → Seen (seen .words) left numbers → getD s at 0 ≡ 0
-      → MetFinds (listOf from pairs) (take count list) s at list (record { has = false; count = count; next = at + 1; seen = seen })
+  pub none-finds : (seen : Set4) → MetAsks s at from pairs list count → SeenListed (seen .words) left numbers → getD s at 0 ≡ 0
+      → MetFinds (listOfType from pairs) (take count list) s at list (record { has = false; count = count; next = at + 1; seen = seen })
   none-finds seen a k e =
       record {
         found = met-none left numbers s at (a .once .once) (content-inside standard s at (a .there) .0) e;
@@ -314,8 +328,8 @@ module _ (s : List ℕ) (at : ℕ) (from pairs list : List ℕ) (count : ℕ) wh
         known = k;
       }
 
-  pub empty-finds : (seen : Set4) → MetAsks s at from pairs list count → Seen (seen .words) left numbers → getD s at 0 ≡ 1
-      → MetFinds (listOf from pairs) (take count list) s at list (record { has = true; count = count; next = at + 1; seen = seen })
+  pub empty-finds : (seen : Set4) → MetAsks s at from pairs list count → SeenListed (seen .words) left numbers → getD s at 0 ≡ 1
+      → MetFinds (listOfType from pairs) (take count list) s at list (record { has = true; count = count; next = at + 1; seen = seen })
   empty-finds seen a k e =
       record {
         found = met-empty left numbers s at (a .once .once) (content-inside standard s at (a .there) .0) e;
@@ -325,8 +339,8 @@ module _ (s : List ℕ) (at : ℕ) (from pairs list : List ℕ) (count : ℕ) wh
 
   pub type-finds : (list′ : List ℕ) (r : MetOne) (k : ℕ) → MetAsks s at from pairs list count → getD s at 0 ≡ 2
       → k ≡ getD s (at + 1) 0
-      → TypeMet (listOf from pairs) (take count list) k (at + 2) list′ r
-      → MetFinds (listOf from pairs) (take count list) s at list′ r
+      → TypeMet (listOfType from pairs) (take count list) k (at + 2) list′ r
+      → MetFinds (listOfType from pairs) (take count list) s at list′ r
   type-finds list′ r k a e t m =
       record {
         found =
@@ -339,9 +353,9 @@ module _ (s : List ℕ) (at : ℕ) (from pairs list : List ℕ) (count : ℕ) wh
       }
 
   module _ (list′ : List ℕ) (r : MetRow) (n : ℕ) (a : MetAsks s at from pairs list count) (counts : n ≡ getD s (at + 1) 0)
-      (row : MetRowFinds (listOf from pairs) (take count list) s (at + 2) n list′ r) where
+      (row : MetRowFinds (listOfType from pairs) (take count list) s (at + 2) n list′ r) where
     sequence-finds-all : getD s at 0 ≡ 3 → r .all ≡ true
-        → MetFinds (listOf from pairs) (take count list) s at list′ (record { has = true; count = r .count; next = r .next; seen = r .seen })
+        → MetFinds (listOfType from pairs) (take count list) s at list′ (record { has = true; count = r .count; next = r .next; seen = r .seen })
     sequence-finds-all e all =
         record {
           found =
@@ -355,9 +369,9 @@ module _ (s : List ℕ) (at : ℕ) (from pairs list : List ℕ) (count : ℕ) wh
           known = row .known;
         }
 
-    sequence-finds-none : (seen : Set4) → Seen (seen .words) left numbers → getD s at 0 ≡ 3 → r .all ≡ false
+    sequence-finds-none : (seen : Set4) → SeenListed (seen .words) left numbers → getD s at 0 ≡ 3 → r .all ≡ false
         → length list′ ≡ length list
-        → MetFinds (listOf from pairs) (take count list) s at list′
+        → MetFinds (listOfType from pairs) (take count list) s at list′
         (record { has = false; count = count; next = r .next; seen = seen })
     sequence-finds-none seen known e all same =
         let there = operands-there standard s at (a .there) (omega arith) (omega arith) in
@@ -374,19 +388,19 @@ module _ (s : List ℕ) (at : ℕ) (from pairs list : List ℕ) (count : ℕ) wh
               e
               ∙ ap (λ (l : List ℕ). just ((false, l) upTo (r .next))) (sym kept);
           held = subst (λ (m : ℕ). count ≤ m) (sym same) (a .once .held);
-          known = subst (λ (l : List ℕ). Seen (seen .words) left l) (sym kept) known;
+          known = subst (λ (l : List ℕ). SeenListed (seen .words) left l) (sym kept) known;
         }
 
-    pub sequence-finds : (seen : Set4) → Seen (seen .words) left numbers → getD s at 0 ≡ 3 → length list′ ≡ length list
-        → MetFinds (listOf from pairs) (take count list) s at list′ (sequenceMet r count seen)
+    pub sequence-finds : (seen : Set4) → SeenListed (seen .words) left numbers → getD s at 0 ≡ 3 → length list′ ≡ length list
+        → MetFinds (listOfType from pairs) (take count list) s at list′ (sequenceMet r count seen)
     sequence-finds seen known e same = go (r .all) refl
       where
-        go : (b : Bool) → r .all ≡ b → MetFinds (listOf from pairs) (take count list) s at list′ (sequenceMet r count seen)
+        go : (b : Bool) → r .all ≡ b → MetFinds (listOfType from pairs) (take count list) s at list′ (sequenceMet r count seen)
         go true all = rw all (sequence-finds-all e all)
         go false all = rw all (sequence-finds-none seen known e all same)
 
     pub choice-finds : getD s at 0 ≡ 4
-        → MetFinds (listOf from pairs) (take count list) s at list′ (record { has = r .one; count = r .count; next = r .next; seen = r .seen })
+        → MetFinds (listOfType from pairs) (take count list) s at list′ (record { has = r .one; count = r .count; next = r .next; seen = r .seen })
     choice-finds e =
         record {
           found =
@@ -400,8 +414,8 @@ module _ (s : List ℕ) (at : ℕ) (from pairs list : List ℕ) (count : ℕ) wh
         }
 
   module _ (list′ : List ℕ) (r : MetOne) (a : MetAsks s at from pairs list count)
-      (operand : MetFinds (listOf from pairs) (take count list) s (at + 1) list′ r) where
-    pub one-or-more-finds : getD s at 0 ≡ 6 → MetFinds (listOf from pairs) (take count list) s at list′ r
+      (operand : MetFinds (listOfType from pairs) (take count list) s (at + 1) list′ r) where
+    pub one-or-more-finds : getD s at 0 ≡ 6 → MetFinds (listOfType from pairs) (take count list) s at list′ r
     one-or-more-finds e =
         record {
           found =
@@ -412,7 +426,7 @@ module _ (s : List ℕ) (at : ℕ) (from pairs list : List ℕ) (count : ℕ) wh
         }
 
     pub around-finds : 5 ≤ getD s at 0 → (getD s at 0 ≡ 6 → ⊥)
-        → MetFinds (listOf from pairs) (take count list) s at list′ (record { has = true; count = r .count; next = r .next; seen = r .seen })
+        → MetFinds (listOfType from pairs) (take count list) s at list′ (record { has = true; count = r .count; next = r .next; seen = r .seen })
     around-finds low other =
         let i = content-inside standard s at (a .there) in
         record {
@@ -422,8 +436,8 @@ module _ (s : List ℕ) (at : ℕ) (from pairs list : List ℕ) (count : ℕ) wh
           known = operand .known;
         }
 
-  pub no-row-finds : (n : ℕ) (seen : Set4) → MetRowAsks s at n from pairs list count → Seen (seen .words) left numbers → n ≡ 0
-      → MetRowFinds (listOf from pairs) (take count list) s at n list
+  pub no-row-finds : (n : ℕ) (seen : Set4) → MetRowAsks s at n from pairs list count → SeenListed (seen .words) left numbers → n ≡ 0
+      → MetRowFinds (listOfType from pairs) (take count list) s at n list
       (record { all = true; one = false; count = count; next = at; seen = seen })
   no-row-finds n seen a k e =
       record {
@@ -433,11 +447,11 @@ module _ (s : List ℕ) (at : ℕ) (from pairs list : List ℕ) (count : ℕ) wh
       }
 
   pub row-finds : (n : ℕ) (list′ list″ : List ℕ) (first : MetOne) (others : MetRow) (all one : Bool) → (n ≡ 0 → ⊥)
-      → MetFinds (listOf from pairs) (take count list) s at list′ first
-      → MetRowFinds (listOf from pairs) (take (first .count) list′) s (first .next) (n - 1) list″ others
+      → MetFinds (listOfType from pairs) (take count list) s at list′ first
+      → MetRowFinds (listOfType from pairs) (take (first .count) list′) s (first .next) (n - 1) list″ others
       → all ≡ (first .has && others .all)
       → one ≡ (first .has || others .one)
-      → MetRowFinds (listOf from pairs) (take count list) s at n list″
+      → MetRowFinds (listOfType from pairs) (take count list) s at n list″
       (record { all = all; one = one; count = others .count; next = others .next; seen = others .seen })
   row-finds n list′ list″ first others all one some f o p q =
       record {
@@ -453,7 +467,7 @@ module _ (s : List ℕ) (at : ℕ) (from pairs list : List ℕ) (count : ℕ) wh
   first-asks n a some = record { there = first-of standard s at n (a .there) some .first; lists = a .lists; once = a .once }
 
   pub others-ask : (n : ℕ) (list′ : List ℕ) (r : MetOne) → MetRowAsks s at n from pairs list count → (n ≡ 0 → ⊥)
-      → MetFinds (listOf from pairs) (take count list) s at list′ r
+      → MetFinds (listOfType from pairs) (take count list) s at list′ r
       → length list′ ≡ length list
       → (at < r .next) × MetRowAsks s (r .next) (n - 1) from pairs list′ (r .count)
   others-ask n list′ r a some f same =

@@ -17,9 +17,16 @@ use lib.Seq.{take-suc, take-suc-set, take-take, take-at, length-take-le, getD-dr
 use lib.Dec.{eqb}
 use borrow.Author.Tests.{eqb-true, eq-eqb, ne-eqb}
 use Rattle.grammar.specs.Lists.{keep, distinct, isIn}
-use Rattle.theory.proofs.BoolLaws.{false-of, not-both, or-none}
-use Rattle.theory.proofs.ListLaws.{kept, distinct-was, in-mem, mem-in, in-append, taken-mem, eqb-decides, eqb-sym}
-use Rattle.theory.proofs.DistinctLaws.{keep-distinct, distinct-again, distinct-left, distinct-grows, one-more-new, one-more-old}
+use Rattle.theory.proofs.lists.BoolLaws.{false-of, not-both, or-none}
+use Rattle.theory.proofs.lists.ListLaws.{kept, distinct-was, in-mem, mem-in, in-append, taken-mem, eqb-decides, eqb-sym}
+use Rattle.theory.proofs.lists.DistinctLaws.{
+  keep-distinct,
+  distinct-again,
+  distinct-left,
+  distinct-grows,
+  one-more-new,
+  one-more-old,
+}
 use Rattle.sets.specs.Sets.{size}
 use Rattle.sets.proofs.SizeLaws.{size-le, size-nothing, size-add}
 use Rattle.pairs.specs.Walks.{Once, Adds}

@@ -12,11 +12,11 @@ use Rattle.grammar.specs.Content.{none}
 use Rattle.grammar.specs.Table.{Rule, Table}
 use Rattle.grammar.specs.KindTests.{samePair}
 use Rattle.grammar.specs.Normalise.{pairOf, pairsOf}
-use Rattle.theory.proofs.BoolLaws.{same-test, and-left}
-use Rattle.theory.proofs.ListLaws.{keep-yes, keep-no, kept, keep-map, keep-both, map-on}
-use Rattle.theory.proofs.PlaceLaws.{place-yes, place-no}
-use Rattle.theory.proofs.NormaliseDocuments.{pair-refl}
-use Rattle.theory.proofs.KindTests.{same-pair-sym}
+use Rattle.theory.proofs.lists.BoolLaws.{same-test, and-left}
+use Rattle.theory.proofs.lists.ListLaws.{keep-yes, keep-no, kept, keep-map, keep-both, map-on}
+use Rattle.theory.proofs.lists.PlaceLaws.{place-yes, place-no}
+use Rattle.theory.proofs.steps.NormaliseDocuments.{pair-refl}
+use Rattle.theory.proofs.tables.KindTests.{same-pair-sym}
 
 numbers-suc : (from n : ℕ) → numbersFrom (suc from) n ≡ map suc (numbersFrom from n)
 unfolding numbersFrom

@@ -8,7 +8,7 @@ use mathlib.Core.Path.{_≡_, refl, sym, _∙_, ap, ap₂}
 use lib.ListN.{length, getD, getElem?}
 use Rattle.grammar.specs.Content.{none, empty, type, sequence, choice, anyNumber, oneOrMore, optional, _∷ᶜ_}
 use Rattle.grammar.specs.ReadContent.{operators}
-use Rattle.theory.proofs.Alternatives.{hasAlts, allHaveAlts, oneHasAlts}
+use Rattle.theory.specs.Alternatives.{hasAlts, allHaveAlts, oneHasAlts}
 use Rattle.reader.specs.ExprAt.{Placed, _upTo_, placed, exprAt, exprsAt}
 use Rattle.reader.proofs.ExprLaws.{
   placed-from,

@@ -10,7 +10,7 @@ use mathlib.Core.Path.{_≡_, refl, sym, _∙_, ap, ap₂, subst}
 use lib.ListN.{length}
 use lib.Dec.{eqb}
 use borrow.Author.Tests.{eqb-true, eq-eqb, eqb-false}
-use Rattle.theory.proofs.BoolLaws.{passes-or-fails, or-cases, or-left, or-right}
+use Rattle.theory.proofs.lists.BoolLaws.{passes-or-fails, or-cases, or-left, or-right}
 use Rattle.sets.specs.Sets.{member, putAt, add, size, Compares}
 use Rattle.sets.proofs.SizeLaws.{size-le, size-compares}
 use Rattle.sets.proofs.SetLaws.{member-put, length-put}
@@ -34,22 +34,22 @@ module _ (on : ℕ → Bool) (key : ℕ → ℕ) (base : ℕ → Bool) where
   puts-none = refl
 
   -- a number with this key is on
-  pub record Put (n p : ℕ) : Type 0 where
+  pub record WasPut (n p : ℕ) : Type 0 where
     pub number : ℕ
     pub below : number < n
     pub is-on : on number ≡ true
     pub keyed : key number ≡ p
 
-  later : {n p : ℕ} → Put n p → Put (suc n) p
+  later : {n p : ℕ} → WasPut n p → WasPut (suc n) p
   later q = record { number = q .number; below = omega arith; is-on = q .is-on; keyed = q .keyed }
 
-  pub puts-was : (n p : ℕ) → puts on key base n p ≡ true → (base p ≡ true) ⊎ Put n p
+  pub puts-was : (n p : ℕ) → puts on key base n p ≡ true → (base p ≡ true) ⊎ WasPut n p
   unfolding puts
   puts-was zero p e = inl e
   puts-was (suc n) p e = go (passes-or-fails (on n)) (λ h. puts-was n p h)
     where
-      go : (on n ≡ true) ⊎ (on n ≡ false) → (puts on key base n p ≡ true → (base p ≡ true) ⊎ Put n p)
-          → (base p ≡ true) ⊎ Put (suc n) p
+      go : (on n ≡ true) ⊎ (on n ≡ false) → (puts on key base n p ≡ true → (base p ≡ true) ⊎ WasPut n p)
+          → (base p ≡ true) ⊎ WasPut (suc n) p
       go (inl t) ih =
           let f : (eqb p (key n) || puts on key base n p) ≡ true = ap (λ (s : ℕ → Bool). s p) (sym (next-on n t)) ∙ e in
           ⊎-elim

@@ -16,12 +16,12 @@ use Rattle.grammar.specs.Table.{Rule, Table}
 use Rattle.grammar.specs.KindTests.{samePair}
 use Rattle.grammar.specs.Normalise.{pairOf, pairsOf, normalise}
 use Rattle.grammar.specs.Reduce.{fruitful, withoutUnfruitful, newlyReached, reached}
-use Rattle.theory.proofs.BoolLaws.{same-test}
-use Rattle.theory.proofs.ListLaws.{kept, keep-mem, distinct-has, joined-from, joined-mem, in-mem}
-use Rattle.theory.proofs.Rounds.{not-known, rounds-hold, rounds-closed, closed-has}
-use Rattle.theory.proofs.NormaliseDocuments.{pair-refl, pair-trans, pair-same, pairs-of}
-use Rattle.theory.proofs.Alternatives.{pairsMet, pairsLeft}
-use Rattle.theory.proofs.EmittedRule.{firstRules, pairContents, fruitfulPairs, ruleLeft, fruitful-rules, newly-reached}
+use Rattle.theory.specs.Alternatives.{pairsMet, pairsLeft}
+use Rattle.theory.proofs.lists.BoolLaws.{same-test}
+use Rattle.theory.proofs.lists.ListLaws.{kept, keep-mem, distinct-has, joined-from, joined-mem, in-mem}
+use Rattle.theory.proofs.steps.Rounds.{not-known, rounds-hold, rounds-closed, closed-has}
+use Rattle.theory.proofs.steps.NormaliseDocuments.{pair-refl, pair-trans, pair-same, pairs-of}
+use Rattle.theory.proofs.emission.EmittedRule.{firstRules, pairContents, fruitfulPairs, ruleLeft, fruitful-rules, newly-reached}
 use Rattle.pairs.proofs.MetLaws.{met-hold}
 
 module _ (u : Table) where

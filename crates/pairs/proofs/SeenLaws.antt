@@ -23,12 +23,12 @@ use lib.Dec.{eqb}
 use lib.ListN.{length, take, replicate}
 use borrow.Author.Tests.{eqb-true}
 use Rattle.grammar.specs.Lists.{distinct, isIn}
-use Rattle.theory.proofs.BoolLaws.{not-both, or-cases}
-use Rattle.theory.proofs.ListLaws.{mem-in, distinct-mem, eqb-decides, eqb-sym}
-use Rattle.theory.proofs.DistinctLaws.{distinct-left, one-more-old}
+use Rattle.theory.proofs.lists.BoolLaws.{not-both, or-cases}
+use Rattle.theory.proofs.lists.ListLaws.{mem-in, distinct-mem, eqb-decides, eqb-sym}
+use Rattle.theory.proofs.lists.DistinctLaws.{distinct-left, one-more-old}
 use Rattle.sets.specs.Sets.{member, putAt}
 use Rattle.sets.proofs.SetLaws.{length-put, member-put, member-zeros}
-use Rattle.pairs.specs.Walks.{Once, Adds, Seen}
+use Rattle.pairs.specs.Walks.{Once, Adds, SeenListed}
 
 -- adding what is all there changes nothing
 all-there : (numbers : List ℕ) → distinct eqb numbers ≡ numbers → (more : List ℕ)
@@ -49,15 +49,15 @@ adds-has {numbers} {more} {list} {count} a {p} m =
     subst (λ (l : List ℕ). List·Memᴰ p l) (sym (a .all)) (distinct-mem eqb eqb-decides m)
 
 module _ {left : ℕ → List ℕ} where
-  pub seen-nothing : {seen : List ℕ} → seen ≡ replicate 4 0 → (numbers : List ℕ) → Seen seen left numbers
+  pub seen-nothing : {seen : List ℕ} → seen ≡ replicate 4 0 → (numbers : List ℕ) → SeenListed seen left numbers
   seen-nothing {seen} e numbers =
-      subst (λ (l : List ℕ). Seen l left numbers) (sym e)
+      subst (λ (l : List ℕ). SeenListed l left numbers) (sym e)
       record { size = refl; there = λ k m p h. absurd (not-both m (ap (λ q. q k) (member-zeros 4 0))) }
 
-  pub seen-put : {seen numbers after list : List ℕ} {count : ℕ} → Seen seen left numbers → (k : ℕ) → k < 128
+  pub seen-put : {seen numbers after list : List ℕ} {count : ℕ} → SeenListed seen left numbers → (k : ℕ) → k < 128
       → after ≡ putAt seen 0 k
       → Adds numbers (left k) list count
-      → Seen after left (take count list)
+      → SeenListed after left (take count list)
   seen-put {seen} {numbers} s k h put a =
       let w = s .size in
       record {
@@ -71,7 +71,7 @@ module _ {left : ℕ → List ℕ} where
             (sym (ap (λ (l : List ℕ). member l 0 j) put ∙ ap (λ q. q j) (member-put seen 0 k (omega arith))) ∙ e));
       }
 
-  pub seen-again : {seen list : List ℕ} {count : ℕ} → Once 128 list count → Seen seen left (take count list) → (k : ℕ)
+  pub seen-again : {seen list : List ℕ} {count : ℕ} → Once 128 list count → SeenListed seen left (take count list) → (k : ℕ)
       → member seen 0 k ≡ true
       → Adds (take count list) (left k) list count
   seen-again {seen} {list} {count} once s k e =

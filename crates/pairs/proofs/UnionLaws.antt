@@ -21,25 +21,25 @@ use Rattle.grammar.specs.KindTests.{samePair}
 use Rattle.grammar.specs.ReadContent.{contentBytes, isProper}
 use Rattle.grammar.specs.Unite.{shifted, unitedLabels, added, unite}
 use Rattle.grammar.specs.Normalise.{pairOf}
-use Rattle.theory.proofs.ListLaws.{at-else, any-of, at-mem, at-below, below-at}
-use Rattle.theory.proofs.PlaceLaws.{place-front, place-end}
-use Rattle.theory.proofs.NormaliseDocuments.{pair-refl}
+use Rattle.theory.proofs.lists.ListLaws.{at-else, any-of, at-mem, at-below, below-at}
+use Rattle.theory.proofs.lists.PlaceLaws.{place-front, place-end}
+use Rattle.theory.proofs.steps.NormaliseDocuments.{pair-refl}
 use Rattle.reader.specs.declared.tables.TableIndex.{TableIndex}
 use Rattle.reader.specs.ExprAt.{_upTo_}
-use Rattle.reader.specs.TableIndex.{part, Stands, Indexes, ruleType, ruleLabel, contentFrom, contentTo}
+use Rattle.reader.specs.TableIndex.{part, BytesStand, Indexes, ruleType, ruleLabel, contentFrom, contentTo}
 use Rattle.reader.proofs.ExprLaws.{expr-of}
 use Rattle.reader.proofs.LabelSearch.{place-first, place-nowhere, index-names}
 use Rattle.reader.proofs.TableIndexLaws.{at-end, rule-at}
 use Rattle.pairs.specs.declared.labels.Names.{Names}
 use Rattle.pairs.specs.declared.union.United.{United}
-use Rattle.pairs.specs.UnitedLabels.{NamesAt, newNames, unitedNames}
 use Rattle.pairs.specs.View.{SourceContent, typeIn, labelIn, RuleSeen, Views, rulesOnly, NextRule, TableHeld, AddingTo}
+use Rattle.pairs.specs.UnitedLabels.{NamesHeld, newNames, unitedNames}
 
 -- the place of a pair
-module _ {old add : List ℕ} {v : United} {rs : List Rule} (w : Views old add v (rulesOnly rs)) {kind label : ℕ} (x : Rule)
-    (of-type : kind ≡ x .type) (of-label : label ≡ x .label) where
+module _ {old add : List ℕ} {v : United} {rs : List Rule} (w : Views old add v (rulesOnly rs)) {ty label : ℕ} (x : Rule)
+    (of-type : ty ≡ x .type) (of-label : label ≡ x .label) where
   abbrev test : ℕ → Bool
-  test i = eqb kind (typeIn v i) && eqb label (labelIn v i)
+  test i = eqb ty (typeIn v i) && eqb label (labelIn v i)
 
   test-is : (i : ℕ) (z : Rule) → getElem? rs i ≡ just z → samePair x z ≡ test i
   unfolding samePair
@@ -60,12 +60,12 @@ module _ {old add : List ℕ} {v : United} {rs : List Rule} (w : Views old add v
       (λ j z q. let b = at-below rs j q in test-is j z q ∙ before j (omega (arith, w .rules))))
 
 -- one rule more
-abbrev pub addRule : United → (kind label first from to : ℕ) → United
-addRule v kind label first from to =
+abbrev pub addUnitedRule : United → (ty label first from to : ℕ) → United
+addUnitedRule v ty label first from to =
     record {
       rules = v .rules + 1;
       «old_rules» = v .«old_rules»;
-      types = set (v .types) (v .rules) kind;
+      types = set (v .types) (v .rules) ty;
       labels = set (v .labels) (v .rules) label;
       firsts = set (v .firsts) (v .rules) first;
       «content_from» = set (v .«content_from») (v .rules) from;
@@ -85,18 +85,18 @@ module _ {old add : List ℕ} {v : United} {rs : List Rule} (w : Views old add v
   own l i a size h e =
       ap (λ (k : ℕ). getD (set l (v .rules) a) k 0) e ∙ getD-set-same l (v .rules) a 0 (omega arith)
 
-  pub views-more : (kind label first from to : ℕ) (x : Rule) → v .rules < 128 → NextRule old add v kind label from to x
+  pub views-more : (ty label first from to : ℕ) (x : Rule) → v .rules < 128 → NextRule old add v ty label from to x
       → first ≡ place samePair x rs
-      → Views old add (addRule v kind label first from to) (rulesOnly (rs ++ (x ∷ [])))
+      → Views old add (addUnitedRule v ty label first from to) (rulesOnly (rs ++ (x ∷ [])))
   unfolding pairOf
-  views-more kind label first from to x room n placed =
+  views-more ty label first from to x room n placed =
       let l = length-append rs (x ∷ []) in
       let c = w .rules in
       let rooms = w .rooms in
       record {
         rooms =
             record {
-              types = length-set (v .types) (v .rules) kind ∙ rooms .types;
+              types = length-set (v .types) (v .rules) ty ∙ rooms .types;
               labels = length-set (v .labels) (v .rules) label ∙ rooms .labels;
               firsts = length-set (v .firsts) (v .rules) first ∙ rooms .firsts;
               content-from = length-set (v .«content_from») (v .rules) from ∙ rooms .content-from;
@@ -113,7 +113,7 @@ module _ {old add : List ℕ} {v : United} {rs : List Rule} (w : Views old add v
             let s = w .rule i r q in
             let m = at-mem rs i q in
             record {
-              type = other (v .types) i kind b ∙ s .type;
+              type = other (v .types) i ty b ∙ s .type;
               small = s .small;
               label = other (v .labels) i label b ∙ s .label;
               first = other (v .firsts) i first b ∙ s .first ∙ sym (place-front samePair r rs (x ∷ []) (any-of (samePair r) m (pair-refl r)));
@@ -133,9 +133,9 @@ module _ {old add : List ℕ} {v : United} {rs : List Rule} (w : Views old add v
             (λ q.
             let at : i ≡ v .rules = q .0 ∙ sym c in
             let xr : x ≡ r = q .1 in
-            subst (λ (y : Rule). RuleSeen old add (addRule v kind label first from to) (rulesOnly (rs ++ (x ∷ []))) i y) xr
+            subst (λ (y : Rule). RuleSeen old add (addUnitedRule v ty label first from to) (rulesOnly (rs ++ (x ∷ []))) i y) xr
             (record {
-              type = own (v .types) i kind (rooms .types) room at ∙ n .type;
+              type = own (v .types) i ty (rooms .types) room at ∙ n .type;
               small = n .small;
               label = own (v .labels) i label (rooms .labels) room at ∙ n .label-is;
               first = own (v .firsts) i first (rooms .firsts) room at ∙ placed ∙ sym (place-end samePair x (pair-refl x) rs);
@@ -195,7 +195,7 @@ no-views old add v e a b c d f =
     }
 
 -- a content of a table that was read
-source-of : {s : List ℕ} {from to : ℕ} {c : Content} → Stands s from to (contentBytes c) → isProper standard c ≡ true
+source-of : {s : List ℕ} {from to : ℕ} {c : Content} → BytesStand s from to (contentBytes c) → isProper standard c ≡ true
     → SourceContent s from to c
 source-of {s} {from} {to} {c} w p =
     let e = w .bytes-are in
@@ -227,12 +227,12 @@ take-more xs i {x} e =
 -- the next rule of the old table
 module _ {old add : List ℕ} {v : United} {index : TableIndex} {g : Table} (t : TableHeld old index g) (i : ℕ) (h : i < index .rules)
     (few : v .«old_rules» ≡ index .rules) (at : v .rules ≡ i) where
-  pub old-next : (kind label : ℕ) → kind ≡ ruleType index i → label ≡ ruleLabel index i
+  pub old-next : (ty label : ℕ) → ty ≡ ruleType index i → label ≡ ruleLabel index i
       → (x : Rule)
       × (rulesOnly (take i (g .rules) ++ (x ∷ [])) .rules ≡ rulesOnly (take (i + 1) (g .rules)) .rules)
-      × NextRule old add v kind label (contentFrom index i) (contentTo index i) x
+      × NextRule old add v ty label (contentFrom index i) (contentTo index i) x
   unfolding standard
-  old-next kind label k l =
+  old-next ty label k l =
       let r = rule-at (t .indexes) i h in
       let x = r .0 in
       let b = t .within .each-rule x (at-mem (g .rules) i (r .1)) in
@@ -264,19 +264,19 @@ new-label-below {old} {add} {olds} {adds} {fresh} {index} {g} {h} a i below l e 
 -- the next rule of the addition
 module _ {old add : List ℕ} {v : United} {olds adds fresh : Names} {index : TableIndex} {g h : Table}
     (a : AddingTo old olds add adds fresh index g h) (i : ℕ) (below : i < index .rules) (at : v .rules ≡ v .«old_rules» + i) where
-  pub new-next : (kind l label : ℕ) → kind ≡ 64 + ruleType index i → l ≡ ruleLabel index i
+  pub new-next : (ty l label : ℕ) → ty ≡ 64 + ruleType index i → l ≡ ruleLabel index i
       → label ≡ place sameName (getD (h .labels) l []) (unitedNames (g .labels) (h .labels))
       → (x : Rule)
       × ((g .rules ++ map (added standard g h) (take i (h .rules))) ++ (x ∷ [])
       ≡ g .rules ++ map (added standard g h) (take (i + 1) (h .rules)))
-      × NextRule old add v kind label (contentFrom index i) (contentTo index i) x
+      × NextRule old add v ty label (contentFrom index i) (contentTo index i) x
   unfolding standard added unitedLabels newNames shifted
-  new-next kind l label k m e =
+  new-next ty l label k m e =
       let r = rule-at (a .addition .indexes) i below in
       let y = r .0 in
       let b = a .addition .within .each-rule y (at-mem (h .rules) i (r .1)) in
       let small = b .type in
-      let ty = r .2 .type in (
+      let ty-is = r .2 .type in (
         added standard g h y,
         append-assoc (g .rules) (map (added standard g h) (take i (h .rules))) (added standard g h y ∷ [])
             ∙ ap
@@ -285,7 +285,7 @@ module _ {old add : List ℕ} {v : United} {olds adds fresh : Names} {index : Ta
             (ap (map (added standard g h)) (take-more (h .rules) i (r .1))
             ∙ map-append (added standard g h) (take i (h .rules)) (y ∷ []))),
         record {
-          type = k ∙ ap (λ (n : ℕ). 64 + n) ty;
+          type = k ∙ ap (λ (n : ℕ). 64 + n) ty-is;
           small = omega arith;
           label-is =
               e
@@ -308,7 +308,7 @@ union-starts g h = sym (append-nil (g .rules))
 
 -- labels of an index
 pub label-names : {s : List ℕ} {index : TableIndex} {g : Table} → Indexes s index g
-    → NamesAt s (record { from = index .«label_from»; to = index .«label_to»; count = index .labels }) (g .labels)
+    → NamesHeld s (record { from = index .«label_from»; to = index .«label_to»; count = index .labels }) (g .labels)
 label-names x =
     record {
       at = index-names x;

@@ -14,14 +14,14 @@ use lib.Dec.{leb}
 use borrow.Author.Tests.{leb-true, leb-false}
 use Rattle.grammar.specs.Lists.{any, keep, place}
 use Rattle.grammar.specs.Names.{Name, sameName}
-use Rattle.theory.proofs.ListLaws.{at-else, at-below, keep-yes, keep-no}
-use Rattle.theory.proofs.PlaceLaws.{place-most, place-some, place-none, place-front}
-use Rattle.theory.proofs.DistinctLaws.{keep-append}
-use Rattle.reader.specs.TableIndex.{part, Stands}
+use Rattle.theory.proofs.lists.ListLaws.{at-else, at-below, keep-yes, keep-no}
+use Rattle.theory.proofs.lists.PlaceLaws.{place-most, place-some, place-none, place-front}
+use Rattle.theory.proofs.lists.DistinctLaws.{keep-append}
+use Rattle.reader.specs.TableIndex.{part, BytesStand}
 use Rattle.reader.proofs.TableIndexLaws.{at-end}
 use Rattle.reader.proofs.LabelSearch.{name-at}
 use Rattle.pairs.specs.declared.labels.Names.{Names}
-use Rattle.pairs.specs.UnitedLabels.{NamesAt, namesIf, newNames, unitedNames}
+use Rattle.pairs.specs.UnitedLabels.{NamesHeld, namesIf, newNames, unitedNames}
 
 -- the place in joined lists
 module _ {A : Type 0} (same : A → A → Bool) (x : A) where
@@ -40,18 +40,18 @@ module _ {A : Type 0} (same : A → A → Bool) (x : A) where
           omega arith
 
 -- one name more
-module _ {s : List ℕ} {names : Names} {list : List Name} (x : NamesAt s names list) where
-  pub names-more : (from to : ℕ) (n : Name) → names .count < 64 → Stands s from to n → (new : Bool) (more : List Name)
+module _ {s : List ℕ} {names : Names} {list : List Name} (x : NamesHeld s names list) where
+  pub names-more : (from to : ℕ) (n : Name) → names .count < 64 → BytesStand s from to n → (new : Bool) (more : List Name)
       → (new ≡ true → more ≡ list ++ (n ∷ []))
       → (new ≡ false → more ≡ list)
-      → NamesAt s (namesIf new names from to) more
+      → NamesHeld s (namesIf new names from to) more
   unfolding namesIf
   names-more from to n room st true more p q =
       let l = length-append list (n ∷ []) in
       let c = x .at .count in
       let fr = length-set (names .from) (names .count) from ∙ x .from-room in
       let tr = length-set (names .to) (names .count) to ∙ x .to-room in
-      subst (λ (ms : List Name). NamesAt s (namesIf true names from to) ms) (sym (p refl))
+      subst (λ (ms : List Name). NamesHeld s (namesIf true names from to) ms) (sym (p refl))
       (record {
         at =
             record {
@@ -63,16 +63,16 @@ module _ {s : List ℕ} {names : Names} {list : List Name} (x : NamesAt s names 
                   let b = at-below list i h in
                   let d : i ≡ names .count → ⊥ = λ k. omega arith in
                   let w = x .at .name i m h in
-                  subst (λ (a : ℕ). Stands s a (getD (set (names .to) (names .count) to) i 0) m) (sym (getD-set-other (names .from) (names .count) i from 0 d))
-                  (subst (λ (a : ℕ). Stands s (getD (names .from) i 0) a m) (sym (getD-set-other (names .to) (names .count) i to 0 d)) w))
+                  subst (λ (a : ℕ). BytesStand s a (getD (set (names .to) (names .count) to) i 0) m) (sym (getD-set-other (names .from) (names .count) i from 0 d))
+                  (subst (λ (a : ℕ). BytesStand s (getD (names .from) i 0) a m) (sym (getD-set-other (names .to) (names .count) i to 0 d)) w))
                   (λ h.
                   let e₁ : i ≡ names .count = h .0 ∙ sym c in
                   let f : getD (set (names .from) (names .count) from) i 0 ≡ from =
                   ap (λ (k : ℕ). getD (set (names .from) (names .count) from) k 0) e₁ ∙ getD-set-same (names .from) (names .count) from 0 (omega arith) in
                   let g : getD (set (names .to) (names .count) to) i 0 ≡ to =
                   ap (λ (k : ℕ). getD (set (names .to) (names .count) to) k 0) e₁ ∙ getD-set-same (names .to) (names .count) to 0 (omega arith) in
-                  subst (λ (a : ℕ). Stands s a (getD (set (names .to) (names .count) to) i 0) m) (sym f)
-                  (subst (λ (a : ℕ). Stands s from a m) (sym g) (subst (λ (k : Name). Stands s from to k) (h .1) st)))
+                  subst (λ (a : ℕ). BytesStand s a (getD (set (names .to) (names .count) to) i 0) m) (sym f)
+                  (subst (λ (a : ℕ). BytesStand s from a m) (sym g) (subst (λ (k : Name). BytesStand s from to k) (h .1) st)))
                   (at-end list n i m e);
               from-room = omega arith;
               to-room = omega arith;
@@ -81,7 +81,7 @@ module _ {s : List ℕ} {names : Names} {list : List Name} (x : NamesAt s names 
         from-room = fr;
         to-room = tr;
       })
-  names-more from to n room st false more p q = subst (λ (ms : List Name). NamesAt s names ms) (sym (q refl)) x
+  names-more from to n room st false more p q = subst (λ (ms : List Name). NamesHeld s names ms) (sym (q refl)) x
 
 -- the addition's names one by one
 module _ (old added : List Name) where
@@ -118,7 +118,7 @@ module _ (old added : List Name) where
   pub new-all : (i : ℕ) → length added ≤ i → newNames old (take i added) ≡ newNames old added
   new-all i h = ap (newNames old) (take-all i added h)
 
-pub no-names : (s : List ℕ) (names : Names) → names .count ≡ 0 → length (names .from) ≡ 64 → length (names .to) ≡ 64 → NamesAt s names []
+pub no-names : (s : List ℕ) (names : Names) → names .count ≡ 0 → length (names .from) ≡ 64 → length (names .to) ≡ 64 → NamesHeld s names []
 no-names s names e f t =
     record {
       at =
@@ -138,22 +138,22 @@ unfolding namesIf
 names-count true names from to = omega arith
 names-count false names from to = omega arith
 
-module _ {old add : List ℕ} {olds adds : Names} {ns ms : List Name} (x : NamesAt old olds ns) (y : NamesAt add adds ms) where
+module _ {old add : List ℕ} {olds adds : Names} {ns ms : List Name} (x : NamesHeld old olds ns) (y : NamesHeld add adds ms) where
   abbrev nameOf : ℕ → Name
   nameOf i = part add (getD (adds .from) i 0) (getD (adds .to) i 0)
 
   -- one name of the addition
   pub new-names-step : (fresh r : Names) (i p : ℕ) → i < adds .count → p ≡ place sameName (nameOf i) ns
-      → NamesAt add fresh (newNames ns (take i ms))
+      → NamesHeld add fresh (newNames ns (take i ms))
       → fresh .count < 64
       → r ≡ namesIf (leb (olds .count) p) fresh (getD (adds .from) i 0) (getD (adds .to) i 0)
-      → NamesAt add r (newNames ns (take (i + 1) ms))
+      → NamesHeld add r (newNames ns (take (i + 1) ms))
   new-names-step fresh r i p h e f room q =
       let a = name-at (y .at) i h in
       let n = a .0 in
       let at : p ≡ place sameName n ns = e ∙ ap (λ (m : Name). place sameName m ns) (a .2 .bytes-are) in
       let c = x .at .count in
-      subst (λ (names : Names). NamesAt add names (newNames ns (take (i + 1) ms))) (sym q)
+      subst (λ (names : Names). NamesHeld add names (newNames ns (take (i + 1) ms))) (sym q)
       (names-more f (getD (adds .from) i 0) (getD (adds .to) i 0) n room (a .2) (leb (olds .count) p) (newNames ns (take (i + 1) ms))
       (λ t. let l = leb-true (olds .count) p t in new-more ns ms i (a .1) (omega arith))
       (λ t. let l = leb-false (olds .count) p t in new-same ns ms i (a .1) (omega arith)))
@@ -183,7 +183,7 @@ module _ {old add : List ℕ} {olds adds : Names} {ns ms : List Name} (x : Names
         let d = place-back sameName (getD ms label []) ns (newNames ns ms) (omega arith) in
         omega arith
 
-pub place-few : {s : List ℕ} {names : Names} {list : List Name} (x : NamesAt s names list) (name : Name) (p : ℕ)
+pub place-few : {s : List ℕ} {names : Names} {list : List Name} (x : NamesHeld s names list) (name : Name) (p : ℕ)
     → p ≡ place sameName name list
     → p ≤ 64
 place-few {s} {names} {list} x name p e =
@@ -192,8 +192,8 @@ place-few {s} {names} {list} x name p e =
     let f = x .few in
     omega arith
 
-pub names-same : {s : List ℕ} {names : Names} {xs ys : List Name} → xs ≡ ys → NamesAt s names xs → NamesAt s names ys
-names-same {s} {names} e x = subst (λ (l : List Name). NamesAt s names l) e x
+pub names-same : {s : List ℕ} {names : Names} {xs ys : List Name} → xs ≡ ys → NamesHeld s names xs → NamesHeld s names ys
+names-same {s} {names} e x = subst (λ (l : List Name). NamesHeld s names l) e x
 
 pub names-grow : (b : Bool) (names r : Names) (from to : ℕ) → r ≡ namesIf b names from to → r .count ≤ names .count + 1
 names-grow b names r from to e =

@@ -15,22 +15,23 @@ use Rattle.grammar.specs.Table.{Rule, Table}
 use Rattle.grammar.specs.KindTests.{samePair}
 use Rattle.grammar.specs.Unite.{shifted}
 use Rattle.grammar.specs.Normalise.{pairOf}
-use Rattle.theory.proofs.ListLaws.{any-of, at-mem, mem-at, at-below, below-at}
-use Rattle.theory.proofs.PlaceLaws.{place-found}
-use Rattle.theory.proofs.NormaliseDocuments.{pair-refl}
-use Rattle.theory.proofs.Alternatives.{hasAlts, has-renamed}
+use Rattle.theory.specs.Alternatives.{hasAlts}
+use Rattle.theory.proofs.lists.ListLaws.{any-of, at-mem, mem-at, at-below, below-at}
+use Rattle.theory.proofs.lists.PlaceLaws.{place-found}
+use Rattle.theory.proofs.steps.NormaliseDocuments.{pair-refl}
+use Rattle.theory.proofs.emission.AlternativeLaws.{has-renamed}
 use Rattle.sets.specs.Sets.{bitOf, member}
 use Rattle.reader.specs.ExprAt.{_upTo_, exprAt}
 use Rattle.pairs.specs.declared.union.United.{United}
 use Rattle.reader.specs.ContentAt.{ContentAt}
 use Rattle.pairs.specs.Walks.{hasAt}
 use Rattle.pairs.specs.View.{SourceContent, shiftedContent, RuleSeen, Views, ViewSized}
-use Rattle.pairs.specs.Rounds.{contentOf}
 use Rattle.reader.proofs.ContentAtLaws.{placed-of}
+use Rattle.pairs.specs.Rounds.{contentOfRule}
 
-pub content-is : (u : Table) (i : ℕ) (r : Rule) → getElem? (u .rules) i ≡ just r → contentOf u i ≡ r .content
-unfolding contentOf
-content-is u i r e = rw (e, contentOf)
+pub content-is : (u : Table) (i : ℕ) (r : Rule) → getElem? (u .rules) i ≡ just r → contentOfRule u i ≡ r .content
+unfolding contentOfRule
+content-is u i r e = rw (e, contentOfRule)
 
 module _ {old add : List ℕ} {v : United} {u : Table} (x : Views old add v u) where
   pub seen : (i : ℕ) → i < v .rules → (r : Rule) × (getElem? (u .rules) i ≡ just r) × RuleSeen old add v u i r

@@ -9,12 +9,12 @@ use Rattle.grammar.specs.Content.{Content, none}
 use Rattle.grammar.specs.Table.{Rule, Table}
 use Rattle.grammar.specs.Normalise.{pairOf, pairsOf, normalise}
 use Rattle.grammar.specs.Reduce.{fruitful, withoutUnfruitful, reached}
-use Rattle.theory.proofs.Alternatives.{pairsMet, pairsLeft}
-use Rattle.pairs.specs.Rounds.{contentOf}
+use Rattle.theory.specs.Alternatives.{pairsMet, pairsLeft}
+use Rattle.pairs.specs.Rounds.{contentOfRule}
 
 -- the rule of a number
-abbrev pub ruleAt : Table → ℕ → Rule
-ruleAt u i = getD (u .rules) i (record { type = 0; label = 0; content = none })
+abbrev pub ruleNumbered : Table → ℕ → Rule
+ruleNumbered u i = getD (u .rules) i (record { type = 0; label = 0; content = none })
 
 -- the fruitful pairs of a type
 abbrev pub fruitfulOf : Table → ℕ → List ℕ
@@ -29,8 +29,8 @@ isStart u p = isIn p (withoutUnfruitful (normalise u) .starts)
 
 -- the contents of a pair, in rule order
 unfoldable pub contentsOfPair : Table → ℕ → List Content
-unfolding keep numbersBelow contentOf
-contentsOfPair u p = map (contentOf u) (keep (λ i. eqb (pairOf u (ruleAt u i)) p) (numbersBelow (length (u .rules))))
+unfolding keep numbersBelow contentOfRule
+contentsOfPair u p = map (contentOfRule u) (keep (λ i. eqb (pairOf u (ruleNumbered u i)) p) (numbersBelow (length (u .rules))))
 
 -- the contents of the pairs of a set
 unfoldable pub contentsIn : Table → (ℕ → Bool) → List Content

@@ -5,7 +5,7 @@ use mathlib.Core.Option.{none as nowhere, some as just}
 use lib.ListN.{getElem?}
 use Rattle.grammar.specs.Content.{Content, none}
 use Rattle.grammar.specs.Table.{Table}
-use Rattle.theory.proofs.Alternatives.{hasAlts}
+use Rattle.theory.specs.Alternatives.{hasAlts}
 use Rattle.sets.specs.Sets.{nothing, add}
 use Rattle.pairs.specs.declared.union.United.{United}
 use Rattle.pairs.specs.View.{typeIn, firstIn}
@@ -22,8 +22,8 @@ puts on key base zero = base
 puts on key base (suc n) = putIf (on n) (key n) (puts on key base n)
 
 -- the content of a rule by its number
-unfoldable pub contentOf : Table → ℕ → Content
-contentOf u i = elim (getElem? (u .rules) i) [ nowhere ↦ none | just r ↦ r .content ]
+unfoldable pub contentOfRule : Table → ℕ → Content
+contentOfRule u i = elim (getElem? (u .rules) i) [ nowhere ↦ none | just r ↦ r .content ]
 
 -- the types that have a known pair
 unfoldable pub typesWith : United → (ℕ → Bool) → (ℕ → Bool)
@@ -32,5 +32,5 @@ typesWith v known = puts (λ i. known (firstIn v i)) (typeIn v) nothing (v .rule
 
 -- the known pairs, and those of the rules whose contents have alternatives over them
 unfoldable pub afterRound : Table → United → (ℕ → Bool) → (ℕ → Bool)
-unfolding puts typesWith contentOf
-afterRound u v known = puts (λ i. hasAlts (typesWith v known) (contentOf u i)) (firstIn v) known (v .rules)
+unfolding puts typesWith contentOfRule
+afterRound u v known = puts (λ i. hasAlts (typesWith v known) (contentOfRule u i)) (firstIn v) known (v .rules)

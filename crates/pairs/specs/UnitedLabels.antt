@@ -10,16 +10,16 @@ use Rattle.reader.specs.NamePlaces.{NamesAt as AtPlaces}
 use Rattle.pairs.specs.declared.labels.Names.{Names}
 
 -- these names stand in the bytes where the arrays say, which have 64 places
-pub record NamesAt (s : List ℕ) (names : Names) (list : List Name) : Type 0 where
+pub record NamesHeld (s : List ℕ) (names : Names) (list : List Name) : Type 0 where
   pub at : AtPlaces s (names .from) (names .to) (names .count) list
   pub few : names .count ≤ 64
   pub from-room : length (names .from) ≡ 64
   pub to-room : length (names .to) ≡ 64
 
 -- some names stand there
-pub record Named (s : List ℕ) (names : Names) : Type 0 where
+pub record SomeNames (s : List ℕ) (names : Names) : Type 0 where
   pub list : List Name
-  pub at : NamesAt s names list
+  pub at : NamesHeld s names list
 
 -- one name more, or none
 unfoldable pub namesIf : Bool → Names → (from to : ℕ) → Names

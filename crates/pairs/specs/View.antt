@@ -20,7 +20,7 @@ use Rattle.reader.specs.TableIndex.{Indexes}
 use Rattle.pairs.specs.declared.labels.Names.{Names}
 use Rattle.pairs.specs.declared.union.United.{United}
 use Rattle.pairs.specs.declared.union.Union.{Union}
-use Rattle.pairs.specs.UnitedLabels.{NamesAt, newNames, unitedNames}
+use Rattle.pairs.specs.UnitedLabels.{NamesHeld, newNames, unitedNames}
 
 -- this content, proper, is a part of the bytes
 pub record SourceContent (s : List ℕ) (from to : ℕ) (c : Content) : Type 0 where
@@ -92,8 +92,8 @@ abbrev pub rulesOnly : List Rule → Table
 rulesOnly rs = record { labels = []; starts = []; rules = rs }
 
 -- what is put down for one rule more
-pub record NextRule (old add : List ℕ) (v : United) (kind label from to : ℕ) (x : Rule) : Type 0 where
-  pub type : kind ≡ x .type
+pub record NextRule (old add : List ℕ) (v : United) (ty label from to : ℕ) (x : Rule) : Type 0 where
+  pub type : ty ≡ x .type
   pub small : x .type < 128
   pub label-is : label ≡ x .label
   pub in-old : v .rules < v .«old_rules» → SourceContent old from to (x .content)
@@ -114,9 +114,9 @@ pub record Held (s : List ℕ) (index : TableIndex) : Type 0 where
 
 -- where the labels stand as the addition's rules are put down, and which the addition is
 pub record AddingTo (old : List ℕ) (olds : Names) (add : List ℕ) (adds fresh : Names) (index : TableIndex) (g h : Table) : Type 0 where
-  pub old-names : NamesAt old olds (g .labels)
-  pub added-names : NamesAt add adds (h .labels)
-  pub new-names : NamesAt add fresh (newNames (g .labels) (h .labels))
+  pub old-names : NamesHeld old olds (g .labels)
+  pub added-names : NamesHeld add adds (h .labels)
+  pub new-names : NamesHeld add fresh (newNames (g .labels) (h .labels))
   pub addition : TableHeld add index h
 
 pub record Adding (old : List ℕ) (olds : Names) (add : List ℕ) (adds fresh : Names) (index : TableIndex) : Type 0 where
@@ -127,6 +127,6 @@ pub record Adding (old : List ℕ) (olds : Names) (add : List ℕ) (adds fresh :
 -- The union: the view of its rules, and where its labels stand.
 pub record UnionSeen (old add : List ℕ) (g h : Table) (r : Union) : Type 0 where
   pub rules : Views old add (r .rules) (unite standard g h)
-  pub old-names : NamesAt old (r .«old_names») (g .labels)
-  pub new-names : NamesAt add (r .«new_names») (newNames (g .labels) (h .labels))
+  pub old-names : NamesHeld old (r .«old_names») (g .labels)
+  pub new-names : NamesHeld add (r .«new_names») (newNames (g .labels) (h .labels))
   pub labels : unitedLabels g h ≡ unitedNames (g .labels) (h .labels)

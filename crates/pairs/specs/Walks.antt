@@ -8,7 +8,7 @@ use lib.ListN.{length, getD, take, drop}
 use lib.Dec.{eqb}
 use Rattle.grammar.specs.Lists.{distinct}
 use Rattle.grammar.specs.Limits.{standard}
-use Rattle.theory.proofs.Alternatives.{hasAlts, allHaveAlts, oneHasAlts, someLeft, pairsMet, pairsMetAll}
+use Rattle.theory.specs.Alternatives.{hasAlts, allHaveAlts, oneHasAlts, someLeft, pairsMet, pairsMetAll}
 use Rattle.sets.specs.Sets.{member}
 use Rattle.sets.specs.declared.four.Set4.{Set4}
 use Rattle.reader.specs.ExprAt.{Placed, _upTo_, placed, exprAt, exprsAt}
@@ -25,8 +25,8 @@ abbrev pub hasRowAt : (ℕ → Bool) → List ℕ → (at n : ℕ) → Option (P
 hasRowAt test s at n = placed (λ cs. (allHaveAlts test cs, oneHasAlts test cs)) (exprsAt s at n)
 
 -- Lists of numbers by type, one after the other: where the list of each type begins; it ends where the next begins.
-unfoldable pub listOf : (from numbers : List ℕ) → ℕ → List ℕ
-listOf from numbers k = take (getD from (k + 1) 0 - getD from k 0) (drop (getD from k 0) numbers)
+unfoldable pub listOfType : (from numbers : List ℕ) → ℕ → List ℕ
+listOfType from numbers k = take (getD from (k + 1) 0 - getD from k 0) (drop (getD from k 0) numbers)
 
 -- so many types have their lists there, of numbers below a bound
 pub record Listed (types bound : ℕ) (from numbers : List ℕ) : Type 0 where
@@ -43,7 +43,7 @@ pub record Once (bound : ℕ) (list : List ℕ) (count : ℕ) : Type 0 where
   pub below : (p : ℕ) → List·Memᴰ p (take count list) → p < bound
 
 -- a part of numbers below a bound
-pub record Parts (bound : ℕ) (numbers : List ℕ) (first end : ℕ) : Type 0 where
+pub record PartOfNumbers (bound : ℕ) (numbers : List ℕ) (first end : ℕ) : Type 0 where
   pub order : first ≤ end
   pub inside : end ≤ length numbers
   pub below : (i : ℕ) → getD numbers i 0 < bound
@@ -54,7 +54,7 @@ pub record Adds (numbers more list : List ℕ) (count : ℕ) : Type 0 where
   pub held : count ≤ length list
 
 -- a set of types whose numbers are all among some numbers
-pub record Seen (seen : List ℕ) (left : ℕ → List ℕ) (numbers : List ℕ) : Type 0 where
+pub record SeenListed (seen : List ℕ) (left : ℕ → List ℕ) (numbers : List ℕ) : Type 0 where
   pub size : length seen ≡ 4
   pub there : (k : ℕ) → member seen 0 k ≡ true → (p : ℕ) → List·Memᴰ p (left k) → List·Memᴰ p numbers
 
@@ -63,7 +63,7 @@ pub record TypeMet (left : ℕ → List ℕ) (numbers : List ℕ) (k after : ℕ
   pub has : r .has ≡ someLeft left k
   pub adds : Adds numbers (left k) list (r .count)
   pub next : r .next ≡ after
-  pub known : Seen (r .seen .words) left (take (r .count) list)
+  pub known : SeenListed (r .seen .words) left (take (r .count) list)
 
 -- whether the content has alternatives, and numbers with the pairs that are met in it after them, each once
 abbrev pub metAt : (ℕ → List ℕ) → (numbers s : List ℕ) → ℕ → Option (Placed (Bool × List ℕ))
@@ -92,12 +92,12 @@ pub record MetRowAsks (s : List ℕ) (at n : ℕ) (from pairs list : List ℕ) (
 pub record MetFinds (left : ℕ → List ℕ) (numbers s : List ℕ) (at : ℕ) (list : List ℕ) (r : MetOne) : Type 0 where
   pub found : metAt left numbers s at ≡ just ((r .has, take (r .count) list) upTo (r .next))
   pub held : r .count ≤ length list
-  pub known : Seen (r .seen .words) left (take (r .count) list)
+  pub known : SeenListed (r .seen .words) left (take (r .count) list)
 
 pub record MetRowFinds (left : ℕ → List ℕ) (numbers s : List ℕ) (at n : ℕ) (list : List ℕ) (r : MetRow) : Type 0 where
   pub found : metRowAt left numbers s at n ≡ just ((r .all, r .one, take (r .count) list) upTo (r .next))
   pub held : r .count ≤ length list
-  pub known : Seen (r .seen .words) left (take (r .count) list)
+  pub known : SeenListed (r .seen .words) left (take (r .count) list)
 
 -- the answer for a sequence, from that for its operands: where one has no alternatives, the count and the types seen are those
 -- before them

@@ -11,17 +11,17 @@ ghost use Rattle.grammar.specs.Lists.{isIn};
 ghost use Rattle.grammar.specs.Table.{Table};
 ghost use Rattle.grammar.specs.Normalise.{normalise};
 ghost use Rattle.grammar.specs.Reduce.{fruitful};
-ghost use Rattle.theory.proofs.Alternatives.{hasAlts};
+ghost use Rattle.theory.specs.Alternatives.{hasAlts};
 ghost use Rattle.sets.specs.Sets.{member, setAt};
 ghost use Rattle.pairs.specs.View.{Views, Viewed, ViewSized};
 ghost use Rattle.pairs.specs.Places.{knownAt};
-ghost use Rattle.pairs.specs.Rounds.{putIf, contentOf, typesWith, afterRound};
+ghost use Rattle.pairs.specs.Rounds.{putIf, contentOfRule, typesWith, afterRound};
 
 // Whether the content of a rule has alternatives, over a set of types of the union.
 pub fn rule_has(old: &[u8], add: &[u8], v: United, i: usize, types: Set4) -> bool
     requires { ⌜ (Viewed (now old) (now add) v) × (i < v .rules) × (length (types .words) ≡ 4) ⌝ }
     ensures { λ r. ⌜ ((u : Table) → Views (now (old .entry)) (now (add .entry)) v u
-        → r ≡ hasAlts (member (types .words) 0) (contentOf u i)) ⌝ }
+        → r ≡ hasAlts (member (types .words) 0) (contentOfRule u i)) ⌝ }
 {
     let content_from = v.content_from;
     let content_to = v.content_to;

@@ -5,7 +5,7 @@ ghost use Prim.Native.Nat.{_<_};
 ghost use lib.ListN.{getD};
 ghost use Rattle.grammar.specs.Lists.{place};
 ghost use Rattle.grammar.specs.Names.{Name, sameName};
-ghost use Rattle.pairs.specs.UnitedLabels.{NamesAt, Named, namesIf, newNames, unitedNames};
+ghost use Rattle.pairs.specs.UnitedLabels.{NamesHeld, SomeNames, namesIf, newNames, unitedNames};
 
 // Where names stand in the bytes of a table, in order.
 pub struct Names {
@@ -16,8 +16,8 @@ pub struct Names {
 
 // The place of a name among names; their number where it is not there.
 pub fn name_place(name: &[u8], s: &[u8], names: Names) -> usize
-    requires { ⌜ Named (now s) names ⌝ }
-    ensures { λ r. ⌜ ((list : List Name) → NamesAt (now (s .entry)) names list → r ≡ place sameName (now (name .entry)) list) ⌝ }
+    requires { ⌜ SomeNames (now s) names ⌝ }
+    ensures { λ r. ⌜ ((list : List Name) → NamesHeld (now (s .entry)) names list → r ≡ place sameName (now (name .entry)) list) ⌝ }
 {
     let from = names.from;
     let to = names.to;
@@ -42,9 +42,9 @@ pub fn with_name(names: Names, from: usize, to: usize, new: bool) -> Names
 
 // The addition's names that are not among the old.
 pub fn new_names(old: &[u8], olds: Names, add: &[u8], adds: Names) -> Names
-    requires { ⌜ (Named (now old) olds) × (Named (now add) adds) ⌝ }
-    ensures { λ r. ⌜ ((ns ms : List Name) → NamesAt (now (old .entry)) olds ns → NamesAt (now (add .entry)) adds ms
-        → NamesAt (now (add .entry)) r (newNames ns ms)) ⌝ }
+    requires { ⌜ (SomeNames (now old) olds) × (SomeNames (now add) adds) ⌝ }
+    ensures { λ r. ⌜ ((ns ms : List Name) → NamesHeld (now (old .entry)) olds ns → NamesHeld (now (add .entry)) adds ms
+        → NamesHeld (now (add .entry)) r (newNames ns ms)) ⌝ }
 {
     let from = adds.from;
     let to = adds.to;
@@ -75,9 +75,9 @@ pub fn united_label(
     fresh: Names,
     label: usize,
 ) -> usize
-    requires { ⌜ (Named (now old) olds) × (Named (now add) adds) × (Named (now add) fresh) × (label < adds .count) ⌝ }
-    ensures { λ r. ⌜ ((ns ms : List Name) → NamesAt (now (old .entry)) olds ns → NamesAt (now (add .entry)) adds ms
-        → NamesAt (now (add .entry)) fresh (newNames ns ms) → r ≡ place sameName (getD ms label []) (unitedNames ns ms)) ⌝ }
+    requires { ⌜ (SomeNames (now old) olds) × (SomeNames (now add) adds) × (SomeNames (now add) fresh) × (label < adds .count) ⌝ }
+    ensures { λ r. ⌜ ((ns ms : List Name) → NamesHeld (now (old .entry)) olds ns → NamesHeld (now (add .entry)) adds ms
+        → NamesHeld (now (add .entry)) fresh (newNames ns ms) → r ≡ place sameName (getD ms label []) (unitedNames ns ms)) ⌝ }
 {
     let from = adds.from;
     let to = adds.to;

@@ -9,7 +9,8 @@ ghost use mathlib.Core.List.{[], _∷_};
 ghost use Prim.Native.Nat.{_-_, _≤_, _<_};
 ghost use lib.ListN.{length, take, drop};
 ghost use Rattle.grammar.specs.Lists.{isIn};
-ghost use Rattle.pairs.specs.Walks.{listOf, Listed, Once, Adds, Parts, Seen, TypeMet, MetAsks, MetFinds, MetRowAsks, MetRowFinds, sequenceMet};
+ghost use Rattle.pairs.specs.Walks.{listOfType, Listed, Once, Adds, PartOfNumbers, SeenListed};
+ghost use Rattle.pairs.specs.Walks.{TypeMet, MetAsks, MetFinds, MetRowAsks, MetRowFinds, sequenceMet};
 
 // Whether a content has alternatives, how many numbers stand in the list after it, the place after it, and types whose pairs are
 // all in the list.
@@ -58,8 +59,9 @@ pub fn append(list: &mut [u8], count: usize, number: u8) -> usize
 
 // Adds the numbers of a part.
 pub fn append_part(list: &mut [u8], count: usize, numbers: &[u8], first: usize, end: usize) -> usize
-    requires { ⌜ (Once 128 (now list) count) × (Parts 128 (now numbers) first end) ⌝ }
-    ensures { λ r. ⌜ Adds (take count (now (list .entry))) (take (end - first) (drop first (now (numbers .entry)))) (now (list .exit)) r ⌝ }
+    requires { ⌜ (Once 128 (now list) count) × (PartOfNumbers 128 (now numbers) first end) ⌝ }
+    ensures { λ r. ⌜ Adds (take count (now (list .entry))) (take (end - first) (drop first (now (numbers .entry))))
+        (now (list .exit)) r ⌝ }
 {
     let mut more = count;
     let mut i = first;
@@ -82,8 +84,9 @@ fn met_type(
     seen: Set4,
 ) -> MetOne
     requires { ⌜ (k < 64) × (Listed 64 128 (now from) (now pairs)) × (Once 128 (now list) count)
-        × (Seen (seen .words) (listOf (now from) (now pairs)) (take count (now list))) ⌝ }
-    ensures { λ r. ⌜ TypeMet (listOf (now (from .entry)) (now (pairs .entry))) (take count (now (list .entry))) k next (now (list .exit)) r ⌝ }
+        × (SeenListed (seen .words) (listOfType (now from) (now pairs)) (take count (now list))) ⌝ }
+    ensures { λ r. ⌜ TypeMet (listOfType (now (from .entry)) (now (pairs .entry))) (take count (now (list .entry))) k next
+        (now (list .exit)) r ⌝ }
 {
     let first = wide(from[k]);
     let end = wide(from[k + 1]);
@@ -144,8 +147,9 @@ pub fn met(
     seen: Set4,
 ) -> MetOne
     requires { ⌜ (MetAsks (now content) at (now from) (now pairs) (now list) count)
-        × (Seen (seen .words) (listOf (now from) (now pairs)) (take count (now list))) ⌝ }
-    ensures { λ r. ⌜ MetFinds (listOf (now (from .entry)) (now (pairs .entry))) (take count (now (list .entry))) (now (content .entry)) at (now (list .exit)) r ⌝ }
+        × (SeenListed (seen .words) (listOfType (now from) (now pairs)) (take count (now list))) ⌝ }
+    ensures { λ r. ⌜ MetFinds (listOfType (now (from .entry)) (now (pairs .entry))) (take count (now (list .entry)))
+        (now (content .entry)) at (now (list .exit)) r ⌝ }
 {
     let operator = wide(content[at]);
     match operator {
@@ -197,8 +201,9 @@ pub fn met_row(
     seen: Set4,
 ) -> MetRow
     requires { ⌜ (MetRowAsks (now content) at n (now from) (now pairs) (now list) count)
-        × (Seen (seen .words) (listOf (now from) (now pairs)) (take count (now list))) ⌝ }
-    ensures { λ r. ⌜ MetRowFinds (listOf (now (from .entry)) (now (pairs .entry))) (take count (now (list .entry))) (now (content .entry)) at n (now (list .exit)) r ⌝ }
+        × (SeenListed (seen .words) (listOfType (now from) (now pairs)) (take count (now list))) ⌝ }
+    ensures { λ r. ⌜ MetRowFinds (listOfType (now (from .entry)) (now (pairs .entry))) (take count (now (list .entry)))
+        (now (content .entry)) at n (now (list .exit)) r ⌝ }
 {
     if n == 0 {
         return MetRow {

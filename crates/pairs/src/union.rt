@@ -36,17 +36,17 @@ pub struct Union {
 }
 
 // The first rule of this type and label; the number of rules where there is none.
-pub fn pair_place(v: United, kind: usize, label: usize) -> usize
+pub fn pair_place(v: United, ty: usize, label: usize) -> usize
     requires { ⌜ v .rules ≤ 128 ⌝ }
     ensures { λ r. ⌜ ((old add : List ℕ) (rs : List Rule) (x : Rule) → Views old add v (rulesOnly rs)
-        → kind ≡ x .type → label ≡ x .label → r ≡ place samePair x rs) ⌝ }
+        → ty ≡ x .type → label ≡ x .label → r ≡ place samePair x rs) ⌝ }
 {
     let types = v.types;
     let labels = v.labels;
     let rules = v.rules;
     let mut i: usize = 0;
     while i < rules {
-        if both(kind == types[i], label == labels[i]) {
+        if both(ty == types[i], label == labels[i]) {
             return i;
         }
         i += 1;
@@ -55,15 +55,15 @@ pub fn pair_place(v: United, kind: usize, label: usize) -> usize
 }
 
 // The view with one rule more.
-pub fn with_rule(v: United, kind: usize, label: usize, from: usize, to: usize) -> United
+pub fn with_rule(v: United, ty: usize, label: usize, from: usize, to: usize) -> United
     requires { ⌜ v .rules < 128 ⌝ }
     ensures { λ r. ⌜ (((old add : List ℕ) (rs : List Rule) (x : Rule) → Views old add v (rulesOnly rs)
-        → NextRule old add v kind label from to x → Views old add r (rulesOnly (rs ++ (x ∷ [])))) × Grown v r) ⌝ }
+        → NextRule old add v ty label from to x → Views old add r (rulesOnly (rs ++ (x ∷ [])))) × Grown v r) ⌝ }
 {
-    let first = pair_place(v, kind, label);
+    let first = pair_place(v, ty, label);
     let n = v.rules;
     let mut more = v;
-    more.types[n] = kind;
+    more.types[n] = ty;
     more.labels[n] = label;
     more.firsts[n] = first;
     more.content_from[n] = from;

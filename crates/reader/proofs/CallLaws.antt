@@ -30,7 +30,7 @@ use Rattle.grammar.specs.declared.Refusal.{Refusal}
 use Rattle.grammar.specs.declared.Refusal.the-variants.{WorkTooShort, OutOfRange}
 use Rattle.grammar.specs.declared.Reading.{Reading}
 use Rattle.grammar.specs.declared.Reading.the-variants.{Readable, Refused as Unreadable}
-use Rattle.theory.proofs.AnswerNumbers.{reading-numbers}
+use Rattle.theory.proofs.theorems.AnswerNumbers.{reading-numbers}
 use Rattle.reader.specs.declared.label_places.LabelFound.{LabelFound}
 use Rattle.reader.specs.declared.label_places.LabelFound.the-variants.{At, Refused as Unfound}
 use Rattle.reader.specs.declared.tables.TableRead.{TableRead}
@@ -43,8 +43,8 @@ use Rattle.reader.proofs.AnswerLaws.{was-unreadable}
 use Rattle.reader.proofs.DocumentAnswers.{document-answer}
 use Rattle.reader.proofs.LabelParts.{are-bytes, label-unread, label-past}
 use Rattle.reader.proofs.LabelPlaceLaws.{place-found}
-use Rattle.reader.proofs.TableFound.{table-found}
 use Rattle.reader.proofs.WorkLaws.{work-kept, lent-short, lent-enough}
+use Rattle.reader.proofs.TableFoundLaws.{table-found}
 
 -- What a call leaves, by its outcome
 module _ {A : Type 0} (value : A → ℕ) (o : Outcome A) (work : List ℕ) where

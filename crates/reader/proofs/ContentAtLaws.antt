@@ -16,7 +16,7 @@ use lib.ListN.{length, getD, getElem?}
 use Rattle.grammar.specs.Limits.{Limits}
 use Rattle.grammar.specs.Content.{Content, type, []ᶜ, _∷ᶜ_, count}
 use Rattle.grammar.specs.ReadContent.{operators, isProper, areProper}
-use Rattle.theory.proofs.BoolLaws.{and-right}
+use Rattle.theory.proofs.lists.BoolLaws.{and-right}
 use Rattle.reader.specs.ExprAt.{Placed, _upTo_, placed, exprAt, exprsAt}
 use Rattle.reader.specs.ContentAt.{ContentAt, ContentsAt}
 use Rattle.reader.proofs.ExprLaws.{

@@ -22,12 +22,12 @@ use Rattle.grammar.specs.Answers.{reading}
 use Rattle.grammar.specs.declared.Refusal.{Refusal}
 use Rattle.grammar.specs.declared.Reading.{Reading}
 use Rattle.grammar.specs.declared.Reading.the-variants.{Readable, Refused as Unreadable}
+use Rattle.theory.proofs.lists.ListLaws.{at-joined, at-or-else}
+use Rattle.theory.proofs.bytes.DocumentBytes.{tree-of-nodes}
+use Rattle.theory.proofs.bytes.DocumentWithin.{nodes-were}
 use Rattle.reader.specs.declared.documents.DocumentIndex.{DocumentIndex}
 use Rattle.reader.specs.declared.documents.DocumentRead.{DocumentRead}
 use Rattle.reader.specs.DocumentNodes.{nodeAt, firstNodes, nodesIn, outcomeOf, DocumentReads}
-use Rattle.theory.proofs.ListLaws.{at-joined, at-or-else}
-use Rattle.theory.proofs.DocumentBytes.{tree-of-nodes}
-use Rattle.theory.proofs.DocumentWithin.{nodes-were}
 use Rattle.reader.proofs.DocumentLoop.{nodes-length}
 
 module _ (lim : Limits) (classes : Classes) where

@@ -30,8 +30,8 @@ use Rattle.grammar.specs.ReadDocument.{
 }
 use Rattle.grammar.specs.declared.Refusal.the-variants.{InputTooLong, BadField, BadName, BadTree, BytesAfterEnd}
 use Rattle.grammar.specs.declared.Reading.the-variants.{Readable, Refused as Unreadable}
-use Rattle.theory.proofs.BoolLaws.{or-false}
-use Rattle.theory.proofs.FieldBytes.{fields-empty, fields-tag, fields-half, fields-front, fields-past}
+use Rattle.theory.proofs.lists.BoolLaws.{or-false}
+use Rattle.theory.proofs.bytes.FieldBytes.{fields-empty, fields-tag, fields-half, fields-front, fields-past}
 use Rattle.reader.specs.DocumentNodes.{outcomeOf}
 use Rattle.reader.specs.DocumentSteps.{endAnswer, badCounts, Sized, restOf, restWith}
 use Rattle.reader.proofs.FieldReading.{part-of}

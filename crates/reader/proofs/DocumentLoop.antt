@@ -1,4 +1,4 @@
--- Reading a document field by field. `SoFar` ties the arrays to the nodes read and the levels open: reading on from `at` with these
+-- Reading a document field by field. `NodesSoFar` ties the arrays to the nodes read and the levels open: reading on from `at` with these
 -- is reading the whole. It holds at first (`so-far-none`), after each node (`so-far-next`), and gives the answer (`so-far-stop`).
 use Prim.Native.Nat.{ℕ, zero, suc, _+_, _-_, _≤_, _<_}
 use native.Mathlib.Numerals.{add-one}
@@ -16,8 +16,8 @@ use Rattle.grammar.specs.ReadDocument.{Node, Opened, nothingRead, withNode}
 use Rattle.grammar.specs.declared.Reading.{Reading}
 use Rattle.reader.specs.declared.documents.Step.{Step}
 use Rattle.reader.specs.declared.documents.Step.the-variants.{Node as NodeHere, Stop}
-use Rattle.reader.specs.DocumentNodes.{nodeAt, firstNodes, Indexed, outcomeOf}
-use Rattle.reader.specs.DocumentSteps.{Sized, restOf, NodeStep, StepSays, openLevels, Open, After}
+use Rattle.reader.specs.DocumentNodes.{nodeAt, firstNodes, NodesIndexed, outcomeOf}
+use Rattle.reader.specs.DocumentSteps.{Sized, restOf, NodeStep, StepSays, openLevels, Open, LevelsAfter}
 use Rattle.reader.proofs.OpenLevels.{levels-length}
 use Rattle.reader.proofs.TableIndexLaws.{put}
 
@@ -57,12 +57,12 @@ module _ (s names sizes children : List ℕ) where
       node-stored : nodeAt s (set names n a) (set sizes n b) (set children n k) n ≡ record { name = take b (drop a s); children = k }
       node-stored = rw (getD-set-same names n a 0 p, getD-set-same sizes n b 0 q, getD-set-same children n k 0 r)
 
-pub record SoFar (s names sizes children : List ℕ) (nodes at : ℕ) (coming : List ℕ) (depth : ℕ) : Type 0 where
+pub record NodesSoFar (s names sizes children : List ℕ) (nodes at : ℕ) (coming : List ℕ) (depth : ℕ) : Type 0 where
   pub reached : at ≤ length s
   pub names-room : 1024 ≤ length names
   pub sizes-room : 1024 ≤ length sizes
   pub children-room : 1024 ≤ length children
-  pub indexed : Indexed s names sizes children nodes
+  pub indexed : NodesIndexed s names sizes children nodes
   pub levels-open : Open coming depth
   pub goes-on : restOf nothingRead (fieldsOf s)
       ≡ restOf
@@ -76,7 +76,7 @@ says-node s at nodes depth whole st e says = subst (λ (x : Step). StepSays s at
 
 module _ (s names sizes children : List ℕ) where
   pub so-far-none : (coming : List ℕ) → 1024 ≤ length names → 1024 ≤ length sizes → 1024 ≤ length children → getD coming 0 0 ≡ 1
-      → SoFar s names sizes children 0 0 coming 1
+      → NodesSoFar s names sizes children 0 0 coming 1
   unfolding firstNodes openLevels
   so-far-none coming p q r e =
       record {
@@ -93,7 +93,7 @@ module _ (s names sizes children : List ℕ) where
       innermost zero h = omega arith
       innermost (suc d) h = absurd (omega arith)
 
-  module _ (nodes at : ℕ) (coming : List ℕ) (depth : ℕ) (far : SoFar s names sizes children nodes at coming depth) where
+  module _ (nodes at : ℕ) (coming : List ℕ) (depth : ℕ) (far : NodesSoFar s names sizes children nodes at coming depth) where
     abbrev opened : Opened
     opened = record { nodes = firstNodes s names sizes children nodes; toCome = openLevels coming depth }
 
@@ -108,8 +108,8 @@ module _ (s names sizes children : List ℕ) where
         ∙ subst (λ (x : Step). StepSays s at nodes depth (λ o. restOf o (fieldsOf (drop at s))) x) e says opened sized
 
     module _ (from to k : ℕ) (step : NodeStep s at nodes depth (λ o. restOf o (fieldsOf (drop at s))) from to k)
-        (coming′ : List ℕ) (depth′ : ℕ) (after : After coming depth k coming′ depth′) where
-      indexed-more : Indexed s (set names nodes from) (set sizes nodes (to - from)) (set children nodes k) (nodes + 1)
+        (coming′ : List ℕ) (depth′ : ℕ) (after : LevelsAfter coming depth k coming′ depth′) where
+      indexed-more : NodesIndexed s (set names nodes from) (set sizes nodes (to - from)) (set children nodes k) (nodes + 1)
       indexed-more =
           let room = step .room in
           record { few = omega arith; within = λ i h. within i h (ltb i nodes) refl; counts = λ i h. counts i h (ltb i nodes) refl }
@@ -141,7 +141,7 @@ module _ (s names sizes children : List ℕ) where
               let a = put children nodes i k (omega (arith, far .children-room)) (omega arith) in
               omega (arith, step .few)
 
-      pub so-far-next : SoFar s (set names nodes from) (set sizes nodes (to - from)) (set children nodes k) (nodes + 1) to coming′ depth′
+      pub so-far-next : NodesSoFar s (set names nodes from) (set sizes nodes (to - from)) (set children nodes k) (nodes + 1) to coming′ depth′
       unfolding withNode
       so-far-next =
           let room = step .room in

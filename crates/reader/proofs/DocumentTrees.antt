@@ -13,23 +13,14 @@ use Rattle.grammar.specs.Outcome.{given}
 use Rattle.grammar.specs.Tree.{Tree, node, Forest, []ᵗ, _∷ᵗ_, trees}
 use Rattle.grammar.specs.ReadDocument.{Node, readNodes, otherTrees, forestOf}
 use Rattle.grammar.specs.WriteDocument.{nodesOf, nodesOfAll}
-use Rattle.theory.proofs.DocumentWithin.{nodes-were}
-
--- how many trees nodes make: a node takes its children from the trees behind it
-unfoldable pub treeCount : List Node → ℕ
-treeCount [] = zero
-treeCount (n ∷ ns) = suc (treeCount ns - n .children)
+use Rattle.theory.proofs.bytes.DocumentWithin.{nodes-were}
+use Rattle.reader.specs.NodeTrees.{treeCount, Enough}
 
 -- nodes make at most as many trees as they are
 pub trees-few : (ns : List Node) → treeCount ns ≤ length ns
 unfolding treeCount
 trees-few [] = omega arith
 trees-few (n ∷ ns) = let h = trees-few ns in omega arith
-
--- each node finds as many trees behind it as it has children
-abbrev pub Enough : List Node → Type 0
-Enough [] = Unit {0}
-Enough (n ∷ ns) = (n .children ≤ treeCount ns) × Enough ns
 
 other-trees : (k : ℕ) (f : Forest) → trees (otherTrees k f) ≡ trees f - k
 unfolding trees otherTrees

@@ -33,9 +33,9 @@ use Rattle.grammar.specs.Content.{
   count,
 }
 use Rattle.grammar.specs.ReadContent.{contentBytes, operandBytes, alone, numbered, counted, single, operators, Parsed, found, expressionOf}
-use Rattle.theory.proofs.BoolLaws.{passes-or-fails}
-use Rattle.theory.proofs.ListLaws.{just-eq}
-use Rattle.theory.proofs.ContentBytes.{
+use Rattle.theory.proofs.lists.BoolLaws.{passes-or-fails}
+use Rattle.theory.proofs.lists.ListLaws.{just-eq}
+use Rattle.theory.proofs.contents.ContentBytes.{
   afterFirst,
   operandsOf,
   expression-empty,

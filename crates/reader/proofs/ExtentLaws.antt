@@ -35,13 +35,22 @@ use Rattle.grammar.specs.ReadContent.{contentBytes, operandBytes, numbered, cou
 use Rattle.grammar.specs.Outcome.{Outcome, given, refused, _>>=_, _>>_, turnBack}
 use Rattle.grammar.specs.declared.Refusal.{Refusal}
 use Rattle.grammar.specs.declared.Refusal.the-variants.{BadContent, NestedTooDeep}
-use Rattle.theory.proofs.BoolLaws.{and-left, and-right, passes-or-fails}
-use Rattle.theory.proofs.ContentBytes.{expression-was, content-has-bytes, unknown-operator}
+use Rattle.theory.proofs.lists.BoolLaws.{and-left, and-right, passes-or-fails}
+use Rattle.theory.proofs.contents.ContentBytes.{expression-was, content-has-bytes, unknown-operator}
 use Rattle.reader.specs.ExprAt.{Placed, _upTo_, placed, inFront, exprAt, exprsAt}
-use Rattle.reader.specs.Extents.{extentBy, NestsBelow, properAt, properRowAt, typeAt, deeperOf, joinedOf, contentAnswer}
 use Rattle.reader.specs.declared.contents.ContentAnswer.the-variants.{Fine, Refused}
 use Rattle.reader.specs.declared.contents.Extent.{Extent}
 use Rattle.reader.specs.declared.contents.Extent.the-variants.{Nowhere, Upto}
+use Rattle.reader.specs.Extents.{
+  extentBy,
+  NestsBelow,
+  properAt,
+  properRowAt,
+  typeExtent,
+  deeperOf,
+  joinedExtent,
+  contentAnswer,
+}
 use Rattle.reader.proofs.ExprLaws.{same-placed, expr-written, expr-past, expr-unknown, expr-alone, expr-single, expr-numbered, expr-unnumbered, expr-counted, expr-uncounted, exprs-none, exprs-stop, exprs-more, exprs-written, operator-none, operator-empty, operator-type, operator-sequence, operator-choice, operator-any-number, operator-one-or-more, operator-optional}
 
 -- What is found of anything that stands at a place.
@@ -123,7 +132,7 @@ extent-fault f ok deep (just e) fault = extent-no ok deep (f (e .content)) (e .n
 
 -- a proper operand before others
 extent-after : (lim : Limits) (c : Content) (d : ℕ) → isProper lim c ≡ true → nesting c ≡ d → (p : Option (Placed Contents))
-    → extentBy (areProper lim) deepest (placed (λ cs. c ∷ᶜ cs) p) ≡ joinedOf d (extentBy (areProper lim) deepest p)
+    → extentBy (areProper lim) deepest (placed (λ cs. c ∷ᶜ cs) p) ≡ joinedExtent d (extentBy (areProper lim) deepest p)
 unfolding areProper deepest
 extent-after lim c d ok deep nothing = refl
 extent-after lim c d ok deep (just e) = go (passes-or-fails (areProper lim (e .content)))
@@ -132,14 +141,14 @@ extent-after lim c d ok deep (just e) = go (passes-or-fails (areProper lim (e .c
     both = ap (λ (b : Bool). b && areProper lim (e .content)) ok
 
     go : (areProper lim (e .content) ≡ true) ⊎ (areProper lim (e .content) ≡ false)
-        → extentBy (areProper lim) deepest (placed (λ cs. c ∷ᶜ cs) (just e)) ≡ joinedOf d (extentBy (areProper lim) deepest (just e))
+        → extentBy (areProper lim) deepest (placed (λ cs. c ∷ᶜ cs) (just e)) ≡ joinedExtent d (extentBy (areProper lim) deepest (just e))
     go (inl t) =
         extent-yes (areProper lim) deepest (c ∷ᶜ e .content) (e .next) (both ∙ t)
         ∙ ap (λ (n : ℕ). Upto (e .next) (max n (deepest (e .content)))) deep
-        ∙ sym (ap (joinedOf d) (extent-yes (areProper lim) deepest (e .content) (e .next) t))
+        ∙ sym (ap (joinedExtent d) (extent-yes (areProper lim) deepest (e .content) (e .next) t))
     go (inr t) =
         extent-no (areProper lim) deepest (c ∷ᶜ e .content) (e .next) (both ∙ t)
-        ∙ sym (ap (joinedOf d) (extent-no (areProper lim) deepest (e .content) (e .next) t))
+        ∙ sym (ap (joinedExtent d) (extent-no (areProper lim) deepest (e .content) (e .next) t))
 
 -- any number, one or more, or an optional: an operator with one operand
 pub record OneOperand (lim : Limits) (b : ℕ) : Type 0 where
@@ -165,17 +174,17 @@ one-operand lim b l h = go (b - 5) refl
     go (suc (suc (suc k))) e = absurd (omega arith)
 
 -- a sequence or a choice: an operator with a count
-pub record Counts (lim : Limits) (b : ℕ) : Type 0 where
+pub record ExtentCounts (lim : Limits) (b : ℕ) : Type 0 where
   pub operator : Contents → Content
   pub numbered-so : getElem? operators b ≡ just (counted operator)
   pub proper : (cs : Contents) → isProper lim (operator cs) ≡ (leb 2 (count cs) && leb (count cs) (lim .operands) && areProper lim cs)
   pub nests : (cs : Contents) → nesting (operator cs) ≡ suc (deepest cs)
 
-pub counts : (lim : Limits) (b : ℕ) → 3 ≤ b → b ≤ 4 → Counts lim b
+pub counts : (lim : Limits) (b : ℕ) → 3 ≤ b → b ≤ 4 → ExtentCounts lim b
 unfolding isProper nesting
 counts lim b l h = go (b - 3) refl
   where
-    go : (k : ℕ) → b - 3 ≡ k → Counts lim b
+    go : (k : ℕ) → b - 3 ≡ k → ExtentCounts lim b
     go zero e =
         let q : b ≡ 3 = omega arith in
         record { operator = sequence; numbered-so = ap (getElem? operators) q ∙ operator-sequence; proper = λ cs. refl; nests = λ cs. refl }
@@ -278,8 +287,8 @@ module _ (lim : Limits) (s : List ℕ) (at : ℕ) where
         (λ c. k .nests c ∙ sym (add-one (nesting c)))
 
   -- a type is proper if its number is
-  pub proper-type : at < length s → getD s at 0 ≡ 2 → properAt lim s at ≡ typeAt lim s (at + 1)
-  unfolding isProper nesting typeAt
+  pub proper-type : at < length s → getD s at 0 ≡ 2 → properAt lim s at ≡ typeExtent lim s (at + 1)
+  unfolding isProper nesting typeExtent
   proper-type inside e = go (passes-or-fails (ltb (at + 1) (length s))) (passes-or-fails (ltb (getD s (at + 1) 0) (lim .types)))
     where
       o : getElem? operators (getD s at 0) ≡ just (numbered type)
@@ -290,17 +299,17 @@ module _ (lim : Limits) (s : List ℕ) (at : ℕ) where
 
       go : (ltb (at + 1) (length s) ≡ true) ⊎ (ltb (at + 1) (length s) ≡ false)
           → (ltb (getD s (at + 1) 0) (lim .types) ≡ true) ⊎ (ltb (getD s (at + 1) 0) (lim .types) ≡ false)
-          → properAt lim s at ≡ typeAt lim s (at + 1)
+          → properAt lim s at ≡ typeExtent lim s (at + 1)
       go (inr p) q =
           let l = ltb-false (at + 1) (length s) p in
-          rw (p, typeAt) (proper-none (expr-unnumbered s at (omega arith) type o))
+          rw (p, typeExtent) (proper-none (expr-unnumbered s at (omega arith) type o))
       go (inl p) (inl q) =
           let l = ltb-true (at + 1) (length s) p in
           let found = proper-some (type (getD s (at + 1) 0)) (at + 2) (expr-numbered s at l type o) q in
-          rw (p, q, typeAt) (found ∙ ap (λ (n : ℕ). Upto n 1) (sym two))
+          rw (p, q, typeExtent) (found ∙ ap (λ (n : ℕ). Upto n 1) (sym two))
       go (inl p) (inr q) =
           let l = ltb-true (at + 1) (length s) p in
-          rw (p, q, typeAt) (proper-fault (type (getD s (at + 1) 0)) (at + 2) (expr-numbered s at l type o) q)
+          rw (p, q, typeExtent) (proper-fault (type (getD s (at + 1) 0)) (at + 2) (expr-numbered s at l type o) q)
 
   -- a sequence or a choice
   module _ (low : 3 ≤ getD s at 0) (high : getD s at 0 ≤ 4) where
@@ -379,7 +388,7 @@ module _ (lim : Limits) (s : List ℕ) (at : ℕ) where
           (λ cs next r. ap (λ (b : Bool). b && areProper lim cs) f)
 
   pub row-more : (n next d : ℕ) → 0 < n → properAt lim s at ≡ Upto next d
-      → properRowAt lim s at n ≡ joinedOf d (properRowAt lim s next (n - 1))
+      → properRowAt lim s at n ≡ joinedExtent d (properRowAt lim s next (n - 1))
   unfolding properRowAt areProper deepest
   row-more zero next d h e = absurd (omega arith)
   row-more (suc n) next d h e =
@@ -387,7 +396,7 @@ module _ (lim : Limits) (s : List ℕ) (at : ℕ) where
       let less : n ≡ suc n - 1 = omega arith in
       ap (extentBy (areProper lim) deepest) (exprs-more s at n (y .0) next (y .1))
       ∙ extent-after lim (y .0) d (y .2) (y .3) (exprsAt s next n)
-      ∙ ap (λ (k : ℕ). joinedOf d (properRowAt lim s next k)) less
+      ∙ ap (λ (k : ℕ). joinedExtent d (properRowAt lim s next k)) less
 
 -- What later walks know of a content that was read: it stands from the first byte to the end, is proper and nests within the limit.
 pub record ReadAs (lim : Limits) (s : List ℕ) (c : Content) : Type 0 where

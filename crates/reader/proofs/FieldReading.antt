@@ -13,7 +13,7 @@ use lib.ListN.{length, getD, take, drop, drop-of-length-le, length-drop}
 use lib.Seq.{drop-cons, drop-drop, take-add, drop-at, length-take-le, slice}
 use borrow.Author.Tests.{leb-true, leb-false, le-leb, lt-leb}
 use Rattle.grammar.specs.Fields.{noBytes, pastEnd, _then_, fieldsOf, fieldBytes}
-use Rattle.theory.proofs.FieldBytes.{fields-empty, fields-tag, fields-half, fields-front, fields-past}
+use Rattle.theory.proofs.bytes.FieldBytes.{fields-empty, fields-tag, fields-half, fields-front, fields-past}
 use Rattle.reader.specs.declared.fields.FieldAt.the-variants.{Found, NoBytes, PastEnd}
 use Rattle.reader.specs.FieldAt.{fieldAt, sizeAt}
 

@@ -64,40 +64,40 @@ module _ {s : List ℕ} {index : TableIndex} {g : Table} (x : Indexes s index g)
       unreadable _ BadField (start-unfit standard g (part s from to) (λ q. e (sym (part-size s from to h) ∙ q)))
 
   module _ (one : to - from ≡ 1) where
-    kind : ℕ
-    kind = getD s from 0
+    ty : ℕ
+    ty = getD s from 0
 
-    one-byte : readStart standard g (part s from to) ≡ readStart standard g (kind ∷ [])
-    unfolding kind
+    one-byte : readStart standard g (part s from to) ≡ readStart standard g (ty ∷ [])
+    unfolding ty
     one-byte = ap (readStart standard g) (part-one s from to one (h .within))
 
     pub start-after-rule : (index .rules ≡ 0 → ⊥) → reading (readStart standard g (part s from to)) ≡ Unreadable BadField
-    start-after-rule e = unreadable _ BadField (one-byte ∙ start-late standard g kind (λ q. e (x .rules ∙ q)))
+    start-after-rule e = unreadable _ BadField (one-byte ∙ start-late standard g ty (λ q. e (x .rules ∙ q)))
 
     module _ (no-rules : index .rules ≡ 0) where
       none : length (g .rules) ≡ 0
       none = sym (x .rules) ∙ no-rules
 
       pub start-again : isIn (getD s from 0) (g .starts) ≡ true → reading (readStart standard g (part s from to)) ≡ Unreadable Repeated
-      unfolding kind
-      start-again e = unreadable _ Repeated (one-byte ∙ start-repeated standard g kind none e)
+      unfolding ty
+      start-again e = unreadable _ Repeated (one-byte ∙ start-repeated standard g ty none e)
 
       module _ (new : isIn (getD s from 0) (g .starts) ≡ false) where
         pub start-one-too-many : 64 ≤ index .starts → reading (readStart standard g (part s from to)) ≡ Unreadable TooMany
-        unfolding kind standard
+        unfolding ty standard
         start-one-too-many e =
-            unreadable _ TooMany (one-byte ∙ start-too-many standard g kind none new (omega (arith, x .starts)))
+            unreadable _ TooMany (one-byte ∙ start-too-many standard g ty none new (omega (arith, x .starts)))
 
         module _ (few : index .starts < 64) where
           pub start-out : 64 ≤ getD s from 0 → reading (readStart standard g (part s from to)) ≡ Unreadable OutOfRange
-          unfolding kind standard
+          unfolding ty standard
           start-out e =
-              unreadable _ OutOfRange (one-byte ∙ start-unknown standard g kind none new (omega (arith, x .starts)) e)
+              unreadable _ OutOfRange (one-byte ∙ start-unknown standard g ty none new (omega (arith, x .starts)) e)
 
           pub start-reads : getD s from 0 < 64 → reading (readStart standard g (part s from to)) ≡ Readable
-          unfolding kind standard
+          unfolding ty standard
           start-reads e =
-              readable _ (withStart g kind) (one-byte ∙ start-fine standard g kind none new (omega (arith, x .starts)) e)
+              readable _ (withStart g ty) (one-byte ∙ start-fine standard g ty none new (omega (arith, x .starts)) e)
 
   pub rule-small : to - from < 3 → reading (readRule standard g (part s from to)) ≡ Unreadable BadField
   rule-small e =

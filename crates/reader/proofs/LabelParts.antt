@@ -21,10 +21,10 @@ use Rattle.grammar.specs.WriteTable.{ruleBytes, tableBytes}
 use Rattle.grammar.specs.Calls.{partBytes, partOfLabel}
 use Rattle.grammar.specs.declared.Refusal.{Refusal}
 use Rattle.grammar.specs.declared.Refusal.the-variants.{OutOfRange}
-use Rattle.theory.proofs.FieldBytes.{AreBytes}
-use Rattle.theory.proofs.ListLaws.{mem-at, just-eq, at-else}
-use Rattle.theory.proofs.OutcomeLaws.{given-then, no-fault}
-use Rattle.theory.proofs.ReadWithin.{read-was}
+use Rattle.theory.proofs.bytes.FieldBytes.{AreBytes}
+use Rattle.theory.proofs.lists.ListLaws.{mem-at, just-eq, at-else}
+use Rattle.theory.proofs.bytes.OutcomeLaws.{given-then, no-fault}
+use Rattle.theory.proofs.bytes.ReadWithin.{read-was}
 use Rattle.reader.specs.LabelPlaces.{labelIn}
 use Rattle.reader.proofs.AnswerLaws.{fault}
 use Rattle.reader.proofs.FieldReading.{field-length}

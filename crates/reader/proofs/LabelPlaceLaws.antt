@@ -20,10 +20,10 @@ use Rattle.grammar.specs.Outcome.{given}
 use Rattle.grammar.specs.ReadTable.{labelTag, readTable}
 use Rattle.grammar.specs.Calls.{Part, partOfLabel}
 use Rattle.grammar.specs.declared.Refusal.the-variants.{OutOfRange}
-use Rattle.theory.proofs.FieldBytes.{AreBytes}
-use Rattle.theory.proofs.ListLaws.{below-at, at-below, at-mem, at-else, joined-end}
-use Rattle.theory.proofs.OutcomeLaws.{was-given, had-no-fault, given-eq}
-use Rattle.theory.proofs.ReadWithin.{read-within}
+use Rattle.theory.proofs.bytes.FieldBytes.{AreBytes}
+use Rattle.theory.proofs.lists.ListLaws.{below-at, at-below, at-mem, at-else, joined-end}
+use Rattle.theory.proofs.bytes.OutcomeLaws.{was-given, had-no-fault, given-eq}
+use Rattle.theory.proofs.bytes.ReadWithin.{read-within}
 use Rattle.reader.specs.declared.tables.TableIndex.{TableIndex}
 use Rattle.reader.specs.TableIndex.{labelFrom, labelTo, Inside}
 use Rattle.reader.specs.TableFound.{TableFound}
@@ -31,7 +31,7 @@ use Rattle.reader.specs.LabelPlaces.{labelIn, nameBegins}
 use Rattle.reader.proofs.FieldReading.{field-length}
 use Rattle.reader.proofs.LabelParts.{label-inside, label-found}
 use Rattle.reader.proofs.TableFaults.{part-size}
-use Rattle.reader.proofs.TableFound.{label-found-at}
+use Rattle.reader.proofs.TableFoundLaws.{label-found-at}
 
 -- three bytes, and three more and the name for each label before
 unfoldable pub summed : List ℕ → List ℕ → ℕ → ℕ
@@ -110,8 +110,7 @@ module _ {s : List ℕ} {index : TableIndex} (f : TableFound s index) (small : A
       let inside = label-inside standard asciiClasses s (f .table) small (f .read) label (p .0) (p .1) in
       let name : length (getD (f .table .labels) label []) ≡ length (p .0) = ap length (at-else (f .table .labels) label [] (p .1)) in
       let long = p .2 in
-      let same : length (getD (f .table .labels) label []) ≡ (from + size) - from = omega arith in
-      (
+      let same : length (getD (f .table .labels) label []) ≡ (from + size) - from = omega arith in (
         record { order = omega arith; within = omega arith },
         label-found s label (f .table) (f .read) (omega arith)
             ∙ ap (λ (k : ℕ). given (record { from = k; size = length (getD (f .table .labels) label []) })) (sym e)

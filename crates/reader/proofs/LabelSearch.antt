@@ -12,12 +12,12 @@ use borrow.Author.Tests.{ltb-true, ltb-false}
 use Rattle.grammar.specs.Lists.{any, place}
 use Rattle.grammar.specs.Names.{Name, sameName}
 use Rattle.grammar.specs.Table.{Table}
-use Rattle.theory.proofs.BoolLaws.{false-of, not-both}
-use Rattle.theory.proofs.PlaceLaws.{place-some, place-none}
-use Rattle.theory.proofs.ListLaws.{any-found, any-of, mem-at, at-mem, at-below, below-at, just-eq}
+use Rattle.theory.proofs.lists.BoolLaws.{false-of, not-both}
+use Rattle.theory.proofs.lists.PlaceLaws.{place-some, place-none}
+use Rattle.theory.proofs.lists.ListLaws.{any-found, any-of, mem-at, at-mem, at-below, below-at, just-eq}
 use Rattle.reader.specs.declared.tables.TableIndex.{TableIndex}
-use Rattle.reader.specs.TableIndex.{startType, part, Stands, Indexes}
 use Rattle.reader.specs.NamePlaces.{NamesAt}
+use Rattle.reader.specs.TableIndex.{startType, part, BytesStand, Indexes}
 use Rattle.reader.proofs.TableIndexLaws.{start-at}
 
 -- places
@@ -41,7 +41,7 @@ module _ {A : Type 0} (same : A → A → Bool) (x : A) where
 
 -- names by where they stand
 module _ {s from to : List ℕ} {count : ℕ} {list : List Name} (x : NamesAt s from to count list) where
-  pub name-at : (i : ℕ) → i < count → (n : Name) × (getElem? list i ≡ just n) × Stands s (getD from i 0) (getD to i 0) n
+  pub name-at : (i : ℕ) → i < count → (n : Name) × (getElem? list i ≡ just n) × BytesStand s (getD from i 0) (getD to i 0) n
   name-at i h =
       let p = below-at list i (omega (arith, x .count)) in
       (p .0, p .1, x .name i (p .0) (p .1))

@@ -19,6 +19,6 @@ pub mod TableSteps
 pub mod TableReading
 pub mod WorkLaws
 pub mod LabelParts
-pub mod TableFound
+pub mod TableFoundLaws
 pub mod LabelPlaceLaws
 pub mod CallLaws

@@ -17,9 +17,9 @@ use Rattle.grammar.specs.Outcome.{Outcome, given, refused, _>>=_, _>>_, turnBac
 use Rattle.grammar.specs.ReadContent.{readContent}
 use Rattle.grammar.specs.ReadTable.{isEmpty, withLabel, withStart, withRule, readLabel, readStart, readRule}
 use Rattle.grammar.specs.declared.Refusal.the-variants.{BadField, BadName, Repeated, TooMany, OutOfRange}
-use Rattle.theory.proofs.BoolLaws.{and-left, and-right, and-intro, or-left, or-right, or-none, false-of}
-use Rattle.theory.proofs.OutcomeLaws.{no-fault}
-use Rattle.theory.proofs.ReadSteps.{empty-is}
+use Rattle.theory.proofs.lists.BoolLaws.{and-left, and-right, and-intro, or-left, or-right, or-none, false-of}
+use Rattle.theory.proofs.bytes.OutcomeLaws.{no-fault}
+use Rattle.theory.proofs.bytes.ReadSteps.{empty-is}
 use Rattle.reader.specs.TableIndex.{part, Inside}
 use Rattle.reader.proofs.AnswerLaws.{fault}
 use Rattle.reader.proofs.FieldReading.{part-of}

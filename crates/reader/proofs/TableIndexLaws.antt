@@ -11,9 +11,9 @@ use Rattle.grammar.specs.Names.{Name}
 use Rattle.grammar.specs.Table.{Rule, Table, emptyTable}
 use Rattle.grammar.specs.ReadTable.{withLabel, withStart, withRule}
 use Rattle.grammar.specs.ReadContent.{contentBytes}
-use Rattle.theory.proofs.ListLaws.{below-at, at-below, just-eq}
+use Rattle.theory.proofs.lists.ListLaws.{below-at, at-below, just-eq}
 use Rattle.reader.specs.declared.tables.TableIndex.{TableIndex}
-use Rattle.reader.specs.TableIndex.{labelFrom, labelTo, startType, part, Inside, Stands, RuleAt, Rooms, Indexes}
+use Rattle.reader.specs.TableIndex.{labelFrom, labelTo, startType, part, Inside, BytesStand, RuleAt, Rooms, Indexes}
 
 -- one element more at the end: it is one of the others, or the last
 module _ {A : Type 0} where
@@ -34,8 +34,8 @@ put l n i a h e = ap (λ (k : ℕ). getD (set l n a) k 0) e ∙ getD-set-same l 
 room : (l : List ℕ) (n a : ℕ) → length l ≡ 64 → length (set l n a) ≡ 64
 room l n a e = length-set l n a ∙ e
 
-stands-so : {s : List ℕ} {from from′ to to′ : ℕ} {bytes bytes′ : List ℕ} → Stands s from to bytes → from′ ≡ from → to′ ≡ to → bytes ≡ bytes′
-    → Stands s from′ to′ bytes′
+stands-so : {s : List ℕ} {from from′ to to′ : ℕ} {bytes bytes′ : List ℕ} → BytesStand s from to bytes → from′ ≡ from → to′ ≡ to → bytes ≡ bytes′
+    → BytesStand s from′ to′ bytes′
 stands-so w p q r = rw (p, q, ← r) w
 
 -- the index with one label, start or rule more
@@ -87,7 +87,7 @@ addRule index k l from to =
 module _ {s : List ℕ} {index : TableIndex} {g : Table} (x : Indexes s index g) where
   -- at each number below the count
   pub label-at : (i : ℕ) → i < index .labels
-      → (n : Name) × (getElem? (g .labels) i ≡ just n) × Stands s (labelFrom index i) (labelTo index i) n
+      → (n : Name) × (getElem? (g .labels) i ≡ just n) × BytesStand s (labelFrom index i) (labelTo index i) n
   label-at i h =
       let p = below-at (g .labels) i (omega (arith, x .labels)) in
       (p .0, p .1, x .label i (p .0) (p .1))
@@ -131,16 +131,16 @@ module _ {s : List ℕ} {index : TableIndex} {g : Table} (x : Indexes s index g)
             };
       }
     where
-      older : (i : ℕ) (n : Name) → getElem? (g .labels) i ≡ just n → Stands s (labelFrom (addLabel index from to) i) (labelTo (addLabel index from to) i) n
+      older : (i : ℕ) (n : Name) → getElem? (g .labels) i ≡ just n → BytesStand s (labelFrom (addLabel index from to) i) (labelTo (addLabel index from to) i) n
       older i n e =
           let b = at-below (g .labels) i e in
           let b′ : i < index .labels = omega (arith, x .labels) in
           stands-so (x .label i n e) (kept (index .«label_from») (index .labels) i from b′) (kept (index .«label_to») (index .labels) i to b′) refl
 
       newest : (i : ℕ) (n : Name) → (i ≡ length (g .labels)) × (part s from to ≡ n)
-          → Stands s (labelFrom (addLabel index from to) i) (labelTo (addLabel index from to) i) n
+          → BytesStand s (labelFrom (addLabel index from to) i) (labelTo (addLabel index from to) i) n
       newest i n p =
-          let here : Stands s from to (part s from to) = record { inside = h; bytes-are = refl } in
+          let here : BytesStand s from to (part s from to) = record { inside = h; bytes-are = refl } in
           let at : i ≡ index .labels = p .0 ∙ sym (x .labels) in
           stands-so
           here
@@ -182,7 +182,7 @@ module _ {s : List ℕ} {index : TableIndex} {g : Table} (x : Indexes s index g)
       newest i t p =
           put (index .«start_type») (index .starts) i k (omega (arith, x .rooms .start-type)) (p .0 ∙ sym (x .starts)) ∙ p .1
 
-  pub rule-added : (r : Rule) (from to : ℕ) → Stands s from to (contentBytes (r .content)) → index .rules < 64
+  pub rule-added : (r : Rule) (from to : ℕ) → BytesStand s from to (contentBytes (r .content)) → index .rules < 64
       → Indexes s (addRule index (r .type) (r .label) from to) (withRule g r)
   rule-added r from to h few =
       record {

@@ -19,14 +19,14 @@ use Rattle.grammar.specs.declared.Refusal.{Refusal}
 use Rattle.grammar.specs.declared.Refusal.the-variants.{InputTooLong, FieldPastEnd, BadField, BytesAfterEnd}
 use Rattle.grammar.specs.declared.Reading.{Reading}
 use Rattle.grammar.specs.declared.Reading.the-variants.{Readable, Refused as Unreadable}
-use Rattle.theory.proofs.OutcomeLaws.{given-then, no-fault, had-no-fault, given-eq}
-use Rattle.theory.proofs.FieldBytes.{fields-empty, fields-none}
-use Rattle.theory.proofs.ReadSteps.{end-field, next-field}
+use Rattle.theory.proofs.bytes.OutcomeLaws.{given-then, no-fault, had-no-fault, given-eq}
+use Rattle.theory.proofs.bytes.FieldBytes.{fields-empty, fields-none}
+use Rattle.theory.proofs.bytes.ReadSteps.{end-field, next-field}
 use Rattle.reader.specs.declared.fields.FieldAt.the-variants.{NoBytes, PastEnd}
 use Rattle.reader.specs.declared.tables.TableIndex.{TableIndex}
 use Rattle.reader.specs.declared.tables.TableRead.{TableRead}
 use Rattle.reader.specs.FieldAt.{fieldAt}
-use Rattle.reader.specs.TableIndex.{part, Inside, Indexes, Indexed, Reads, endOutcome}
+use Rattle.reader.specs.TableIndex.{part, Inside, Indexes, TableIndexed, Reads, endOutcome}
 use Rattle.reader.proofs.AnswerLaws.{fault, readable, unreadable, was-readable, was-unreadable, never-given}
 use Rattle.reader.proofs.FieldReading.{FoundField, field-none, field-past}
 use Rattle.reader.proofs.TableFaults.{is-none, is-some, part-size, part-slice}
@@ -58,20 +58,20 @@ abbrev pub wholeTable : List ℕ → Outcome Table
 wholeTable s = readTableFields standard asciiClasses emptyTable (fieldsOf s)
 
 -- Up to this place a table is read, which the index indexes; the whole reads as the rest does after that table.
-pub record Reached (s : List ℕ) (at : ℕ) (index : TableIndex) : Type 0 where
+pub record TableReached (s : List ℕ) (at : ℕ) (index : TableIndex) : Type 0 where
   pub table : Table
   pub indexes : Indexes s index table
   pub inside : at ≤ length s
   pub rest : wholeTable s ≡ readTableFields standard asciiClasses table (fieldsOf (drop at s))
 
-pub reached-none : (s : List ℕ) (index : TableIndex) → Indexes s index emptyTable → Reached s 0 index
+pub reached-none : (s : List ℕ) (index : TableIndex) → Indexes s index emptyTable → TableReached s 0 index
 reached-none s index x = record { table = emptyTable; indexes = x; inside = omega arith; rest = refl }
 
 pub found-inside : {s : List ℕ} {at tag from to : ℕ} → FoundField s at tag from to → Inside s from to
 found-inside w = record { order = w .order; within = w .within }
 
-module _ {s : List ℕ} {at : ℕ} {index : TableIndex} (r : Reached s at index) where
-  pub indexed : Indexed s index
+module _ {s : List ℕ} {at : ℕ} {index : TableIndex} (r : TableReached s at index) where
+  pub indexed : TableIndexed s index
   indexed = record { table = r .table; indexes = r .indexes }
 
   pub ends-early : (fieldAt s at ≡ NoBytes) ⊎ (fieldAt s at ≡ PastEnd)
@@ -135,7 +135,7 @@ module _ {s : List ℕ} {at : ℕ} {index : TableIndex} (r : Reached s at index)
             index = λ g p. absurd (never-given (wholeTable s) q g whole p);
           }
 
-      pub reached-next : read .answer ≡ Readable → Reached s to (read .index)
+      pub reached-next : read .answer ≡ Readable → TableReached s to (read .index)
       unfolding here
       reached-next e =
           let f = was-readable (readTableField standard asciiClasses (r .table) here) (sym (so .answer) ∙ e) in

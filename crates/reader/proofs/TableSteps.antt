@@ -14,10 +14,10 @@ use Rattle.grammar.specs.WriteTable.{ruleBytes}
 use Rattle.grammar.specs.ReadTable.{withLabel, withStart, withRule, readLabel, readStart, readRule}
 use Rattle.grammar.specs.declared.Refusal.{Refusal}
 use Rattle.grammar.specs.declared.Reading.the-variants.{Readable, Refused as Unreadable}
-use Rattle.theory.proofs.OutcomeLaws.{given-eq}
-use Rattle.theory.proofs.ReadSteps.{label-was, StartRead, start-was, RuleRead, rule-was}
+use Rattle.theory.proofs.bytes.OutcomeLaws.{given-eq}
+use Rattle.theory.proofs.bytes.ReadSteps.{label-was, StartRead, start-was, RuleRead, rule-was}
 use Rattle.reader.specs.declared.tables.TableIndex.{TableIndex}
-use Rattle.reader.specs.TableIndex.{part, Inside, Stands, Indexes, Reads}
+use Rattle.reader.specs.TableIndex.{part, Inside, BytesStand, Indexes, Reads}
 use Rattle.reader.proofs.AnswerLaws.{readable, was-readable, was-unreadable, never-given}
 use Rattle.reader.proofs.TableFaults.{part-size, part-one, part-two}
 use Rattle.reader.proofs.TableIndexLaws.{addLabel, addStart, addRule, label-added, start-added, rule-added}
@@ -115,7 +115,7 @@ module _ {s : List ℕ} {index : TableIndex} {g : Table} (x : Indexes s index g)
         let w = rule-found .2 in
         let r = w .rule in
         let b = rule-bytes in
-        let stands : Stands s (from + 2) to (contentBytes (r .content)) =
+        let stands : BytesStand s (from + 2) to (contentBytes (r .content)) =
         record { inside = record { order = rule-size; within = h .within }; bytes-are = b .2 } in
         given-reads
         s

@@ -12,7 +12,7 @@ use Rattle.grammar.specs.Limits.{standard}
 use Rattle.grammar.specs.Outcome.{Outcome, refused}
 use Rattle.grammar.specs.Calls.{workTooShort, workAfter}
 use Rattle.grammar.specs.declared.Refusal.the-variants.{WorkTooShort}
-use Rattle.theory.proofs.CallPromises as promises
+use Rattle.theory.proofs.theorems.CallPromises as promises
 
 -- so many words cleared
 abbrev pub clearedTo : ℕ → List ℕ → List ℕ

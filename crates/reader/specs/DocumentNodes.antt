@@ -33,7 +33,7 @@ outcomeOf Readable ns = given ns
 outcomeOf (Unreadable r) ns = refused r
 
 -- the arrays up to a count: each name lies within the input, and each child count is within the limit
-pub record Indexed (s names sizes children : List ℕ) (nodes : ℕ) : Type 0 where
+pub record NodesIndexed (s names sizes children : List ℕ) (nodes : ℕ) : Type 0 where
   pub few : nodes ≤ 1024
   pub within : (i : ℕ) → i < nodes → getD names i 0 + getD sizes i 0 ≤ length s
   pub counts : (i : ℕ) → i < nodes → getD children i 0 ≤ 200
@@ -41,7 +41,7 @@ pub record Indexed (s names sizes children : List ℕ) (nodes : ℕ) : Type 0 wh
 -- what was read into the arrays is the document's answer, and its nodes if it reads
 pub record NodesFound (s names sizes children : List ℕ) (r : NodesRead) : Type 0 where
   pub outcome : readNodes standard asciiClasses s ≡ outcomeOf (r .answer) (firstNodes s names sizes children (r .nodes))
-  pub indexed : Indexed s names sizes children (r .nodes)
+  pub indexed : NodesIndexed s names sizes children (r .nodes)
 
 -- the same of an index
 abbrev pub DocumentReads : List ℕ → DocumentRead → Type 0

@@ -78,6 +78,6 @@ pub record Closed (coming : List ℕ) (depth left : ℕ) : Type 0 where
   pub levels : openLevels coming left ≡ closed (openLevels coming depth)
 
 -- the levels after a node with so many children
-pub record After (coming : List ℕ) (depth children : ℕ) (coming′ : List ℕ) (depth′ : ℕ) : Type 0 where
+pub record LevelsAfter (coming : List ℕ) (depth children : ℕ) (coming′ : List ℕ) (depth′ : ℕ) : Type 0 where
   pub stays : Open coming′ depth′
   pub levels-are : openLevels coming′ depth′ ≡ afterNode children (openLevels coming depth)

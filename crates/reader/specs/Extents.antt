@@ -30,8 +30,8 @@ unfoldable pub properRowAt : Limits → List ℕ → ℕ → ℕ → Extent
 properRowAt lim s at n = extentBy (areProper lim) deepest (exprsAt s at n)
 
 -- the number of a type
-unfoldable pub typeAt : Limits → List ℕ → ℕ → Extent
-typeAt lim s at =
+unfoldable pub typeExtent : Limits → List ℕ → ℕ → Extent
+typeExtent lim s at =
     elim (ltb at (length s)) [
       | true ↦ elim (ltb (getD s at 0) (lim .types)) [ true ↦ Upto (at + 1) 1 | false ↦ Nowhere ]
       | false ↦ Nowhere
@@ -43,9 +43,9 @@ deeperOf Nowhere = Nowhere
 deeperOf (Upto next deep) = Upto next (deep + 1)
 
 -- a first operand that nests so deep, before the others
-abbrev pub joinedOf : ℕ → Extent → Extent
-joinedOf first Nowhere = Nowhere
-joinedOf first (Upto next deep) = Upto next (max first deep)
+abbrev pub joinedExtent : ℕ → Extent → Extent
+joinedExtent first Nowhere = Nowhere
+joinedExtent first (Upto next deep) = Upto next (max first deep)
 
 abbrev pub NestsBelow : ℕ → Extent → Type 0
 NestsBelow n Nowhere = Unit {0}

@@ -3,6 +3,7 @@ pub mod ExprAt
 pub mod Extents
 pub mod ContentAt
 pub mod DocumentNodes
+pub mod NodeTrees
 pub mod DocumentSteps
 pub mod TableIndex
 pub mod TableFound

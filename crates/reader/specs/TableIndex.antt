@@ -49,14 +49,14 @@ pub record Inside (s : List ℕ) (from to : ℕ) : Type 0 where
   pub within : to ≤ length s
 
 -- the part has these bytes
-pub record Stands (s : List ℕ) (from to : ℕ) (bytes : List ℕ) : Type 0 where
+pub record BytesStand (s : List ℕ) (from to : ℕ) (bytes : List ℕ) : Type 0 where
   pub inside : Inside s from to
   pub bytes-are : part s from to ≡ bytes
 
 pub record RuleAt (s : List ℕ) (index : TableIndex) (i : ℕ) (r : Rule) : Type 0 where
   pub type : ruleType index i ≡ r .type
   pub label : ruleLabel index i ≡ r .label
-  pub content : Stands s (contentFrom index i) (contentTo index i) (contentBytes (r .content))
+  pub content : BytesStand s (contentFrom index i) (contentTo index i) (contentBytes (r .content))
 
 -- room for as many as a table may have
 pub record Rooms (index : TableIndex) : Type 0 where
@@ -73,7 +73,7 @@ pub record Indexes (s : List ℕ) (index : TableIndex) (g : Table) : Type 0 wher
   pub labels : index .labels ≡ length (g .labels)
   pub few-labels : index .labels ≤ 64
   pub label : (i : ℕ) (n : Name) → getElem? (g .labels) i ≡ just n
-      → Stands s (labelFrom index i) (labelTo index i) n
+      → BytesStand s (labelFrom index i) (labelTo index i) n
   pub starts : index .starts ≡ length (g .starts)
   pub few-starts : index .starts ≤ 64
   pub start : (i k : ℕ) → getElem? (g .starts) i ≡ just k → startType index i ≡ k
@@ -83,14 +83,14 @@ pub record Indexes (s : List ℕ) (index : TableIndex) (g : Table) : Type 0 wher
   pub rooms : Rooms index
 
 -- Some table is read so far.
-pub record Indexed (s : List ℕ) (index : TableIndex) : Type 0 where
+pub record TableIndexed (s : List ℕ) (index : TableIndex) : Type 0 where
   pub table : Table
   pub indexes : Indexes s index table
 
 -- A field's value lies here, and some table is read so far.
 pub record ValueAt (s : List ℕ) (from to : ℕ) (index : TableIndex) : Type 0 where
   pub inside : Inside s from to
-  pub indexed : Indexed s index
+  pub indexed : TableIndexed s index
 
 -- The answer is that of the outcome, and the index is that of the table that is given.
 pub record Reads (s : List ℕ) (o : Outcome Table) (r : TableRead) : Type 0 where

@@ -8,7 +8,7 @@ ghost use Prim.Native.Nat.{_≤_};
 ghost use lib.ListN.{length};
 ghost use Rattle.grammar.specs.Limits.{standard};
 ghost use Rattle.grammar.specs.ReadContent.{readContent};
-ghost use Rattle.reader.specs.Extents.{NestsBelow, deeperOf, joinedOf, typeAt, properAt, properRowAt, contentAnswer};
+ghost use Rattle.reader.specs.Extents.{NestsBelow, deeperOf, joinedExtent, typeExtent, properAt, properRowAt, contentAnswer};
 
 // Where proper expressions end and how deep they nest, or that none stand there.
 pub enum Extent {
@@ -37,7 +37,7 @@ fn deeper(operands: Extent) -> Extent
 
 // A first operand that nests so deep, before the others.
 fn joined(first: usize, others: Extent) -> Extent
-    ensures { λ r. ⌜ r ≡ joinedOf first others ⌝ }
+    ensures { λ r. ⌜ r ≡ joinedExtent first others ⌝ }
 {
     match others {
         Extent::Nowhere => Extent::Nowhere,
@@ -55,7 +55,7 @@ fn joined(first: usize, others: Extent) -> Extent
 
 // The number of a type, in range.
 fn type_number(content: &[u8], at: usize) -> Extent
-    ensures { λ r. ⌜ r ≡ typeAt standard (now (content .entry)) at ⌝ }
+    ensures { λ r. ⌜ r ≡ typeExtent standard (now (content .entry)) at ⌝ }
 {
     if content.len() <= at {
         return Extent::Nowhere;

@@ -6,8 +6,8 @@ ghost use lib.Seq.{slice};
 ghost use Rattle.grammar.specs.Limits.{standard};
 ghost use Rattle.grammar.specs.Fields.{fieldsOf};
 ghost use Rattle.grammar.specs.ReadDocument.{nothingRead};
-ghost use Rattle.reader.specs.DocumentNodes.{firstNodes, outcomeOf, Indexed, NodesFound, DocumentReads};
-ghost use Rattle.reader.specs.DocumentSteps.{endAnswer, badCounts, restOf, restWith, StepSays, Open, Closed, After};
+ghost use Rattle.reader.specs.DocumentNodes.{firstNodes, outcomeOf, NodesIndexed, NodesFound, DocumentReads};
+ghost use Rattle.reader.specs.DocumentSteps.{endAnswer, badCounts, restOf, restWith, StepSays, Open, Closed, LevelsAfter};
 use crate::fields::FieldAt;
 use crate::fields::field_at;
 use crate::limits::CHILDREN;
@@ -148,7 +148,7 @@ fn closed_depth(coming: &[usize], depth: usize) -> usize
 // has how many nodes are still to come there.
 fn after_node(coming: &mut [usize], depth: usize, children: usize) -> usize
     requires { ⌜ (0 < depth) × (depth < length (now coming)) × Open (now coming) depth ⌝ }
-    ensures { λ r. ⌜ After (now (coming .entry)) depth children (now (coming .exit)) r ⌝ }
+    ensures { λ r. ⌜ LevelsAfter (now (coming .entry)) depth children (now (coming .exit)) r ⌝ }
 {
     let top = depth - 1;
     let left = coming[top] - 1;
@@ -160,8 +160,9 @@ fn after_node(coming: &mut [usize], depth: usize, children: usize) -> usize
 // The fields of a document, front to back.
 fn read_fields(s: &[u8], names: &mut [u16], sizes: &mut [u16], children: &mut [u16]) -> NodesRead
     requires { ⌜ (length (now s) ≤ 32768) × (1024 ≤ length (now names)) × (1024 ≤ length (now sizes)) × (1024 ≤ length (now children)) ⌝ }
-    ensures answer { λ r. ⌜ restOf nothingRead (fieldsOf (now (s .entry))) ≡ outcomeOf (r .answer) (firstNodes (now (s .entry)) (now (names .exit)) (now (sizes .exit)) (now (children .exit)) (r .nodes)) ⌝ }
-    ensures index { λ r. ⌜ Indexed (now (s .entry)) (now (names .exit)) (now (sizes .exit)) (now (children .exit)) (r .nodes) ⌝ }
+    ensures answer { λ r. ⌜ restOf nothingRead (fieldsOf (now (s .entry)))
+        ≡ outcomeOf (r .answer) (firstNodes (now (s .entry)) (now (names .exit)) (now (sizes .exit)) (now (children .exit)) (r .nodes)) ⌝ }
+    ensures index { λ r. ⌜ NodesIndexed (now (s .entry)) (now (names .exit)) (now (sizes .exit)) (now (children .exit)) (r .nodes) ⌝ }
 {
     let mut nodes: usize = 0;
     let mut at: usize = 0;

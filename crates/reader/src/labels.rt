@@ -20,7 +20,8 @@ use grammar::Refusal;
 // The place of a name among names that stand in bytes; their number where it is not there.
 pub fn name_place(name: &[u8], s: &[u8], from: &[usize], to: &[usize], count: usize) -> usize
     requires { ⌜ NamesStand (now s) (now from) (now to) count ⌝ }
-    ensures { λ r. ⌜ ((list : List Name) → NamesAt (now (s .entry)) (now (from .entry)) (now (to .entry)) count list → r ≡ place sameName (now (name .entry)) list) ⌝ }
+    ensures { λ r. ⌜ ((list : List Name) → NamesAt (now (s .entry)) (now (from .entry)) (now (to .entry)) count list
+        → r ≡ place sameName (now (name .entry)) list) ⌝ }
 {
     let mut i: usize = 0;
     while i < count {

@@ -27,12 +27,12 @@ fn rule_answer(s: &[u8], from: usize, to: usize, index: TableIndex) -> Reading
     if CONTENT + 2 < size {
         return Reading::Refused(Refusal::BadField);
     }
-    let kind = wide(s[from]);
+    let ty = wide(s[from]);
     let label = wide(s[from + 1]);
     if RULES <= rules {
         return Reading::Refused(Refusal::TooMany);
     }
-    if TYPES <= kind {
+    if TYPES <= ty {
         return Reading::Refused(Refusal::OutOfRange);
     }
     if labels <= label {

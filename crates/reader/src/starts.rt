@@ -4,7 +4,7 @@ ghost use Rattle.grammar.specs.Lists.{isIn};
 ghost use Rattle.grammar.specs.Limits.{standard};
 ghost use Rattle.grammar.specs.Table.{Table};
 ghost use Rattle.grammar.specs.ReadTable.{readStart};
-ghost use Rattle.reader.specs.TableIndex.{part, ValueAt, Indexes, Indexed, AnswersFor, ReadsFor};
+ghost use Rattle.reader.specs.TableIndex.{part, ValueAt, Indexes, TableIndexed, AnswersFor, ReadsFor};
 use crate::limits::STARTS;
 use crate::limits::TYPES;
 use crate::numbers::wide;
@@ -14,15 +14,15 @@ use grammar::Reading;
 use grammar::Refusal;
 
 // The type is an earlier start.
-fn repeated_start(s: &[u8], kind: u8, index: TableIndex) -> bool
-    requires { ⌜ Indexed (now s) index ⌝ }
-    ensures { λ r. ⌜ ((g : Table) → Indexes (now (s .entry)) index g → r ≡ isIn kind (g .starts)) ⌝ }
+fn repeated_start(s: &[u8], ty: u8, index: TableIndex) -> bool
+    requires { ⌜ TableIndexed (now s) index ⌝ }
+    ensures { λ r. ⌜ ((g : Table) → Indexes (now (s .entry)) index g → r ≡ isIn ty (g .starts)) ⌝ }
 {
     let start_type = index.start_type;
     let starts = index.starts;
     let mut i: usize = 0;
     while i < starts {
-        if start_type[i] == kind {
+        if start_type[i] == ty {
             return true;
         }
         i += 1;
@@ -43,9 +43,9 @@ fn start_answer(s: &[u8], from: usize, to: usize, index: TableIndex) -> Reading
     if rules != 0 {
         return Reading::Refused(Refusal::BadField);
     }
-    let kind = s[from];
-    let number = wide(kind);
-    if repeated_start(s, kind, index) {
+    let ty = s[from];
+    let number = wide(ty);
+    if repeated_start(s, ty, index) {
         return Reading::Refused(Refusal::Repeated);
     }
     if STARTS <= starts {

@@ -50,7 +50,8 @@ pub struct TableRead {
 // The index after a field that is not the end.
 fn after_field(s: &[u8], tag: u8, from: usize, to: usize, index: TableIndex) -> TableRead
     requires { ⌜ ValueAt (now s) from to index ⌝ }
-    ensures { λ r. ⌜ ReadsFor (now (s .entry)) index (λ g. readTableField standard asciiClasses g (record { tag = tag; value = part (now (s .entry)) from to })) r ⌝ }
+    ensures { λ r. ⌜ ReadsFor (now (s .entry)) index
+        (λ g. readTableField standard asciiClasses g (record { tag = tag; value = part (now (s .entry)) from to })) r ⌝ }
 {
     if tag == LABEL_TAG {
         return after_label(s, from, to, index);

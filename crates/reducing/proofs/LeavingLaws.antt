@@ -16,18 +16,29 @@ use Rattle.grammar.specs.Table.{Table}
 use Rattle.grammar.specs.Unite.{shifted, unite}
 use Rattle.grammar.specs.Normalise.{pairsOf, normalise}
 use Rattle.grammar.specs.Reduce.{fruitful, withoutUnfruitful}
+use Rattle.theory.proofs.lists.BoolLaws.{same-test, or-cases, or-left, or-right}
+use Rattle.theory.proofs.lists.ListLaws.{
+  kept,
+  joined-from,
+  joined-mem,
+  numbers-below,
+  at-mem,
+  mem-at,
+  at-below,
+  below-at,
+  in-mem,
+  mem-in,
+}
+use Rattle.theory.proofs.steps.Reached.{start-reached}
+use Rattle.sets.specs.Sets.{nothing, inEither}
 use Rattle.reader.specs.declared.tables.TableIndex.{TableIndex}
 use Rattle.reader.specs.TableIndex.{startType}
-use Rattle.reader.proofs.TableFound.{start-small}
-use Rattle.theory.proofs.BoolLaws.{same-test, or-cases, or-left, or-right}
-use Rattle.theory.proofs.ListLaws.{kept, joined-from, joined-mem, numbers-below, at-mem, mem-at, at-below, below-at, in-mem, mem-in}
-use Rattle.theory.proofs.Reached.{start-reached}
-use Rattle.sets.specs.Sets.{nothing, both}
+use Rattle.reader.proofs.TableFoundLaws.{start-small}
 use Rattle.pairs.specs.declared.lists.TypeLists.{TypeLists}
 use Rattle.pairs.specs.View.{TableHeld}
-use Rattle.pairs.specs.Walks.{listOf, Listed}
 use Rattle.pairs.specs.PairNumbers.{fruitfulOf, isStart, isLeft, metIn}
 use Rattle.pairs.specs.TypeLists.{ListsOf}
+use Rattle.pairs.specs.Walks.{listOfType, Listed}
 use Rattle.pairs.proofs.MetLaws.{met-hold}
 use Rattle.pairs.proofs.ReachedLaws.{start-pairs, met-reached, reached-set}
 use Rattle.reducing.specs.PairsListed.{PartBelow, StartsSmall}
@@ -76,10 +87,10 @@ module _ {old add : List ℕ} {index addition : TableIndex} {g h : Table} (x : T
   of = fruitfulOf (unite standard g h)
 
   abbrev olds : ℕ → List ℕ
-  olds = listOf (lists .old .from) (lists .old .numbers)
+  olds = listOfType (lists .old .from) (lists .old .numbers)
 
   abbrev adds : ℕ → List ℕ
-  adds = listOf (lists .addition .from) (lists .addition .numbers)
+  adds = listOfType (lists .addition .from) (lists .addition .numbers)
 
   abbrev oldPairs : List ℕ
   oldPairs = joinedOf (λ i. olds (startType index i)) (numbersBelow (index .starts))
@@ -132,11 +143,11 @@ module _ {old add : List ℕ} {index addition : TableIndex} {g h : Table} (x : T
       or-left (isIn p addedPairs) (isIn p oldPairs || false) (mem-in q))
       (List·Memᴰ·append-cases (g .starts) (s .1))
 
-  pub start-set : (set first : ℕ → Bool) → set ≡ both (λ p. isIn p addedPairs) first → first ≡ both (λ p. isIn p oldPairs) nothing
+  pub start-set : (set first : ℕ → Bool) → set ≡ inEither (λ p. isIn p addedPairs) first → first ≡ inEither (λ p. isIn p oldPairs) nothing
       → set ≡ isStart (unite standard g h)
   start-set set first a b =
       a
-      ∙ ap (both (λ p. isIn p addedPairs)) b
+      ∙ ap (inEither (λ p. isIn p addedPairs)) b
       ∙ fun-ext
       (λ p.
       same-test (isIn p addedPairs || (isIn p oldPairs || false)) (isStart (unite standard g h) p) (
@@ -149,7 +160,7 @@ module _ {old add : List ℕ} {index addition : TableIndex} {g h : Table} (x : T
       ))
 
 -- the pairs seen so far: the starts are among them, and each is left and fruitful
-pub record Seen (u : Table) (seen : ℕ → Bool) : Type 0 where
+pub record SeenPairs (u : Table) (seen : ℕ → Bool) : Type 0 where
   pub starts : (p : ℕ) → isStart u p ≡ true → seen p ≡ true
   pub left : (p : ℕ) → seen p ≡ true → isLeft u p ≡ true
   pub fruitful-pair : (p : ℕ) → seen p ≡ true → isIn p (fruitful (normalise u)) ≡ true
@@ -158,7 +169,7 @@ module _ (u : Table) where
   list-fruitful : (k p : ℕ) → List·Memᴰ p (fruitfulOf u k) → isIn p (fruitful (normalise u)) ≡ true
   list-fruitful k p m = kept (λ q. isIn q (fruitful (normalise u))) (pairsOf u k) m .1
 
-  pub seen-start : (set : ℕ → Bool) → set ≡ isStart u → Seen u set
+  pub seen-start : (set : ℕ → Bool) → set ≡ isStart u → SeenPairs u set
   seen-start set e =
       let start : (p : ℕ) → set p ≡ true → List·Memᴰ p (withoutUnfruitful (normalise u) .starts) =
       λ p t. in-mem p (withoutUnfruitful (normalise u) .starts) (sym (ap (λ s. s p) e) ∙ t) in
@@ -169,7 +180,7 @@ module _ (u : Table) where
       }
 
   module _ (seen met : ℕ → Bool) where
-    pub seen-next : (next : ℕ → Bool) → Seen u seen → met ≡ (λ p. isIn p (metIn u seen)) → next ≡ both seen met → Seen u next
+    pub seen-next : (next : ℕ → Bool) → SeenPairs u seen → met ≡ (λ p. isIn p (metIn u seen)) → next ≡ inEither seen met → SeenPairs u next
     seen-next next s m e =
         let by : (p : ℕ) → met p ≡ true → MetBy u seen p =
         λ p t. met-was u seen p (in-mem p (metIn u seen) (sym (ap (λ set. set p) m) ∙ t)) in
@@ -193,7 +204,7 @@ module _ (u : Table) where
               (either p t);
         }
 
-    pub seen-end : Seen u seen → met ≡ (λ p. isIn p (metIn u seen)) → both seen met ≡ seen → seen ≡ isLeft u
+    pub seen-end : SeenPairs u seen → met ≡ (λ p. isIn p (metIn u seen)) → inEither seen met ≡ seen → seen ≡ isLeft u
     seen-end s m closed =
         reached-set u seen
         (λ p n. s .starts p (mem-in n))

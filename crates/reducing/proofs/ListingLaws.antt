@@ -23,31 +23,41 @@ use Rattle.grammar.specs.ReadTable.{isEmpty}
 use Rattle.grammar.specs.Unite.{shifted}
 use Rattle.grammar.specs.Normalise.{pairOf, normalise}
 use Rattle.grammar.specs.Reduce.{fruitful}
-use Rattle.theory.proofs.BoolLaws.{and-left, false-of, same-test}
-use Rattle.theory.proofs.ListLaws.{kept, joined-from, in-mem, numbers-below, at-else, keep-on, keep-both, set-all, joined-next}
-use Rattle.theory.proofs.Alternatives.{onlyIf, someLeft}
+use Rattle.theory.specs.Alternatives.{onlyIf, someLeft}
+use Rattle.theory.proofs.lists.BoolLaws.{and-left, false-of, same-test}
+use Rattle.theory.proofs.lists.ListLaws.{
+  kept,
+  joined-from,
+  in-mem,
+  numbers-below,
+  at-else,
+  keep-on,
+  keep-both,
+  set-all,
+  joined-next,
+}
 use Rattle.sets.specs.Sets.{nothing}
 use Rattle.pairs.specs.declared.union.United.{United}
 use Rattle.pairs.specs.declared.lists.Lists.{Lists}
 use Rattle.pairs.specs.declared.lists.TypeLists.{TypeLists}
 use Rattle.pairs.specs.View.{Views, typeIn, firstIn}
-use Rattle.pairs.specs.Walks.{listOf, Once}
 use Rattle.pairs.specs.Rounds.{puts}
-use Rattle.pairs.specs.PairNumbers.{ruleAt, fruitfulOf}
 use Rattle.pairs.specs.TypeLists.{ListsOf}
+use Rattle.pairs.specs.Walks.{listOfType, Once}
+use Rattle.pairs.specs.PairNumbers.{ruleNumbered, fruitfulOf}
 use Rattle.pairs.proofs.OnceLaws.{new-room, adds-new, adds-once}
 use Rattle.pairs.proofs.MetLaws.{some-listed}
 use Rattle.pairs.proofs.PutsLaws.{puts-was, puts-has}
 use Rattle.pairs.proofs.ViewLaws.{seen}
 use Rattle.pairs.proofs.PairLists.{pairs-are}
-use Rattle.reducing.specs.PairsListed.{isPair, pairsIn, pairsFrom, Filled, Appends, Earlier, ListsEach}
+use Rattle.reducing.specs.PairsListed.{isPair, pairsIn, pairsFrom, ListsFilled, Appends, Earlier, ListsEach}
 use Rattle.reducing.proofs.NumberLaws.{joined-start}
 
 -- numbers after others
 pub appends-same : {front xs ys list : List ℕ} {count : ℕ} → xs ≡ ys → Appends front xs list count → Appends front ys list count
 appends-same {front} {xs} {ys} {list} {count} e a = subst (λ (l : List ℕ). Appends front l list count) e a
 
-pub appends-none : {list : List ℕ} {count : ℕ} → Filled list count → Appends (take count list) [] list count
+pub appends-none : {list : List ℕ} {count : ℕ} → ListsFilled list count → Appends (take count list) [] list count
 appends-none {list} {count} f = record { all = sym (append-nil (take count list)); filled = f }
 
 pub appends-join : (front xs ys list list′ : List ℕ) (count r : ℕ) → Appends front xs list count
@@ -59,11 +69,11 @@ appends-join front xs ys list list′ count r a b =
       filled = b .filled;
     }
 
-pub append-room : (list : List ℕ) (count p : ℕ) → Filled list count → p < 128 → isIn p (take count list) ≡ false
+pub append-room : (list : List ℕ) (count p : ℕ) → ListsFilled list count → p < 128 → isIn p (take count list) ≡ false
     → count < length list
 append-room list count p f small e = new-room 128 list count (f .once) p small e
 
-pub append-new : (list : List ℕ) (count p : ℕ) (b : Bool) → Filled list count → p < 128 → isIn p (take count list) ≡ false
+pub append-new : (list : List ℕ) (count p : ℕ) (b : Bool) → ListsFilled list count → p < 128 → isIn p (take count list) ≡ false
     → b ≡ true
     → Appends (take count list) (onlyIf b (p ∷ [])) (set list count p) (count + 1)
 unfolding onlyIf
@@ -85,7 +95,7 @@ append-new list count p b f small e on =
           };
     })
 
-pub append-off : (list more : List ℕ) (count : ℕ) (b : Bool) → Filled list count → b ≡ false
+pub append-off : (list more : List ℕ) (count : ℕ) (b : Bool) → ListsFilled list count → b ≡ false
     → Appends (take count list) (onlyIf b more) list count
 unfolding onlyIf
 append-off list more count b f off = appends-same (sym (ap (λ (c : Bool). onlyIf c more) off)) (appends-none f)
@@ -107,7 +117,7 @@ none-once : (list : List ℕ) → 128 ≤ length list → Once 128 list 0
 unfolding distinct
 none-once list h = record { room = h; held = omega arith; once = refl; below = λ p m. elim m [ ] }
 
-pub filled-zeros : Filled (replicate 128 0) 0
+pub filled-zeros : ListsFilled (replicate 128 0) 0
 filled-zeros =
     record {
       once = none-once (replicate 128 0) (subst (λ (n : ℕ). 128 ≤ n) (sym (length-replicate {A = ℕ} 128 0)) (omega arith));
@@ -125,36 +135,36 @@ part-is a b rest numbers x y p q e =
 
 module _ (v : United) (known : ℕ → Bool) where
   -- whether a number is that of a pair of the type
-  module _ (kind p : ℕ) where
-    pub pair-other : (typeIn v p ≡ kind → ⊥) → false ≡ isPair v known kind p
+  module _ (ty p : ℕ) where
+    pub pair-other : (typeIn v p ≡ ty → ⊥) → false ≡ isPair v known ty p
     pair-other d =
-        sym (ap (λ (b : Bool). b && eqb (firstIn v p) p && known p) (ne-eqb (typeIn v p) kind d))
+        sym (ap (λ (b : Bool). b && eqb (firstIn v p) p && known p) (ne-eqb (typeIn v p) ty d))
 
-    pub pair-later : typeIn v p ≡ kind → (firstIn v p ≡ p → ⊥) → false ≡ isPair v known kind p
+    pub pair-later : typeIn v p ≡ ty → (firstIn v p ≡ p → ⊥) → false ≡ isPair v known ty p
     pair-later e d =
-        sym (ap₂ (λ (a b : Bool). a && b && known p) (eq-eqb (typeIn v p) kind e) (ne-eqb (firstIn v p) p d))
+        sym (ap₂ (λ (a b : Bool). a && b && known p) (eq-eqb (typeIn v p) ty e) (ne-eqb (firstIn v p) p d))
 
-    pub pair-known : typeIn v p ≡ kind → firstIn v p ≡ p → known p ≡ isPair v known kind p
-    pair-known e f = sym (ap₂ (λ (a b : Bool). a && b && known p) (eq-eqb (typeIn v p) kind e) (eq-eqb (firstIn v p) p f))
+    pub pair-known : typeIn v p ≡ ty → firstIn v p ≡ p → known p ≡ isPair v known ty p
+    pair-known e f = sym (ap₂ (λ (a b : Bool). a && b && known p) (eq-eqb (typeIn v p) ty e) (eq-eqb (firstIn v p) p f))
 
-  pub pair-new : (kind p : ℕ) (front list : List ℕ) → Earlier v kind front
-      → list ≡ front ++ keep (isPair v known kind) (numbersBelow p)
-      → isPair v known kind p ≡ true
+  pub pair-new : (ty p : ℕ) (front list : List ℕ) → Earlier v ty front
+      → list ≡ front ++ keep (isPair v known ty) (numbersBelow p)
+      → isPair v known ty p ≡ true
       → isIn p list ≡ false
-  pair-new kind p front list h e t =
-      let same = eqb-true (typeIn v p) kind
-      (and-left (eqb (typeIn v p) kind) (eqb (firstIn v p) p)
-      (and-left (eqb (typeIn v p) kind && eqb (firstIn v p) p) (known p) t)) in
+  pair-new ty p front list h e t =
+      let same = eqb-true (typeIn v p) ty
+      (and-left (eqb (typeIn v p) ty) (eqb (firstIn v p) p)
+      (and-left (eqb (typeIn v p) ty && eqb (firstIn v p) p) (known p) t)) in
       false-of (isIn p list)
       (λ i.
       ⊎-elim
       (λ m. let b = h p m in omega arith)
-      (λ m. let b = numbers-below p p .0 (kept (isPair v known kind) (numbersBelow p) m .0) in omega arith)
+      (λ m. let b = numbers-below p p .0 (kept (isPair v known ty) (numbersBelow p) m .0) in omega arith)
       (List·Memᴰ·append-cases front (subst (λ (l : List ℕ). List·Memᴰ p l) e (in-mem p list i))))
 
-  pub pairs-in : (kind : ℕ) → keep (isPair v known kind) (numbersBelow (v .rules)) ≡ pairsIn v known kind
+  pub pairs-in : (ty : ℕ) → keep (isPair v known ty) (numbersBelow (v .rules)) ≡ pairsIn v known ty
   unfolding pairsIn
-  pairs-in kind = refl
+  pairs-in ty = refl
 
   module _ (base : ℕ) where
     pairs-next : (n : ℕ) → pairsFrom v known base (n + 1) ≡ pairsFrom v known base n ++ pairsIn v known (base + n)
@@ -283,7 +293,7 @@ module _ (v : United) (known : ℕ → Bool) where
       )
 
       pub filling-end : ListsEach (λ k. pairsIn v known (base + k)) (record { from = from; numbers = numbers })
-      unfolding listOf
+      unfolding listOfType
       filling-end =
           record {
             listed =
@@ -312,7 +322,7 @@ module _ (v : United) (known : ℕ → Bool) where
 -- the pairs of a type in the view are those of the union
 module _ {old add : List ℕ} {v : United} {u : Table} (x : Views old add v u) where
   pub rule-at : (i : ℕ) → i < v .rules
-      → (typeIn v i ≡ ruleAt u i .type) × (firstIn v i ≡ pairOf u (ruleAt u i))
+      → (typeIn v i ≡ ruleNumbered u i .type) × (firstIn v i ≡ pairOf u (ruleNumbered u i))
   rule-at i h =
       let s = seen x i h in
       let e = at-else (u .rules) i (record { type = 0; label = 0; content = none }) (s .1) in
@@ -323,7 +333,7 @@ module _ {old add : List ℕ} {v : United} {u : Table} (x : Views old add v u) w
   unfolding pairsIn
   pairs-fruitful known e k =
       let found : ℕ → Bool = λ p. isIn p (fruitful (normalise u)) in
-      let test : ℕ → Bool = λ q. eqb (ruleAt u q .type) k && eqb (pairOf u (ruleAt u q)) q in
+      let test : ℕ → Bool = λ q. eqb (ruleNumbered u q .type) k && eqb (pairOf u (ruleNumbered u q)) q in
       ap (λ (set : ℕ → Bool). keep (isPair v set k) (numbersBelow (v .rules))) e
       ∙ keep-on (isPair v found k) (λ q. test q && found q) (numbersBelow (v .rules))
       (λ q m.

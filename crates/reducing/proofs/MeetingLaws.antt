@@ -21,22 +21,41 @@ use Rattle.grammar.specs.Table.{Rule, Table}
 use Rattle.grammar.specs.KindTests.{samePair}
 use Rattle.grammar.specs.Unite.{shifted}
 use Rattle.grammar.specs.Normalise.{pairOf}
-use Rattle.theory.proofs.BoolLaws.{and-left, and-right}
-use Rattle.theory.proofs.ListLaws.{kept, keep-mem, joined-from, joined-mem, numbers-below, at-mem, mem-at, at-below, at-else, at-or-else, any-of, eqb-decides, keep-on, taken-mem, eqb-sym, decided-trans, joined-next}
-use Rattle.theory.proofs.PlaceLaws.{place-found}
-use Rattle.theory.proofs.DistinctLaws.{among-distinct}
-use Rattle.theory.proofs.NormaliseDocuments.{pair-refl}
-use Rattle.theory.proofs.Alternatives.{hasAlts, allHaveAlts, oneHasAlts, someLeft, onlyIf, pairsMet, pairsMetAll, pairs-renamed}
-use Rattle.theory.proofs.EmittedContent.{joined-map, joined-twice}
-use Rattle.sets.specs.Sets.{member, putAt, both}
+use Rattle.theory.specs.Alternatives.{hasAlts, allHaveAlts, oneHasAlts, someLeft, onlyIf, pairsMet, pairsMetAll}
+use Rattle.theory.proofs.lists.BoolLaws.{and-left, and-right}
+use Rattle.theory.proofs.lists.ListLaws.{
+  kept,
+  keep-mem,
+  joined-from,
+  joined-mem,
+  numbers-below,
+  at-mem,
+  mem-at,
+  at-below,
+  at-else,
+  at-or-else,
+  any-of,
+  eqb-decides,
+  keep-on,
+  taken-mem,
+  eqb-sym,
+  decided-trans,
+  joined-next,
+}
+use Rattle.theory.proofs.lists.PlaceLaws.{place-found}
+use Rattle.theory.proofs.lists.DistinctLaws.{among-distinct}
+use Rattle.theory.proofs.steps.NormaliseDocuments.{pair-refl}
+use Rattle.theory.proofs.emission.AlternativeLaws.{pairs-renamed}
+use Rattle.theory.proofs.emission.EmittedContent.{joined-map, joined-twice}
+use Rattle.sets.specs.Sets.{member, putAt, inEither}
 use Rattle.pairs.specs.declared.union.United.{United}
 use Rattle.pairs.specs.declared.lists.TypeLists.{TypeLists}
 use Rattle.pairs.specs.declared.lists.Lists.{Lists}
 use Rattle.pairs.specs.declared.met.MetOne.{MetOne}
 use Rattle.pairs.specs.View.{SourceContent, Views, firstIn, fromIn, toIn}
-use Rattle.pairs.specs.Walks.{listOf, Once, Adds, MetAsks, MetFinds}
-use Rattle.pairs.specs.Rounds.{contentOf}
-use Rattle.pairs.specs.PairNumbers.{ruleAt, fruitfulOf, contentsOfPair, contentsIn, metIn}
+use Rattle.pairs.specs.Walks.{listOfType, Once, Adds, MetAsks, MetFinds}
+use Rattle.pairs.specs.Rounds.{contentOfRule}
+use Rattle.pairs.specs.PairNumbers.{ruleNumbered, fruitfulOf, contentsOfPair, contentsIn, metIn}
 use Rattle.pairs.proofs.ViewLaws.{content-is, seen}
 use Rattle.pairs.proofs.MetLaws.{finds-adds, finds-once}
 use Rattle.pairs.proofs.OnceLaws.{part-more, adds-none, adds-join, adds-same}
@@ -100,23 +119,23 @@ module _ (lim : Limits) (left right : ℕ → List ℕ) (same : (k : ℕ) → k 
 -- what the walk over a content adds
 pub content-met : (s : List ℕ) (lists : Lists) (list : List ℕ) (count : ℕ) (list′ : List ℕ) (r : MetOne)
     → MetAsks s 0 (lists .from) (lists .numbers) list count
-    → MetFinds (listOf (lists .from) (lists .numbers)) (take count list) s 0 list′ r
+    → MetFinds (listOfType (lists .from) (lists .numbers)) (take count list) s 0 list′ r
     → length list′ ≡ length list
     → ContentMet s lists (take count list) list′ (r .count)
 content-met s lists list count list′ r a f same =
     record {
-      adds = λ c next e. finds-adds (listOf (lists .from) (lists .numbers)) (take count list) s 0 list′ r c next e f .2;
+      adds = λ c next e. finds-adds (listOfType (lists .from) (lists .numbers)) (take count list) s 0 list′ r c next e f .2;
       once = finds-once s 0 (lists .from) (lists .numbers) list count list′ r a f same;
     }
 
 -- a content in its source
 source-met : {s : List ℕ} {from to : ℕ} {c : Content} → SourceContent s from to c → (lists : Lists) (of : ℕ → List ℕ)
-    → ((k : ℕ) → k < 64 → listOf (lists .from) (lists .numbers) k ≡ of k)
+    → ((k : ℕ) → k < 64 → listOfType (lists .from) (lists .numbers) k ≡ of k)
     → (numbers list : List ℕ) (r : ℕ) → ContentMet (take (to - from) (drop from s)) lists numbers list r
     → Adds numbers (pairsMet of c) list r
 unfolding standard
 source-met {s} {from} {to} {c} x lists of same numbers list r f =
-    adds-same (met-same standard (listOf (lists .from) (lists .numbers)) of same c (x .proper)) (f .adds c (to - from) (x .stands))
+    adds-same (met-same standard (listOfType (lists .from) (lists .numbers)) of same c (x .proper)) (f .adds c (to - from) (x .stands))
 
 module _ {old add : List ℕ} {v : United} (i : ℕ) (inside : i < v .rules) (lists : TypeLists) (numbers list : List ℕ) (r : ℕ) where
   pub old-met : i < v .«old_rules»
@@ -158,11 +177,11 @@ module _ {old add : List ℕ} {v : United} {u : Table} (x : Views old add v u) w
   pair-met p =
       joined-only (λ i. eqb (firstIn v i) p) (metInRule u) (numbersBelow (v .rules))
       ∙ ap (joinedOf (metInRule u))
-      (keep-on (λ i. eqb (firstIn v i) p) (λ i. eqb (pairOf u (ruleAt u i)) p) (numbersBelow (v .rules))
+      (keep-on (λ i. eqb (firstIn v i) p) (λ i. eqb (pairOf u (ruleNumbered u i)) p) (numbersBelow (v .rules))
       (λ i m. ap (λ (q : ℕ). eqb q p) (rule-at x i (numbers-below (v .rules) i .0 m) .1))
-      ∙ ap (λ (n : ℕ). keep (λ i. eqb (pairOf u (ruleAt u i)) p) (numbersBelow n)) (x .rules))
-      ∙ sym (joined-map (pairsMet (fruitfulOf u)) (contentOf u)
-      (keep (λ i. eqb (pairOf u (ruleAt u i)) p) (numbersBelow (length (u .rules)))))
+      ∙ ap (λ (n : ℕ). keep (λ i. eqb (pairOf u (ruleNumbered u i)) p) (numbersBelow n)) (x .rules))
+      ∙ sym (joined-map (pairsMet (fruitfulOf u)) (contentOfRule u)
+      (keep (λ i. eqb (pairOf u (ruleNumbered u i)) p) (numbersBelow (length (u .rules)))))
 
   pub set-met : (set : ℕ → Bool)
       → joinedOf (λ p. onlyIf (set p) (metInPair u p)) (numbersBelow (v .rules)) ≡ metIn u set
@@ -231,16 +250,16 @@ module _ (u : Table) (set : ℕ → Bool) (p : ℕ) where
       let rules = numbersBelow (length (u .rules)) in
       let c = joined-from (pairsMet (fruitfulOf u)) (contentsIn u set) m in
       let q = joined-from (contentsOfPair u) (keep set rules) (c .1) in
-      let i = Memᴰ·of-map (contentOf u) (keep (λ i. eqb (pairOf u (ruleAt u i)) (q .0)) rules) (q .2) in
-      let k = kept (λ i. eqb (pairOf u (ruleAt u i)) (q .0)) rules (i .1) in
+      let i = Memᴰ·of-map (contentOfRule u) (keep (λ i. eqb (pairOf u (ruleNumbered u i)) (q .0)) rules) (q .2) in
+      let k = kept (λ i. eqb (pairOf u (ruleNumbered u i)) (q .0)) rules (i .1) in
       let at = at-or-else (u .rules) (i .0) (record { type = 0; label = 0; content = none }) (numbers-below (length (u .rules)) (i .0) .0 (k .0)) in
       record {
-        rule = ruleAt u (i .0);
+        rule = ruleNumbered u (i .0);
         of-table = at-mem (u .rules) (i .0) at;
-        of-set = ap set (eqb-true (pairOf u (ruleAt u (i .0))) (q .0) (k .1)) ∙ kept set rules (q .1) .1;
+        of-set = ap set (eqb-true (pairOf u (ruleNumbered u (i .0))) (q .0) (k .1)) ∙ kept set rules (q .1) .1;
         meets =
             subst (λ (d : Content). List·Memᴰ p (pairsMet (fruitfulOf u) d))
-            (sym (i .2) ∙ content-is u (i .0) (ruleAt u (i .0)) at)
+            (sym (i .2) ∙ content-is u (i .0) (ruleNumbered u (i .0)) at)
             (c .2);
       }
 
@@ -253,9 +272,9 @@ module _ (u : Table) (set : ℕ → Bool) (p : ℕ) where
       let first = keep-mem set (numbers-below (length (u .rules)) q .1 (at-below (u .rules) q (f .1))) (w .of-set) in
       let a = mem-at (w .of-table) in
       let e = at-else (u .rules) (a .0) (record { type = 0; label = 0; content = none }) (a .1) in
-      let i = keep-mem (λ i. eqb (pairOf u (ruleAt u i)) q) (numbers-below (length (u .rules)) (a .0) .1 (at-below (u .rules) (a .0) (a .1)))
-      (eq-eqb (pairOf u (ruleAt u (a .0))) q (ap (pairOf u) e)) in
-      let c = Memᴰ·map (contentOf u) i in
+      let i = keep-mem (λ i. eqb (pairOf u (ruleNumbered u i)) q) (numbers-below (length (u .rules)) (a .0) .1 (at-below (u .rules) (a .0) (a .1)))
+      (eq-eqb (pairOf u (ruleNumbered u (a .0))) q (ap (pairOf u) e)) in
+      let c = Memᴰ·map (contentOfRule u) i in
       joined-mem (pairsMet (fruitfulOf u)) (joined-mem (contentsOfPair u) first c)
       (subst (λ (d : Content). List·Memᴰ p (pairsMet (fruitfulOf u) d)) (sym (content-is u (a .0) (w .rule) (a .1))) (w .meets))
 
@@ -283,11 +302,11 @@ pub part-next : (words more numbers : List ℕ) (first i k : ℕ) (base : ℕ �
     → length words ≡ 4
     → first ≤ i
     → i < length numbers
-    → member words 0 ≡ both (λ p. isIn p (take (i - first) (drop first numbers))) base
-    → (member more 0 ≡ both (λ p. isIn p (take (i + 1 - first) (drop first numbers))) base) × (length more ≡ 4)
+    → member words 0 ≡ inEither (λ p. isIn p (take (i - first) (drop first numbers))) base
+    → (member more 0 ≡ inEither (λ p. isIn p (take (i + 1 - first) (drop first numbers))) base) × (length more ≡ 4)
 part-next words more numbers first i k base m e small l low high q =
     let part = take (i - first) (drop first numbers) in
     let r = put-next words more part k base m small l q in
     let t : part ++ (k ∷ []) ≡ take (i + 1 - first) (drop first numbers) =
     ap (λ (n : ℕ). part ++ (n ∷ [])) e ∙ sym (part-more numbers first i low high) in
-    (r .0 ∙ ap (λ (xs : List ℕ). both (λ p. isIn p xs) base) t, r .1)
+    (r .0 ∙ ap (λ (xs : List ℕ). inEither (λ p. isIn p xs) base) t, r .1)

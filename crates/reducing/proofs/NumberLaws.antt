@@ -7,11 +7,11 @@ use mathlib.Core.Path.{_≡_, refl, sym, _∙_, ap, ap₂, fun-ext}
 use lib.ListN.{length}
 use lib.Dec.{eqb}
 use Rattle.grammar.specs.Lists.{keep, joinedOf, isIn, numbersBelow}
-use Rattle.theory.proofs.BoolLaws.{or-turn}
-use Rattle.theory.proofs.ListLaws.{keep-yes, keep-no, in-append, numbers-end}
-use Rattle.theory.proofs.DistinctLaws.{keep-append}
-use Rattle.theory.proofs.Alternatives.{onlyIf}
-use Rattle.sets.specs.Sets.{member, putAt, both}
+use Rattle.theory.specs.Alternatives.{onlyIf}
+use Rattle.theory.proofs.lists.BoolLaws.{or-turn}
+use Rattle.theory.proofs.lists.ListLaws.{keep-yes, keep-no, in-append, numbers-end}
+use Rattle.theory.proofs.lists.DistinctLaws.{keep-append}
+use Rattle.sets.specs.Sets.{member, putAt, inEither}
 use Rattle.sets.proofs.SetLaws.{member-put, length-put}
 
 -- the lists of the elements that pass, joined
@@ -58,21 +58,21 @@ joined-start f = refl
 
 -- sets with the numbers of a list
 pub both-next : (xs ys : List ℕ) (base : ℕ → Bool)
-    → both (λ p. isIn p ys) (both (λ p. isIn p xs) base) ≡ both (λ p. isIn p (xs ++ ys)) base
+    → inEither (λ p. isIn p ys) (inEither (λ p. isIn p xs) base) ≡ inEither (λ p. isIn p (xs ++ ys)) base
 both-next xs ys base =
     fun-ext (λ p. or-turn (isIn p ys) (isIn p xs) (base p) ∙ ap (λ (b : Bool). b || base p) (sym (in-append p xs ys)))
 
-pub both-start : (base : ℕ → Bool) (xs : List ℕ) → xs ≡ [] → base ≡ both (λ p. isIn p xs) base
+pub both-start : (base : ℕ → Bool) (xs : List ℕ) → xs ≡ [] → base ≡ inEither (λ p. isIn p xs) base
 unfolding isIn
-both-start base xs e = ap (λ (l : List ℕ). both (λ p. isIn p l) base) (sym e)
+both-start base xs e = ap (λ (l : List ℕ). inEither (λ p. isIn p l) base) (sym e)
 
-pub both-nothing : (test : ℕ → Bool) → both test (λ j. false) ≡ test
+pub both-nothing : (test : ℕ → Bool) → inEither test (λ j. false) ≡ test
 both-nothing test = fun-ext (λ p. or-nothing (test p))
 
 -- one number of a list put into a set of words
 pub put-next : (words more xs : List ℕ) (k : ℕ) (base : ℕ → Bool) → more ≡ putAt words 0 k → k < 128 → length words ≡ 4
-    → member words 0 ≡ both (λ p. isIn p xs) base
-    → (member more 0 ≡ both (λ p. isIn p (xs ++ (k ∷ []))) base) × (length more ≡ 4)
+    → member words 0 ≡ inEither (λ p. isIn p xs) base
+    → (member more 0 ≡ inEither (λ p. isIn p (xs ++ (k ∷ []))) base) × (length more ≡ 4)
 unfolding isIn
 put-next words more xs k base m small l e = (
   ap (λ (w : List ℕ). member w 0) m

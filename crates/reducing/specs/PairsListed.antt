@@ -12,16 +12,16 @@ use Rattle.pairs.specs.declared.union.United.{United}
 use Rattle.pairs.specs.declared.lists.Lists.{Lists}
 use Rattle.pairs.specs.declared.lists.TypeLists.{TypeLists}
 use Rattle.pairs.specs.View.{typeIn, firstIn}
-use Rattle.pairs.specs.Walks.{listOf, Listed, Once}
+use Rattle.pairs.specs.Walks.{listOfType, Listed, Once}
 
 -- the rule of this number is the first of a known pair of the type
-abbrev pub isPair : United → (ℕ → Bool) → (kind p : ℕ) → Bool
-isPair v known kind p = eqb (typeIn v p) kind && eqb (firstIn v p) p && known p
+abbrev pub isPair : United → (ℕ → Bool) → (ty p : ℕ) → Bool
+isPair v known ty p = eqb (typeIn v p) ty && eqb (firstIn v p) p && known p
 
 -- the known pairs of a type
 unfoldable pub pairsIn : United → (ℕ → Bool) → ℕ → List ℕ
 unfolding keep numbersBelow
-pairsIn v known kind = keep (isPair v known kind) (numbersBelow (v .rules))
+pairsIn v known ty = keep (isPair v known ty) (numbersBelow (v .rules))
 
 -- those of so many types from a first one on
 unfoldable pub pairsFrom : United → (ℕ → Bool) → (base n : ℕ) → List ℕ
@@ -29,23 +29,23 @@ unfolding joinedOf pairsIn numbersBelow
 pairsFrom v known base n = joinedOf (λ k. pairsIn v known (base + k)) (numbersBelow n)
 
 -- numbers below 128, each once at the front
-pub record Filled (list : List ℕ) (count : ℕ) : Type 0 where
+pub record ListsFilled (list : List ℕ) (count : ℕ) : Type 0 where
   pub once : Once 128 list count
   pub below : (i : ℕ) → getD list i 0 < 128
 
 -- after some numbers others stand there
 pub record Appends (front more list : List ℕ) (count : ℕ) : Type 0 where
   pub all : take count list ≡ front ++ more
-  pub filled : Filled list count
+  pub filled : ListsFilled list count
 
 -- they are pairs of types before this one
-abbrev pub Earlier : United → (kind : ℕ) → List ℕ → Type 0
-Earlier v kind list = (q : ℕ) → List·Memᴰ q list → typeIn v q < kind
+abbrev pub Earlier : United → (ty : ℕ) → List ℕ → Type 0
+Earlier v ty list = (q : ℕ) → List·Memᴰ q list → typeIn v q < ty
 
 -- these are the lists of the types of one table
 pub record ListsEach (of : ℕ → List ℕ) (r : Lists) : Type 0 where
   pub listed : Listed 64 128 (r .from) (r .numbers)
-  pub each : (k : ℕ) → k < 64 → listOf (r .from) (r .numbers) k ≡ of k
+  pub each : (k : ℕ) → k < 64 → listOfType (r .from) (r .numbers) k ≡ of k
 
 -- a part of a list, of numbers below 128
 pub record PartBelow (numbers : List ℕ) (first end : ℕ) : Type 0 where

@@ -6,23 +6,23 @@ use mathlib.Core.Path.{_≡_}
 use Rattle.grammar.specs.Lists.{joinedOf}
 use Rattle.grammar.specs.Content.{Content}
 use Rattle.grammar.specs.Table.{Table}
-use Rattle.theory.proofs.Alternatives.{pairsMet}
+use Rattle.theory.specs.Alternatives.{pairsMet}
 use Rattle.pairs.specs.declared.union.United.{United}
 use Rattle.pairs.specs.declared.lists.TypeLists.{TypeLists}
 use Rattle.pairs.specs.View.{Views, Viewed}
 use Rattle.pairs.specs.declared.lists.Lists.{Lists}
-use Rattle.pairs.specs.Walks.{listOf, Once, Adds}
 use Rattle.reader.specs.ExprAt.{_upTo_, exprAt}
-use Rattle.pairs.specs.Rounds.{contentOf}
 use Rattle.pairs.specs.PairNumbers.{fruitfulOf, contentsOfPair}
 use Rattle.pairs.specs.TypeLists.{ListsOf}
+use Rattle.pairs.specs.Walks.{listOfType, Once, Adds}
+use Rattle.pairs.specs.Rounds.{contentOfRule}
 use Rattle.reducing.specs.PairsListed.{BothListed}
 use Rattle.reducing.specs.declared.meeting.Met.{Met}
 
 -- the pairs met in the content of a rule, and in the contents of a pair
 unfoldable pub metInRule : Table → ℕ → List ℕ
-unfolding pairsMet contentOf
-metInRule u i = pairsMet (fruitfulOf u) (contentOf u i)
+unfolding pairsMet contentOfRule
+metInRule u i = pairsMet (fruitfulOf u) (contentOfRule u i)
 
 unfoldable pub metInPair : Table → ℕ → List ℕ
 unfolding joinedOf pairsMet contentsOfPair
@@ -31,7 +31,7 @@ metInPair u p = joinedOf (pairsMet (fruitfulOf u)) (contentsOfPair u p)
 -- the pairs met in a content are added, by the lists of its table's types
 pub record ContentMet (s : List ℕ) (lists : Lists) (numbers list : List ℕ) (count : ℕ) : Type 0 where
   pub adds : (c : Content) (next : ℕ) → exprAt s 0 ≡ just (c upTo next)
-      → Adds numbers (pairsMet (listOf (lists .from) (lists .numbers)) c) list count
+      → Adds numbers (pairsMet (listOfType (lists .from) (lists .numbers)) c) list count
   pub once : Once 128 list count
 
 -- what a step asks: a view, its lists, and numbers each once
@@ -41,7 +41,8 @@ pub record MeetAsks (old add : List ℕ) (v : United) (lists : TypeLists) (list 
   pub once : Once 128 list count
 
 -- what it finds: pairs are added
-pub record Meets (old add : List ℕ) (v : United) (lists : TypeLists) (more : Table → List ℕ) (numbers list : List ℕ) (count : ℕ) : Type 0 where
+pub record Meets (old add : List ℕ) (v : United) (lists : TypeLists) (more : Table → List ℕ) (numbers list : List ℕ)
+    (count : ℕ) : Type 0 where
   pub adds : (u : Table) → Views old add v u → ListsOf (fruitfulOf u) lists → Adds numbers (more u) list count
   pub once : Once 128 list count
 

@@ -19,19 +19,19 @@ ghost use Rattle.grammar.specs.Lists.{isIn, joinedOf, numbersBelow};
 ghost use Rattle.grammar.specs.Limits.{standard};
 ghost use Rattle.grammar.specs.Table.{Table};
 ghost use Rattle.grammar.specs.Unite.{unite};
+ghost use Rattle.sets.specs.Sets.{member, setAt, inEither, OthersKept};
 ghost use Rattle.reader.specs.TableIndex.{startType};
-ghost use Rattle.sets.specs.Sets.{member, setAt, both, OthersKept};
 ghost use Rattle.pairs.specs.View.{Views, Viewed, TableHeld};
-ghost use Rattle.pairs.specs.Walks.{listOf, Listed};
 ghost use Rattle.pairs.specs.Places.{startsAt, leftAt};
 ghost use Rattle.pairs.specs.PairNumbers.{fruitfulOf, isStart, isLeft};
 ghost use Rattle.pairs.specs.TypeLists.{ListsOf};
+ghost use Rattle.pairs.specs.Walks.{listOfType, Listed};
 ghost use Rattle.reducing.specs.PairsListed.{BothListed, StartsSmall};
 
 // A set with the numbers of a type's list.
 fn with_list(set: Set4, lists: Lists, k: usize) -> Set4
     requires { ⌜ (length (set .words) ≡ 4) × (Listed 64 128 (lists .from) (lists .numbers)) × (k < 64) ⌝ }
-    ensures { λ r. ⌜ (member (r .words) 0 ≡ both (λ p. isIn p (listOf (lists .from) (lists .numbers) k)) (member (set .words) 0))
+    ensures { λ r. ⌜ (member (r .words) 0 ≡ inEither (λ p. isIn p (listOfType (lists .from) (lists .numbers) k)) (member (set .words) 0))
         × (length (r .words) ≡ 4) ⌝ }
 {
     let begins = lists.from;
@@ -42,8 +42,9 @@ fn with_list(set: Set4, lists: Lists, k: usize) -> Set4
 // A set with the numbers of the lists of a table's start types.
 fn with_starts(set: Set4, lists: Lists, index: TableIndex) -> Set4
     requires { ⌜ (length (set .words) ≡ 4) × (Listed 64 128 (lists .from) (lists .numbers)) × (StartsSmall index) ⌝ }
-    ensures { λ r. ⌜ (member (r .words) 0 ≡ both (λ p. isIn p
-        (joinedOf (λ i. listOf (lists .from) (lists .numbers) (startType index i)) (numbersBelow (index .starts)))) (member (set .words) 0))
+    ensures { λ r. ⌜ (member (r .words) 0 ≡ inEither (λ p. isIn p
+        (joinedOf (λ i. listOfType (lists .from) (lists .numbers) (startType index i)) (numbersBelow (index .starts))))
+        (member (set .words) 0))
         × (length (r .words) ≡ 4) ⌝ }
 {
     let types = index.start_type;

@@ -11,8 +11,8 @@ ghost use lib.Dec.{eqb};
 ghost use lib.ListN.{length, take, drop};
 ghost use Rattle.grammar.specs.Lists.{isIn, distinct};
 ghost use Rattle.grammar.specs.Table.{Table};
-ghost use Rattle.theory.proofs.Alternatives.{onlyIf};
-ghost use Rattle.sets.specs.Sets.{member, both};
+ghost use Rattle.theory.specs.Alternatives.{onlyIf};
+ghost use Rattle.sets.specs.Sets.{member, inEither};
 ghost use Rattle.pairs.specs.View.{Views, Viewed};
 ghost use Rattle.pairs.specs.Walks.{MetAsks};
 ghost use Rattle.pairs.specs.PairNumbers.{fruitfulOf, metIn};
@@ -48,7 +48,8 @@ fn met_in_rule(
     count: usize,
 ) -> usize
     requires { ⌜ (MeetAsks (now old) (now add) v lists (now list) count) × (i < v .rules) ⌝ }
-    ensures { λ r. ⌜ Meets (now (old .entry)) (now (add .entry)) v lists (λ u. metInRule u i) (take count (now (list .entry))) (now (list .exit)) r ⌝ }
+    ensures { λ r. ⌜ Meets (now (old .entry)) (now (add .entry)) v lists (λ u. metInRule u i) (take count (now (list .entry)))
+        (now (list .exit)) r ⌝ }
 {
     let content_from = v.content_from;
     let content_to = v.content_to;
@@ -74,7 +75,8 @@ fn met_in_rule_if(
     count: usize,
 ) -> usize
     requires { ⌜ (MeetAsks (now old) (now add) v lists (now list) count) × (i < v .rules) ⌝ }
-    ensures { λ r. ⌜ Meets (now (old .entry)) (now (add .entry)) v lists (λ u. onlyIf on (metInRule u i)) (take count (now (list .entry))) (now (list .exit)) r ⌝ }
+    ensures { λ r. ⌜ Meets (now (old .entry)) (now (add .entry)) v lists (λ u. onlyIf on (metInRule u i))
+        (take count (now (list .entry))) (now (list .exit)) r ⌝ }
 {
     if on {
         return met_in_rule(old, add, v, lists, i, list, count);
@@ -93,7 +95,8 @@ fn met_in_pair(
     count: usize,
 ) -> usize
     requires { ⌜ MeetAsks (now old) (now add) v lists (now list) count ⌝ }
-    ensures { λ r. ⌜ Meets (now (old .entry)) (now (add .entry)) v lists (λ u. metInPair u p) (take count (now (list .entry))) (now (list .exit)) r ⌝ }
+    ensures { λ r. ⌜ Meets (now (old .entry)) (now (add .entry)) v lists (λ u. metInPair u p) (take count (now (list .entry)))
+        (now (list .exit)) r ⌝ }
 {
     let firsts = v.firsts;
     let rules = v.rules;
@@ -120,7 +123,8 @@ fn met_in_member(
     count: usize,
 ) -> usize
     requires { ⌜ (MeetAsks (now old) (now add) v lists (now list) count) × (p < 128) ⌝ }
-    ensures { λ r. ⌜ Meets (now (old .entry)) (now (add .entry)) v lists (λ u. onlyIf (member (set .words) 0 p) (metInPair u p)) (take count (now (list .entry))) (now (list .exit)) r ⌝ }
+    ensures { λ r. ⌜ Meets (now (old .entry)) (now (add .entry)) v lists (λ u. onlyIf (member (set .words) 0 p) (metInPair u p))
+        (take count (now (list .entry))) (now (list .exit)) r ⌝ }
 {
     if set.has(p) {
         return met_in_pair(old, add, v, lists, p, list, count);
@@ -131,7 +135,8 @@ fn met_in_member(
 // The pairs met in the contents of a set of pairs.
 pub fn met_in_set(old: &[u8], add: &[u8], v: United, lists: TypeLists, set: Set4) -> Met
     requires { ⌜ (Viewed (now old) (now add) v) × (BothListed lists) ⌝ }
-    ensures { λ r. ⌜ ((u : Table) → Views (now (old .entry)) (now (add .entry)) v u → ListsOf (fruitfulOf u) lists → take (r .count) (r .numbers) ≡ distinct eqb (metIn u (member (set .words) 0))) × (MetHeld r) ⌝ }
+    ensures { λ r. ⌜ ((u : Table) → Views (now (old .entry)) (now (add .entry)) v u → ListsOf (fruitfulOf u) lists
+        → take (r .count) (r .numbers) ≡ distinct eqb (metIn u (member (set .words) 0))) × (MetHeld r) ⌝ }
 {
     let rules = v.rules;
     let mut numbers = [0u8; 128];
@@ -148,7 +153,9 @@ pub fn met_in_set(old: &[u8], add: &[u8], v: United, lists: TypeLists, set: Set4
 // A set with the numbers of a part.
 pub fn with_part(set: Set4, numbers: &[u8], first: usize, end: usize) -> Set4
     requires { ⌜ (length (set .words) ≡ 4) × (PartBelow (now numbers) first end) ⌝ }
-    ensures { λ r. ⌜ (member (r .words) 0 ≡ both (λ p. isIn p (take (end - first) (drop first (now (numbers .entry))))) (member (set .words) 0)) × (length (r .words) ≡ 4) ⌝ }
+    ensures { λ r. ⌜ (member (r .words) 0
+        ≡ inEither (λ p. isIn p (take (end - first) (drop first (now (numbers .entry))))) (member (set .words) 0))
+        × (length (r .words) ≡ 4) ⌝ }
 {
     let mut more = set;
     let mut i = first;
@@ -173,7 +180,8 @@ pub fn set_of(found: Met) -> Set4
 // The pairs met in the contents of a set of pairs, as a set.
 pub fn met_set(old: &[u8], add: &[u8], v: United, lists: TypeLists, set: Set4) -> Set4
     requires { ⌜ (Viewed (now old) (now add) v) × (BothListed lists) ⌝ }
-    ensures { λ r. ⌜ ((u : Table) → Views (now (old .entry)) (now (add .entry)) v u → ListsOf (fruitfulOf u) lists → member (r .words) 0 ≡ (λ p. isIn p (metIn u (member (set .words) 0)))) × (length (r .words) ≡ 4) ⌝ }
+    ensures { λ r. ⌜ ((u : Table) → Views (now (old .entry)) (now (add .entry)) v u → ListsOf (fruitfulOf u) lists
+        → member (r .words) 0 ≡ (λ p. isIn p (metIn u (member (set .words) 0)))) × (length (r .words) ≡ 4) ⌝ }
 {
     let found = met_in_set(old, add, v, lists, set);
     set_of(found)

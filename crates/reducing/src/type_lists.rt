@@ -15,29 +15,22 @@ ghost use Rattle.grammar.specs.Lists.{isIn};
 ghost use Rattle.grammar.specs.Table.{Table};
 ghost use Rattle.grammar.specs.Normalise.{normalise};
 ghost use Rattle.grammar.specs.Reduce.{fruitful};
-ghost use Rattle.theory.proofs.Alternatives.{onlyIf, someLeft};
+ghost use Rattle.theory.specs.Alternatives.{onlyIf, someLeft};
 ghost use Rattle.sets.specs.Sets.{member, setAt};
 ghost use Rattle.pairs.specs.View.{Views, ViewSized};
 ghost use Rattle.pairs.specs.Places.{knownAt};
 ghost use Rattle.pairs.specs.PairNumbers.{fruitfulOf};
 ghost use Rattle.pairs.specs.TypeLists.{ListsOf};
-ghost use Rattle.reducing.specs.PairsListed.{
-  isPair,
-  pairsIn,
-  Filled,
-  Appends,
-  Earlier,
-  ListsEach,
-};
+ghost use Rattle.reducing.specs.PairsListed.{isPair, pairsIn, ListsFilled, Appends, Earlier, ListsEach};
 
 // Whether the rule of this number is the first of a known pair of the type.
-fn is_pair(v: United, known: Set4, kind: usize, p: usize) -> bool
+fn is_pair(v: United, known: Set4, ty: usize, p: usize) -> bool
     requires { ⌜ p < 128 ⌝ }
-    ensures { λ r. ⌜ r ≡ isPair v (member (known .words) 0) kind p ⌝ }
+    ensures { λ r. ⌜ r ≡ isPair v (member (known .words) 0) ty p ⌝ }
 {
     let types = v.types;
     let firsts = v.firsts;
-    if types[p] != kind {
+    if types[p] != ty {
         return false;
     }
     if firsts[p] != p {
@@ -50,17 +43,17 @@ fn is_pair(v: United, known: Set4, kind: usize, p: usize) -> bool
 fn append_pair(
     v: United,
     known: Set4,
-    kind: usize,
+    ty: usize,
     p: usize,
     numbers: &mut [u8],
     count: usize,
 ) -> usize
-    requires { ⌜ (p < 128) × (Filled (now numbers) count)
-        × (isPair v (member (known .words) 0) kind p ≡ true → isIn p (take count (now numbers)) ≡ false) ⌝ }
-    ensures { λ r. ⌜ Appends (take count (now (numbers .entry))) (onlyIf (isPair v (member (known .words) 0) kind p) (p ∷ []))
+    requires { ⌜ (p < 128) × (ListsFilled (now numbers) count)
+        × (isPair v (member (known .words) 0) ty p ≡ true → isIn p (take count (now numbers)) ≡ false) ⌝ }
+    ensures { λ r. ⌜ Appends (take count (now (numbers .entry))) (onlyIf (isPair v (member (known .words) 0) ty p) (p ∷ []))
         (now (numbers .exit)) r ⌝ }
 {
-    if is_pair(v, known, kind, p) {
+    if is_pair(v, known, ty, p) {
         numbers[count] = p as u8;
         return count + 1;
     }
@@ -68,15 +61,15 @@ fn append_pair(
 }
 
 // Lays down the known pairs of a type after those of earlier types.
-fn append_pairs(v: United, known: Set4, kind: usize, numbers: &mut [u8], count: usize) -> usize
-    requires { ⌜ (v .rules ≤ 128) × (Filled (now numbers) count) × (Earlier v kind (take count (now numbers))) ⌝ }
-    ensures { λ r. ⌜ Appends (take count (now (numbers .entry))) (pairsIn v (member (known .words) 0) kind) (now (numbers .exit)) r ⌝ }
+fn append_pairs(v: United, known: Set4, ty: usize, numbers: &mut [u8], count: usize) -> usize
+    requires { ⌜ (v .rules ≤ 128) × (ListsFilled (now numbers) count) × (Earlier v ty (take count (now numbers))) ⌝ }
+    ensures { λ r. ⌜ Appends (take count (now (numbers .entry))) (pairsIn v (member (known .words) 0) ty) (now (numbers .exit)) r ⌝ }
 {
     let rules = v.rules;
     let mut more = count;
     let mut p: usize = 0;
     while p < rules {
-        let longer = append_pair(v, known, kind, p, numbers, more);
+        let longer = append_pair(v, known, ty, p, numbers, more);
         more = longer;
         p += 1;
     }

@@ -7,7 +7,7 @@ use lib.ListN.{length}
 use Rattle.grammar.specs.Kinds.{Kind}
 use Rattle.grammar.specs.Normalise.{pairsOf, normalise}
 use Rattle.grammar.specs.Reduce.{fruitful}
-use Rattle.theory.proofs.Alternatives.{someLeft, resultsOf}
+use Rattle.theory.specs.Alternatives.{someLeft, resultsOf}
 use Rattle.sets.specs.Sets.{member}
 use Rattle.sets.specs.declared.four.Set4.{Set4}
 use Rattle.pairs.specs.declared.lists.TypeLists.{TypeLists}

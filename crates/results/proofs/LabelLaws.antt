@@ -15,11 +15,22 @@ use borrow.Author.Tests.{eqb-true, eq-eqb}
 use Rattle.grammar.specs.Lists.{any, keep, place, numbersBelow}
 use Rattle.grammar.specs.Table.{Table}
 use Rattle.grammar.specs.SingleTypeForm.{TypeSet}
-use Rattle.theory.proofs.Alternatives.{onlyIf}
-use Rattle.theory.proofs.BoolLaws.{false-of, same-test}
-use Rattle.theory.proofs.PlaceLaws.{place-yes, place-past}
-use Rattle.theory.proofs.ListLaws.{any-found, any-of, keep-yes, kept, at-mem, mem-at, at-below, at-else, at-or-else, numbers-below}
-use Rattle.theory.proofs.DistinctLaws.{keep-append}
+use Rattle.theory.specs.Alternatives.{onlyIf}
+use Rattle.theory.proofs.lists.BoolLaws.{false-of, same-test}
+use Rattle.theory.proofs.lists.PlaceLaws.{place-yes, place-past}
+use Rattle.theory.proofs.lists.ListLaws.{
+  any-found,
+  any-of,
+  keep-yes,
+  kept,
+  at-mem,
+  mem-at,
+  at-below,
+  at-else,
+  at-or-else,
+  numbers-below,
+}
+use Rattle.theory.proofs.lists.DistinctLaws.{keep-append}
 use Rattle.sets.specs.Sets.{nothing}
 use Rattle.pairs.specs.Rounds.{puts}
 use Rattle.pairs.proofs.PutsLaws.{puts-was, puts-has}

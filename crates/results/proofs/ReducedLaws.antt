@@ -18,7 +18,8 @@ use Rattle.grammar.specs.Kinds.{Kind, local, singleType}
 use Rattle.grammar.specs.SingleTypeForm.{TypeSet}
 use Rattle.grammar.specs.Unite.{unite}
 use Rattle.grammar.specs.WriteTable.{tableBytes}
-use Rattle.theory.proofs.ListLaws.{mem-at, at-below}
+use Rattle.theory.specs.Conditions.{Regular}
+use Rattle.theory.proofs.lists.ListLaws.{mem-at, at-below}
 use Rattle.sets.specs.Sets.{setAt, nothing, OthersKept}
 use Rattle.sets.proofs.SetLaws.{set-after, kept-before}
 use Rattle.pairs.specs.declared.lists.TypeLists.{TypeLists}
@@ -28,14 +29,25 @@ use Rattle.pairs.specs.Places.{setsEnd, startsAt, leftAt, startTypesAt}
 use Rattle.pairs.specs.Rounds.{puts}
 use Rattle.pairs.specs.PairNumbers.{isStart, isLeft}
 use Rattle.emitting.specs.declared.writing.Drafted.{Drafted}
-use Rattle.emitting.specs.Completing.{Regular}
 use Rattle.sampling.specs.SampleTable.{TablePut}
 use Rattle.merging.proofs.AgreeLaws.{union-shallow}
-use Rattle.forms.specs.SetForms.{labelled, labelSets, ruleBySet, tableBySets, metWithin, pairsWithin, localSets, localStarts, localTable, singleTypeSets, singleTypeTable}
 use Rattle.forms.specs.declared.set_words.Counted.{Counted}
 use Rattle.forms.specs.declared.set_words.Counted.the-variants.{TooMany, Count}
 use Rattle.forms.specs.SetWords.{SetsHeld, SetsCounted}
 use Rattle.forms.specs.Worklist.{NumbersOf}
+use Rattle.forms.specs.SetForms.{
+  pairsLabelled,
+  labelSets,
+  ruleBySet,
+  tableBySets,
+  metWithin,
+  pairsWithin,
+  localSets,
+  localStarts,
+  localTable,
+  singleTypeSets,
+  singleTypeTable,
+}
 use Rattle.forms.proofs.StandingPairs.{left-pair}
 use Rattle.forms.proofs.SetsFound.{start-sets-first}
 use Rattle.forms.proofs.SetWordLaws.{sets-stay}
@@ -251,7 +263,7 @@ module _ {old add : List ℕ} {union : Union} {lists : TypeLists} {words : List 
 
   -- the start types of the local form, as the program finds them
   local-types : (of : List ℕ) (n : ℕ) → n ≡ length (u .labels) → (left starts : ℕ → Bool) → left ≡ isLeft u → starts ≡ isStart u
-      → NumbersOf (λ l. place sameNumbers (labelled u left l) (localSets u)) n of → (types : ℕ → Bool)
+      → NumbersOf (λ l. place sameNumbers (pairsLabelled u left l) (localSets u)) n of → (types : ℕ → Bool)
       → types ≡ puts starts (λ p. getD of (labelIn (union .rules) p) 0) nothing (union .rules .rules)
       → keep types (numbersBelow (length (localSets u))) ≡ localStarts u
   local-types of n labels left starts left-is starts-are numbers types e =
@@ -262,13 +274,13 @@ module _ {old add : List ℕ} {union : Union} {lists : TypeLists} {words : List 
       ∙ ap (puts (isStart u) key nothing) (r .seen .rules .rules))
       ∙ local-starts u key
       (start-key u (r .seen .rules) fit of
-      (subst (λ (m : ℕ). NumbersOf (λ l. place sameNumbers (labelled u (isLeft u) l) (localSets u)) m of) labels
-      (subst (λ (set : ℕ → Bool). NumbersOf (λ l. place sameNumbers (labelled u set l) (localSets u)) n of) left-is numbers)))
+      (subst (λ (m : ℕ). NumbersOf (λ l. place sameNumbers (pairsLabelled u (isLeft u) l) (localSets u)) m of) labels
+      (subst (λ (set : ℕ → Bool). NumbersOf (λ l. place sameNumbers (pairsLabelled u set l) (localSets u)) n of) left-is numbers)))
 
   -- what is answered when the result is drafted
   pub local-drafted : (after : List ℕ) (count : ℕ) (many : count ≡ length (by-sets.setsOf local u)) (held : SetsHeld after (by-sets.setsOf local u))
       (of : List ℕ) (n : ℕ) → n ≡ length (u .labels) → (left starts : ℕ → Bool) → left ≡ isLeft u → starts ≡ isStart u
-      → NumbersOf (λ l. place sameNumbers (labelled u left l) (localSets u)) n of → (types : ℕ → Bool)
+      → NumbersOf (λ l. place sameNumbers (pairsLabelled u left l) (localSets u)) n of → (types : ℕ → Bool)
       → types ≡ puts starts (λ p. getD of (labelIn (union .rules) p) 0) nothing (union .rules .rules)
       → (before end : List ℕ) (d : Drafted) (a : Made) → a ≡ madeOf d
       → TablePut before 0 (ruleBySet u (by-sets.setsOf local u) (pairsWithin local u)) count

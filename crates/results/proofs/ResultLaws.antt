@@ -22,9 +22,9 @@ use Rattle.grammar.specs.Unite.{unite}
 use Rattle.grammar.specs.WriteTable.{ruleBytes, tableBytes}
 use Rattle.grammar.specs.Size.{contentTooLarge}
 use Rattle.grammar.specs.SingleTypeForm.{TypeSet}
-use Rattle.theory.proofs.Alternatives.{onlyIf}
-use Rattle.theory.proofs.ListLaws.{at-else}
-use Rattle.theory.proofs.EmittedContent.{joined-map}
+use Rattle.theory.specs.Alternatives.{onlyIf}
+use Rattle.theory.proofs.lists.ListLaws.{at-else}
+use Rattle.theory.proofs.emission.EmittedContent.{joined-map}
 use Rattle.reader.specs.TableIndex.{part, Inside}
 use Rattle.reader.proofs.LabelSearch.{name-at}
 use Rattle.pairs.specs.declared.labels.Names.{Names}

@@ -16,21 +16,21 @@ use Rattle.grammar.specs.ReadTable.{isEmpty}
 use Rattle.grammar.specs.Normalise.{pairsOf, normalise}
 use Rattle.grammar.specs.Reduce.{fruitful}
 use Rattle.grammar.specs.SingleTypeForm.{TypeSet}
-use Rattle.theory.proofs.Alternatives.{alts, written, resultsOf}
-use Rattle.theory.proofs.ListLaws.{any-of, at-mem, at-or-else}
-use Rattle.theory.proofs.TableConditions.{Labelled}
+use Rattle.theory.specs.Alternatives.{alts, written, resultsOf}
+use Rattle.theory.specs.Conditions.{Labelled}
+use Rattle.theory.proofs.lists.ListLaws.{any-of, at-mem, at-or-else}
 use Rattle.sets.specs.Sets.{member, wordsAt, OthersKept}
 use Rattle.sets.proofs.SetLaws.{length-words, kept-before}
 use Rattle.reader.proofs.TableFaults.{is-some}
 use Rattle.pairs.specs.declared.lists.TypeLists.{TypeLists}
 use Rattle.pairs.specs.declared.union.United.{United}
 use Rattle.pairs.specs.Places.{leftAt, usedAt}
-use Rattle.pairs.specs.PairNumbers.{ruleAt, contentsIn}
 use Rattle.pairs.specs.View.{Views}
+use Rattle.pairs.specs.PairNumbers.{ruleNumbered, contentsIn}
 use Rattle.pairs.proofs.ViewLaws.{seen}
-use Rattle.forms.specs.SetForms.{labelled, setLabel, labelsOf, setNumber, contentBySet, ruleBySet, pairsWithin}
 use Rattle.forms.specs.SetWords.{Ascending}
 use Rattle.forms.specs.Worklist.{LabelsSized}
+use Rattle.forms.specs.SetForms.{pairsLabelled, setLabel, labelsOf, setNumber, contentBySet, ruleBySet, pairsWithin}
 use Rattle.forms.proofs.SetWordLaws.{sets-stay}
 use Rattle.results.specs.Results.{resultRule, isUsed, SetsIn, RulesFrom}
 
@@ -78,7 +78,7 @@ module _ {old add : List ℕ} {v : United} {words : List ℕ} {count : ℕ} (q :
         let s = getD (q .sets) i [] in
         let p = getD s 0 0 in
         let below = q .pairs s among p (first-there s (q .some s among)) in
-        q .labelled (ruleAt (q .table) p)
+        q .labelled (ruleNumbered (q .table) p)
         (at-mem (q .table .rules) p (at-or-else (q .table .rules) p (record { type = 0; label = 0; content = none }) below))
 
     pub label-small : (l : ℕ) → l ≡ setLabel (q .table) (getD (q .sets) i []) → l < 128

@@ -14,15 +14,15 @@ use Rattle.grammar.specs.Lists.{any, keep, place, isIn, sameNumbers, numbersBel
 use Rattle.grammar.specs.Table.{Table}
 use Rattle.grammar.specs.Normalise.{normalise}
 use Rattle.grammar.specs.Reduce.{withoutUnfruitful}
-use Rattle.theory.proofs.BoolLaws.{same-test}
-use Rattle.theory.proofs.ListLaws.{any-of, any-found, in-mem, mem-in, keep-all, keep-on, numbers-below, at-or-else, at-mem}
+use Rattle.theory.proofs.lists.BoolLaws.{same-test}
+use Rattle.theory.proofs.lists.ListLaws.{any-of, any-found, in-mem, mem-in, keep-all, keep-on, numbers-below, at-or-else, at-mem}
 use Rattle.sets.specs.Sets.{nothing}
 use Rattle.pairs.specs.declared.union.United.{United}
 use Rattle.pairs.specs.View.{Views, labelIn}
 use Rattle.pairs.specs.Rounds.{puts}
-use Rattle.pairs.specs.PairNumbers.{ruleAt, isLeft, isStart}
+use Rattle.pairs.specs.PairNumbers.{ruleNumbered, isLeft, isStart}
 use Rattle.pairs.proofs.PutsLaws.{puts-was, puts-has}
-use Rattle.forms.specs.SetForms.{labelled, setNumber, localSets, localStarts}
+use Rattle.forms.specs.SetForms.{pairsLabelled, setNumber, localSets, localStarts}
 use Rattle.forms.proofs.KeptLists.{kept-below}
 use Rattle.forms.proofs.StandingPairs.{left-pair, left-label}
 use Rattle.forms.proofs.SetsFound.{start-left, label-of-left}
@@ -67,16 +67,16 @@ module _ (u : Table) where
           (puts-has (isStart u) key nothing (length (u .rules)) (q .0) (start-below (q .0) s .1) s)
 
   pub start-key : {old add : List ℕ} {v : United} → Views old add v u → UnionFit u → (of : List ℕ)
-      → ((l : ℕ) → l < length (u .labels) → getD of l 0 ≡ place sameNumbers (labelled u (isLeft u) l) (localSets u))
+      → ((l : ℕ) → l < length (u .labels) → getD of l 0 ≡ place sameNumbers (pairsLabelled u (isLeft u) l) (localSets u))
       → (p : ℕ) → isStart u p ≡ true → getD of (labelIn v p) 0 ≡ setNumber u (localSets u) (isLeft u) p
   unfolding setNumber
   start-key views fit of numbers p e =
       let (l, b) = start-below p e in
       let at = at-or-else (u .rules) p _ b in
-      let seen = views .rule p (ruleAt u p) at .label in
-      let small = fit .labelled (ruleAt u p) (at-mem (u .rules) p at) in
-      ap (λ (k : ℕ). getD of k 0) seen ∙ numbers (ruleAt u p .label) small
-      ∙ ap (λ (k : ℕ). place sameNumbers (labelled u (isLeft u) k) (localSets u)) (sym (label-of-left u p l) ∙ left-label u p)
+      let seen = views .rule p (ruleNumbered u p) at .label in
+      let small = fit .labelled (ruleNumbered u p) (at-mem (u .rules) p at) in
+      ap (λ (k : ℕ). getD of k 0) seen ∙ numbers (ruleNumbered u p .label) small
+      ∙ ap (λ (k : ℕ). place sameNumbers (pairsLabelled u (isLeft u) k) (localSets u)) (sym (label-of-left u p l) ∙ left-label u p)
 
 -- the numbers below n
 all-below : (n t : ℕ) → puts (λ s. true) (λ s. s) nothing n t ≡ isIn t (keep (λ s. true) (numbersBelow n))

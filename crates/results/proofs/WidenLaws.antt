@@ -28,9 +28,9 @@ use Rattle.grammar.specs.Normalise.{normalise}
 use Rattle.grammar.specs.Reduce.{withoutUnfruitful, withoutUnreached, reduce}
 use Rattle.grammar.specs.Widen.{reducedUnion, ofSize, widenByTable}
 use Rattle.grammar.specs.declared.Refusal.the-variants.{ResultTooLarge, NoDocument}
-use Rattle.theory.proofs.BoolLaws.{or-left}
-use Rattle.theory.proofs.ListLaws.{mem-some, in-mem, numbers-below}
-use Rattle.theory.proofs.OutcomeLaws.{no-fault}
+use Rattle.theory.proofs.lists.BoolLaws.{or-left}
+use Rattle.theory.proofs.lists.ListLaws.{mem-some, in-mem, numbers-below}
+use Rattle.theory.proofs.bytes.OutcomeLaws.{no-fault}
 use Rattle.sets.specs.Sets.{nothing}
 use Rattle.pairs.specs.PairNumbers.{isStart}
 use Rattle.emitting.specs.declared.writing.Drafted.{Drafted}

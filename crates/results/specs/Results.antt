@@ -12,18 +12,17 @@ use Rattle.grammar.specs.Table.{Rule, Table}
 use Rattle.grammar.specs.Fields.{fieldBytes}
 use Rattle.grammar.specs.Kinds.{Kind}
 use Rattle.grammar.specs.SingleTypeForm.{TypeSet}
-use Rattle.theory.proofs.TableConditions.{Labelled}
+use Rattle.theory.specs.Conditions.{Labelled, Regular}
 use Rattle.sets.specs.Sets.{setAt}
 use Rattle.pairs.specs.declared.labels.Names.{Names}
 use Rattle.pairs.specs.declared.lists.TypeLists.{TypeLists}
 use Rattle.pairs.specs.declared.union.United.{United}
 use Rattle.pairs.specs.declared.union.Union.{Union}
-use Rattle.pairs.specs.UnitedLabels.{NamesAt}
 use Rattle.pairs.specs.View.{Views}
 use Rattle.pairs.specs.TypeLists.{ListsOf}
 use Rattle.pairs.specs.Places.{leftAt, usedAt}
 use Rattle.pairs.specs.PairNumbers.{fruitfulOf, isLeft}
-use Rattle.emitting.specs.Completing.{Regular}
+use Rattle.pairs.specs.UnitedLabels.{NamesHeld}
 use Rattle.merging.specs.Merging.{Shallow}
 use Rattle.forms.specs.SetForms.{setLabel, ruleBySet, pairsWithin}
 use Rattle.forms.specs.SetWords.{SetsHeld}
@@ -41,8 +40,8 @@ isUsed u sets l = any (λ s. eqb (setLabel u s) l) sets
 pub record LabelsIn (old add : List ℕ) (olds news : Names) : Type 0 where
   pub first : List Name
   pub second : List Name
-  pub old-names : NamesAt old olds first
-  pub new-names : NamesAt add news second
+  pub old-names : NamesHeld old olds first
+  pub new-names : NamesHeld add news second
 
 -- sets of pairs of a union stand in the words
 pub record SetsIn (old add : List ℕ) (v : United) (words : List ℕ) (count : ℕ) : Type 0 where

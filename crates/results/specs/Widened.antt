@@ -71,7 +71,7 @@ pub record SomeReduced (old add : List ℕ) (union : Union) (lists : TypeLists) 
   pub reduced : UnionReduced old add union lists words first second
 
 -- and the start sets stand in the words
-pub record SomeStarts (old add : List ℕ) (union : Union) (lists : TypeLists) (words : List ℕ) (count : ℕ) : Type 0 where
+pub record StartSetsHeld (old add : List ℕ) (union : Union) (lists : TypeLists) (words : List ℕ) (count : ℕ) : Type 0 where
   pub first : Table
   pub second : Table
   pub reduced : UnionReduced old add union lists words first second

@@ -17,7 +17,7 @@ ghost use lib.Dec.{eqb};
 ghost use lib.ListN.{length, getD};
 ghost use Rattle.grammar.specs.Lists.{keep, place, numbersBelow};
 ghost use Rattle.grammar.specs.Fields.{fieldBytes};
-ghost use Rattle.theory.proofs.Alternatives.{onlyIf};
+ghost use Rattle.theory.specs.Alternatives.{onlyIf};
 ghost use Rattle.sets.specs.Sets.{member, setAt, OthersKept};
 ghost use Rattle.pairs.specs.Places.{usedAt};
 ghost use Rattle.emitting.specs.Writing.{Puts};

@@ -7,7 +7,7 @@ ghost use Prim.Native.Nat.{_≤_, _<_};
 ghost use mathlib.Core.List.{[], _∷_};
 ghost use lib.ListN.{length};
 ghost use Rattle.grammar.specs.Fields.{fieldBytes};
-ghost use Rattle.theory.proofs.Alternatives.{onlyIf};
+ghost use Rattle.theory.specs.Alternatives.{onlyIf};
 ghost use Rattle.sets.specs.Sets.{setAt};
 ghost use Rattle.pairs.specs.Places.{startTypesAt};
 ghost use Rattle.emitting.specs.Writing.{Puts};

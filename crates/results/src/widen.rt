@@ -31,7 +31,7 @@ ghost use Rattle.pairs.specs.View.{TableHeld, Held};
 ghost use Rattle.pairs.specs.PairNumbers.{isStart};
 ghost use Rattle.forms.specs.SetForms.{labelSets};
 ghost use Rattle.forms.specs.SetWords.{SetsHeld};
-ghost use Rattle.results.specs.Widened.{kindOf, madeOf, Widens, UnionReduced, SomeReduced, SomeStarts};
+ghost use Rattle.results.specs.Widened.{kindOf, madeOf, Widens, UnionReduced, SomeReduced, StartSetsHeld};
 
 pub enum Kind {
     Local,
@@ -74,7 +74,8 @@ fn widen_local(
     words: &mut [u32],
     draft: &mut [u8],
 ) -> Made
-    requires { ⌜ (SomeReduced (now old) (now add) union lists (now words)) × (16384 ≤ length (now words)) × (32768 ≤ length (now draft)) ⌝ }
+    requires { ⌜ (SomeReduced (now old) (now add) union lists (now words)) × (16384 ≤ length (now words))
+        × (32768 ≤ length (now draft)) ⌝ }
     ensures { λ r. ⌜ ((g h : Table) → UnionReduced (now (old .entry)) (now (add .entry)) union lists (now (words .entry)) g h
         → Widens local g h (now (draft .entry)) (now (draft .exit)) r) ⌝ }
 {
@@ -112,7 +113,7 @@ fn widen_from_starts(
     first: usize,
     draft: &mut [u8],
 ) -> Made
-    requires { ⌜ (SomeStarts (now old) (now add) union lists (now words) first) × (16384 ≤ length (now words))
+    requires { ⌜ (StartSetsHeld (now old) (now add) union lists (now words) first) × (16384 ≤ length (now words))
         × (32768 ≤ length (now draft)) ⌝ }
     ensures { λ r. ⌜ ((g h : Table) → UnionReduced (now (old .entry)) (now (add .entry)) union lists (now (words .entry)) g h
         → SetsHeld (now (words .entry)) (labelSets (unite standard g h) (isStart (unite standard g h)))
@@ -149,7 +150,8 @@ fn widen_single_type(
     words: &mut [u32],
     draft: &mut [u8],
 ) -> Made
-    requires { ⌜ (SomeReduced (now old) (now add) union lists (now words)) × (16384 ≤ length (now words)) × (32768 ≤ length (now draft)) ⌝ }
+    requires { ⌜ (SomeReduced (now old) (now add) union lists (now words)) × (16384 ≤ length (now words))
+        × (32768 ≤ length (now draft)) ⌝ }
     ensures { λ r. ⌜ ((g h : Table) → UnionReduced (now (old .entry)) (now (add .entry)) union lists (now (words .entry)) g h
         → Widens singleType g h (now (draft .entry)) (now (draft .exit)) r) ⌝ }
 {

@@ -11,7 +11,7 @@ use lib.Dec.{eqb}
 use borrow.Author.Tests.{eq-eqb, ne-eqb}
 use Rattle.grammar.specs.Lists.{place}
 use Rattle.grammar.specs.Names.{sameName}
-use Rattle.theory.proofs.PlaceLaws.{place-yes, place-no}
+use Rattle.theory.proofs.lists.PlaceLaws.{place-yes, place-no}
 
 -- so far
 abbrev pub filled : List ℕ → ℕ → ℕ → ℕ → List ℕ

@@ -14,16 +14,16 @@ use Rattle.grammar.specs.Content.{Content, type, operands, choiceOf, nesting, d
 use Rattle.grammar.specs.ReadContent.{contentBytes, sameContent}
 use Rattle.grammar.specs.Size.{widestChoice, widestOf, contentTooLarge}
 use Rattle.grammar.specs.Sample.{sequenceOf}
-use Rattle.theory.proofs.BoolLaws.{or-left, or-none}
-use Rattle.theory.proofs.ListLaws.{distinct-was}
-use Rattle.theory.proofs.Gathering.{gathered, written-gathered}
-use Rattle.theory.proofs.Alternatives.{written}
+use Rattle.theory.specs.Alternatives.{gathered, written}
+use Rattle.theory.proofs.lists.BoolLaws.{or-left, or-none}
+use Rattle.theory.proofs.lists.ListLaws.{distinct-was}
+use Rattle.theory.proofs.emission.GatheringLaws.{written-gathered}
+use Rattle.theory.proofs.bytes.SampleWithin.{operands-count}
 use Rattle.reader.specs.ExprAt.{_upTo_, exprAt}
 use Rattle.reader.proofs.ExprLaws.{expr-written}
 use Rattle.emitting.specs.Drafts.{Row, TooWide}
 use Rattle.sampling.specs.SampleContents.{sequenceIn, sequencesAmong}
 use Rattle.sampling.specs.SampleTable.{contentIn}
-use Rattle.theory.proofs.SampleWithin.{operands-count}
 use Rattle.emitting.proofs.KeptLaws.{row-count}
 use Rattle.emitting.proofs.WideLaws.{too-large}
 

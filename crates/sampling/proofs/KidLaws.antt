@@ -13,11 +13,11 @@ use Rattle.grammar.specs.Lists.{keep, joinedOf, numbersFrom}
 use Rattle.grammar.specs.Content.{type, operands}
 use Rattle.grammar.specs.ReadContent.{contentBytes, operandBytes}
 use Rattle.grammar.specs.Sample.{sequenceOf}
-use Rattle.theory.proofs.ListLaws.{keep-yes, keep-no, joined-end, numbers-next}
-use Rattle.theory.proofs.DistinctLaws.{keep-append}
+use Rattle.theory.proofs.lists.ListLaws.{keep-yes, keep-no, joined-end, numbers-next}
+use Rattle.theory.proofs.lists.DistinctLaws.{keep-append}
+use Rattle.theory.proofs.bytes.SampleWithin.{operands-count}
 use Rattle.emitting.specs.Writing.{Put}
 use Rattle.sampling.specs.SampleContents.{kidTypes, kidBytes, kidsBytes, Kids}
-use Rattle.theory.proofs.SampleWithin.{operands-count}
 use Rattle.emitting.proofs.PutLaws.{put-none, put-one, put-two, put-join, put-length}
 
 -- a sequence's operands

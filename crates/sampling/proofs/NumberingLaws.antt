@@ -14,9 +14,9 @@ use mathlib.Core.Path.{_≡_, refl, sym, _∙_, ap}
 use lib.ListN.{length, set, take}
 use lib.Seq.{length-take-le, take-suc-set, take-set-le}
 use Rattle.grammar.specs.Lists.{any, distinct, place, numbersFrom, numbersBelow}
-use Rattle.theory.proofs.ListLaws.{any-of, numbers-joined}
-use Rattle.theory.proofs.PlaceLaws.{place-some, place-none, place-most, place-front, place-end, place-image}
-use Rattle.theory.proofs.DistinctLaws.{distinct-grows, one-more-new, one-more-old, among-distinct}
+use Rattle.theory.proofs.lists.ListLaws.{any-of, numbers-joined}
+use Rattle.theory.proofs.lists.PlaceLaws.{place-some, place-none, place-most, place-front, place-end, place-image}
+use Rattle.theory.proofs.lists.DistinctLaws.{distinct-grows, one-more-new, one-more-old, among-distinct}
 
 module _ {A : Type 0} (same : A → A → Bool) (same-refl : (x : A) → same x x ≡ true)
     (same-sym : (x y : A) → same x y ≡ true → same y x ≡ true)

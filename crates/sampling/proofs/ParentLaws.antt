@@ -8,7 +8,8 @@ use mathlib.Core.Path.{_≡_, sym, _∙_, ap, subst}
 use lib.ListN.{length, length-drop, length-append, List·getD-map, getD, set, take, drop, replicate, drop-of-length-le}
 use lib.Seq.{drop-cons, drop-at, length-take-le, getD-take, take-suc-set, append-snoc}
 use Rattle.grammar.specs.ReadDocument.{Node}
-use Rattle.reader.proofs.DocumentTrees.{treeCount, trees-few, Enough}
+use Rattle.reader.specs.NodeTrees.{treeCount, Enough}
+use Rattle.reader.proofs.DocumentTrees.{trees-few}
 use Rattle.sampling.specs.SampleNodes.{parentsFrom, parentsOf, CountedTree}
 use Rattle.sampling.proofs.FillLaws.{filled, fill-long}
 
@@ -59,12 +60,12 @@ module _ (ns : List Node) (children : List ℕ) (counts : map (λ (m : Node). m 
             ∙ getD-take (length ns) children i 0 h;
       }
 
-  record Room : Type 0 where
+  record RoomForKids : Type 0 where
     within : kids ≤ treeCount rest
     later : Enough rest
     trees : length pending - top ≡ suc (treeCount rest - kids)
 
-  room : Room
+  room : RoomForKids
   unfolding treeCount
   room =
       let f = first-left in

@@ -20,9 +20,9 @@ use Rattle.grammar.specs.Table.{Rule}
 use Rattle.grammar.specs.Fields.{fieldBytes}
 use Rattle.grammar.specs.WriteTable.{ruleBytes}
 use Rattle.grammar.specs.Size.{contentTooLarge}
+use Rattle.theory.proofs.lists.ListLaws.{joined-next}
 use Rattle.reader.specs.ExprAt.{_upTo_, exprAt}
 use Rattle.reader.proofs.ExprLaws.{expr-forward, expr-bytes}
-use Rattle.theory.proofs.ListLaws.{joined-next}
 use Rattle.emitting.specs.declared.writing.Drafted.{Drafted}
 use Rattle.emitting.specs.declared.writing.Drafted.the-variants.{Length, TooLarge}
 use Rattle.emitting.specs.Writing.{Put, Puts}

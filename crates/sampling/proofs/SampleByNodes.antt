@@ -20,14 +20,49 @@ use Rattle.grammar.specs.Outcome.{given}
 use Rattle.grammar.specs.Tree.{Tree}
 use Rattle.grammar.specs.ReadDocument.{Node, forestOf, treeOf}
 use Rattle.grammar.specs.Sample.{Visit, visits, samePath, pathsOf, namesOf, sequenceOf, childSequence, contentAt, ruleAt, sample}
-use Rattle.theory.proofs.BoolLaws.{and-left, and-right, and-intro, same-test}
-use Rattle.theory.proofs.ListLaws.{keep-map, kept, distinct-map, distinct-was, numbers-below, keep-on, map-on, listed-from, numbers-within}
-use Rattle.theory.proofs.DistinctLaws.{distinct-finer}
-use Rattle.theory.proofs.NameLaws.{name-refl, name-sym, name-trans}
-use Rattle.theory.proofs.PathLaws.{SamePath, path-refl, path-sym, path-trans, path-parts, path-append}
-use Rattle.theory.proofs.SampleRules.{pathType, path-types}
-use Rattle.reader.proofs.DocumentTrees.{treeCount, Enough}
-use Rattle.sampling.specs.SampleNodes.{parentsFrom, parentsOf, visitsFrom, pathsIn, childrenIn, namesIn, found, nameAt, pathAt, parentAt, visitAt, kidsOf, typeAt, aboveAt, sameAt, sameNamed, firstsOf, labelled, sequenceAt, ofType, contentOf, ruleOf, sampleOf}
+use Rattle.theory.specs.SamplePaths.{pathType}
+use Rattle.theory.proofs.lists.BoolLaws.{and-left, and-right, and-intro, same-test}
+use Rattle.theory.proofs.lists.ListLaws.{
+  keep-map,
+  kept,
+  distinct-map,
+  distinct-was,
+  numbers-below,
+  keep-on,
+  map-on,
+  listed-from,
+  numbers-within,
+}
+use Rattle.theory.proofs.lists.DistinctLaws.{distinct-finer}
+use Rattle.theory.proofs.trees.NameLaws.{name-refl, name-sym, name-trans}
+use Rattle.theory.proofs.trees.PathLaws.{SamePath, path-refl, path-sym, path-trans, path-parts, path-append}
+use Rattle.theory.proofs.sample.SampleRules.{path-types}
+use Rattle.reader.specs.NodeTrees.{treeCount, Enough}
+use Rattle.sampling.specs.SampleNodes.{
+  parentsFrom,
+  parentsOf,
+  visitsFrom,
+  pathsIn,
+  childrenIn,
+  namesIn,
+  visitsFound,
+  nameAt,
+  pathAt,
+  parentAt,
+  visitAt,
+  kidsOf,
+  typeAt,
+  aboveAt,
+  sameAt,
+  sameNamed,
+  firstsOf,
+  labelNodes,
+  sequenceAt,
+  ofType,
+  contentOfType,
+  ruleOfNode,
+  sampleOfNodes,
+}
 use Rattle.sampling.proofs.NumberingLaws.{place-map, numbers-split, number-stays}
 use Rattle.sampling.proofs.VisitedNodes.{visits-nodes, visit-names, visit-counts, parents-many, path-step, handed-many, handed-below, map-handed, pick, pick-own, pick-roots, child-names}
 
@@ -104,34 +139,34 @@ children-picked (m ∷ ms) e f (suc j) h =
     z
 
 module _ (ns : List Node) (one : treeCount ns ≡ 1) (enough : Enough ns) where
-  found-names : map (λ (v : Visit). v .name) (found ns) ≡ namesIn ns
+  found-names : map (λ (v : Visit). v .name) (visitsFound ns) ≡ namesIn ns
   found-names = visit-names ns ([] ∷ []) (omega arith) enough
 
-  found-many : length (found ns) ≡ length ns
+  found-many : length (visitsFound ns) ≡ length ns
   found-many =
-      sym (length-map (found ns) (λ (v : Visit). v .name)) ∙ ap length found-names ∙ length-map ns (λ (n : Node). n .name)
+      sym (length-map (visitsFound ns) (λ (v : Visit). v .name)) ∙ ap length found-names ∙ length-map ns (λ (n : Node). n .name)
 
   parents-long : length (parentsOf ns) ≡ length ns
   unfolding parentsOf
   parents-long = parents-many zero ns (zero ∷ []) (omega arith) enough
 
-  found-at : found ns ≡ map (visitAt ns) (numbersBelow (length ns))
+  found-at : visitsFound ns ≡ map (visitAt ns) (numbersBelow (length ns))
   unfolding numbersBelow
   found-at =
-      listed-from (visitAt ns) zero (found ns) none-visit
+      listed-from (visitAt ns) zero (visitsFound ns) none-visit
       (λ j h. let z : 0 + j ≡ j = omega arith in ap (visitAt ns) z ∙ sym (same j))
       ∙ ap (λ (m : ℕ). map (visitAt ns) (numbersFrom zero m)) found-many
     where
       none-visit : Visit
       none-visit = record { name = []; path = []; children = [] }
 
-      same : (i : ℕ) → getD (found ns) i none-visit ≡ visitAt ns i
+      same : (i : ℕ) → getD (visitsFound ns) i none-visit ≡ visitAt ns i
       same i =
-          let a : getD (found ns) i none-visit .name ≡ nameAt ns i =
-          sym (List·getD-map (λ (v : Visit). v .name) (found ns) i none-visit) ∙ ap (λ (l : List Name). getD l i []) found-names in
-          let b : getD (found ns) i none-visit .path ≡ pathAt ns i = sym (List·getD-map (λ (v : Visit). v .path) (found ns) i none-visit) in
-          let c : getD (found ns) i none-visit .children ≡ getD (childrenIn (found ns)) i [] =
-          sym (List·getD-map (λ (v : Visit). v .children) (found ns) i none-visit) in
+          let a : getD (visitsFound ns) i none-visit .name ≡ nameAt ns i =
+          sym (List·getD-map (λ (v : Visit). v .name) (visitsFound ns) i none-visit) ∙ ap (λ (l : List Name). getD l i []) found-names in
+          let b : getD (visitsFound ns) i none-visit .path ≡ pathAt ns i = sym (List·getD-map (λ (v : Visit). v .path) (visitsFound ns) i none-visit) in
+          let c : getD (visitsFound ns) i none-visit .children ≡ getD (childrenIn (visitsFound ns)) i [] =
+          sym (List·getD-map (λ (v : Visit). v .children) (visitsFound ns) i none-visit) in
           λ k. record { name = a k; path = b k; children = c k }
 
   -- a visit's children are the names of the node's children
@@ -153,9 +188,9 @@ module _ (ns : List Node) (one : treeCount ns ≡ 1) (enough : Enough ns) where
       let none-visit : Visit = record { name = []; path = []; children = [] } in
       sym (length-map (kidsOf ns i) (nameAt ns))
       ∙ ap length (sym (kids-names i h))
-      ∙ sym (List·getD-map length (childrenIn (found ns)) i [])
+      ∙ sym (List·getD-map length (childrenIn (visitsFound ns)) i [])
       ∙ ap (λ (l : List ℕ). getD l i 0)
-      (map-map length (λ (v : Visit). v .children) (found ns) ∙ visit-counts ns ([] ∷ []) (omega arith) enough)
+      (map-map length (λ (v : Visit). v .children) (visitsFound ns) ∙ visit-counts ns ([] ∷ []) (omega arith) enough)
 
 module _ (ns : List Node) (one : treeCount ns ≡ 1) (enough : Enough ns) (d : Tree) (tree : treeOf ns ≡ given d) where
   pub visits-at : visits d [] ≡ map (visitAt ns) (numbersBelow (length ns))
@@ -254,8 +289,8 @@ module _ (ns : List Node) (one : treeCount ns ≡ 1) (enough : Enough ns) (d : T
       no-path : (k : ℕ) → length ns ≤ k → pathAt ns k ≡ []
       no-path k h =
           let l = found-many ns one enough in
-          let m = length-map (found ns) (λ (v : Visit). v .path) in
-          List·getD-eq-default (pathsIn (found ns)) [] (omega arith)
+          let m = length-map (visitsFound ns) (λ (v : Visit). v .path) in
+          List·getD-eq-default (pathsIn (visitsFound ns)) [] (omega arith)
 
       no-name : (k : ℕ) → length ns ≤ k → nameAt ns k ≡ []
       no-name k h = let m = length-map ns (λ (n : Node). n .name) in List·getD-eq-default (namesIn ns) [] (omega arith)
@@ -277,7 +312,7 @@ module _ (ns : List Node) (one : treeCount ns ≡ 1) (enough : Enough ns) (d : T
           subst (λ (m : Name). SameName m (nameAt ns j)) (sym (no-name i (ltb-false i (length ns) p)))
           (subst (SameName []) (sym (no-name j (ltb-false j (length ns) q))) (name-refl []))
 
-  labels-are : namesOf (visits d []) ≡ map (nameAt ns) (labelled ns d)
+  labels-are : namesOf (visits d []) ≡ map (nameAt ns) (labelNodes ns d)
   unfolding namesOf
   labels-are =
       ap (λ (l : List Visit). distinct sameName (map (λ (v : Visit). v .name) l)) visits-at
@@ -304,7 +339,7 @@ module _ (ns : List Node) (one : treeCount ns ≡ 1) (enough : Enough ns) (d : T
       ∙ map-map (λ n. pathType d (pathAt ns j ++ (n ∷ []))) (nameAt ns) (kidsOf ns j)
       ∙ map-on (λ m. pathType d (pathAt ns j ++ (nameAt ns m ∷ []))) (typeAt ns d) (kidsOf ns j) (λ m o. kid-type j m h o))
 
-  content-is : (i : ℕ) → i < length ns → contentAt (visits d []) (pathAt ns i) ≡ contentOf ns d (typeAt ns d i)
+  content-is : (i : ℕ) → i < length ns → contentAt (visits d []) (pathAt ns i) ≡ contentOfType ns d (typeAt ns d i)
   unfolding contentAt
   content-is i h =
       let idx = numbersBelow (length ns) in
@@ -320,24 +355,24 @@ module _ (ns : List Node) (one : treeCount ns ≡ 1) (enough : Enough ns) (d : T
       (λ j m.
       sequence-is j (numbers-below (length ns) j .0 (kept (λ k. eqb (typeAt ns d k) (typeAt ns d i)) idx m .0))))
 
-  rule-is : (i : ℕ) → i < length ns → ruleAt (visits d []) (visitAt ns i) ≡ ruleOf ns d i
+  rule-is : (i : ℕ) → i < length ns → ruleAt (visits d []) (visitAt ns i) ≡ ruleOfNode ns d i
   unfolding ruleAt
   rule-is i h =
-      let l : place sameName (nameAt ns i) (namesOf (visits d [])) ≡ place (sameNamed ns d) i (labelled ns d) =
-      ap (place sameName (nameAt ns i)) labels-are ∙ place-map (nameAt ns) sameName i (labelled ns d) in
+      let l : place sameName (nameAt ns i) (namesOf (visits d [])) ≡ place (sameNamed ns d) i (labelNodes ns d) =
+      ap (place sameName (nameAt ns i)) labels-are ∙ place-map (nameAt ns) sameName i (labelNodes ns d) in
       let c = content-is i h in
       λ k. record { type = typeAt ns d i; label = l k; content = c k }
 
-  pub sample-nodes : sample d ≡ sampleOf ns d
+  pub sample-nodes : sample d ≡ sampleOfNodes ns d
   unfolding sample
   sample-nodes =
       let idx = numbersBelow (length ns) in
       let vs = visits d [] in
       let oneVisit : (Visit → Visit → Bool) = λ v w. samePath (v .path) (w .path) in
-      let rules : map (ruleAt vs) (distinct oneVisit vs) ≡ map (ruleOf ns d) (firstsOf ns d) =
+      let rules : map (ruleAt vs) (distinct oneVisit vs) ≡ map (ruleOfNode ns d) (firstsOf ns d) =
       ap (map (ruleAt vs)) (ap (distinct oneVisit) visits-at ∙ distinct-map (visitAt ns) oneVisit idx)
       ∙ map-map (ruleAt vs) (visitAt ns) (firstsOf ns d)
-      ∙ map-on (λ i. ruleAt vs (visitAt ns i)) (ruleOf ns d) (firstsOf ns d)
+      ∙ map-on (λ i. ruleAt vs (visitAt ns i)) (ruleOfNode ns d) (firstsOf ns d)
       (λ i m. rule-is i (numbers-below (length ns) i .0 (distinct-was (sameAt ns d) idx m))) in
       let labels = labels-are in
       λ k. record { labels = labels k; starts = zero ∷ []; rules = rules k }

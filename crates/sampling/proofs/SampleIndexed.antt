@@ -10,15 +10,16 @@ use Rattle.grammar.specs.Names.{asciiClasses}
 use Rattle.grammar.specs.Outcome.{given}
 use Rattle.grammar.specs.Tree.{Tree}
 use Rattle.grammar.specs.ReadDocument.{Node, treeOf}
-use Rattle.theory.proofs.ListLaws.{at-else}
+use Rattle.theory.proofs.lists.ListLaws.{at-else}
 use Rattle.reader.specs.declared.documents.DocumentIndex.{DocumentIndex}
 use Rattle.reader.specs.DocumentNodes.{nodeAt, nodesIn}
-use Rattle.reader.proofs.DocumentTrees.{treeCount, Enough, complete}
+use Rattle.reader.specs.NodeTrees.{treeCount, Enough}
 use Rattle.reader.proofs.DocumentAnswers.{nodes-count, node-held, document-tree}
+use Rattle.reader.proofs.DocumentTrees.{complete}
 use Rattle.sampling.specs.SampleNodes.{CountedTree, Whole, TypedTo, nameIn, nameAt, parentsOf}
-use Rattle.sampling.specs.SampleTable.{Indexes, SampleHeld, SampleReady}
+use Rattle.sampling.specs.SampleTable.{HoldsNodes, SampleHeld, SampleReady}
 
-module _ (s : List ℕ) (ix : DocumentIndex) (x : Indexes s ix) where
+module _ (s : List ℕ) (ix : DocumentIndex) (x : HoldsNodes s ix) where
   abbrev ns : List Node
   ns = nodesIn s ix
 

@@ -26,15 +26,47 @@ use Rattle.grammar.specs.Size.{contentTooLarge, tooLarge}
 use Rattle.grammar.specs.Sample.{sample, sequenceOf}
 use Rattle.grammar.specs.Widen.{sampleTable}
 use Rattle.grammar.specs.declared.Refusal.the-variants.{ResultTooLarge}
-use Rattle.theory.proofs.ListLaws.{at-else, mem-at, at-below, distinct-was, kept, numbers-below, keep-on, map-on, joined-on, taken-mem, listed-from, numbers-within}
-use Rattle.theory.proofs.DistinctLaws.{distinct-on}
-use Rattle.theory.proofs.EmittedContent.{joined-map}
-use Rattle.theory.proofs.Gathering.{gathered}
+use Rattle.theory.specs.Alternatives.{gathered}
+use Rattle.theory.proofs.lists.ListLaws.{
+  at-else,
+  mem-at,
+  at-below,
+  distinct-was,
+  kept,
+  numbers-below,
+  keep-on,
+  map-on,
+  joined-on,
+  taken-mem,
+  listed-from,
+  numbers-within,
+}
+use Rattle.theory.proofs.lists.DistinctLaws.{distinct-on}
+use Rattle.theory.proofs.emission.EmittedContent.{joined-map}
 use Rattle.emitting.specs.declared.writing.Drafted.{Drafted}
 use Rattle.emitting.specs.declared.writing.Drafted.the-variants.{Length, TooLarge}
-use Rattle.sampling.specs.SampleNodes.{KeyAt, KeysAt, LabelledTo, nameIn, sameNameIn, nameAt, parentAt, kidsOf, typeAt, sameAt, sameNamed, firstsOf, labelled, sequenceAt, ofType, contentOf, ruleOf, sampleOf}
 use Rattle.sampling.specs.SampleContents.{kidTypes, sequenceIn, sequencesAmong}
 use Rattle.sampling.specs.SampleTable.{contentIn, ruleIn, labelField, ruleField, rulesBytes, startBytes, TablePut, SampleHeld, SampleReady, NodesHeld, RulesHeld, SampleDrafted}
+use Rattle.sampling.specs.SampleNodes.{
+  KeyAt,
+  KeysAt,
+  LabelledTo,
+  nameIn,
+  sameNameIn,
+  nameAt,
+  parentAt,
+  kidsOf,
+  typeAt,
+  sameAt,
+  sameNamed,
+  firstsOf,
+  labelNodes,
+  sequenceAt,
+  ofType,
+  contentOfType,
+  ruleOfNode,
+  sampleOfNodes,
+}
 use Rattle.sampling.proofs.NumberingLaws.{place-agree}
 use Rattle.sampling.proofs.TableSize.{size-over, size-fits, content-over, bytes-over, all-fit, types-over}
 use Rattle.sampling.proofs.SampleByNodes.{sample-nodes, kids-count}
@@ -107,7 +139,7 @@ module _ {s names sizes parents types firsts : List ℕ} {n count : ℕ} (q : Sa
       (λ j m. ap (λ (x : ℕ). eqb x k) (q .typed .types-are j (numbers-below n j .0 m)))
       ∙ ap (λ (m : ℕ). keep (λ j. eqb (typeAt ns d j) k) (numbersBelow m)) (sym (q .whole .many)))
 
-  content-same : (k : ℕ) → contentIn parents types n k ≡ contentOf ns d k
+  content-same : (k : ℕ) → contentIn parents types n k ≡ contentOfType ns d k
   unfolding gathered
   content-same k = ap (λ (l : List Content). choiceOf (distinct sameContent l)) (among-same k)
 
@@ -122,11 +154,11 @@ module _ {s names sizes parents types firsts : List ℕ} {n count : ℕ} (q : Sa
   rules-many : length (sample d .rules) ≡ count
   rules-many =
       ap (λ (g : Table). length (g .rules)) (sample-nodes ns (q .whole .one) (q .whole .enough) d (q .whole .is-tree))
-      ∙ length-map (firstsOf ns d) (ruleOf ns d)
+      ∙ length-map (firstsOf ns d) (ruleOfNode ns d)
       ∙ ap length (sym firsts-same)
       ∙ length-take-le count firsts (q .firsts-held)
 
-  sample-is : sample d ≡ sampleOf ns d
+  sample-is : sample d ≡ sampleOfNodes ns d
   sample-is = sample-nodes ns (q .whole .one) (q .whole .enough) d (q .whole .is-tree)
 
   -- too many types
@@ -134,46 +166,46 @@ module _ {s names sizes parents types firsts : List ℕ} {n count : ℕ} (q : Sa
   sample-wide h = let m = rules-many in too-large-is d (types-over (sample d) (omega arith))
 
   module _ {labels lfirsts : List ℕ} {lcount : ℕ} (l : LabelledTo s names sizes firsts labels lfirsts lcount count) (held : lcount ≤ length lfirsts) where
-    labels-distinct : distinct (sameNameIn s names sizes) (take count firsts) ≡ labelled ns d
+    labels-distinct : distinct (sameNameIn s names sizes) (take count firsts) ≡ labelNodes ns d
     labels-distinct =
         distinct-on (sameNameIn s names sizes) (sameNamed ns d) (take count firsts)
         (λ x y m o. names-same x y (taken-below x m) (taken-below y o))
         ∙ ap (distinct (sameNamed ns d)) firsts-same
 
-    labelled-below : (x : ℕ) → List·Memᴰ x (labelled ns d) → x < n
+    labelled-below : (x : ℕ) → List·Memᴰ x (labelNodes ns d) → x < n
     labelled-below x m =
         taken-below x (subst (List·Memᴰ x) (sym firsts-same) (distinct-was (sameNamed ns d) (firstsOf ns d) m))
 
     abbrev rule : ℕ → Rule
     rule = ruleIn parents types firsts labels n
 
-    rule-same : (t : ℕ) → t < count → rule t ≡ ruleOf ns d (getD firsts t 0)
+    rule-same : (t : ℕ) → t < count → rule t ≡ ruleOfNode ns d (getD firsts t 0)
     rule-same t h =
         let i = getD firsts t 0 in
         let b = first-below t h in
         let a : getD types i 0 ≡ typeAt ns d i = q .typed .types-are i b in
-        let e : getD labels t 0 ≡ place (sameNamed ns d) i (labelled ns d) =
+        let e : getD labels t 0 ≡ place (sameNamed ns d) i (labelNodes ns d) =
         l .labels-are t h
         ∙ ap (place (sameNameIn s names sizes) i) labels-distinct
-        ∙ place-agree (sameNameIn s names sizes) (sameNamed ns d) i (labelled ns d) (λ y m. names-same i y b (labelled-below y m)) in
-        let c : contentIn parents types n (getD types i 0) ≡ contentOf ns d (typeAt ns d i) = content-same (getD types i 0) ∙ ap (contentOf ns d) a in
+        ∙ place-agree (sameNameIn s names sizes) (sameNamed ns d) i (labelNodes ns d) (λ y m. names-same i y b (labelled-below y m)) in
+        let c : contentIn parents types n (getD types i 0) ≡ contentOfType ns d (typeAt ns d i) = content-same (getD types i 0) ∙ ap (contentOfType ns d) a in
         λ k. record { type = a k; label = e k; content = c k }
 
-    labels-same : joinedOf (labelField s names sizes lfirsts) (numbersBelow lcount) ≡ joinedOf (fieldBytes 0x10) (map (nameAt ns) (labelled ns d))
+    labels-same : joinedOf (labelField s names sizes lfirsts) (numbersBelow lcount) ≡ joinedOf (fieldBytes 0x10) (map (nameAt ns) (labelNodes ns d))
     labels-same =
         joined-at (λ i. fieldBytes 0x10 (nameIn s names sizes i)) lfirsts lcount held
         ∙ ap (joinedOf (λ i. fieldBytes 0x10 (nameIn s names sizes i))) (l .firsts-are ∙ labels-distinct)
-        ∙ joined-on (λ i. fieldBytes 0x10 (nameIn s names sizes i)) (λ i. fieldBytes 0x10 (nameAt ns i)) (labelled ns d)
+        ∙ joined-on (λ i. fieldBytes 0x10 (nameIn s names sizes i)) (λ i. fieldBytes 0x10 (nameAt ns i)) (labelNodes ns d)
         (λ i m. ap (fieldBytes 0x10) (q .whole .names-are i (labelled-below i m)))
-        ∙ sym (joined-map (fieldBytes 0x10) (nameAt ns) (labelled ns d))
+        ∙ sym (joined-map (fieldBytes 0x10) (nameAt ns) (labelNodes ns d))
 
-    rules-same : rulesBytes rule count ≡ joinedOf (λ r. fieldBytes 0x12 (ruleBytes r)) (map (ruleOf ns d) (firstsOf ns d))
+    rules-same : rulesBytes rule count ≡ joinedOf (λ r. fieldBytes 0x12 (ruleBytes r)) (map (ruleOfNode ns d) (firstsOf ns d))
     rules-same =
-        joined-on (ruleField rule) (λ t. fieldBytes 0x12 (ruleBytes (ruleOf ns d (getD firsts t 0)))) (numbersBelow count)
+        joined-on (ruleField rule) (λ t. fieldBytes 0x12 (ruleBytes (ruleOfNode ns d (getD firsts t 0)))) (numbersBelow count)
         (λ t m. ap (λ (r : Rule). fieldBytes 0x12 (ruleBytes r)) (rule-same t (numbers-below count t .0 m)))
-        ∙ joined-at (λ i. fieldBytes 0x12 (ruleBytes (ruleOf ns d i))) firsts count (q .firsts-held)
-        ∙ ap (joinedOf (λ i. fieldBytes 0x12 (ruleBytes (ruleOf ns d i)))) firsts-same
-        ∙ sym (joined-map (λ r. fieldBytes 0x12 (ruleBytes r)) (ruleOf ns d) (firstsOf ns d))
+        ∙ joined-at (λ i. fieldBytes 0x12 (ruleBytes (ruleOfNode ns d i))) firsts count (q .firsts-held)
+        ∙ ap (joinedOf (λ i. fieldBytes 0x12 (ruleBytes (ruleOfNode ns d i)))) firsts-same
+        ∙ sym (joined-map (λ r. fieldBytes 0x12 (ruleBytes r)) (ruleOfNode ns d) (firstsOf ns d))
 
     abbrev bytes : List ℕ
     bytes = joinedOf (labelField s names sizes lfirsts) (numbersBelow lcount) ++ startBytes rule count
@@ -182,9 +214,9 @@ module _ {s names sizes parents types firsts : List ℕ} {n count : ℕ} (q : Sa
     table-same : bytes ≡ tableBytes (sample d)
     unfolding tableBytes joinedOf
     table-same =
-        let a = joinedOf (fieldBytes 0x10) (map (nameAt ns) (labelled ns d)) in
+        let a = joinedOf (fieldBytes 0x10) (map (nameAt ns) (labelNodes ns d)) in
         let b = fieldBytes 0x11 (0 ∷ []) in
-        let r = joinedOf (λ r. fieldBytes 0x12 (ruleBytes r)) (map (ruleOf ns d) (firstsOf ns d)) in
+        let r = joinedOf (λ r. fieldBytes 0x12 (ruleBytes r)) (map (ruleOfNode ns d) (firstsOf ns d)) in
         let z = fieldBytes 0x1F [] in
         ap (λ (x : List ℕ). x ++ startBytes rule count) labels-same
         ∙ ap (λ (x : List ℕ). a ++ (b ++ (x ++ z))) rules-same
@@ -197,14 +229,14 @@ module _ {s names sizes parents types firsts : List ℕ} {n count : ℕ} (q : Sa
     in-sample : (t : ℕ) → t < count → List·Memᴰ (rule t) (sample d .rules)
     in-sample t h =
         subst (λ (g : Table). List·Memᴰ (rule t) (g .rules)) (sym sample-is)
-        (subst (λ (r : Rule). List·Memᴰ r (map (ruleOf ns d) (firstsOf ns d))) (sym (rule-same t h))
-        (Memᴰ·map (ruleOf ns d) (subst (List·Memᴰ (getD firsts t 0)) firsts-same (taken-mem firsts t count h (omega (arith, q .firsts-held))))))
+        (subst (λ (r : Rule). List·Memᴰ r (map (ruleOfNode ns d) (firstsOf ns d))) (sym (rule-same t h))
+        (Memᴰ·map (ruleOfNode ns d) (subst (List·Memᴰ (getD firsts t 0)) firsts-same (taken-mem firsts t count h (omega (arith, q .firsts-held))))))
 
     from-sample : (r : Rule) → List·Memᴰ r (sample d .rules) → (t : ℕ) × (t < count) × (rule t ≡ r)
     from-sample r m =
-        let (i, o, e) = Memᴰ·of-map (ruleOf ns d) (firstsOf ns d) (subst (λ (g : Table). List·Memᴰ r (g .rules)) sample-is m) in
+        let (i, o, e) = Memᴰ·of-map (ruleOfNode ns d) (firstsOf ns d) (subst (λ (g : Table). List·Memᴰ r (g .rules)) sample-is m) in
         let (t, h, f) = taken-place firsts count (q .firsts-held) (subst (List·Memᴰ i) (sym firsts-same) o) in
-        (t, h, rule-same t h ∙ ap (ruleOf ns d) f ∙ e)
+        (t, h, rule-same t h ∙ ap (ruleOfNode ns d) f ∙ e)
 
     pub sample-drafted : count ≤ 64 → (before after : List ℕ) (r : Drafted) → TablePut before 0 rule count bytes after r → SampleDrafted d before after r
     sample-drafted few before after (Length m) (p, small, fits) =

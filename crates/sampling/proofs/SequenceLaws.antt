@@ -12,19 +12,20 @@ use lib.ListN.{length, getD, drop}
 use Rattle.grammar.specs.Lists.{keep, distinct, numbersBelow}
 use Rattle.grammar.specs.Content.{Content, operands}
 use Rattle.grammar.specs.ReadContent.{contentBytes}
-use Rattle.theory.proofs.ListLaws.{keep-yes, keep-no, numbers-end}
-use Rattle.theory.proofs.DistinctLaws.{keep-append}
-use Rattle.theory.proofs.Gathering.{gathered, gathered-so, gather-nothing, gather-more}
+use Rattle.theory.specs.Alternatives.{gathered}
+use Rattle.theory.proofs.lists.ListLaws.{keep-yes, keep-no, numbers-end}
+use Rattle.theory.proofs.lists.DistinctLaws.{keep-append}
+use Rattle.theory.proofs.emission.GatheringLaws.{gathered-so, gather-nothing, gather-more}
 use Rattle.reader.specs.ExprAt.{_upTo_}
 use Rattle.reader.proofs.ExprLaws.{expr-of, exprs-none, exprs-kept}
 use Rattle.emitting.specs.declared.drafts.Gathering.{Gathering}
 use Rattle.emitting.specs.declared.drafts.Gathering.the-variants.{TooLarge, Upto}
 use Rattle.emitting.specs.Drafts.{Row, Kept, Newest, TooWide, Gathers}
 use Rattle.emitting.specs.Writing.{Put}
-use Rattle.sampling.specs.SampleContents.{operandsEnd, sequenceIn, sequencesAmong, GathersIn}
 use Rattle.emitting.proofs.WideLaws.{wide-gathered}
 use Rattle.sampling.proofs.NumberingLaws.{numbers-split}
 use Rattle.emitting.proofs.PutLaws.{put-length, put-kept, put-there}
+use Rattle.sampling.specs.SampleContents.{operandsEnd, sequenceIn, sequencesAmong, GathersInRule}
 
 module _ (parents types : List ℕ) (n k : ℕ) where
   abbrev among : List ℕ → List Content
@@ -66,7 +67,7 @@ module _ (parents types : List ℕ) (n k : ℕ) where
 
   -- a node of another type
   pub row-other : (d : List ℕ) (count end i : ℕ) → (getD types i 0 ≡ k → ⊥) → end ≤ operandsEnd → (q : Kept d 4 count end)
-      → GathersIn d (gathered (q .list) (among (i ∷ []))) (Upto 0 count end)
+      → GathersInRule d (gathered (q .list) (among (i ∷ []))) (Upto 0 count end)
   row-other d count end i e h q =
       let same : q .list ≡ gathered (q .list) (among (i ∷ [])) =
       sym (ap (gathered (q .list)) (among-other i e) ∙ gather-nothing (q .list) (q .row .apart)) in
@@ -99,32 +100,32 @@ module _ (parents types : List ℕ) (n k : ℕ) where
 
     pub row-own : {count : ℕ} (q : Kept before 4 count end) (r : Gathering) → getD types i 0 ≡ k
         → Gathers after after 4 end operandsEnd 0 (gathered (q .list) (sequenceIn parents types n i ∷ [])) r
-        → GathersIn after (gathered (q .list) (among (i ∷ []))) r
+        → GathersInRule after (gathered (q .list) (among (i ∷ []))) r
     unfolding Gathers
     row-own q r e g =
-        subst (λ (l : List Content). GathersIn after (gathered (q .list) l) r) (sym (among-own i e))
+        subst (λ (l : List Content). GathersInRule after (gathered (q .list) l) r) (sym (among-own i e))
         (gathers-in after after end (gathered (q .list) (sequenceIn parents types n i ∷ [])) r g)
       where
-        gathers-in : (d d' : List ℕ) (old : ℕ) (ds : List Content) (r : Gathering) → Gathers d d' 4 old operandsEnd 0 ds r → GathersIn d' ds r
+        gathers-in : (d d' : List ℕ) (old : ℕ) (ds : List Content) (r : Gathering) → Gathers d d' 4 old operandsEnd 0 ds r → GathersInRule d' ds r
         gathers-in d d' old ds TooLarge g = g
         gathers-in d d' old ds (Upto m count end) g = (g .1 .row, g .1 .fits)
 
   -- after one node
   module _ (after : List ℕ) (i : ℕ) (r : Gathering) {d : List ℕ} {count end : ℕ} (row : Row d 4 count (gathered [] (among (numbersBelow i))) end)
-      (g : (q : Kept d 4 count end) → GathersIn after (gathered (q .list) (among (i ∷ []))) r) where
-    so-far : GathersIn after (gathered [] (among (numbersBelow (i + 1)))) r
+      (g : (q : Kept d 4 count end) → GathersInRule after (gathered (q .list) (among (i ∷ []))) r) where
+    so-far : GathersInRule after (gathered [] (among (numbersBelow (i + 1)))) r
     so-far =
-        subst (λ (l : List Content). GathersIn after l r) (among-next i) (g (record { list = gathered [] (among (numbersBelow i)); row = row }))
+        subst (λ (l : List Content). GathersInRule after l r) (among-next i) (g (record { list = gathered [] (among (numbersBelow i)); row = row }))
 
     pub gather-stop : r ≡ TooLarge → i < n → TooWide 1024 (gathered [] (among (numbersBelow n)))
-    gather-stop e h = among-wide i n h (subst (λ (x : Gathering). GathersIn after (gathered [] (among (numbersBelow (i + 1)))) x) e so-far)
+    gather-stop e h = among-wide i n h (subst (λ (x : Gathering). GathersInRule after (gathered [] (among (numbersBelow (i + 1)))) x) e so-far)
 
     pub gather-next : {m c stop : ℕ} → r ≡ Upto m c stop → Row after 4 c (gathered [] (among (numbersBelow (i + 1)))) stop × (stop ≤ operandsEnd)
-    gather-next e = subst (λ (x : Gathering). GathersIn after (gathered [] (among (numbersBelow (i + 1)))) x) e so-far
+    gather-next e = subst (λ (x : Gathering). GathersInRule after (gathered [] (among (numbersBelow (i + 1)))) x) e so-far
 
 -- what a gathering's answer says
-pub upto-row : (d : List ℕ) (ds : List Content) (r : Gathering) {m c e : ℕ} → GathersIn d ds r → r ≡ Upto m c e → Row d 4 c ds e × (e ≤ operandsEnd)
-upto-row d ds r g e = subst (λ (x : Gathering). GathersIn d ds x) e g
+pub upto-row : (d : List ℕ) (ds : List Content) (r : Gathering) {m c e : ℕ} → GathersInRule d ds r → r ≡ Upto m c e → Row d 4 c ds e × (e ≤ operandsEnd)
+upto-row d ds r g e = subst (λ (x : Gathering). GathersInRule d ds x) e g
 
-pub stop-wide : (d : List ℕ) (ds : List Content) (r : Gathering) → GathersIn d ds r → r ≡ TooLarge → TooWide 1024 ds
-stop-wide d ds r g e = subst (λ (x : Gathering). GathersIn d ds x) e g
+pub stop-wide : (d : List ℕ) (ds : List Content) (r : Gathering) → GathersInRule d ds r → r ≡ TooLarge → TooWide 1024 ds
+stop-wide d ds r g e = subst (λ (x : Gathering). GathersInRule d ds x) e g

@@ -17,8 +17,8 @@ use Rattle.grammar.specs.Size.{contentTooLarge, tooLarge}
 use Rattle.grammar.specs.Widen.{ofSize}
 use Rattle.grammar.specs.declared.Refusal.the-variants.{ResultTooLarge}
 use borrow.Author.Tests.{lt-ltb, le-ltb}
-use Rattle.theory.proofs.BoolLaws.{or-left, or-right, or-none, false-of, not-both}
-use Rattle.theory.proofs.ListLaws.{any-of, any-found}
+use Rattle.theory.proofs.lists.BoolLaws.{or-left, or-right, or-none, false-of, not-both}
+use Rattle.theory.proofs.lists.ListLaws.{any-of, any-found}
 
 module _ (g : Table) where
   abbrev over : Rule → Bool

@@ -14,11 +14,24 @@ use Rattle.grammar.specs.Lists.{distinct, place, numbersBelow}
 use Rattle.grammar.specs.Names.{Name, sameName}
 use Rattle.grammar.specs.Tree.{Tree}
 use Rattle.grammar.specs.ReadDocument.{Node}
-use Rattle.theory.proofs.ListLaws.{at-else, any-of, at-mem, mem-at, at-below, at-or-else, distinct-was, distinct-has, numbers-below, numbers-end, taken-mem, set-up-to}
-use Rattle.theory.proofs.PlaceLaws.{place-front}
-use Rattle.theory.proofs.DistinctLaws.{distinct-grows}
-use Rattle.theory.proofs.NameLaws.{name-refl, name-sym, name-trans}
-use Rattle.theory.proofs.PathLaws.{path-refl, path-sym, path-trans}
+use Rattle.theory.proofs.lists.ListLaws.{
+  at-else,
+  any-of,
+  at-mem,
+  mem-at,
+  at-below,
+  at-or-else,
+  distinct-was,
+  distinct-has,
+  numbers-below,
+  numbers-end,
+  taken-mem,
+  set-up-to,
+}
+use Rattle.theory.proofs.lists.PlaceLaws.{place-front}
+use Rattle.theory.proofs.lists.DistinctLaws.{distinct-grows}
+use Rattle.theory.proofs.trees.NameLaws.{name-refl, name-sym, name-trans}
+use Rattle.theory.proofs.trees.PathLaws.{path-refl, path-sym, path-trans}
 use Rattle.sampling.specs.SampleNodes.{Whole, TypedTo, KeyAt, KeysAt, aboveIn, nameIn, sameKey, nameAt, pathAt, parentAt, typeAt, aboveAt, sameAt, sameNameIn, LabelledTo}
 use Rattle.sampling.proofs.NumberingLaws.{place-agree, number-stays, one-more}
 use Rattle.sampling.proofs.SampleByNodes.{below-path, same-path, type-place}

@@ -17,8 +17,9 @@ use Rattle.grammar.specs.Outcome.{given}
 use Rattle.grammar.specs.Tree.{Tree, node, Forest, []ᵗ, _∷ᵗ_, trees}
 use Rattle.grammar.specs.ReadDocument.{Node, forestOf, firstTrees, otherTrees, treeOf}
 use Rattle.grammar.specs.Sample.{Visit, rootNames, visits, visitsAll}
-use Rattle.theory.proofs.OutcomeLaws.{given-eq}
-use Rattle.reader.proofs.DocumentTrees.{treeCount, Enough, forest-trees}
+use Rattle.theory.proofs.bytes.OutcomeLaws.{given-eq}
+use Rattle.reader.specs.NodeTrees.{treeCount, Enough}
+use Rattle.reader.proofs.DocumentTrees.{forest-trees}
 use Rattle.sampling.specs.SampleNodes.{parentsFrom, visitsFrom, pathsIn, childrenIn, namesIn}
 
 -- the visits of trees, each with its own path above

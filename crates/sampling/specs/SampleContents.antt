@@ -55,6 +55,6 @@ abbrev pub sequencesAmong : (parents types : List ℕ) → ℕ → ℕ → List 
 sequencesAmong parents types n k nodes = map (sequenceIn parents types n) (keep (λ (j : ℕ). eqb (getD types j 0) k) nodes)
 
 -- these operands stand in a draft from the fourth place on; or they are too large for a content
-abbrev pub GathersIn : List ℕ → List Content → Gathering → Type 0
-GathersIn draft ds TooLarge = TooWide 1024 ds
-GathersIn draft ds (Upto next count end) = Row draft 4 count ds end × (end ≤ operandsEnd)
+abbrev pub GathersInRule : List ℕ → List Content → Gathering → Type 0
+GathersInRule draft ds TooLarge = TooWide 1024 ds
+GathersInRule draft ds (Upto next count end) = Row draft 4 count ds end × (end ≤ operandsEnd)

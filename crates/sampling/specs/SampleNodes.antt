@@ -15,8 +15,8 @@ use Rattle.grammar.specs.Tree.{Tree}
 use Rattle.grammar.specs.Table.{Rule, Table}
 use Rattle.grammar.specs.ReadDocument.{Node, forestOf, firstTrees, treeOf}
 use Rattle.grammar.specs.Sample.{Visit, rootNames, samePath, sequenceOf}
-use Rattle.theory.proofs.SampleRules.{pathType}
-use Rattle.reader.proofs.DocumentTrees.{treeCount, Enough}
+use Rattle.theory.specs.SamplePaths.{pathType}
+use Rattle.reader.specs.NodeTrees.{treeCount, Enough}
 
 -- The parents of nodes of which the first has the number `i`, where the parents of those still to come are these.
 unfoldable pub parentsFrom : ℕ → List ℕ → List Node → List ℕ
@@ -48,21 +48,21 @@ abbrev pub namesIn : List Node → List Name
 namesIn ns = map (λ (n : Node). n .name) ns
 
 module _ (ns : List Node) where
-  abbrev pub found : List Visit
-  found = visitsFrom ([] ∷ []) ns
+  abbrev pub visitsFound : List Visit
+  visitsFound = visitsFrom ([] ∷ []) ns
 
   -- the name, the path, the parent and the visit of a node
   abbrev pub nameAt : ℕ → Name
   nameAt i = getD (namesIn ns) i []
 
   abbrev pub pathAt : ℕ → List Name
-  pathAt i = getD (pathsIn found) i []
+  pathAt i = getD (pathsIn visitsFound) i []
 
   abbrev pub parentAt : ℕ → ℕ
   parentAt i = getD (parentsOf ns) i 0
 
   abbrev pub visitAt : ℕ → Visit
-  visitAt i = record { name = nameAt i; path = pathAt i; children = getD (childrenIn found) i [] }
+  visitAt i = record { name = nameAt i; path = pathAt i; children = getD (childrenIn visitsFound) i [] }
 
   -- the children of a node: the later nodes of which it is the parent
   abbrev pub kidsOf : ℕ → List ℕ
@@ -87,8 +87,8 @@ module _ (ns : List Node) (d : Tree) where
   abbrev pub firstsOf : List ℕ
   firstsOf = distinct sameAt (numbersBelow (length ns))
 
-  abbrev pub labelled : List ℕ
-  labelled = distinct sameNamed firstsOf
+  abbrev pub labelNodes : List ℕ
+  labelNodes = distinct sameNamed firstsOf
 
   -- the child sequence of a node, and the choice of those of a type
   abbrev pub sequenceAt : ℕ → Content
@@ -97,14 +97,14 @@ module _ (ns : List Node) (d : Tree) where
   abbrev pub ofType : ℕ → List ℕ
   ofType k = keep (λ i. eqb (typeAt i) k) (numbersBelow (length ns))
 
-  abbrev pub contentOf : ℕ → Content
-  contentOf k = choiceOf (distinct sameContent (map sequenceAt (ofType k)))
+  abbrev pub contentOfType : ℕ → Content
+  contentOfType k = choiceOf (distinct sameContent (map sequenceAt (ofType k)))
 
-  abbrev pub ruleOf : ℕ → Rule
-  ruleOf i = record { type = typeAt i; label = place sameNamed i labelled; content = contentOf (typeAt i) }
+  abbrev pub ruleOfNode : ℕ → Rule
+  ruleOfNode i = record { type = typeAt i; label = place sameNamed i labelNodes; content = contentOfType (typeAt i) }
 
-  abbrev pub sampleOf : Table
-  sampleOf = record { labels = map (nameAt ns) labelled; starts = zero ∷ []; rules = map ruleOf firstsOf }
+  abbrev pub sampleOfNodes : Table
+  sampleOfNodes = record { labels = map (nameAt ns) labelNodes; starts = zero ∷ []; rules = map ruleOfNode firstsOf }
 
 -- nodes of one tree, with the child counts that an array holds
 pub record CountedTree (children : List ℕ) (n : ℕ) : Type 0 where

@@ -20,10 +20,10 @@ use Rattle.grammar.specs.ReadDocument.{Node, readNodes}
 use Rattle.grammar.specs.Sample.{sample}
 use Rattle.grammar.specs.Widen.{sampleTable}
 use Rattle.grammar.specs.declared.Refusal.the-variants.{ResultTooLarge}
+use Rattle.theory.specs.Alternatives.{gathered}
 use Rattle.reader.specs.declared.documents.DocumentIndex.{DocumentIndex}
-use Rattle.reader.specs.DocumentNodes.{nodesIn, Indexed}
-use Rattle.theory.proofs.Gathering.{gathered}
 use Rattle.reader.specs.ExprAt.{_upTo_, exprAt}
+use Rattle.reader.specs.DocumentNodes.{nodesIn, NodesIndexed}
 use Rattle.emitting.specs.declared.writing.Drafted.{Drafted}
 use Rattle.emitting.specs.declared.writing.Drafted.the-variants.{Length, TooLarge}
 use Rattle.emitting.specs.Writing.{Put}
@@ -115,9 +115,9 @@ SampleDrafted d before after (Length n) =
 SampleDrafted d before after TooLarge = sampleTable standard d ≡ refused ResultTooLarge
 
 -- a document's nodes are those that an index holds
-pub record Indexes (s : List ℕ) (ix : DocumentIndex) : Type 0 where
+pub record HoldsNodes (s : List ℕ) (ix : DocumentIndex) : Type 0 where
   pub reads : readNodes standard asciiClasses s ≡ given (nodesIn s ix)
-  pub indexed : Indexed s (ix .names) (ix .sizes) (ix .children) (ix .nodes)
+  pub indexed : NodesIndexed s (ix .names) (ix .sizes) (ix .children) (ix .nodes)
 
 -- and the child counts
 pub record SampleReady (s names sizes children parents types firsts : List ℕ) (n count : ℕ) : Type 0 where

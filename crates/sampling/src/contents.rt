@@ -10,10 +10,10 @@ ghost use Prim.Native.Nat.{ℕ, _≤_, _<_};
 ghost use mathlib.Core.List.{[], _∷_};
 ghost use lib.ListN.{length, getD};
 ghost use Rattle.grammar.specs.Lists.{numbersBelow};
-ghost use Rattle.theory.proofs.Gathering.{gathered};
+ghost use Rattle.theory.specs.Alternatives.{gathered};
 ghost use Rattle.emitting.specs.Drafts.{Kept};
-ghost use Rattle.sampling.specs.SampleContents.{Kids, sequencesAmong, GathersIn, operandsEnd, scratchBytes};
 ghost use Rattle.sampling.specs.SampleTable.{contentIn, ContentMade, NodesHeld};
+ghost use Rattle.sampling.specs.SampleContents.{Kids, sequencesAmong, GathersInRule, operandsEnd, scratchBytes};
 
 // Gathers the child sequence of a node, if it is of the type `k`, among those that stand in the draft.
 fn one_more(
@@ -30,7 +30,7 @@ fn one_more(
     requires { ⌜ Kids (now parents) (now types) nodes i kids × Kept (now scratch) 4 count end × (end ≤ operandsEnd)
         × (scratchBytes ≤ length (now scratch)) ⌝ }
     ensures { λ r. ⌜ ((q : Kept (now (scratch .entry)) 4 count end)
-        → GathersIn (now (scratch .exit))
+        → GathersInRule (now (scratch .exit))
         (gathered (q .list) (sequencesAmong (now (parents .entry)) (now (types .entry)) nodes k (i ∷ []))) r) ⌝ }
 {
     if types[i] != k {
@@ -55,7 +55,7 @@ fn gather(
 ) -> Gathering
     requires { ⌜ (scratchBytes ≤ length (now scratch)) × (nodes ≤ length (now children))
         × ((i : ℕ) → i < nodes → Kids (now parents) (now types) nodes i (getD (now children) i 0)) ⌝ }
-    ensures { λ r. ⌜ GathersIn (now (scratch .exit))
+    ensures { λ r. ⌜ GathersInRule (now (scratch .exit))
         (gathered [] (sequencesAmong (now (parents .entry)) (now (types .entry)) nodes k (numbersBelow nodes))) r ⌝ }
 {
     let mut count: usize = 0;

@@ -15,7 +15,7 @@ ghost use Rattle.grammar.specs.Tree.{Tree};
 ghost use Rattle.grammar.specs.ReadDocument.{treeOf};
 ghost use Rattle.reader.specs.DocumentNodes.{nodesIn};
 ghost use Rattle.sampling.specs.SampleContents.{scratchBytes};
-ghost use Rattle.sampling.specs.SampleTable.{SampleHeld, SampleReady, SampleDrafted, Indexes};
+ghost use Rattle.sampling.specs.SampleTable.{SampleHeld, SampleReady, SampleDrafted, HoldsNodes};
 
 // Writes the sample of nodes whose types are found, unless there are too many types.
 fn write_sample(
@@ -67,7 +67,7 @@ fn write_sample(
 
 // The sample of a document as a table, from the draft's beginning.
 pub fn sample_table(document: &[u8], index: DocumentIndex, draft: &mut [u8]) -> Drafted
-    requires { ⌜ (32768 ≤ length (now draft)) × Indexes (now document) index ⌝ }
+    requires { ⌜ (32768 ≤ length (now draft)) × HoldsNodes (now document) index ⌝ }
     ensures { λ r. ⌜ ((d : Tree) → treeOf (nodesIn (now (document .entry)) index) ≡ given d
         → SampleDrafted d (now (draft .entry)) (now (draft .exit)) r) ⌝ }
 {

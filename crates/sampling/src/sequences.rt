@@ -8,15 +8,15 @@ ghost use Rattle.emitting.specs.Writing.{Put};
 ghost use Rattle.sampling.specs.SampleContents.{kidBytes, kidsBytes, Kids, sequenceIn};
 
 // Writes a node's type, if it is a child of the node `i`.
-fn put_kid(scratch: &mut [u8], at: usize, parent: usize, i: usize, kind: usize) -> usize
-    requires { ⌜ (at ≤ length (now scratch)) × (parent ≡ i → at + 2 ≤ length (now scratch)) × (kind < 256) ⌝ }
-    ensures { λ r. ⌜ Put (now (scratch .entry)) at (kidBytes (eqb parent i) kind) (now (scratch .exit)) r ⌝ }
+fn put_kid(scratch: &mut [u8], at: usize, parent: usize, i: usize, ty: usize) -> usize
+    requires { ⌜ (at ≤ length (now scratch)) × (parent ≡ i → at + 2 ≤ length (now scratch)) × (ty < 256) ⌝ }
+    ensures { λ r. ⌜ Put (now (scratch .entry)) at (kidBytes (eqb parent i) ty) (now (scratch .exit)) r ⌝ }
 {
     if parent != i {
         return at;
     }
     scratch[at] = 2;
-    scratch[at + 1] = kind as u8;
+    scratch[at + 1] = ty as u8;
     at + 2
 }
 

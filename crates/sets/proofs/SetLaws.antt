@@ -13,8 +13,22 @@ use lib.Dec.{eqb}
 use lib.ListN.{length, getD, set, take, drop, replicate, length-set, length-append, length-take, length-drop}
 use lib.Seq.{getD-set-same, getD-set-other, getD-take, getD-drop, take-at, drop-at, length-take-le, take-append-le, drop-append-le, drop-drop, take-take, drop-append-add}
 use borrow.Author.Tests.{eqb-true, eqb-false, eq-eqb, ne-eqb}
+use Rattle.sets.specs.Sets.{
+  bitOf,
+  member,
+  putAt,
+  wordsAt,
+  setAt,
+  storeAt,
+  unionOf,
+  nothing,
+  add,
+  inEither,
+  Compares,
+  Empties,
+  OthersKept,
+}
 use Rattle.sets.proofs.BitLaws.{bit-or, bit-one, bit-zero, bits-differ, one-shifted}
-use Rattle.sets.specs.Sets.{bitOf, member, putAt, wordsAt, setAt, storeAt, unionOf, nothing, add, both, Compares, Empties, OthersKept}
 
 -- ---- one number more
 
@@ -198,7 +212,7 @@ word-union (x ∷ a) [] i = sym (or-zero-r (getD (x ∷ a) i 0))
 word-union (x ∷ a) (y ∷ b) zero = refl
 word-union (x ∷ a) (y ∷ b) (suc i) = word-union a b i
 
-pub member-union : (a b : List ℕ) (base : ℕ) → member (unionOf a b) base ≡ both (member a base) (member b base)
+pub member-union : (a b : List ℕ) (base : ℕ) → member (unionOf a b) base ≡ inEither (member a base) (member b base)
 unfolding member
 member-union a b base =
     fun-ext (λ k. ap (λ (x : ℕ). bitOf x (k % 32)) (word-union a b (base + k / 32))

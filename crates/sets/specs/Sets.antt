@@ -45,8 +45,8 @@ nothing j = false
 abbrev pub add : ℕ → (ℕ → Bool) → (ℕ → Bool)
 add k p j = eqb j k || p j
 
-abbrev pub both : (ℕ → Bool) → (ℕ → Bool) → (ℕ → Bool)
-both p q j = p j || q j
+abbrev pub inEither : (ℕ → Bool) → (ℕ → Bool) → (ℕ → Bool)
+inEither p q j = p j || q j
 
 -- how many numbers below n are in the set
 unfoldable pub size : (ℕ → Bool) → ℕ → ℕ

@@ -1,84 +1,22 @@
-pub mod BoolLaws
-pub mod ListLaws
-pub mod PlaceLaws
-pub mod NameLaws
-pub mod NamedLabels
-pub mod WordLaws
-pub mod Matching
-pub mod Membership
-pub mod KindTests
-pub mod ContentBytes
-pub mod FieldBytes
-pub mod TreeParts
-pub mod Automaton
-pub mod Covering
-pub mod KindLaws
-pub mod LeastLocal
-pub mod LeastMerge
-pub mod LeastSingleType
-pub mod Merge
-pub mod SameTree
-pub mod Standing
-pub mod TableAutomaton
-pub mod TreeAutomaton
-pub mod ReducedTable
-pub mod OutcomeLaws
-pub mod AnswerNumbers
-pub mod ReadSteps
-pub mod TableBytes
-pub mod ReadWithin
-pub mod NodeSteps
-pub mod DocumentBytes
-pub mod DistinctLaws
-pub mod Alternatives
-pub mod ChoiceLaws
-pub mod EmittedContent
-pub mod MetPairs
-pub mod NoTwo
-pub mod SameWords
-pub mod TidyWords
-pub mod SimplifyWords
-pub mod Rounds
-pub mod Fruitful
-pub mod CarryDerivations
-pub mod Reached
-pub mod ReduceDocuments
-pub mod PathLaws
-pub mod NormaliseDocuments
-pub mod SampleMembers
-pub mod SampleRules
-pub mod ProperContents
-pub mod TableConditions
-pub mod UniteDocuments
-pub mod VisitedTrees
-pub mod SameRules
-pub mod UsedLabelsDocuments
-pub mod TidyTable
-pub mod Counted
-pub mod WrittenBytes
-pub mod ReducedUnion
-pub mod FinishedForm
-pub mod ReducedAutomaton
-pub mod LocalMerge
-pub mod NumberedTable
-pub mod SampleWithin
-pub mod DocumentWithin
-pub mod SetsClosed
-pub mod SingleTypeMerge
-pub mod EmittedRule
-pub mod Gathering
-pub mod LeastForms
-pub mod WidenLeast
-pub mod SampleLeast
-pub mod LeastLaws
-pub mod CountedTables
-pub mod FormsNumbered
-pub mod ResultWithin
-pub mod Marked
-pub mod MarkedWords
-pub mod MarkedRun
-pub mod MarkedPass
-pub mod WideningTheorem
-pub mod WideningCorollaries
-pub mod CallPromises
-pub mod PaperTheorem
+-- tests, and lists: membership, places, distinct elements
+pub mod lists
+-- names and paths, the parts of a tree, the trees that are visited
+pub mod trees
+-- contents: their words, the types that stand in them, their bytes, and what simplifying and tidying keep
+pub mod contents
+-- tables: labels, conditions, kinds, and tables that let in the same
+pub mod tables
+-- automata on trees, and why a table that merges one is least
+pub mod automata
+-- the steps of widening: what each of them keeps, and the forms of a reduced table
+pub mod steps
+-- the sample of a document
+pub mod sample
+-- membership: deciding it, and deciding it by marks in one walk
+pub mod matching
+-- the contents of a result, straight from the source contents
+pub mod emission
+-- reading and writing, and what stays within the limits
+pub mod bytes
+-- what widening gives is least, and reads back; P1 to P8
+pub mod theorems

@@ -10,7 +10,7 @@ use lib.Dec.{eqb, ltb}
 use lib.ListN.{length, getD, set, replicate, length-set, length-replicate, getD-replicate, List·getD-eq-default}
 use lib.Seq.{getD-set-same, getD-set-other}
 use borrow.Author.Tests.{eqb-true, eqb-false, ltb-true, ltb-false}
-use Rattle.theory.proofs.BoolLaws.{passes-or-fails}
+use Rattle.theory.proofs.lists.BoolLaws.{passes-or-fails}
 use Rattle.validator.specs.Chains.{Keyed, PlaceFrom, ChainAre}
 
 -- the places from `from` on are chained

@@ -11,11 +11,11 @@ use lib.ListN.{length, getD}
 use borrow.Author.Count.{below-none, below-more}
 use borrow.Author.Tests.{ltb-true, ltb-false}
 use Rattle.grammar.specs.Names.{Name, sameName, SameName}
+use Rattle.theory.proofs.lists.BoolLaws.{false-of, passes-or-fails}
+use Rattle.theory.proofs.lists.ListLaws.{same-numbers, at-below}
 use Rattle.reader.specs.NamePlaces.{NamesAt}
 use Rattle.reader.specs.TableIndex.{part}
 use Rattle.reader.proofs.LabelSearch.{name-at}
-use Rattle.theory.proofs.BoolLaws.{false-of, passes-or-fails}
-use Rattle.theory.proofs.ListLaws.{same-numbers, at-below}
 use Rattle.validator.specs.Chains.{Keyed, PlaceFrom}
 use Rattle.validator.specs.LabelKeys.{nameKey, KeysAre, SomeChained}
 

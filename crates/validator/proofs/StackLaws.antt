@@ -17,15 +17,17 @@ use Rattle.grammar.specs.Table.{Rule, Table}
 use Rattle.grammar.specs.Tree.{Tree, node, Forest, []ᵗ, _∷ᵗ_}
 use Rattle.grammar.specs.ReadDocument.{Node, firstTrees, otherTrees, forestOf, treeOf}
 use Rattle.grammar.specs.Membership.{isNamed, typesOf, typesOfAll}
+use Rattle.theory.specs.Marked.{holds}
+use Rattle.theory.proofs.lists.ListLaws.{at-below, at-else, take-map, drop-map}
+use Rattle.theory.proofs.matching.MarkedRun.{run-matches}
 use Rattle.sets.specs.Sets.{member, wordsAt, storeAt}
 use Rattle.sets.proofs.FourWords.{four-stored}
 use Rattle.sets.proofs.SetLaws.{length-words, word-of, words-store, drop-store}
-use Rattle.theory.proofs.ListLaws.{at-below, at-else, take-map, drop-map}
-use Rattle.theory.proofs.MarkedRun.{holds, run-matches}
-use Rattle.reader.proofs.DocumentTrees.{treeCount, trees-few, enough-at}
 use Rattle.reader.proofs.DocumentAnswers.{nodes-count, node-held}
 use Rattle.reader.specs.DocumentNodes.{nodeAt, nodesIn}
 use Rattle.reader.specs.declared.documents.DocumentIndex.{DocumentIndex}
+use Rattle.reader.specs.NodeTrees.{treeCount}
+use Rattle.reader.proofs.DocumentTrees.{trees-few, enough-at}
 use Rattle.walks.specs.TypeSets.{setAt, testsAt}
 use Rattle.validator.specs.KnownTable.{typesFor}
 use Rattle.validator.specs.KnownDocument.{indexOf, KnownNodes, Brought}

@@ -20,20 +20,31 @@ use Rattle.grammar.specs.Limits.{standard}
 use Rattle.grammar.specs.Names.{Name, sameName}
 use Rattle.grammar.specs.Table.{Rule, Table}
 use Rattle.grammar.specs.Membership.{isNamed}
+use Rattle.theory.specs.Marked.{holds}
+use Rattle.theory.proofs.lists.BoolLaws.{same-test}
+use Rattle.theory.proofs.lists.ListLaws.{
+  any-of,
+  at-mem,
+  at-below,
+  at-else,
+  below-at,
+  differ-at,
+  in-append,
+  just-eq,
+  keep-yes,
+  keep-no,
+}
+use Rattle.theory.proofs.lists.DistinctLaws.{keep-append}
+use Rattle.theory.proofs.trees.NameLaws.{name-sym, name-trans}
+use Rattle.theory.proofs.lists.PlaceLaws.{place-found, place-most, place-some}
 use Rattle.sets.specs.Sets as sets
 use Rattle.sets.specs.Sets.{member, putAt, wordsAt, storeAt, add}
 use Rattle.sets.proofs.SetLaws.{member-put, member-words, member-zeros, length-words, word-of, words-store, drop-store}
-use Rattle.theory.proofs.BoolLaws.{same-test}
-use Rattle.theory.proofs.ListLaws.{any-of, at-mem, at-below, at-else, below-at, differ-at, in-append, just-eq, keep-yes, keep-no}
-use Rattle.theory.proofs.DistinctLaws.{keep-append}
-use Rattle.theory.proofs.NameLaws.{name-sym, name-trans}
-use Rattle.theory.proofs.PlaceLaws.{place-found, place-most, place-some}
-use Rattle.theory.proofs.MarkedRun.{holds}
 use Rattle.reader.specs.ExprAt.{_upTo_, exprAt}
 use Rattle.reader.specs.TableIndex.{part, ruleLabel, contentFrom, contentTo}
 use Rattle.reader.specs.declared.tables.TableIndex.{TableIndex}
 use Rattle.reader.proofs.TableFaults.{part-size}
-use Rattle.reader.proofs.TableFound.{RuleFound, rule-found-at, content-in-part}
+use Rattle.reader.proofs.TableFoundLaws.{RuleFound, rule-found-at, content-in-part}
 use Rattle.walks.specs.TypeSets.{setAt}
 use Rattle.walks.specs.WalkAt.{runAt, WholeAt}
 use Rattle.validator.specs.Chains.{Keyed, PlaceFrom}

@@ -22,9 +22,9 @@ use Rattle.grammar.specs.declared.Refusal.the-variants.{WorkTooShort}
 use Rattle.grammar.specs.declared.Reading.the-variants.{Readable, Refused as Unreadable}
 use Rattle.grammar.specs.declared.Verdict.{Verdict}
 use Rattle.grammar.specs.declared.Verdict.the-variants.{Refused as Undecided}
-use Rattle.theory.proofs.OutcomeLaws.{given-then}
-use Rattle.theory.proofs.AnswerNumbers.{verdict-numbers}
-use Rattle.theory.proofs.CallPromises.{membership, kind-test}
+use Rattle.theory.proofs.bytes.OutcomeLaws.{given-then}
+use Rattle.theory.proofs.theorems.AnswerNumbers.{verdict-numbers}
+use Rattle.theory.proofs.theorems.CallPromises.{membership, kind-test}
 use Rattle.reader.specs.DocumentNodes.{DocumentReads, nodesIn}
 use Rattle.reader.specs.TableIndex.{Reads}
 use Rattle.reader.specs.TableFound.{TableFound}
@@ -33,9 +33,9 @@ use Rattle.reader.specs.declared.tables.TableRead.{TableRead}
 use Rattle.reader.specs.declared.tables.TableIndex.{TableIndex}
 use Rattle.reader.proofs.CallLaws.{left-as, left-short}
 use Rattle.reader.proofs.WorkLaws.{lent-short, lent-enough}
-use Rattle.reader.proofs.TableFound.{table-found, table-refused}
 use Rattle.reader.proofs.DocumentTrees.{complete}
 use Rattle.reader.proofs.DocumentAnswers.{document-tree, nodes-read, document-unread}
+use Rattle.reader.proofs.TableFoundLaws.{table-found, table-refused}
 use Rattle.validator.specs.KnownTable.{Known, SomeTable}
 use Rattle.validator.specs.KnownDocument.{KnownNodes}
 use Rattle.validator.specs.Deciding.{letsInOf, isOfKindOf}

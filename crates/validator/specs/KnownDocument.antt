@@ -8,11 +8,11 @@ use Rattle.grammar.specs.Tree.{Tree}
 use Rattle.grammar.specs.Outcome.{given}
 use Rattle.grammar.specs.ReadDocument.{treeOf}
 use Rattle.grammar.specs.Membership.{typesOf}
-use Rattle.theory.proofs.MarkedRun.{holds}
-use Rattle.reader.specs.DocumentNodes.{Indexed, nodesIn}
+use Rattle.theory.specs.Marked.{holds}
 use Rattle.reader.specs.declared.documents.DocumentIndex.{DocumentIndex}
 use Rattle.reader.specs.declared.tables.TableIndex.{TableIndex}
-use Rattle.reader.proofs.DocumentTrees.{treeCount, Enough}
+use Rattle.reader.specs.DocumentNodes.{NodesIndexed, nodesIn}
+use Rattle.reader.specs.NodeTrees.{treeCount, Enough}
 use Rattle.validator.specs.KnownTable.{Known}
 use Rattle.walks.specs.TypeSets.{setAt}
 
@@ -28,7 +28,7 @@ pub record NodeRoom (names sizes children : List ℕ) : Type 0 where
 
 -- the nodes are one whole tree
 pub record KnownNodes (d : List ℕ) (nodes : DocumentIndex) : Type 0 where
-  pub indexed : Indexed d (nodes .names) (nodes .sizes) (nodes .children) (nodes .nodes)
+  pub indexed : NodesIndexed d (nodes .names) (nodes .sizes) (nodes .children) (nodes .nodes)
   pub one-tree : treeCount (nodesIn d nodes) ≡ 1
   pub enough : Enough (nodesIn d nodes)
 

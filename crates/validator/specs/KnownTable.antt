@@ -10,8 +10,8 @@ use Rattle.grammar.specs.Names.{Name, asciiClasses, sameName}
 use Rattle.grammar.specs.Table.{Rule, Table}
 use Rattle.grammar.specs.Membership.{isNamed}
 use Rattle.grammar.specs.WithinLimits.{TableWithin}
+use Rattle.theory.specs.Marked.{run, holds}
 use Rattle.sets.specs.Sets.{add}
-use Rattle.theory.proofs.MarkedRun.{run, holds}
 use Rattle.reader.specs.TableIndex.{part, Indexes}
 use Rattle.reader.specs.declared.tables.TableIndex.{TableIndex}
 use Rattle.validator.specs.Chains.{ChainAre}

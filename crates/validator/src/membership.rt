@@ -25,10 +25,10 @@ ghost use Rattle.grammar.specs.Table.{Table};
 ghost use Rattle.grammar.specs.Tree.{Tree};
 ghost use Rattle.reader.specs.DocumentNodes.{nodesIn};
 ghost use Rattle.walks.specs.TypeSets.{setAt, testsAt};
+ghost use Rattle.walks.specs.WalkAt.{runAt, WholeAt, WalkRoom};
 ghost use Rattle.validator.specs.KnownDocument.{indexOf, NodeRoom, KnownNodes, Brought, RootTypes};
 ghost use Rattle.validator.specs.KnownTable.{Known, SomeTable, SomeContents, NullableAre, SomeRules, StartsAt, SomeStarts};
 ghost use Rattle.validator.specs.KnownTable.{PutIf, TypesAre};
-ghost use Rattle.walks.specs.WalkAt.{runAt, WholeAt, Room};
 
 // Whether the content of each rule matches no children.
 fn nullable_contents(
@@ -63,7 +63,7 @@ fn content_fits(
     top: usize,
     count: usize,
 ) -> bool
-    requires { ⌜ (WholeAt standard (now content)) × (Room (now content) (now marks) (now words) 0)
+    requires { ⌜ (WholeAt standard (now content)) × (WalkRoom (now content) (now marks) (now words) 0)
         × (top + 4 * count ≤ length (now words)) × (nullable ≡ runAt (now content) []) ⌝ }
     ensures { λ r. ⌜ r ≡ runAt (now (content .entry)) (testsAt (now (words .entry)) top count) ⌝ }
 {
@@ -189,7 +189,8 @@ fn root_types(
 // Whether some start type is in the set at a word.
 fn some_start(start_type: &[u8], starts: usize, words: &[u32], at: usize) -> bool
     requires { ⌜ (SomeStarts (now «start_type») starts) × (at + 4 ≤ length (now words)) ⌝ }
-    ensures { λ r. ⌜ ((g : Table) → StartsAt (now («start_type» .entry)) starts g → r ≡ any (setAt (now (words .entry)) at) (g .starts)) ⌝ }
+    ensures { λ r. ⌜ ((g : Table) → StartsAt (now («start_type» .entry)) starts g
+        → r ≡ any (setAt (now (words .entry)) at) (g .starts)) ⌝ }
 {
     let mut start: usize = 0;
     while start < starts {

@@ -30,9 +30,9 @@ use Rattle.grammar.specs.Content.{
   count,
 }
 use Rattle.grammar.specs.ReadContent.{contentBytes, operandBytes, operators}
-use Rattle.theory.proofs.Marked.{nullable}
-use Rattle.theory.proofs.MarkedRun.{run}
-use Rattle.theory.proofs.MarkedPass.{Walked, walk, walkInTurn, walkEach, walks, isMarked, noMarks, walk-nullable, walks-run}
+use Rattle.theory.specs.Marked.{nullable, run}
+use Rattle.theory.specs.MarkedWalk.{Walked, walk, walkInTurn, walkEach, walks, isMarked}
+use Rattle.theory.proofs.matching.MarkedPass.{noMarks, walk-nullable, walks-run}
 use Rattle.reader.specs.ExprAt.{_upTo_, exprAt, exprsAt}
 use Rattle.reader.proofs.ExprLaws.{
   expr-forward,

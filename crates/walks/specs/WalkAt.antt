@@ -1,4 +1,4 @@
--- The walk of one child over the bytes of a content, and of all children: crates/theory/proofs/MarkedPass.antt has the walks by
+-- The walk of one child over the bytes of a content, and of all children: crates/theory/specs/MarkedWalk.antt has the walks by
 -- contents, here they go by the content that stands at a place.
 use Prim.Native.Nat.{ℕ, _+_, _≤_}
 use mathlib.Core.Bool.{Bool, false}
@@ -7,10 +7,10 @@ use mathlib.Core.Option.{none as nothing, some as just}
 use mathlib.Core.Path.{_≡_}
 use lib.ListN.{length, set, getD}
 use Rattle.grammar.specs.Limits.{Limits}
+use Rattle.theory.specs.MarkedWalk.{Walked, markNumber, walk, walkInTurn, walkEach, walks}
+use Rattle.theory.specs.Marked.{run}
 use Rattle.reader.specs.ExprAt.{exprAt, exprsAt}
 use Rattle.reader.specs.ContentAt.{ContentAt}
-use Rattle.theory.proofs.MarkedPass.{Walked, number, walk, walkInTurn, walkEach, walks}
-use Rattle.theory.proofs.MarkedRun.{run}
 use Rattle.walks.specs.declared.matching.Passed.{Passed}
 
 -- nothing stands there
@@ -45,7 +45,7 @@ walked marks p = record { marks = marks; next = p .next; nullable = p .nullable;
 
 -- the first number of an expression tells its final
 abbrev pub ended : ℕ → Walked → Walked
-ended at p = record { marks = set (p .marks) at (number (p .final)); next = p .next; nullable = p .nullable; final = p .final }
+ended at p = record { marks = set (p .marks) at (markNumber (p .final)); next = p .next; nullable = p .nullable; final = p .final }
 
 -- the bytes are one proper expression
 pub record WholeAt (lim : Limits) (s : List ℕ) : Type 0 where
@@ -58,7 +58,7 @@ pub record AroundType (s : List ℕ) (at : ℕ) : Type 0 where
   pub type : getD s (at + 1) 0 ≡ 2
 
 -- room for the walk: a mark for each byte, and the four words of a set at base
-pub record Room (s marks words : List ℕ) (base : ℕ) : Type 0 where
+pub record WalkRoom (s marks words : List ℕ) (base : ℕ) : Type 0 where
   pub few : length s ≤ 1024
   pub mark-each : length s ≤ length marks
   pub four-words : base + 4 ≤ length words

@@ -11,10 +11,11 @@ ghost use mathlib.Core.Path.{_≡_};
 ghost use Prim.Native.Nat.{_+_, _*_, _<_, _≤_};
 ghost use lib.ListN.{length, set, getD, replicate, drop};
 ghost use Rattle.grammar.specs.Limits.{standard};
-ghost use Rattle.theory.proofs.MarkedPass.{number, isMarked};
+ghost use Rattle.theory.specs.MarkedWalk.{markNumber, isMarked};
 ghost use Rattle.reader.specs.ContentAt.{ContentAt, ContentsAt};
 ghost use Rattle.walks.specs.TypeSets.{setAt, testsAt};
-ghost use Rattle.walks.specs.WalkAt.{walkAt, walkInTurnAt, walkEachAt, walksAt, runAt, walked, ended, WholeAt, AroundType, Room};
+ghost use Rattle.walks.specs.WalkAt.{walkAt, walkInTurnAt, walkEachAt, walksAt, runAt};
+ghost use Rattle.walks.specs.WalkAt.{walked, ended, WholeAt, AroundType, WalkRoom};
 
 // What the walk over an expression gives back: the place after it, whether it matches no children at all, and whether the children so
 // far, the last one included, can end it.
@@ -45,7 +46,7 @@ fn either(a: bool, b: bool) -> bool
 // Stores whether the children so far can end the expression at a place.
 fn mark(marks: &mut [u8], at: usize, ends: bool)
     requires { ⌜ at < length (now marks) ⌝ }
-    ensures { λ r. ⌜ now (marks .exit) ≡ set (now (marks .entry)) at (number ends) ⌝ }
+    ensures { λ r. ⌜ now (marks .exit) ≡ set (now (marks .entry)) at (markNumber ends) ⌝ }
 {
     if ends {
         marks[at] = 1;
@@ -95,7 +96,7 @@ fn typed(
     base: usize,
 ) -> Passed
     requires { ⌜ (at + 1 < length (now content)) × (getD (now content) (at + 1) 0 < 64)
-        × (Room (now content) (now marks) (now words) base) ⌝ }
+        × (WalkRoom (now content) (now marks) (now words) base) ⌝ }
     ensures { λ r. ⌜ walked (now (marks .exit)) r ≡ ended at (record {
       marks = now (marks .entry);
       next = at + 2;
@@ -121,7 +122,7 @@ pub fn pass(
     words: &[u32],
     base: usize,
 ) -> Passed
-    requires { ⌜ (ContentAt standard (now content) at) × (Room (now content) (now marks) (now words) base) ⌝ }
+    requires { ⌜ (ContentAt standard (now content) at) × (WalkRoom (now content) (now marks) (now words) base) ⌝ }
     ensures { λ r. ⌜ walked (now (marks .exit)) r
         ≡ walkAt (now (content .entry)) at (now (marks .entry)) incoming (setAt (now (words .entry)) base) ⌝ }
 {
@@ -174,7 +175,7 @@ fn operand(
     words: &[u32],
     base: usize,
 ) -> Passed
-    requires { ⌜ (ContentAt standard (now content) at) × (Room (now content) (now marks) (now words) base) ⌝ }
+    requires { ⌜ (ContentAt standard (now content) at) × (WalkRoom (now content) (now marks) (now words) base) ⌝ }
     ensures { λ r. ⌜ walked (now (marks .exit)) r
         ≡ walkAt (now (content .entry)) at (now (marks .entry)) incoming (setAt (now (words .entry)) base) ⌝ }
 {
@@ -205,7 +206,7 @@ fn around_type(
     base: usize,
 ) -> Passed
     requires { ⌜ (ContentAt standard (now content) at) × (AroundType (now content) at)
-        × (Room (now content) (now marks) (now words) base) ⌝ }
+        × (WalkRoom (now content) (now marks) (now words) base) ⌝ }
     ensures { λ r. ⌜ walked (now (marks .exit)) r
         ≡ walkAt (now (content .entry)) at (now (marks .entry)) incoming (setAt (now (words .entry)) base) ⌝ }
 {
@@ -230,7 +231,7 @@ fn operand_in_turn(
     words: &[u32],
     base: usize,
 ) -> Passed
-    requires { ⌜ (ContentAt standard (now content) at) × (Room (now content) (now marks) (now words) base) ⌝ }
+    requires { ⌜ (ContentAt standard (now content) at) × (WalkRoom (now content) (now marks) (now words) base) ⌝ }
     ensures { λ r. ⌜ walked (now (marks .exit)) r
         ≡ walkAt (now (content .entry)) at (now (marks .entry)) incoming (setAt (now (words .entry)) base) ⌝ }
 {
@@ -250,7 +251,7 @@ fn in_turn(
     words: &[u32],
     base: usize,
 ) -> Passed
-    requires { ⌜ (ContentsAt standard (now content) from count) × (Room (now content) (now marks) (now words) base) ⌝ }
+    requires { ⌜ (ContentsAt standard (now content) from count) × (WalkRoom (now content) (now marks) (now words) base) ⌝ }
     ensures { λ r. ⌜ walked (now (marks .exit)) r
         ≡ walkInTurnAt (now (content .entry)) from count (now (marks .entry)) begun (setAt (now (words .entry)) base) true false ⌝ }
 {
@@ -285,7 +286,7 @@ fn each(
     words: &[u32],
     base: usize,
 ) -> Passed
-    requires { ⌜ (ContentsAt standard (now content) from count) × (Room (now content) (now marks) (now words) base) ⌝ }
+    requires { ⌜ (ContentsAt standard (now content) from count) × (WalkRoom (now content) (now marks) (now words) base) ⌝ }
     ensures { λ r. ⌜ walked (now (marks .exit)) r
         ≡ walkEachAt (now (content .entry)) from count (now (marks .entry)) incoming (setAt (now (words .entry)) base) false false ⌝ }
 {
@@ -321,7 +322,7 @@ fn clear(marks: &mut [u8], places: usize)
 
 // The children's walks over the content, one after the other: whether the last one can end it.
 fn walked_through(content: &[u8], marks: &mut [u8], words: &[u32], top: usize, count: usize) -> bool
-    requires { ⌜ (WholeAt standard (now content)) × (0 < count) × (Room (now content) (now marks) (now words) top)
+    requires { ⌜ (WholeAt standard (now content)) × (0 < count) × (WalkRoom (now content) (now marks) (now words) top)
         × (top + 4 * count ≤ length (now words)) ⌝ }
     ensures { λ r. ⌜ r ≡ isMarked (walksAt (now (content .entry)) (now (marks .entry)) true (testsAt (now (words .entry)) top count)) 0 ⌝ }
 {
@@ -335,7 +336,7 @@ fn walked_through(content: &[u8], marks: &mut [u8], words: &[u32], top: usize, c
 
 // Whether the content matches so many children, whose sets stand in the words from `top` on, four words a set.
 pub fn matches(content: &[u8], marks: &mut [u8], words: &[u32], top: usize, count: usize) -> bool
-    requires { ⌜ (WholeAt standard (now content)) × (Room (now content) (now marks) (now words) 0)
+    requires { ⌜ (WholeAt standard (now content)) × (WalkRoom (now content) (now marks) (now words) 0)
         × (top + 4 * count ≤ length (now words)) ⌝ }
     ensures { λ r. ⌜ r ≡ runAt (now (content .entry)) (testsAt (now (words .entry)) top count) ⌝ }
 {

@@ -30,9 +30,9 @@ use Rattle.grammar.specs.declared.Source.{Source}
 use Rattle.grammar.specs.declared.Refusal.the-variants.{WorkTooShort}
 use Rattle.grammar.specs.declared.Written.{Written}
 use Rattle.grammar.specs.declared.Written.the-variants.{Refused}
-use Rattle.theory.proofs.NumberedTable.{standard-agree}
-use Rattle.theory.proofs.AnswerNumbers.{written-numbers}
-use Rattle.theory.proofs.CallPromises.{sampling, widening}
+use Rattle.theory.proofs.bytes.NumberedTable.{standard-agree}
+use Rattle.theory.proofs.theorems.AnswerNumbers.{written-numbers}
+use Rattle.theory.proofs.theorems.CallPromises.{sampling, widening}
 use Rattle.reader.proofs.AnswerLaws.{both-then-last}
 use Rattle.reader.proofs.WorkLaws.{work-kept, lent-short, lent-enough}
 use Rattle.widening.specs.Drafting.{sampleOf, widenedBy, widenedFrom, HandedOver}

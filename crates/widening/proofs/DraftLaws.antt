@@ -29,10 +29,10 @@ use Rattle.grammar.specs.declared.Refusal.the-variants.{NoDocument, ResultTooLa
 use Rattle.grammar.specs.declared.Reading.the-variants.{Readable, Refused as Unreadable}
 use Rattle.grammar.specs.declared.Written.{Written}
 use Rattle.grammar.specs.declared.Written.the-variants.{Length, Refused}
-use Rattle.theory.proofs.OutcomeLaws.{given-then, no-fault, was-given, given-eq}
-use Rattle.theory.proofs.NumberedTable.{standard-agree}
-use Rattle.theory.proofs.DocumentWithin.{document-within}
-use Rattle.theory.proofs.ResultWithin.{sample-read-back}
+use Rattle.theory.proofs.bytes.OutcomeLaws.{given-then, no-fault, was-given, given-eq}
+use Rattle.theory.proofs.bytes.NumberedTable.{standard-agree}
+use Rattle.theory.proofs.bytes.DocumentWithin.{document-within}
+use Rattle.theory.proofs.theorems.ResultWithin.{sample-read-back}
 use Rattle.reader.specs.TableIndex.{Reads}
 use Rattle.reader.specs.TableFound.{TableFound}
 use Rattle.reader.specs.DocumentNodes.{DocumentReads, nodesIn}
@@ -40,12 +40,12 @@ use Rattle.reader.specs.declared.tables.TableIndex.{TableIndex}
 use Rattle.reader.specs.declared.tables.TableRead.{TableRead}
 use Rattle.reader.specs.declared.documents.DocumentRead.{DocumentRead}
 use Rattle.reader.proofs.AnswerLaws.{fault, never-given, was-written, was-unwritten}
-use Rattle.reader.proofs.TableFound.{table-found, table-refused}
 use Rattle.reader.proofs.DocumentAnswers.{document-tree, nodes-read, document-unread}
+use Rattle.reader.proofs.TableFoundLaws.{table-found, table-refused}
 use Rattle.pairs.specs.View.{TableHeld, Held}
 use Rattle.emitting.specs.declared.writing.Drafted.{Drafted}
 use Rattle.emitting.specs.declared.writing.Drafted.the-variants.{Length as DraftedTo, TooLarge as Undrafted}
-use Rattle.sampling.specs.SampleTable.{SampleDrafted, Indexes}
+use Rattle.sampling.specs.SampleTable.{SampleDrafted, HoldsNodes}
 use Rattle.results.specs.declared.widen.Made.{Made}
 use Rattle.results.specs.declared.widen.Made.the-variants.{Length as MadeTo, NoDocument as Nothing, TooLarge}
 use Rattle.results.specs.Widened.{Widens, ResultDrafted}
@@ -118,8 +118,7 @@ module _ (o : Outcome Table) (draft out : List ℕ) (answer : Written) (i : InDr
   pub hands-refusal : (q : Refusal) → answer ≡ Refused q → HandedOver o out out (Refused q)
   unfolding written outAfter
   hands-refusal q e =
-      let p = was-unmade o draft answer i q e in
-      (
+      let p = was-unmade o draft answer i q e in (
         sym (ap (λ (x : Outcome Table). written (x >>= writtenTo out)) p),
         sym (ap (λ (x : Outcome Table). outAfter (x >>= writtenTo out) out) p),
       )
@@ -140,8 +139,7 @@ module _ (o : Outcome Table) (draft out : List ℕ) (answer : Written) (i : InDr
       let (g, p, size) = was-made o draft answer i n e in
       let long : length (tableBytes g) ≤ length out = omega arith in
       let f : (o >>= writtenTo out) ≡ given (tableBytes g) = given-then o g (writtenTo out) p
-      ∙ no-fault (ltb (length out) (length (tableBytes g))) OutputTooShort (given (tableBytes g)) (le-ltb (length out) (length (tableBytes g)) long) in
-      (
+      ∙ no-fault (ltb (length out) (length (tableBytes g))) OutputTooShort (given (tableBytes g)) (le-ltb (length out) (length (tableBytes g)) long) in (
         ap (λ (k : ℕ). Length k) size ∙ sym (ap written f),
         w
             ∙ ap (λ (l : List ℕ). l ++ drop (length l) out) (ap (λ (k : ℕ). take k draft) (same ∙ size) ∙ i .bytes g p)
@@ -251,7 +249,7 @@ module _ (document : List ℕ) (f : DocumentRead) (reads : DocumentReads documen
       (ap (λ (o : Outcome Tree). o >>= λ d. sampleTable standard d) (document-unread document f reads q e))
 
   module _ (e : f .answer ≡ Readable) where
-    pub nodes-indexed : Indexes document (f .index)
+    pub nodes-indexed : HoldsNodes document (f .index)
     nodes-indexed = record { reads = nodes-read document f reads e; indexed = reads .indexed }
 
     module _ (before draft : List ℕ) (m : Drafted)

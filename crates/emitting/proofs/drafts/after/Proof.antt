@@ -6,13 +6,13 @@ use lib.ListN.{length}
 use mathlib.Core.List.{[], _∷_}
 use Rattle.grammar.specs.Content.{operands}
 use Rattle.reader.proofs.ExprLaws.{expr-forward}
-use Rattle.emitting.specs.Drafts.{Stands, Ends}
+use Rattle.emitting.specs.Drafts.{ExpressionAt, ExpressionsUpTo}
 use Rattle.emitting.proofs.RowLaws.{exprs-one, ends-first, ends-few, ends-past, ends-step}
 use Rattle.emitting.proofs.drafts.after.Statement.{statement}
 use Rattle.emitting.proofs.drafts.after.Tie as tie
 
 abbrev Inv-loop : tie.InvT-loop
-Inv-loop draft at left₀ i₀ left i = (i ≤ length draft) × ((q : Stands draft at) → Ends draft i left (q .next))
+Inv-loop draft at left₀ i₀ left i = (i ≤ length draft) × ((q : ExpressionAt draft at) → ExpressionsUpTo draft i left (q .next))
 
 abbrev μ-loop : tie.MeasureT-loop
 μ-loop draft at left₀ i₀ left i = length draft - i

@@ -9,7 +9,7 @@ use Rattle.grammar.specs.Content.{Content}
 use Rattle.grammar.specs.ReadContent.{sameContent}
 use Rattle.reader.specs.ExprAt.{exprsAt}
 use Rattle.reader.proofs.ExprLaws.{expr-forward}
-use Rattle.emitting.specs.Drafts.{Stands, Newest}
+use Rattle.emitting.specs.Drafts.{ExpressionAt, Newest}
 use Rattle.emitting.proofs.RowLaws.{exprs-none-left}
 use Rattle.emitting.proofs.KeptLaws.{same-there, StillAmong, FirstAmong, among-first, first-ends, others-among}
 use Rattle.emitting.proofs.drafts.is_there.Statement.{statement}
@@ -22,7 +22,7 @@ Inv-loop draft base count end fresh left₀ i₀ left i =
 abbrev μ-loop : tie.MeasureT-loop
 μ-loop draft base count end fresh left₀ i₀ left i = left
 
-abbrev stands : {s : List ℕ} {i left end : ℕ} {x : Content} {all : List Content} → FirstAmong s i left end x all → Stands s i
+abbrev stands : {s : List ℕ} {i left end : ℕ} {x : Content} {all : List Content} → FirstAmong s i left end x all → ExpressionAt s i
 stands f = record { content = f .first; next = f .middle; stands = f .first-at }
 
 loop-holds : tie.Need-loop-holds Inv-loop μ-loop

@@ -11,7 +11,6 @@ use Rattle.grammar.specs.Limits.{standard}
 use Rattle.grammar.specs.Content.{sequence, choice}
 use Rattle.grammar.specs.ReadContent.{operators}
 use Rattle.reader.proofs.ExprLaws.{operator-sequence, operator-choice}
-use Rattle.pairs.specs.Walks.{listOf}
 use Rattle.emitting.specs.Emitting.{Source}
 use Rattle.reader.proofs.ContentAtLaws.{content-inside, type-there, count-there}
 use Rattle.emitting.proofs.SourceLaws.{CountedThere, counted-of, single-of, content-found, row-found}
@@ -74,6 +73,7 @@ use Rattle.emitting.proofs.emitter.gather_sequence.Reads as gather-sequ
 use Rattle.emitting.proofs.emitter.gather_sequence.Kinds as gather-sequence-kinds
 use Rattle.emitting.proofs.emitter.+emit_row+gather+gather_around+gather_compound+gather_row+gather_sequence.Lts-gather_sequence as gather-sequence-lts
 use Rattle.reader.proofs.numbers.wide.Reads as wide-reads
+use Rattle.pairs.specs.Walks.{listOfType}
 use Rattle.emitting.proofs.drafts.finish.Reads as finish-reads
 use Rattle.emitting.proofs.drafts.settle.Reads as settle-reads
 use Rattle.emitting.proofs.emitter.gather_empty.Reads as gather-empty-reads
@@ -265,7 +265,7 @@ emit-row-add-gather-3 t c =
 emit-row-gather-requires : (t : ℕ) → emit-row-lts.Need-gather-requires (emit-row-calls t) (emit-row-at t) emit-row.Post
 emit-row-gather-requires t c κs =
     let a = c .before .before .before .before .before .before .before .before .args in
-    let res = listOf (a .from .now) (a .results .now) in
+    let res = listOfType (a .from .now) (a .results .now) in
     let some = c .before .before .if1 .left in
     let m = c .before .before .before .before .before .before .before .before .pre .0 in
     let q = c .before .before .before .before .before .before .before .before .pre .1 in
@@ -274,7 +274,7 @@ emit-row-gather-requires t c κs =
 emit-row-finish-requires : (t : ℕ) → emit-row-lts.Need-finish-requires (emit-row-calls t) (emit-row-at t) emit-row.Post
 emit-row-finish-requires t c κs =
     let a = c .before .before .before .before .before .before .before .before .before .before .before .before .before .before .before .before .args in
-    let res = listOf (a .from .now) (a .results .now) in
+    let res = listOfType (a .from .now) (a .results .now) in
     let some = c .before .before .before .before .before .before .before .before .before .before .if1 .left in
     let q = c .before .before .before .before .before .before .before .before .before .before .before .before .before .before .before .before .pre .1 in
     let g = c .before .before .before .before .before .before .before .gather .ensures (first-operand q res some) no-types .gathers in
@@ -292,7 +292,7 @@ emit-row-same-length t c =
 emit-row-returns-2 : (t : ℕ) → emit-row-lts.Need-returns-2 (emit-row-calls t) (emit-row-at t) emit-row.Post
 emit-row-returns-2 t c =
     let a = c .before .before .before .before .before .before .before .before .before .before .before .before .before .before .before .before .before .before .before .before .args in
-    let res = listOf (a .from .now) (a .results .now) in
+    let res = listOfType (a .from .now) (a .results .now) in
     let some = c .before .before .before .before .before .before .before .before .before .before .before .before .before .before .if1 .left in
     let e = c .before .before .before .before .before .before .next .given .1 in
     let l = c .before .before .before .before .before .before .before .before .before .before .before .gather .kept .1 .1 .1 .1 .1 .0 in
@@ -309,7 +309,7 @@ emit-row-sub-emit-row t c =
 emit-row-emit-row-requires : (t : ℕ) → emit-row-lts.Need-emit-row-requires (emit-row-calls t) (emit-row-at t) emit-row.Post
 emit-row-emit-row-requires t c κs =
     let a = c .before .before .before .before .before .before .before .before .before .before .before .before .before .before .before .before .before .before .before .before .before .args in
-    let res = listOf (a .from .now) (a .results .now) in
+    let res = listOfType (a .from .now) (a .results .now) in
     let some = c .before .before .before .before .before .before .before .before .before .before .before .before .before .before .before .if1 .left in
     let e = c .before .before .before .before .before .before .before .next .given .1 in
     let l = c .before .before .before .before .before .before .before .before .before .before .before .before .gather .kept .1 .1 .1 .1 .1 .0 in
@@ -326,7 +326,7 @@ emit-row-emit-row-requires t c κs =
 emit-row-returns-3 : (t : ℕ) → emit-row-lts.Need-returns-3 (emit-row-calls t) (emit-row-at t) emit-row.Post
 emit-row-returns-3 t c =
     let a = c .before .before .before .before .before .before .before .before .before .before .before .before .before .before .args in
-    let res = listOf (a .from .now) (a .results .now) in
+    let res = listOfType (a .from .now) (a .results .now) in
     let some = c .before .before .before .before .before .before .before .before .if1 .left in
     λ q. operand-wide q res some _ _ (c .before .before .before .before .before .gather .ensures (first-operand q res some) no-types .gathers) (c .enum-told .given .1)
 
@@ -337,7 +337,7 @@ emit-row-same-length-3 t c =
 emit-row-returns-4 : (t : ℕ) → emit-row-lts.Need-returns-4 (emit-row-calls t) (emit-row-at t) emit-row.Post
 emit-row-returns-4 t c =
     let a = c .before .before .before .before .before .before .before .before .before .before .before .before .before .before .before .before .before .before .before .before .before .before .before .before .args in
-    let res = listOf (a .from .now) (a .results .now) in
+    let res = listOfType (a .from .now) (a .results .now) in
     let some = c .before .before .before .before .before .before .before .before .before .before .before .before .before .before .before .before .before .before .if1 .left in
     let e = c .before .before .before .before .before .before .before .before .before .before .next .given .1 in
     let l = c .before .before .before .before .before .before .before .before .before .before .before .before .before .before .before .gather .kept .1 .1 .1 .1 .1 .0 in
@@ -437,7 +437,7 @@ gather-around-add-content-has t c =
 gather-around-content-has-requires : (t : ℕ) → gather-around-lts.Need-content-has-requires (gather-around-calls t) (gather-around-at t) gather-around.Post
 gather-around-content-has-requires t c κs =
     let a = c .before .before .before .before .before .before .args in
-    let res = listOf (a .from .now) (a .results .now) in
+    let res = listOfType (a .from .now) (a .results .now) in
     let q = c .before .before .before .before .before .before .pre .1 .1 in
     let b = c .before .before .before .before .before .before .pre .1 .0 in
     let words = q .maps .words in
@@ -446,7 +446,7 @@ gather-around-content-has-requires t c κs =
 gather-around-slice-write-draft : (t : ℕ) → gather-around-lts.Need-slice-write-draft (gather-around-calls t) (gather-around-at t) gather-around.Post
 gather-around-slice-write-draft t c =
     let a = c .before .before .before .before .before .before .before .before .args in
-    let res = listOf (a .from .now) (a .results .now) in
+    let res = listOfType (a .from .now) (a .results .now) in
     let q = c .before .before .before .before .before .before .before .before .pre .1 .1 in
     let b = c .before .before .before .before .before .before .before .before .pre .1 .0 in
     around-inside q res (single-of standard _ _ (q .there) res b)
@@ -460,7 +460,7 @@ gather-around-add-emit-row t c =
 gather-around-add-emit-row-2 : (t : ℕ) → gather-around-lts.Need-add-emit-row-2 (gather-around-calls t) (gather-around-at t) gather-around.Post
 gather-around-add-emit-row-2 t c =
     let a = c .before .before .before .before .before .before .before .before .before .args in
-    let res = listOf (a .from .now) (a .results .now) in
+    let res = listOfType (a .from .now) (a .results .now) in
     let q = c .before .before .before .before .before .before .before .before .before .pre .1 .1 in
     let b = c .before .before .before .before .before .before .before .before .before .pre .1 .0 in
     let i = around-inside q res (single-of standard _ _ (q .there) res b) in
@@ -469,7 +469,7 @@ gather-around-add-emit-row-2 t c =
 gather-around-emit-row-requires : (t : ℕ) → gather-around-lts.Need-emit-row-requires (gather-around-calls t) (gather-around-at t) gather-around.Post
 gather-around-emit-row-requires t c κs =
     let a = c .before .before .before .before .before .before .before .before .before .args in
-    let res = listOf (a .from .now) (a .results .now) in
+    let res = listOfType (a .from .now) (a .results .now) in
     let m = c .before .before .before .before .before .before .before .before .before .pre .0 in
     let q = c .before .before .before .before .before .before .before .before .before .pre .1 .1 in
     let b = c .before .before .before .before .before .before .before .before .before .pre .1 .0 in
@@ -479,7 +479,7 @@ gather-around-emit-row-requires t c κs =
 gather-around-settle-requires : (t : ℕ) → gather-around-lts.Need-settle-requires (gather-around-calls t) (gather-around-at t) gather-around.Post
 gather-around-settle-requires t c κs =
     let a = c .before .before .before .before .before .before .before .before .before .before .before .before .before .before .before .before .args in
-    let res = listOf (a .from .now) (a .results .now) in
+    let res = listOfType (a .from .now) (a .results .now) in
     let q = c .before .before .before .before .before .before .before .before .before .before .before .before .before .before .before .before .pre .1 .1 in
     let b = c .before .before .before .before .before .before .before .before .before .before .before .before .before .before .before .before .pre .1 .0 in
     let one = single-of standard _ _ (q .there) res b in
@@ -491,7 +491,7 @@ gather-around-settle-requires t c κs =
 gather-around-returns : (t : ℕ) → gather-around-lts.Need-returns (gather-around-calls t) (gather-around-at t) gather-around.Post
 gather-around-returns t c =
     let a = c .before .before .before .before .before .before .before .before .before .before .before .before .before .before .args in
-    let res = listOf (a .from .now) (a .results .now) in
+    let res = listOfType (a .from .now) (a .results .now) in
     let b = c .before .before .before .before .before .before .before .before .before .before .before .before .before .before .pre .1 .0 in
     λ q.
     let one = single-of standard _ _ (q .there) res b in
@@ -507,7 +507,7 @@ gather-around-same-length-2 t c =
 gather-around-returns-2 : (t : ℕ) → gather-around-lts.Need-returns-2 (gather-around-calls t) (gather-around-at t) gather-around.Post
 gather-around-returns-2 t c =
     let a = c .before .before .before .before .before .before .before .before .before .before .before .before .before .before .before .before .before .args in
-    let res = listOf (a .from .now) (a .results .now) in
+    let res = listOfType (a .from .now) (a .results .now) in
     let b = c .before .before .before .before .before .before .before .before .before .before .before .before .before .before .before .before .before .pre .1 .0 in
     let e = c .before .before .before .next .given .1 in
     let l = c .before .before .before .before .before .before .before .emit-row .kept .1 .1 .1 .1 .1 .1 .0 in
@@ -521,7 +521,7 @@ gather-around-returns-2 t c =
 gather-around-returns-3 : (t : ℕ) → gather-around-lts.Need-returns-3 (gather-around-calls t) (gather-around-at t) gather-around.Post
 gather-around-returns-3 t c =
     let a = c .before .before .before .before .before .before .before .before .before .args in
-    let res = listOf (a .from .now) (a .results .now) in
+    let res = listOfType (a .from .now) (a .results .now) in
     let b = c .before .before .before .before .before .before .before .before .before .pre .1 .0 in
     λ q.
     let one = single-of standard _ _ (q .there) res b in
@@ -535,7 +535,7 @@ gather-around-gather-empty-requires t c κs =
 gather-around-returns-4 : (t : ℕ) → gather-around-lts.Need-returns-4 (gather-around-calls t) (gather-around-at t) gather-around.Post
 gather-around-returns-4 t c =
     let a = c .before .before .before .before .before .before .before .before .before .before .before .before .before .args in
-    let res = listOf (a .from .now) (a .results .now) in
+    let res = listOfType (a .from .now) (a .results .now) in
     let b = c .before .before .before .before .before .before .before .before .before .before .before .before .before .pre .1 .0 in
     λ q.
     let one = single-of standard _ _ (q .there) res b in
@@ -576,7 +576,7 @@ gather-compound-shared-slice-read-wide-2 t c =
 gather-compound-gather-row-requires : (t : ℕ) → gather-compound-lts.Need-gather-row-requires (gather-compound-calls t) (gather-compound-at t) gather-compound.Post
 gather-compound-gather-row-requires t c κs =
     let a = c .before .before .before .before .before .before .before .before .before .before .before .before .before .args in
-    let res = listOf (a .from .now) (a .results .now) in
+    let res = listOfType (a .from .now) (a .results .now) in
     let m = c .before .before .before .before .before .before .before .before .before .before .before .before .before .pre .0 in
     let q = c .before .before .before .before .before .before .before .before .before .before .before .before .before .pre .1 .1 .0 in
     let b = sym (c .before .before .before .before .before .wide .ensures .0) ∙ c .before .before .before .before .match .keys2 in
@@ -601,7 +601,7 @@ gather-compound-returns t c =
 gather-compound-returns-2 : (t : ℕ) → gather-compound-lts.Need-returns-2 (gather-compound-calls t) (gather-compound-at t) gather-compound.Post
 gather-compound-returns-2 t c =
     let a = c .before .before .before .before .before .before .before .before .before .before .before .before .before .before .before .before .before .before .args in
-    let res = listOf (a .from .now) (a .results .now) in
+    let res = listOfType (a .from .now) (a .results .now) in
     let b = sym (c .before .before .before .before .before .before .before .before .before .before .wide .ensures .0) ∙ c .before .before .before .before .before .before .before .before .before .match .keys2 in
     λ q s.
     let cs = choices-of q b (c .before .before .before .before .before .before .before .wide2 .ensures .0) in
@@ -619,7 +619,7 @@ gather-compound-returns-3 t c =
 gather-row-gather-requires : (t : ℕ) → gather-row-lts.Need-gather-requires (gather-row-calls t) (gather-row-at t) gather-row.Post
 gather-row-gather-requires t c κs =
     let a = c .before .before .before .before .before .before .before .before .before .args in
-    let res = listOf (a .from .now) (a .results .now) in
+    let res = listOfType (a .from .now) (a .results .now) in
     let some = c .before .before .if1 .left in
     let m = c .before .before .before .before .before .before .before .before .before .pre .0 in
     let q = c .before .before .before .before .before .before .before .before .before .pre .1 .0 in
@@ -633,7 +633,7 @@ gather-row-sub-gather-row t c =
 gather-row-gather-row-requires : (t : ℕ) → gather-row-lts.Need-gather-row-requires (gather-row-calls t) (gather-row-at t) gather-row.Post
 gather-row-gather-row-requires t c κs =
     let a = c .before .before .before .before .before .before .before .before .before .before .before .before .before .before .before .before .before .before .before .args in
-    let res = listOf (a .from .now) (a .results .now) in
+    let res = listOfType (a .from .now) (a .results .now) in
     let some = c .before .before .before .before .before .before .before .before .before .before .before .before .if1 .left in
     let e = c .before .before .before .next .given .1 in
     let l = c .before .before .before .before .before .before .before .before .before .gather .kept .1 .1 .1 .1 .1 .0 in
@@ -648,7 +648,7 @@ gather-row-gather-row-requires t c κs =
 gather-row-returns-2 : (t : ℕ) → gather-row-lts.Need-returns-2 (gather-row-calls t) (gather-row-at t) gather-row.Post
 gather-row-returns-2 t c =
     let a = c .before .before .before .before .before .before .before .before .before .before .before .before .before .before .before .before .args in
-    let res = listOf (a .from .now) (a .results .now) in
+    let res = listOfType (a .from .now) (a .results .now) in
     let some = c .before .before .before .before .before .before .before .before .before .if1 .left in
     λ q s. row-wide q res some _ _ (c .before .before .before .before .before .before .gather .ensures (first-source q res some) s) (c .enum-told .given .1)
 
@@ -661,7 +661,7 @@ gather-row-same-length-4 t c = c .before .before .before .before .gather-row .ke
 gather-row-returns-3 : (t : ℕ) → gather-row-lts.Need-returns-3 (gather-row-calls t) (gather-row-at t) gather-row.Post
 gather-row-returns-3 t c =
     let a = c .before .before .before .before .before .before .before .before .before .before .before .before .before .before .before .before .before .before .before .before .before .before .before .before .args in
-    let res = listOf (a .from .now) (a .results .now) in
+    let res = listOfType (a .from .now) (a .results .now) in
     let some = c .before .before .before .before .before .before .before .before .before .before .before .before .before .before .before .before .before .if1 .left in
     let e = c .before .before .before .before .before .before .before .before .next .given .1 in
     let l = c .before .before .before .before .before .before .before .before .before .before .before .before .before .before .gather .kept .1 .1 .1 .1 .1 .0 in
@@ -700,7 +700,7 @@ gather-sequence-row-has-requires t c κs =
 gather-sequence-slice-write-draft : (t : ℕ) → gather-sequence-lts.Need-slice-write-draft (gather-sequence-calls t) (gather-sequence-at t) gather-sequence.Post
 gather-sequence-slice-write-draft t c =
     let a = c .before .before .before .before .before .before .before .before .before .args in
-    let res = listOf (a .from .now) (a .results .now) in
+    let res = listOfType (a .from .now) (a .results .now) in
     let q = c .before .before .before .before .before .before .before .before .before .pre .1 .1 in
     let b = c .before .before .before .before .before .before .before .before .before .pre .1 .0 in
     let n = c .before .before .wide .ensures .0 in
@@ -734,7 +734,7 @@ gather-sequence-shared-slice-read-draft t c =
 gather-sequence-add-draft-2 : (t : ℕ) → gather-sequence-lts.Need-add-draft-2 (gather-sequence-calls t) (gather-sequence-at t) gather-sequence.Post
 gather-sequence-add-draft-2 t c =
     let a = c .before .before .before .before .before .before .before .before .before .before .args in
-    let res = listOf (a .from .now) (a .results .now) in
+    let res = listOfType (a .from .now) (a .results .now) in
     let q = c .before .before .before .before .before .before .before .before .before .before .pre .1 .1 in
     let b = c .before .before .before .before .before .before .before .before .before .before .pre .1 .0 in
     let n = c .before .before .before .wide .ensures .0 in
@@ -744,7 +744,7 @@ gather-sequence-add-draft-2 t c =
 gather-sequence-slice-write-draft-2 : (t : ℕ) → gather-sequence-lts.Need-slice-write-draft-2 (gather-sequence-calls t) (gather-sequence-at t) gather-sequence.Post
 gather-sequence-slice-write-draft-2 t c =
     let a = c .before .before .before .before .before .before .before .before .before .before .args in
-    let res = listOf (a .from .now) (a .results .now) in
+    let res = listOfType (a .from .now) (a .results .now) in
     let q = c .before .before .before .before .before .before .before .before .before .before .pre .1 .1 in
     let b = c .before .before .before .before .before .before .before .before .before .before .pre .1 .0 in
     let n = c .before .before .before .wide .ensures .0 in
@@ -761,7 +761,7 @@ gather-sequence-add-emit-row t c =
 gather-sequence-add-emit-row-2 : (t : ℕ) → gather-sequence-lts.Need-add-emit-row-2 (gather-sequence-calls t) (gather-sequence-at t) gather-sequence.Post
 gather-sequence-add-emit-row-2 t c =
     let a = c .before .before .before .before .before .before .before .before .before .before .before .args in
-    let res = listOf (a .from .now) (a .results .now) in
+    let res = listOfType (a .from .now) (a .results .now) in
     let q = c .before .before .before .before .before .before .before .before .before .before .before .pre .1 .1 in
     let b = c .before .before .before .before .before .before .before .before .before .before .before .pre .1 .0 in
     let n = c .before .before .before .before .wide .ensures .0 in
@@ -771,7 +771,7 @@ gather-sequence-add-emit-row-2 t c =
 gather-sequence-emit-row-requires : (t : ℕ) → gather-sequence-lts.Need-emit-row-requires (gather-sequence-calls t) (gather-sequence-at t) gather-sequence.Post
 gather-sequence-emit-row-requires t c κs =
     let a = c .before .before .before .before .before .before .before .before .before .before .before .args in
-    let res = listOf (a .from .now) (a .results .now) in
+    let res = listOfType (a .from .now) (a .results .now) in
     let m = c .before .before .before .before .before .before .before .before .before .before .before .pre .0 in
     let q = c .before .before .before .before .before .before .before .before .before .before .before .pre .1 .1 in
     let b = c .before .before .before .before .before .before .before .before .before .before .before .pre .1 .0 in
@@ -782,7 +782,7 @@ gather-sequence-emit-row-requires t c κs =
 gather-sequence-settle-requires : (t : ℕ) → gather-sequence-lts.Need-settle-requires (gather-sequence-calls t) (gather-sequence-at t) gather-sequence.Post
 gather-sequence-settle-requires t c κs =
     let a = c .before .before .before .before .before .before .before .before .before .before .before .before .before .before .before .before .before .before .args in
-    let res = listOf (a .from .now) (a .results .now) in
+    let res = listOfType (a .from .now) (a .results .now) in
     let q = c .before .before .before .before .before .before .before .before .before .before .before .before .before .before .before .before .before .before .pre .1 .1 in
     let b = c .before .before .before .before .before .before .before .before .before .before .before .before .before .before .before .before .before .before .pre .1 .0 in
     let n = c .before .before .before .before .before .before .before .before .before .before .before .wide .ensures .0 in
@@ -795,7 +795,7 @@ gather-sequence-settle-requires t c κs =
 gather-sequence-returns : (t : ℕ) → gather-sequence-lts.Need-returns (gather-sequence-calls t) (gather-sequence-at t) gather-sequence.Post
 gather-sequence-returns t c =
     let a = c .before .before .before .before .before .before .before .before .before .before .before .before .before .before .before .before .args in
-    let res = listOf (a .from .now) (a .results .now) in
+    let res = listOfType (a .from .now) (a .results .now) in
     let b = c .before .before .before .before .before .before .before .before .before .before .before .before .before .before .before .before .pre .1 .0 in
     let n = c .before .before .before .before .before .before .before .before .before .wide .ensures .0 in
     λ q.
@@ -812,7 +812,7 @@ gather-sequence-same-length-2 t c =
 gather-sequence-returns-2 : (t : ℕ) → gather-sequence-lts.Need-returns-2 (gather-sequence-calls t) (gather-sequence-at t) gather-sequence.Post
 gather-sequence-returns-2 t c =
     let a = c .before .before .before .before .before .before .before .before .before .before .before .before .before .before .before .before .before .before .before .args in
-    let res = listOf (a .from .now) (a .results .now) in
+    let res = listOfType (a .from .now) (a .results .now) in
     let b = c .before .before .before .before .before .before .before .before .before .before .before .before .before .before .before .before .before .before .before .pre .1 .0 in
     let n = c .before .before .before .before .before .before .before .before .before .before .before .before .wide .ensures .0 in
     let e = c .before .before .before .next .given .1 in
@@ -827,7 +827,7 @@ gather-sequence-returns-2 t c =
 gather-sequence-returns-3 : (t : ℕ) → gather-sequence-lts.Need-returns-3 (gather-sequence-calls t) (gather-sequence-at t) gather-sequence.Post
 gather-sequence-returns-3 t c =
     let a = c .before .before .before .before .before .before .before .before .before .args in
-    let res = listOf (a .from .now) (a .results .now) in
+    let res = listOfType (a .from .now) (a .results .now) in
     let b = c .before .before .before .before .before .before .before .before .before .pre .1 .0 in
     let n = c .before .before .wide .ensures .0 in
     λ q.

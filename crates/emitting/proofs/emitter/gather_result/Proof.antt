@@ -10,7 +10,8 @@ use borrow.Author.Needs.{needs}
 use Rattle.grammar.specs.Lists.{any}
 use Rattle.grammar.specs.Content.{Content, type}
 use Rattle.grammar.specs.ReadContent.{operators, sameContent}
-use Rattle.theory.proofs.Gathering.{gathered, gather-old}
+use Rattle.theory.specs.Alternatives.{gathered}
+use Rattle.theory.proofs.emission.GatheringLaws.{gather-old}
 use Rattle.sets.specs.Sets.{member, putAt}
 use Rattle.reader.specs.ExprAt.{_upTo_, exprAt}
 use Rattle.reader.proofs.ExprLaws.{operator-type, expr-numbered}

@@ -4,7 +4,7 @@ use native.Mathlib.Omega.{arith}
 use mathlib.Core.Path.{_≡_, refl}
 use lib.ListN.{length}
 use borrow.Author.Needs.{needs}
-use Rattle.emitting.specs.Emitting.{Room, TypesKept}
+use Rattle.emitting.specs.Emitting.{RoomForMore, TypesKept}
 use Rattle.emitting.proofs.GatherLaws.{types-none, types-past}
 use Rattle.emitting.proofs.TypesKeptLaws.{TypesSoFar, types-start, room-for, types-all, types-wide, types-next}
 use Rattle.emitting.proofs.emitter.gather_types.Statement.{statement}
@@ -14,7 +14,7 @@ abbrev Inv-loop : tie.InvT-loop
 Inv-loop results first stop draft₀ base count end limit next kept₀ total₀ last₀ i₀ draft kept total last i =
     (length draft ≡ length draft₀)
     × (length kept ≡ length kept₀)
-    × ((q : Room draft₀ base count end limit) → TypesKept kept₀ (q .kept .list)
+    × ((q : RoomForMore draft₀ base count end limit) → TypesKept kept₀ (q .kept .list)
     → TypesSoFar results first stop base limit (q .kept .list) draft₀ end draft kept total last i)
 
 abbrev μ-loop : tie.MeasureT-loop

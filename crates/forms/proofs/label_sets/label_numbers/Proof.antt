@@ -8,12 +8,12 @@ use borrow.Author.Needs.{needs}
 use Rattle.grammar.specs.Lists.{place, sameNumbers}
 use Rattle.grammar.specs.SingleTypeForm.{TypeSet}
 use Rattle.grammar.specs.Table.{Table}
-use Rattle.theory.proofs.ListLaws.{set-all}
+use Rattle.theory.proofs.lists.ListLaws.{set-all}
 use Rattle.sets.specs.Sets.{member}
 use Rattle.pairs.specs.View.{Views}
-use Rattle.forms.specs.SetForms.{labelled}
 use Rattle.forms.specs.SetWords.{SetsHeld}
 use Rattle.forms.specs.Worklist.{NumbersOf}
+use Rattle.forms.specs.SetForms.{pairsLabelled}
 use Rattle.forms.proofs.SetsFound.{labelled-ascending}
 use Rattle.forms.proofs.LabelLaws.{few-rules}
 use Rattle.forms.proofs.ResultLaws.{numbers-more, none-small}
@@ -24,7 +24,7 @@ abbrev Inv-loop : tie.InvT-loop
 Inv-loop v labels pairs words count of₀ l₀ of l =
     (l ≤ labels)
     × ((old add : List ℕ) (u : Table) (sets : List TypeSet) → Views old add v u → SetsHeld words sets → count ≡ length sets
-    → NumbersOf (λ k. place sameNumbers (labelled u (member (pairs .words) 0) k) sets) l of)
+    → NumbersOf (λ k. place sameNumbers (pairsLabelled u (member (pairs .words) 0) k) sets) l of)
     × ((k : ℕ) → getD of k 0 ≤ 64)
     × (length of ≡ 128)
 

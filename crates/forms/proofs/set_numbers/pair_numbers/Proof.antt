@@ -6,7 +6,7 @@ use mathlib.Core.Path.{_≡_, _∙_, ap}
 use lib.ListN.{length, getD, length-set, length-replicate}
 use borrow.Author.Needs.{needs}
 use Rattle.grammar.specs.Table.{Table}
-use Rattle.theory.proofs.ListLaws.{set-all}
+use Rattle.theory.proofs.lists.ListLaws.{set-all}
 use Rattle.sets.specs.Sets.{member}
 use Rattle.pairs.specs.View.{Views}
 use Rattle.pairs.specs.PairNumbers.{isLeft}

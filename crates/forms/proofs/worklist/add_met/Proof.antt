@@ -14,9 +14,9 @@ use Rattle.pairs.specs.View.{Views, labelIn}
 use Rattle.pairs.specs.PairNumbers.{metIn}
 use Rattle.reducing.proofs.MeetingLaws.{once-at}
 use Rattle.forms.specs.declared.set_words.Counted.the-variants.{Count}
-use Rattle.forms.specs.SetForms.{labelled}
 use Rattle.forms.specs.SetWords.{SetsHeld, SetsCounted}
 use Rattle.forms.specs.Worklist.{setsWithin}
+use Rattle.forms.specs.SetForms.{pairsLabelled}
 use Rattle.forms.proofs.LabelLaws.{few-rules}
 use Rattle.forms.proofs.SetsFound.{labelled-ascending}
 use Rattle.forms.proofs.SetWordLaws.{few-put, few-many}
@@ -84,8 +84,8 @@ returns c =
           let up = l .inv .3 old add u sets s x held counted once met in
           let p = c .before .before .before .before .before .before .before .wide .result in
           up-many x s (a .found .numbers) (a .found .count) met (c .before .before .before .before .before .before .before .before .before .before .before .before .before .before .before .pre .1 .once .held) sets (l .i) (c .before .before .before .before .before .before .before .before .if1 .taken) _ _
-          (labelled u all (labelIn (a .v) p))
-          (ap (λ (q : ℕ). labelled u all (labelIn (a .v) q)) (c .before .before .before .before .before .before .before .wide .ensures .0)
+          (pairsLabelled u all (labelIn (a .v) p))
+          (ap (λ (q : ℕ). pairsLabelled u all (labelIn (a .v) q)) (c .before .before .before .before .before .before .before .wide .ensures .0)
           ∙ set-given x s (a .found .numbers) (a .found .count) met (c .before .before .before .before .before .before .before .before .before .before .before .before .before .before .before .pre .1 .once .held) (c .before .before .before .before .before .before .before .before .before .before .before .before .before .set-of .result .words) (c .before .before .before .before .before .before .before .before .before .before .before .before .before .set-of .ensures .0) (l .i) (c .before .before .before .before .before .before .before .before .if1 .taken))
           (c .before .before .before .before .add-set .ensures .0 _ _ (up .1) (up .0) (c .before .before .before .before .before .before .labelled-pairs .ensures .0 old add u x) (labelled-ascending u all (few-rules x) (labelIn (a .v) p)) (up-once sets (setsWithin u s) (l .i)))
           (c .enum-told .given .1),
@@ -105,8 +105,8 @@ loop-again c =
           let up = l .inv .3 old add u sets s x held counted once met in
           let p = c .before .before .before .before .before .before .before .before .wide .result in
           up-more x s (a .found .numbers) (a .found .count) met (c .before .before .before .before .before .before .before .before .before .before .before .before .before .before .before .before .pre .1 .once .held) sets (l .i) h _ _
-          (labelled u all (labelIn (a .v) p))
-          (ap (λ (q : ℕ). labelled u all (labelIn (a .v) q)) (c .before .before .before .before .before .before .before .before .wide .ensures .0)
+          (pairsLabelled u all (labelIn (a .v) p))
+          (ap (λ (q : ℕ). pairsLabelled u all (labelIn (a .v) q)) (c .before .before .before .before .before .before .before .before .wide .ensures .0)
           ∙ set-given x s (a .found .numbers) (a .found .count) met (c .before .before .before .before .before .before .before .before .before .before .before .before .before .before .before .before .pre .1 .once .held) (c .before .before .before .before .before .before .before .before .before .before .before .before .before .before .set-of .result .words) (c .before .before .before .before .before .before .before .before .before .before .before .before .before .before .set-of .ensures .0) (l .i) h)
           (c .before .before .before .before .before .add-set .ensures .0 _ _ (up .1) (up .0) (c .before .before .before .before .before .before .before .labelled-pairs .ensures .0 old add u x) (labelled-ascending u all (few-rules x) (labelIn (a .v) p)) (up-once sets (setsWithin u s) (l .i)))
           _

@@ -9,13 +9,13 @@ use lib.ListN.{length}
 use Rattle.grammar.specs.Content.{Content, typesIn}
 use Rattle.grammar.specs.ReadContent.{contentBytes}
 use Rattle.kinds.proofs.SeenTypes.{none-seen}
-use Rattle.kinds.proofs.StandingTypes.{Left, left-start, left-type, left-count, left-alone, left-end}
 use Rattle.kinds.proofs.kinds.content_types.Statement.{statement}
 use Rattle.kinds.proofs.kinds.content_types.Tie as tie
+use Rattle.kinds.proofs.StandingTypes.{TypesLeft, left-start, left-type, left-count, left-alone, left-end}
 
 abbrev Inv-loop : tie.InvT-loop
 Inv-loop content words₀ at₀ words at =
-    (length words ≡ length words₀) × ((c : Content) → content ≡ contentBytes c → Left content words (typesIn c) at)
+    (length words ≡ length words₀) × ((c : Content) → content ≡ contentBytes c → TypesLeft content words (typesIn c) at)
 
 abbrev μ-loop : tie.MeasureT-loop
 μ-loop content words₀ at₀ words at = length content - at
@@ -45,7 +45,7 @@ loop-again c =
       c .before .before .put .kept .0 ∙ same,
       λ d e.
           subst
-          (λ (l : List ℕ). Left (c .before .before .before .before .before .before .before .before .before .before .before .before .before .before .before .before .before .args .content .now) l (typesIn d) (c .before .before .before .before .before .before .before .before .before .before .loop .at + 2))
+          (λ (l : List ℕ). TypesLeft (c .before .before .before .before .before .before .before .before .before .before .before .before .before .before .before .before .before .args .content .now) l (typesIn d) (c .before .before .before .before .before .before .before .before .before .before .loop .at + 2))
           (sym (c .before .before .put .ensures))
           (left-type _ _ _ (c .before .before .before .before .before .before .before .before .before .before .loop .at) (c .before .before .before .before .before .before .before .before .before .before .loop .inv .1 d e) (omega arith) (omega arith) .1 _ (k .0) (omega arith)),
     )

@@ -6,9 +6,9 @@ use mathlib.Core.Bool.{Bool, true, false, _&&_}
 use mathlib.Core.List.{List}
 use mathlib.Core.Path.{_≡_, refl, sym, _∙_, ap}
 use lib.ListN.{getD}
+use Rattle.theory.proofs.lists.BoolLaws.{and-intro}
 use Rattle.reader.specs.TableIndex.{ruleType, ruleLabel}
 use Rattle.sets.specs.Sets.{member}
-use Rattle.theory.proofs.BoolLaws.{and-intro}
 use Rattle.kinds.specs.RulesAt.{rivals, rivalsAt}
 use Rattle.kinds.proofs.BelowLaws.{one-below, none-below}
 use Rattle.kinds.proofs.kinds.has_rival.Statement.{statement}

@@ -2,7 +2,7 @@
 use mathlib.Core.Path.{sym, ap}
 use borrow.Author.Needs.{needs}
 use Rattle.grammar.specs.Listing.{outcomeText}
-use Rattle.reader.proofs.TableFound.{table-found, table-refused}
+use Rattle.reader.proofs.TableFoundLaws.{table-found, table-refused}
 use Rattle.listing.proofs.PrintSteps.{put-as}
 use Rattle.listing.proofs.lines.list_bytes.Statement.{statement}
 use Rattle.listing.proofs.lines.list_bytes.Tie as tie

@@ -2,9 +2,9 @@
 use native.Mathlib.Omega.{arith}
 use mathlib.Core.Path.{_∙_}
 use borrow.Author.Needs.{needs}
-use Rattle.reader.proofs.TableFound.{rule-found-at}
+use Rattle.reader.proofs.TableFoundLaws.{rule-found-at}
+use Rattle.pairs.specs.PairNumbers.{ruleNumbered}
 use Rattle.emitting.proofs.PutLaws.{put-join}
-use Rattle.listing.specs.Printing.{ruleOf}
 use Rattle.listing.proofs.DecimalLaws.{type-size}
 use Rattle.listing.proofs.LineLaws.{rule-type-is, rule-label-is, line-joined}
 use Rattle.listing.proofs.lines.put_rule_line.Statement.{statement}
@@ -120,7 +120,7 @@ returns c =
     record {
       put =
           λ f.
-          line-joined (f .table) (ruleOf (f .table) (start .args .i)) _ _ (e ∙ rule-type-is f _ h) (m ∙ rule-label-is f _ h)
+          line-joined (f .table) (ruleNumbered (f .table) (start .args .i)) _ _ (e ∙ rule-type-is f _ h) (m ∙ rule-label-is f _ h)
           (put-join (put-join (put-join (put-join (put-join typed gap) (named .put f)) gap2) (content .put f)) last);
       short = omega arith;
     }

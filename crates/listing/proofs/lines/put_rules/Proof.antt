@@ -6,7 +6,7 @@ use lib.ListN.{length, take}
 use lib.Seq.{take-all}
 use Rattle.grammar.specs.Lists.{joinedOf}
 use Rattle.grammar.specs.Listing.{ruleLine}
-use Rattle.reader.proofs.TableFound.{TableFound}
+use Rattle.reader.specs.TableFound.{TableFound}
 use Rattle.emitting.specs.Writing.{Put}
 use Rattle.emitting.proofs.PutLaws.{put-join, put-none}
 use Rattle.listing.proofs.PrintSteps.{put-as}

@@ -6,7 +6,7 @@ use lib.ListN.{length, take}
 use borrow.Author.Needs.{needs}
 use Rattle.grammar.specs.Lists.{joinedOf}
 use Rattle.grammar.specs.Listing.{startLine}
-use Rattle.reader.proofs.TableFound.{starts-are, start-small}
+use Rattle.reader.proofs.TableFoundLaws.{starts-are, start-small}
 use Rattle.emitting.specs.Writing.{Put}
 use Rattle.emitting.proofs.PutLaws.{put-join, put-none}
 use Rattle.listing.proofs.PrintSteps.{put-as}

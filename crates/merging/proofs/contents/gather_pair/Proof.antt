@@ -7,9 +7,19 @@ use lib.Dec.{eqb}
 use borrow.Author.Needs.{needs}
 use Rattle.merging.specs.Merging.{Merging, Ready}
 use Rattle.merging.proofs.RuleLaws.{first-is}
-use Rattle.merging.proofs.LoopLaws.{given-as, SoFar, so-far-none, ready-for, so-far-wide, so-far-next, so-far-all, ruleGives, pair-gives}
 use Rattle.merging.proofs.contents.gather_pair.Statement.{statement}
 use Rattle.merging.proofs.contents.gather_pair.Tie as tie
+use Rattle.merging.proofs.LoopLaws.{
+  given-as,
+  MergedSoFar,
+  so-far-none,
+  ready-for,
+  so-far-wide,
+  so-far-next,
+  so-far-all,
+  ruleGives,
+  pair-gives,
+}
 
 abbrev Inv-loop : tie.InvT-loop
 Inv-loop old add v p types results draft₀ count end kept₀ firsts rules total₀ last₀ i₀ draft kept total last i =
@@ -17,7 +27,7 @@ Inv-loop old add v p types results draft₀ count end kept₀ firsts rules total
     × (length draft ≡ length draft₀)
     × (length kept ≡ length kept₀)
     × ((q : Merging old add v types results) (k : Ready draft₀ kept₀ count end)
-    → SoFar (ruleGives (q .of) (q .table) p) rules (k .kept .list) draft kept total last i)
+    → MergedSoFar (ruleGives (q .of) (q .table) p) rules (k .kept .list) draft kept total last i)
 
 abbrev μ-loop : tie.MeasureT-loop
 μ-loop old add v p types results draft₀ count end kept₀ firsts rules total₀ last₀ i₀ draft kept total last i = rules - i

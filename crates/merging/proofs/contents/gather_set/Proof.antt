@@ -9,9 +9,19 @@ use Rattle.sets.specs.Sets.{member}
 use Rattle.emitting.proofs.CompleteLaws.{start-kept}
 use Rattle.emitting.proofs.TypesKeptLaws.{no-types}
 use Rattle.merging.specs.Merging.{Merging}
-use Rattle.merging.proofs.LoopLaws.{given-as, SoFar, so-far-none, ready-for, so-far-wide, so-far-next, so-far-all, pairGives, set-gives}
 use Rattle.merging.proofs.contents.gather_set.Statement.{statement}
 use Rattle.merging.proofs.contents.gather_set.Tie as tie
+use Rattle.merging.proofs.LoopLaws.{
+  given-as,
+  MergedSoFar,
+  so-far-none,
+  ready-for,
+  so-far-wide,
+  so-far-next,
+  so-far-all,
+  pairGives,
+  set-gives,
+}
 
 abbrev Inv-loop : tie.InvT-loop
 Inv-loop old add v set types results draft₀ rules kept₀ total₀ last₀ p₀ draft kept total last p =
@@ -19,7 +29,7 @@ Inv-loop old add v set types results draft₀ rules kept₀ total₀ last₀ p�
     × (length draft ≡ length draft₀)
     × (length kept ≡ 8)
     × ((q : Merging old add v types results)
-    → SoFar (pairGives (q .of) (q .table) (member (set .words) 0)) rules [] draft kept total last p)
+    → MergedSoFar (pairGives (q .of) (q .table) (member (set .words) 0)) rules [] draft kept total last p)
 
 abbrev μ-loop : tie.MeasureT-loop
 μ-loop old add v set types results draft₀ rules kept₀ total₀ last₀ p₀ draft kept total last p = rules - p

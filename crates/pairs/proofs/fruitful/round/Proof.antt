@@ -7,10 +7,10 @@ use mathlib.Core.Path.{_≡_, refl, _∙_, ap}
 use lib.ListN.{length, getD}
 use borrow.Author.Needs.{needs}
 use Rattle.grammar.specs.Table.{Table}
-use Rattle.theory.proofs.Alternatives.{hasAlts}
+use Rattle.theory.specs.Alternatives.{hasAlts}
 use Rattle.sets.specs.Sets.{member}
 use Rattle.pairs.specs.View.{Views, firstIn}
-use Rattle.pairs.specs.Rounds.{puts, contentOf, afterRound}
+use Rattle.pairs.specs.Rounds.{puts, contentOfRule, afterRound}
 use Rattle.pairs.proofs.PutsLaws.{puts-start, puts-step}
 use Rattle.pairs.proofs.ViewLaws.{views-sized}
 use Rattle.pairs.proofs.fruitful.round.Statement.{statement}
@@ -21,7 +21,7 @@ Inv-loop old add v types firsts rules next₀ i₀ next i =
     (i ≤ rules)
     × ((u : Table) → Views old add v u
     → member (next .words) 0
-    ≡ puts (λ j. hasAlts (member (types .words) 0) (contentOf u j)) (λ j. getD firsts j 0) (member (next₀ .words) 0) i)
+    ≡ puts (λ j. hasAlts (member (types .words) 0) (contentOfRule u j)) (λ j. getD firsts j 0) (member (next₀ .words) 0) i)
     × (length (next .words) ≡ 4)
 
 abbrev μ-loop : tie.MeasureT-loop
@@ -72,8 +72,8 @@ returns c =
     let e : c .before .loop .i ≡ v .rules = omega arith in (
       λ u x.
           c .before .loop .inv .1 u x
-          ∙ ap (puts (λ j. hasAlts (member (c .before .before .before .types-with .result .words) 0) (contentOf u j)) (firstIn v) known) e
-          ∙ ap (λ (test : ℕ → Bool). puts (λ j. hasAlts test (contentOf u j)) (firstIn v) known (v .rules)) (c .before .before .before .types-with .ensures .0),
+          ∙ ap (puts (λ j. hasAlts (member (c .before .before .before .types-with .result .words) 0) (contentOfRule u j)) (firstIn v) known) e
+          ∙ ap (λ (test : ℕ → Bool). puts (λ j. hasAlts test (contentOfRule u j)) (firstIn v) known (v .rules)) (c .before .before .before .types-with .ensures .0),
       c .before .loop .inv .2,
     )
 

@@ -2,7 +2,7 @@
 use native.Mathlib.Omega.{arith}
 use mathlib.Core.Path.{sym, _∙_, ap}
 use borrow.Author.Needs.{needs}
-use Rattle.theory.proofs.Alternatives.{hasAlts}
+use Rattle.theory.specs.Alternatives.{hasAlts}
 use Rattle.sets.specs.Sets.{member}
 use Rattle.pairs.proofs.ViewLaws.{content-is, seen, source-there, source-has, addition-has}
 use Rattle.pairs.proofs.fruitful.rule_has.Statement.{statement}

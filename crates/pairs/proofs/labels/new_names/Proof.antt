@@ -6,8 +6,8 @@ use mathlib.Core.Path.{refl, sym}
 use lib.ListN.{take, replicate, length-replicate}
 use Rattle.grammar.specs.Names.{Name}
 use Rattle.pairs.specs.declared.labels.Names.{Names}
-use Rattle.pairs.specs.UnitedLabels.{NamesAt, newNames}
 use Rattle.reader.proofs.LabelSearch.{name-at}
+use Rattle.pairs.specs.UnitedLabels.{NamesHeld, newNames}
 use Rattle.pairs.proofs.UnitedLabelsLaws.{no-names, names-same, names-grow, new-none, new-all, new-names-step}
 use Rattle.pairs.proofs.labels.new_names.Statement.{statement}
 use Rattle.pairs.proofs.labels.new_names.Tie as tie
@@ -19,8 +19,8 @@ abbrev Inv-loop : tie.InvT-loop
 Inv-loop old olds add from to count fresh₀ i₀ fresh i =
     (i ≤ count)
     × (fresh .count ≤ i)
-    × ((ns ms : List Name) → NamesAt old olds ns → NamesAt add (namesOf from to count) ms
-    → NamesAt add fresh (newNames ns (take i ms)))
+    × ((ns ms : List Name) → NamesHeld old olds ns → NamesHeld add (namesOf from to count) ms
+    → NamesHeld add fresh (newNames ns (take i ms)))
 
 abbrev μ-loop : tie.MeasureT-loop
 μ-loop old olds add from to count fresh₀ i₀ fresh i = count - i

@@ -12,11 +12,11 @@ use Rattle.pairs.proofs.union.pair_place.Statement.{statement}
 use Rattle.pairs.proofs.union.pair_place.Tie as tie
 
 abbrev Inv-loop : tie.InvT-loop
-Inv-loop kind label types labels rules i₀ i =
-    (k : ℕ) → k < i → (eqb kind (getD types k 0) && eqb label (getD labels k 0)) ≡ false
+Inv-loop ty label types labels rules i₀ i =
+    (k : ℕ) → k < i → (eqb ty (getD types k 0) && eqb label (getD labels k 0)) ≡ false
 
 abbrev μ-loop : tie.MeasureT-loop
-μ-loop kind label types labels rules i₀ i = rules - i
+μ-loop ty label types labels rules i₀ i = rules - i
 
 loop-holds : tie.Need-loop-holds Inv-loop μ-loop
 loop-holds c = λ k h. absurd (omega arith)

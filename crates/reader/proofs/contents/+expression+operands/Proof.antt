@@ -8,7 +8,7 @@ use borrow.Author.Needs.{needs}
 use borrow.Fn.Kinds.{In}
 use borrow.Fn.PlainCycle.{Measures, is, falls, and}
 use Rattle.grammar.specs.Limits.{standard}
-use Rattle.reader.specs.Extents.{NestsBelow, deeperOf, joinedOf, properRowAt}
+use Rattle.reader.specs.Extents.{NestsBelow, deeperOf, joinedExtent, properRowAt}
 use Rattle.reader.proofs.ExtentLaws.{
   proper-within,
   proper-nests,
@@ -190,7 +190,7 @@ operands-returns-3 t c =
     let some = c .before .before .before .before .before .before .if1 .left in
     let first = sym (c .before .before .before .before .before .expression .ensures) ∙ c .before .before .before .next .given .1 in
     c .joined .ensures
-    ∙ ap (joinedOf _) (c .before .operands .ensures)
+    ∙ ap (joinedExtent _) (c .before .operands .ensures)
     ∙ sym (row-more standard s at (start .args .count) _ _ (omega arith) first)
 
 pub +expression+operands-spec : {M : Type 1} → statement M

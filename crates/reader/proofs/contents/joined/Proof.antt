@@ -3,23 +3,23 @@ use Prim.Native.Nat.{ℕ, _≤_, _<_, max}
 use native.Mathlib.Omega.{arith}
 use mathlib.Core.Path.{_≡_, sym, _∙_, ap}
 use borrow.Author.Needs.{needs}
-use Rattle.reader.specs.Extents.{joinedOf}
 use Rattle.reader.specs.declared.contents.Extent.{Extent}
 use Rattle.reader.specs.declared.contents.Extent.the-variants.{Upto}
+use Rattle.reader.specs.Extents.{joinedExtent}
 use Rattle.reader.proofs.contents.joined.Statement.{statement}
 use Rattle.reader.proofs.contents.joined.Tie as tie
 
 first-deeper : (first : ℕ) (others : Extent) (next deep : ℕ) → others ≡ Upto next deep → deep < first
-    → Upto next first ≡ joinedOf first others
+    → Upto next first ≡ joinedExtent first others
 first-deeper first others next deep e h =
     let m : first ≡ max first deep = omega arith in
-    ap (Upto next) m ∙ sym (ap (joinedOf first) e)
+    ap (Upto next) m ∙ sym (ap (joinedExtent first) e)
 
 others-deeper : (first : ℕ) (others : Extent) (next deep : ℕ) → others ≡ Upto next deep → first ≤ deep
-    → Upto next deep ≡ joinedOf first others
+    → Upto next deep ≡ joinedExtent first others
 others-deeper first others next deep e h =
     let m : deep ≡ max first deep = omega arith in
-    ap (Upto next) m ∙ sym (ap (joinedOf first) e)
+    ap (Upto next) m ∙ sym (ap (joinedExtent first) e)
 
 enum-told : tie.Need-enum-told
 enum-told c = search needs

@@ -6,23 +6,23 @@ use lib.ListN.{length, getD}
 use borrow.Author.Needs.{needs}
 use borrow.Author.Tests.{lt-ltb, le-ltb}
 use Rattle.grammar.specs.Limits.{Limits, standard}
-use Rattle.reader.specs.Extents.{typeAt}
 use Rattle.reader.specs.declared.contents.Extent.the-variants.{Nowhere, Upto}
+use Rattle.reader.specs.Extents.{typeExtent}
 use Rattle.reader.proofs.contents.type_number.Statement.{statement}
 use Rattle.reader.proofs.contents.type_number.Tie as tie
 
 module _ (lim : Limits) (s : List ℕ) (at : ℕ) where
-  missing : length s ≤ at → Nowhere ≡ typeAt lim s at
-  unfolding typeAt
-  missing h = rw (le-ltb at (length s) h, typeAt)
+  missing : length s ≤ at → Nowhere ≡ typeExtent lim s at
+  unfolding typeExtent
+  missing h = rw (le-ltb at (length s) h, typeExtent)
 
-  in-range : at < length s → getD s at 0 < lim .types → Upto (at + 1) 1 ≡ typeAt lim s at
-  unfolding typeAt
-  in-range h k = rw (lt-ltb at (length s) h, lt-ltb (getD s at 0) (lim .types) k, typeAt)
+  in-range : at < length s → getD s at 0 < lim .types → Upto (at + 1) 1 ≡ typeExtent lim s at
+  unfolding typeExtent
+  in-range h k = rw (lt-ltb at (length s) h, lt-ltb (getD s at 0) (lim .types) k, typeExtent)
 
-  out-of-range : at < length s → lim .types ≤ getD s at 0 → Nowhere ≡ typeAt lim s at
-  unfolding typeAt
-  out-of-range h k = rw (lt-ltb at (length s) h, le-ltb (getD s at 0) (lim .types) k, typeAt)
+  out-of-range : at < length s → lim .types ≤ getD s at 0 → Nowhere ≡ typeExtent lim s at
+  unfolding typeExtent
+  out-of-range h k = rw (lt-ltb at (length s) h, le-ltb (getD s at 0) (lim .types) k, typeExtent)
 
 returns : tie.Need-returns
 returns c = missing standard _ _ (c .if1 .taken)

@@ -1,4 +1,4 @@
--- `documents::read_fields` meets its contract. The loop's invariant is `SoFar`; the measure is what is left of the input.
+-- `documents::read_fields` meets its contract. The loop's invariant is `NodesSoFar`; the measure is what is left of the input.
 use Prim.Native.Nat.{_-_}
 use native.Mathlib.Omega.{arith}
 use mathlib.Core.Path.{_≡_, refl, sym, _∙_}
@@ -6,13 +6,13 @@ use lib.ListN.{length, drop, length-set}
 use borrow.Author.Needs.{needs}
 use Rattle.grammar.specs.Fields.{fieldsOf}
 use Rattle.reader.specs.DocumentSteps.{restOf, NodeStep}
-use Rattle.reader.proofs.DocumentLoop.{SoFar, says-node, so-far-none, so-far-next, so-far-stop}
 use Rattle.reader.proofs.documents.read_fields.Statement.{statement}
 use Rattle.reader.proofs.documents.read_fields.Tie as tie
+use Rattle.reader.proofs.DocumentLoop.{NodesSoFar, says-node, so-far-none, so-far-next, so-far-stop}
 
 abbrev Inv-loop : tie.InvT-loop
 Inv-loop s names₀ sizes₀ children₀ nodes₀ at₀ coming₀ depth₀ names sizes children nodes at coming depth =
-    SoFar s names sizes children nodes at coming depth
+    NodesSoFar s names sizes children nodes at coming depth
     × (length coming ≡ 65)
     × (length names ≡ length names₀)
     × (length sizes ≡ length sizes₀)

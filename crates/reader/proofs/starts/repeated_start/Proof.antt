@@ -13,10 +13,10 @@ use Rattle.reader.proofs.starts.repeated_start.Statement.{statement}
 use Rattle.reader.proofs.starts.repeated_start.Tie as tie
 
 abbrev Inv-loop : tie.InvT-loop
-Inv-loop s kind start-type starts i₀ i = (k : ℕ) → k < i → eqb kind (getD start-type k 0) ≡ false
+Inv-loop s ty start-type starts i₀ i = (k : ℕ) → k < i → eqb ty (getD start-type k 0) ≡ false
 
 abbrev μ-loop : tie.MeasureT-loop
-μ-loop s kind start-type starts i₀ i = starts - i
+μ-loop s ty start-type starts i₀ i = starts - i
 
 array-read-if1 : tie.Need-array-read-if1 Inv-loop μ-loop
 array-read-if1 c = omega (arith, c .before .before .before .pre .indexes .few-starts)
@@ -25,7 +25,7 @@ returns : tie.Need-returns Inv-loop μ-loop
 unfolding isIn
 returns c =
     λ g x.
-    sym (start-passes x (eqb (c .before .before .before .before .args .kind)) (c .before .before .loop .i) (c .before .loop-test .taken) (eq-eqb _ _ (sym (c .if1 .taken))))
+    sym (start-passes x (eqb (c .before .before .before .before .args .ty)) (c .before .before .loop .i) (c .before .loop-test .taken) (eq-eqb _ _ (sym (c .if1 .taken))))
 
 add-i : tie.Need-add-i Inv-loop μ-loop
 add-i c = omega (arith, c .before .before .before .before .pre .indexes .few-starts)
@@ -36,7 +36,7 @@ loop-again c = below-more _ (c .before .before .loop .i) (c .before .before .loo
 returns-2 : tie.Need-returns-2 Inv-loop μ-loop
 unfolding isIn
 returns-2 c =
-    λ g x. sym (no-start-passes x (eqb (c .before .before .before .args .kind)) (λ i h. c .before .loop .inv i (omega arith)))
+    λ g x. sym (no-start-passes x (eqb (c .before .before .before .args .ty)) (λ i h. c .before .loop .inv i (omega arith)))
 
 pub repeated-start-spec : {M : Type 1} → statement M
 repeated-start-spec =

@@ -17,8 +17,8 @@ returns-2 : tie.Need-returns-2
 returns-2 c =
     λ g x. sym (start-after-rule x (c .before .before .before .pre .inside) (c .before .if1 .left) (c .if2 .taken))
 
-shared-slice-read-kind : tie.Need-shared-slice-read-kind
-shared-slice-read-kind c = search needs
+shared-slice-read-ty : tie.Need-shared-slice-read-ty
+shared-slice-read-ty c = search needs
 
 wide-requires : tie.Need-wide-requires
 wide-requires c κs = search needs
@@ -49,7 +49,7 @@ start-answer-spec =
     sub-if1
     returns
     returns-2
-    shared-slice-read-kind
+    shared-slice-read-ty
     wide-requires
     repeated-start-requires
     returns-3

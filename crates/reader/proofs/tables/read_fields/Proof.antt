@@ -6,8 +6,10 @@ use mathlib.Core.Logic.{inl, inr}
 use mathlib.Core.Path.{sym, _∙_}
 use lib.ListN.{length}
 use Rattle.reader.proofs.FieldReading.{field-found}
+use Rattle.reader.proofs.tables.read_fields.Statement.{statement}
+use Rattle.reader.proofs.tables.read_fields.Tie as tie
 use Rattle.reader.proofs.TableReading.{
-  Reached,
+  TableReached,
   reached-none,
   found-inside,
   indexed,
@@ -16,11 +18,9 @@ use Rattle.reader.proofs.TableReading.{
   stops-here,
   reached-next,
 }
-use Rattle.reader.proofs.tables.read_fields.Statement.{statement}
-use Rattle.reader.proofs.tables.read_fields.Tie as tie
 
 abbrev Inv-loop : tie.InvT-loop
-Inv-loop s index₀ at₀ index at = Reached s at index
+Inv-loop s index₀ at₀ index at = TableReached s at index
 
 abbrev μ-loop : tie.MeasureT-loop
 μ-loop s index₀ at₀ index at = length s - at

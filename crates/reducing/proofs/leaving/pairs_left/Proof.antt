@@ -7,6 +7,7 @@ use mathlib.Core.Path.{_≡_, sym, _∙_, ap}
 use lib.ListN.{length}
 use borrow.Author.Needs.{needs}
 use Rattle.grammar.specs.Table.{Table}
+use Rattle.theory.proofs.lists.BoolLaws.{or-left}
 use Rattle.sets.specs.Sets.{member, size}
 use Rattle.sets.proofs.SetLaws.{member-union, length-union, length-words, store-set, store-kept}
 use Rattle.pairs.specs.Places.{startsAt, leftAt}
@@ -14,15 +15,14 @@ use Rattle.pairs.specs.View.{Views}
 use Rattle.pairs.specs.PairNumbers.{fruitfulOf, isStart}
 use Rattle.pairs.specs.TypeLists.{ListsOf}
 use Rattle.pairs.proofs.PutsLaws.{fewer-outside}
-use Rattle.theory.proofs.BoolLaws.{or-left}
-use Rattle.reducing.proofs.LeavingLaws.{Seen, seen-start, seen-next, seen-end}
 use Rattle.reducing.proofs.leaving.pairs_left.Statement.{statement}
 use Rattle.reducing.proofs.leaving.pairs_left.Tie as tie
+use Rattle.reducing.proofs.LeavingLaws.{SeenPairs, seen-start, seen-next, seen-end}
 
 abbrev Inv-loop : tie.InvT-loop
 Inv-loop old add v lists words seen₀ seen =
     ((u : Table) → Views old add v u → ListsOf (fruitfulOf u) lists → member (seen₀ .words) 0 ≡ isStart u
-    → Seen u (member (seen .words) 0))
+    → SeenPairs u (member (seen .words) 0))
     × (length (seen .words) ≡ 4)
 
 abbrev μ-loop : tie.MeasureT-loop

@@ -6,11 +6,11 @@ use mathlib.Core.Path.{_∙_, ap}
 use lib.ListN.{length, length-replicate}
 use borrow.Author.Needs.{needs}
 use Rattle.grammar.specs.Lists.{isIn, joinedOf, numbersBelow}
+use Rattle.sets.specs.Sets.{member, inEither}
 use Rattle.reader.specs.TableIndex.{startType}
-use Rattle.sets.specs.Sets.{member, both}
 use Rattle.sets.proofs.SetLaws.{member-zeros, store-set}
 use Rattle.pairs.specs.Places.{startsAt}
-use Rattle.pairs.specs.Walks.{listOf}
+use Rattle.pairs.specs.Walks.{listOfType}
 use Rattle.reducing.proofs.LeavingLaws.{start-set}
 use Rattle.reducing.proofs.leaving.start_pairs.Statement.{statement}
 use Rattle.reducing.proofs.leaving.start_pairs.Tie as tie
@@ -31,11 +31,11 @@ returns c =
     let room = c .before .before .before .before .before .before .before .before .before .before .pre .3 in
     let lists = c .before .before .before .before .before .before .before .before .before .before .args .lists in
     let index = c .before .before .before .before .before .before .before .before .before .before .args .index in
-    let olds = joinedOf (λ i. listOf (lists .old .from) (lists .old .numbers) (startType index i)) (numbersBelow (index .starts)) in
+    let olds = joinedOf (λ i. listOfType (lists .old .from) (lists .old .numbers) (startType index i)) (numbersBelow (index .starts)) in
     store-set _ startsAt _ _ (omega arith) (c .before .before .before .with-starts2 .ensures .1) (c .before .before .store .ensures)
     ∙ start-set x y l _ _ (c .before .before .before .with-starts2 .ensures .0)
     (c .before .before .before .before .before .before .with-starts .ensures .0
-    ∙ ap (both (λ p. isIn p olds)) (ap (λ (w : List ℕ). member w 0) (c .before .before .before .before .before .before .before .before .empty .ensures) ∙ member-zeros 4 0))
+    ∙ ap (inEither (λ p. isIn p olds)) (ap (λ (w : List ℕ). member w 0) (c .before .before .before .before .before .before .before .before .empty .ensures) ∙ member-zeros 4 0))
 
 pub start-pairs-spec : {M : Type 1} → statement M
 start-pairs-spec =

@@ -4,8 +4,8 @@ use mathlib.Core.Path.{_∙_, ap₂}
 use lib.ListN.{take, drop}
 use borrow.Author.Needs.{needs}
 use Rattle.grammar.specs.Lists.{isIn}
-use Rattle.sets.specs.Sets.{member, both}
-use Rattle.pairs.specs.Walks.{listOf}
+use Rattle.sets.specs.Sets.{member, inEither}
+use Rattle.pairs.specs.Walks.{listOfType}
 use Rattle.reducing.proofs.LeavingLaws.{list-part}
 use Rattle.reducing.proofs.leaving.with_list.Statement.{statement}
 use Rattle.reducing.proofs.leaving.with_list.Tie as tie
@@ -16,11 +16,11 @@ with-part-requires c κs =
     (pre .0, list-part (pre .1) _ _ _ (pre .2) (c .before .wide .ensures .0) (c .wide2 .ensures .0))
 
 returns : tie.Need-returns
-unfolding listOf
+unfolding listOfType
 returns c =
     let args = c .before .before .before .before .before .before .args in (
       c .with-part .ensures .0
-          ∙ ap₂ (λ (a b : ℕ). both (λ p. isIn p (take (b - a) (drop a (args .lists .numbers)))) (member (args .set .words) 0)) (c .before .before .wide .ensures .0) (c .before .wide2 .ensures .0),
+          ∙ ap₂ (λ (a b : ℕ). inEither (λ p. isIn p (take (b - a) (drop a (args .lists .numbers)))) (member (args .set .words) 0)) (c .before .before .wide .ensures .0) (c .before .wide2 .ensures .0),
       c .with-part .ensures .1,
     )
 

@@ -6,21 +6,21 @@ use mathlib.Core.Path.{_≡_, sym, _∙_, ap, subst}
 use lib.ListN.{length, getD}
 use borrow.Author.Needs.{needs}
 use Rattle.grammar.specs.Lists.{isIn, joinedOf, numbersBelow}
-use Rattle.theory.proofs.ListLaws.{joined-next}
-use Rattle.sets.specs.Sets.{member, both}
-use Rattle.pairs.specs.Walks.{listOf}
+use Rattle.theory.proofs.lists.ListLaws.{joined-next}
+use Rattle.sets.specs.Sets.{member, inEither}
 use Rattle.pairs.specs.declared.lists.Lists.{Lists}
+use Rattle.pairs.specs.Walks.{listOfType}
 use Rattle.reducing.proofs.NumberLaws.{both-start, both-next, joined-start}
 use Rattle.reducing.proofs.leaving.with_starts.Statement.{statement}
 use Rattle.reducing.proofs.leaving.with_starts.Tie as tie
 
 abbrev listAt : Lists → List ℕ → ℕ → List ℕ
-listAt lists types i = listOf (lists .from) (lists .numbers) (getD types i 0)
+listAt lists types i = listOfType (lists .from) (lists .numbers) (getD types i 0)
 
 abbrev Inv-loop : tie.InvT-loop
 Inv-loop lists types starts more₀ i₀ more i =
     (i ≤ starts)
-    × (member (more .words) 0 ≡ both (λ p. isIn p (joinedOf (listAt lists types) (numbersBelow i))) (member (more₀ .words) 0))
+    × (member (more .words) 0 ≡ inEither (λ p. isIn p (joinedOf (listAt lists types) (numbersBelow i))) (member (more₀ .words) 0))
     × (length (more .words) ≡ 4)
 
 abbrev μ-loop : tie.MeasureT-loop
@@ -61,10 +61,10 @@ loop-again c =
     let base = member (args .set .words) 0 in (
       omega arith,
       c .with-list .ensures .0
-          ∙ ap (λ (k : ℕ). both (λ p. isIn p (listOf (args .lists .from) (args .lists .numbers) k)) (member (c .before .before .before .loop .more .words) 0)) (c .before .wide .ensures .0)
-          ∙ ap (both (λ p. isIn p (f i))) (inv .1)
+          ∙ ap (λ (k : ℕ). inEither (λ p. isIn p (listOfType (args .lists .from) (args .lists .numbers) k)) (member (c .before .before .before .loop .more .words) 0)) (c .before .wide .ensures .0)
+          ∙ ap (inEither (λ p. isIn p (f i))) (inv .1)
           ∙ both-next (joinedOf f (numbersBelow i)) (f i) base
-          ∙ ap (λ (xs : List ℕ). both (λ p. isIn p xs) base) (sym (joined-next f i)),
+          ∙ ap (λ (xs : List ℕ). inEither (λ p. isIn p xs) base) (sym (joined-next f i)),
       c .with-list .ensures .1,
     )
 
@@ -73,7 +73,7 @@ returns c =
     let args = c .before .before .before .args in
     let f = listAt (args .lists) (args .index .«start_type») in
     let e : c .before .loop .i ≡ args .index .starts = omega arith in (
-      c .before .loop .inv .1 ∙ ap (λ (n : ℕ). both (λ p. isIn p (joinedOf f (numbersBelow n))) (member (args .set .words) 0)) e,
+      c .before .loop .inv .1 ∙ ap (λ (n : ℕ). inEither (λ p. isIn p (joinedOf f (numbersBelow n))) (member (args .set .words) 0)) e,
       c .before .loop .inv .2,
     )
 

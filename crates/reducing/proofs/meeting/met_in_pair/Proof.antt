@@ -7,7 +7,7 @@ use lib.ListN.{length, take}
 use lib.Dec.{eqb}
 use Rattle.grammar.specs.Lists.{joinedOf, numbersBelow}
 use Rattle.grammar.specs.Table.{Table}
-use Rattle.theory.proofs.Alternatives.{onlyIf}
+use Rattle.theory.specs.Alternatives.{onlyIf}
 use Rattle.pairs.specs.declared.union.United.{United}
 use Rattle.pairs.specs.View.{firstIn}
 use Rattle.reducing.specs.PairsMet.{metInRule, metInPair, Meets}

@@ -8,7 +8,7 @@ use lib.ListN.{length, length-replicate}
 use lib.Dec.{eqb}
 use Rattle.grammar.specs.Lists.{distinct, joinedOf, numbersBelow}
 use Rattle.grammar.specs.Table.{Table}
-use Rattle.theory.proofs.Alternatives.{onlyIf}
+use Rattle.theory.specs.Alternatives.{onlyIf}
 use Rattle.sets.specs.Sets.{member}
 use Rattle.reducing.specs.PairsMet.{metInPair, Meets}
 use Rattle.reducing.proofs.ListingLaws.{filled-zeros}

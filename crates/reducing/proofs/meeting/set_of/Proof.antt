@@ -6,7 +6,7 @@ use mathlib.Core.Path.{_≡_, _∙_, ap}
 use lib.ListN.{length, length-replicate, take}
 use borrow.Author.Needs.{needs}
 use Rattle.grammar.specs.Lists.{isIn}
-use Rattle.sets.specs.Sets.{member, both}
+use Rattle.sets.specs.Sets.{member, inEither}
 use Rattle.sets.proofs.SetLaws.{member-zeros}
 use Rattle.reducing.proofs.NumberLaws.{both-nothing}
 use Rattle.reducing.proofs.MeetingLaws.{met-part}
@@ -23,8 +23,8 @@ returns c =
     let nothing-yet = ap (λ (w : List ℕ). member w 0) (c .before .before .empty .ensures) ∙ member-zeros 4 0 in
     let z : found .count - 0 ≡ found .count = omega arith in (
       c .with-part .ensures .0
-          ∙ ap (λ (n : ℕ). both (λ p. isIn p (take n (found .numbers))) (member (c .before .before .empty .result .words) 0)) z
-          ∙ ap (both (λ p. isIn p (take (found .count) (found .numbers)))) nothing-yet
+          ∙ ap (λ (n : ℕ). inEither (λ p. isIn p (take n (found .numbers))) (member (c .before .before .empty .result .words) 0)) z
+          ∙ ap (inEither (λ p. isIn p (take (found .count) (found .numbers)))) nothing-yet
           ∙ both-nothing (λ p. isIn p (take (found .count) (found .numbers))),
       c .with-part .ensures .1,
     )

@@ -5,7 +5,7 @@ use mathlib.Core.Path.{_≡_, sym, _∙_, ap, subst}
 use lib.ListN.{length, take, drop}
 use borrow.Author.Needs.{needs}
 use Rattle.grammar.specs.Lists.{isIn}
-use Rattle.sets.specs.Sets.{member, both}
+use Rattle.sets.specs.Sets.{member, inEither}
 use Rattle.reducing.proofs.NumberLaws.{both-start}
 use Rattle.reducing.proofs.MeetingLaws.{part-next}
 use Rattle.reducing.proofs.meeting.with_part.Statement.{statement}
@@ -15,7 +15,7 @@ abbrev Inv-loop : tie.InvT-loop
 Inv-loop numbers first end more₀ i₀ more i =
     (first ≤ i)
     × (i ≤ end)
-    × (member (more .words) 0 ≡ both (λ p. isIn p (take (i - first) (drop first numbers))) (member (more₀ .words) 0))
+    × (member (more .words) 0 ≡ inEither (λ p. isIn p (take (i - first) (drop first numbers))) (member (more₀ .words) 0))
     × (length (more .words) ≡ 4)
 
 abbrev μ-loop : tie.MeasureT-loop
@@ -62,7 +62,7 @@ returns c =
     let inv = c .before .loop .inv in
     let e : c .before .loop .i ≡ args .end = omega arith in (
       inv .2
-          ∙ ap (λ (n : ℕ). both (λ p. isIn p (take (n - args .first) (drop (args .first) (args .numbers .now)))) (member (args .set .words) 0)) e,
+          ∙ ap (λ (n : ℕ). inEither (λ p. isIn p (take (n - args .first) (drop (args .first) (args .numbers .now)))) (member (args .set .words) 0)) e,
       inv .3,
     )
 

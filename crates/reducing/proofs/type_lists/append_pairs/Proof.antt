@@ -12,18 +12,18 @@ use Rattle.reducing.proofs.type_lists.append_pairs.Statement.{statement
 use Rattle.reducing.proofs.type_lists.append_pairs.Tie as tie
 
 abbrev Inv-loop : tie.InvT-loop
-Inv-loop v known kind numbers₀ count rules more₀ p₀ numbers more p =
+Inv-loop v known ty numbers₀ count rules more₀ p₀ numbers more p =
     (p ≤ rules)
-    × Appends (take count numbers₀) (keep (isPair v (member (known .words) 0) kind) (numbersBelow p)) numbers more
+    × Appends (take count numbers₀) (keep (isPair v (member (known .words) 0) ty) (numbersBelow p)) numbers more
     × (length numbers ≡ length numbers₀)
 
 abbrev μ-loop : tie.MeasureT-loop
-μ-loop v known kind numbers₀ count rules more₀ p₀ numbers more p = rules - p
+μ-loop v known ty numbers₀ count rules more₀ p₀ numbers more p = rules - p
 
 loop-holds : tie.Need-loop-holds Inv-loop μ-loop
 loop-holds c =
     let args = c .before .args in
-    let test = isPair (args .v) (member (args .known .words) 0) (args .kind) in
+    let test = isPair (args .v) (member (args .known .words) 0) (args .ty) in
     (omega arith, appends-same (sym (keep-start test)) (appends-none (c .before .pre .1)), refl)
 
 append-pair-requires : tie.Need-append-pair-requires Inv-loop μ-loop
@@ -33,7 +33,7 @@ append-pair-requires c κs =
     let inv = c .before .before .loop .inv .1 in (
       omega arith,
       inv .filled,
-      pair-new (args .v) (member (args .known .words) 0) (args .kind) (c .before .before .loop .p) _ _ (c .before .before .before .before .pre .2) (inv .all),
+      pair-new (args .v) (member (args .known .words) 0) (args .ty) (c .before .before .loop .p) _ _ (c .before .before .before .before .pre .2) (inv .all),
     )
 
 add-p : tie.Need-add-p Inv-loop μ-loop
@@ -44,7 +44,7 @@ add-p c =
 loop-again : tie.Need-loop-again Inv-loop μ-loop
 loop-again c =
     let args = c .before .before .before .before .before .before .before .args in
-    let test = isPair (args .v) (member (args .known .words) 0) (args .kind) in
+    let test = isPair (args .v) (member (args .known .words) 0) (args .ty) in
     let inv = c .before .before .before .before .before .loop .inv in (
       omega arith,
       appends-same (sym (keep-next test (c .before .before .before .before .before .loop .p))) (appends-join _ _ _ _ _ _ _ (inv .1) (c .before .before .append-pair .ensures)),
@@ -60,7 +60,7 @@ returns c =
     let known = member (args .known .words) 0 in
     let e : c .before .loop .p ≡ args .v .rules = omega arith in
     appends-same
-    (ap (λ (n : ℕ). keep (isPair (args .v) known (args .kind)) (numbersBelow n)) e ∙ pairs-in (args .v) known (args .kind))
+    (ap (λ (n : ℕ). keep (isPair (args .v) known (args .ty)) (numbersBelow n)) e ∙ pairs-in (args .v) known (args .ty))
     (c .before .loop .inv .1)
 
 pub append-pairs-spec : {M : Type 1} → statement M

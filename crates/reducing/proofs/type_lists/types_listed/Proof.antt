@@ -6,7 +6,7 @@ use mathlib.Core.List.{List}
 use mathlib.Core.Path.{_≡_, refl, _∙_, ap}
 use lib.ListN.{length, length-replicate}
 use borrow.Author.Needs.{needs}
-use Rattle.theory.proofs.Alternatives.{someLeft}
+use Rattle.theory.specs.Alternatives.{someLeft}
 use Rattle.sets.specs.Sets.{member, nothing}
 use Rattle.sets.proofs.SetLaws.{member-zeros}
 use Rattle.pairs.specs.Rounds.{puts}

@@ -5,8 +5,8 @@ use mathlib.Core.Logic.{⊎-elim}
 use mathlib.Core.Path.{_≡_, sym, _∙_, ap}
 use lib.ListN.{length}
 use Rattle.grammar.specs.Lists.{keep, numbersBelow}
+use Rattle.theory.proofs.bytes.FormsNumbered.{few-kept}
 use Rattle.sets.specs.Sets.{member}
-use Rattle.theory.proofs.FormsNumbered.{few-kept}
 use Rattle.results.proofs.LabelLaws.{place-among, kept-in, kept-out, kept-none}
 use Rattle.results.proofs.labels_used.label_place.Statement.{statement}
 use Rattle.results.proofs.labels_used.label_place.Tie as tie

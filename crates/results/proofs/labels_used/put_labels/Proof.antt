@@ -8,7 +8,7 @@ use lib.ListN.{length, getD}
 use borrow.Author.Needs.{needs}
 use Rattle.grammar.specs.Lists.{joinedOf, numbersBelow}
 use Rattle.grammar.specs.Fields.{fieldBytes}
-use Rattle.theory.proofs.Alternatives.{onlyIf}
+use Rattle.theory.specs.Alternatives.{onlyIf}
 use Rattle.sets.specs.Sets.{member}
 use Rattle.emitting.specs.Writing.{Put}
 use Rattle.sampling.proofs.RuleLaws.{up-start, step-stop, step-more}

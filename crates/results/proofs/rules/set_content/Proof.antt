@@ -7,11 +7,12 @@ use lib.ListN.{length}
 use borrow.Author.Needs.{needs}
 use Rattle.grammar.specs.Lists.{place, sameNumbers}
 use Rattle.grammar.specs.Content.{Content}
+use Rattle.theory.specs.Conditions.{Regular}
 use Rattle.sets.specs.Sets.{member}
 use Rattle.sets.proofs.SetLaws.{length-words}
 use Rattle.pairs.proofs.ViewLaws.{views-sized}
-use Rattle.emitting.specs.Completing.{Regular, Made}
-use Rattle.forms.specs.SetForms.{labelled}
+use Rattle.emitting.specs.Completing.{Made}
+use Rattle.forms.specs.SetForms.{pairsLabelled}
 use Rattle.results.specs.Widened.{kindOf}
 use Rattle.results.proofs.SetLaws.{labels-sized, set-held, set-four, content-is}
 use Rattle.results.proofs.ContentLaws.{all-labels, merged}
@@ -69,7 +70,7 @@ content-of-set-requires c κs =
     let numbers = c .before .before .before .label-numbers .ensures .0 _ _ (s .table) (s .sets) (s .views) (s .held) (s .count-is) in
     let listed =
     c .before .before .result-lists .ensures _ _ (s .table) (s .sets) within (s .views) (q .lists-are) (ap (λ (w : List ℕ). member w 0) (c .before .before .before .before .before .load .ensures) ∙ q .left-is) (s .labelled)
-    (all-labels q (λ l. place sameNumbers (labelled (s .table) within l) (s .sets)) (c .before .before .before .label-numbers .result .of) numbers) in
+    (all-labels q (λ l. place sameNumbers (pairsLabelled (s .table) within l) (s .sets)) (c .before .before .before .label-numbers .result .of) numbers) in
     (merged q within (c .before .types-listed .result) (c .before .before .result-lists .result) listed (c .before .types-listed .ensures .1) (c .before .types-listed .ensures .0), start .pre .0)
 
 same-length : tie.Need-same-length
@@ -86,7 +87,7 @@ returns c =
     let numbers = c .before .before .before .before .before .before .label-numbers .ensures .0 _ _ (s .table) (s .sets) (s .views) (s .held) (s .count-is) in
     let listed =
     c .before .before .before .before .before .result-lists .ensures _ _ (s .table) (s .sets) within (s .views) (q .lists-are) (ap (λ (w : List ℕ). member w 0) (c .before .before .before .before .before .before .before .before .load .ensures) ∙ q .left-is) (s .labelled)
-    (all-labels q (λ l. place sameNumbers (labelled (s .table) within l) (s .sets)) (c .before .before .before .before .before .before .label-numbers .result .of) numbers) in
+    (all-labels q (λ l. place sameNumbers (pairsLabelled (s .table) within l) (s .sets)) (c .before .before .before .before .before .before .label-numbers .result .of) numbers) in
     let held = set-held s i (start .pre .1) _ (start .pre .2) in
     let same =
     content-is (s .table) (s .sets) kind i (member (start .args .set .words) 0) within held

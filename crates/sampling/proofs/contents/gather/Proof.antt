@@ -6,7 +6,7 @@ use mathlib.Core.Path.{_≡_, refl, subst}
 use lib.ListN.{length}
 use borrow.Author.Needs.{needs}
 use Rattle.grammar.specs.Lists.{numbersBelow}
-use Rattle.theory.proofs.Gathering.{gathered}
+use Rattle.theory.specs.Alternatives.{gathered}
 use Rattle.emitting.specs.Drafts.{Row}
 use Rattle.sampling.specs.SampleContents.{operandsEnd, sequencesAmong}
 use Rattle.sampling.proofs.SequenceLaws.{among-start, gather-stop, gather-next}

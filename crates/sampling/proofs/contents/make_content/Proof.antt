@@ -2,11 +2,11 @@
 use native.Mathlib.Omega.{arith}
 use mathlib.Core.List.{[]}
 use Rattle.grammar.specs.Lists.{numbersBelow}
-use Rattle.theory.proofs.Gathering.{gathered}
 use Rattle.sampling.specs.SampleContents.{sequencesAmong}
 use Rattle.sampling.proofs.SequenceLaws.{upto-row, stop-wide}
 use Rattle.sampling.proofs.FlatLaws.{content-length, content-over, content-fits, content-wide}
 use borrow.Author.Needs.{needs}
+use Rattle.theory.specs.Alternatives.{gathered}
 use Rattle.sampling.proofs.contents.make_content.Statement.{statement}
 use Rattle.sampling.proofs.contents.make_content.Tie as tie
 

@@ -6,8 +6,8 @@ use lib.ListN.{length, getD}
 use borrow.Author.Needs.{needs}
 use Rattle.grammar.specs.Lists.{joinedOf, numbersBelow}
 use Rattle.grammar.specs.Fields.{fieldBytes}
+use Rattle.theory.proofs.lists.ListLaws.{part-of}
 use Rattle.emitting.specs.Writing.{Put}
-use Rattle.theory.proofs.ListLaws.{part-of}
 use Rattle.sampling.specs.SampleTable.{labelField}
 use Rattle.sampling.proofs.RuleLaws.{up-start, step-stop, step-more}
 use Rattle.sampling.proofs.fields.put_labels.Statement.{statement}

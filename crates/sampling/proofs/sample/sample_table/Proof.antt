@@ -2,9 +2,9 @@
 use native.Mathlib.Omega.{arith}
 use mathlib.Core.Path.{_≡_}
 use lib.ListN.{length}
-use Rattle.theory.proofs.ListLaws.{zeros-at}
 use Rattle.sampling.proofs.SampleIndexed.{index-counted, index-tree, index-whole, index-held, index-ready}
 use borrow.Author.Needs.{needs}
+use Rattle.theory.proofs.lists.ListLaws.{zeros-at}
 use Rattle.sampling.proofs.sample.sample_table.Statement.{statement}
 use Rattle.sampling.proofs.sample.sample_table.Tie as tie
 use Rattle.sampling.proofs.sample.sample_table.Reads as reads

@@ -9,7 +9,7 @@ returns : tie.Need-returns
 returns c = laws.kind-unanswered local (c .before .before .before .args .table .now) (c .before .before .before .args .work .now) (c .if1 .taken)
 
 returns-2 : tie.Need-returns-2
-returns-2 c = 
+returns-2 c =
     let a = c .before .before .before .before .before .before .before .before .args in
     laws.kind-answered local (a .table .now) (a .work .now) (c .before .before .before .before .before .if1 .left) _ (c .before .before .clear-work .ensures) (c .before .before .before .before .read-and-test-local .result)
     (c .before .before .before .before .read-and-test-local .ensures)

@@ -12,7 +12,7 @@ returns : tie.Need-returns
 returns c = laws.kind-unanswered singleType (c .before .before .before .args .table .now) (c .before .before .before .args .work .now) (c .if1 .taken)
 
 returns-2 : tie.Need-returns-2
-returns-2 c = 
+returns-2 c =
     let a = c .before .before .before .before .before .before .before .before .before .before .before .args in
     laws.kind-answered singleType (a .table .now) (a .work .now) (c .before .before .before .before .before .before .before .before .if1 .left) _
     (c .before .before .clear-work .ensures ∙ cleared-after (a .work .now) (c .before .before .before .before .before .before .read-and-test-single-type .last .1 .0) (c .before .before .before .before .before .before .before .before .if1 .left) (c .before .before .before .before .before .before .read-and-test-single-type .kept .1 .0 ∙ length-take-le 16384 (a .work .now) (c .before .before .before .before .before .before .before .before .if1 .left)))

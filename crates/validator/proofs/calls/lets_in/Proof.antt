@@ -11,7 +11,7 @@ returns : tie.Need-returns
 returns c = laws.lets-in-unanswered (c .before .before .before .before .args .table .now) (c .before .before .before .before .args .document .now) (c .before .before .before .before .args .work .now) (c .if1 .taken)
 
 returns-2 : tie.Need-returns-2
-returns-2 c = 
+returns-2 c =
     let a = c .before .before .before .before .before .before .before .before .before .before .before .before .args in
     laws.lets-in-answered (a .table .now) (a .document .now) (a .work .now) (c .before .before .before .before .before .before .before .before .if1 .left) _
     (c .before .before .clear-work .ensures ∙ cleared-after (a .work .now) (c .before .before .before .before .before .before .read-and-decide .last .1 .1 .0) (c .before .before .before .before .before .before .before .before .if1 .left) (c .before .before .before .before .before .before .read-and-decide .kept .1 .1 .0 ∙ length-take-le 16384 (a .work .now) (c .before .before .before .before .before .before .before .before .if1 .left)))

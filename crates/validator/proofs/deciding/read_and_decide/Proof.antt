@@ -5,7 +5,7 @@ use mathlib.Core.List.{List}
 use borrow.Author.Needs.{needs}
 use Rattle.reader.specs.declared.documents.DocumentRead.{DocumentRead}
 use Rattle.reader.specs.declared.documents.NodesRead.{NodesRead}
-use Rattle.reader.proofs.TableFound.{table-found}
+use Rattle.reader.proofs.TableFoundLaws.{table-found}
 use Rattle.validator.specs.KnownDocument.{indexOf}
 use Rattle.validator.proofs.VerdictLaws as laws
 use Rattle.validator.proofs.deciding.read_and_decide.Statement.{statement}

@@ -2,7 +2,7 @@
 use borrow.Author.Needs.{needs}
 use Rattle.grammar.specs.Kinds.{local}
 use Rattle.grammar.specs.KindTests.{isOfKind}
-use Rattle.reader.proofs.TableFound.{table-found}
+use Rattle.reader.proofs.TableFoundLaws.{table-found}
 use Rattle.validator.proofs.VerdictLaws as laws
 use Rattle.validator.proofs.deciding.read_and_test_local.Statement.{statement}
 use Rattle.validator.proofs.deciding.read_and_test_local.Tie as tie

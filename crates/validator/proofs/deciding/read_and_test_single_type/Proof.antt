@@ -4,7 +4,7 @@ use borrow.Author.Needs.{needs}
 use lib.Seq.{length-take-le}
 use Rattle.grammar.specs.Kinds.{singleType}
 use Rattle.grammar.specs.KindTests.{isOfKind}
-use Rattle.reader.proofs.TableFound.{table-found}
+use Rattle.reader.proofs.TableFoundLaws.{table-found}
 use Rattle.validator.proofs.VerdictLaws as laws
 use Rattle.validator.proofs.deciding.read_and_test_single_type.Statement.{statement}
 use Rattle.validator.proofs.deciding.read_and_test_single_type.Tie as tie

@@ -4,8 +4,8 @@ use native.Mathlib.Omega.{arith}
 use mathlib.Core.Path.{_≡_, _∙_}
 use lib.ListN.{length, getD, length-set, length-replicate}
 use borrow.Author.Count.{below-none}
+use Rattle.theory.proofs.lists.ListLaws.{set-up-to}
 use Rattle.reader.proofs.LabelSearch.{name-at}
-use Rattle.theory.proofs.ListLaws.{set-up-to}
 use Rattle.validator.proofs.LabelKeyLaws.{keyAt, keys-are}
 use Rattle.validator.proofs.label_search.label_keys.Statement.{statement}
 use Rattle.validator.proofs.label_search.label_keys.Tie as tie

@@ -9,8 +9,8 @@ use borrow.Author.Needs.{needs}
 use Rattle.grammar.specs.Lists.{place}
 use Rattle.grammar.specs.Names.{Name, sameName}
 use Rattle.grammar.specs.Table.{Table}
+use Rattle.theory.specs.Marked.{holds}
 use Rattle.reader.specs.TableIndex.{part}
-use Rattle.theory.proofs.MarkedRun.{holds}
 use Rattle.walks.specs.TypeSets.{setAt, testsAt}
 use Rattle.walks.specs.WalkAt.{runAt}
 use Rattle.validator.specs.Chains.{PlaceFrom}

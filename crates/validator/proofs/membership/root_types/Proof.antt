@@ -4,11 +4,11 @@ use native.Mathlib.Omega.{arith}
 use mathlib.Core.Path.{_≡_, refl, sym, _∙_, subst}
 use lib.ListN.{length, getD, take, drop}
 use Rattle.grammar.specs.Table.{Table}
+use Rattle.theory.proofs.lists.ListLaws.{part-of}
 use Rattle.reader.specs.DocumentNodes.{nodesIn}
 use Rattle.reader.specs.NamePlaces.{NamesAt}
+use Rattle.reader.specs.NodeTrees.{treeCount}
 use Rattle.reader.proofs.LabelSearch.{index-names}
-use Rattle.reader.proofs.DocumentTrees.{treeCount}
-use Rattle.theory.proofs.ListLaws.{part-of}
 use Rattle.validator.specs.KnownDocument.{indexOf}
 use Rattle.validator.specs.KnownTable.{RulesChained}
 use Rattle.validator.proofs.StackLaws as laws

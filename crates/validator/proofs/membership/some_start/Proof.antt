@@ -7,8 +7,8 @@ use lib.ListN.{getD}
 use borrow.Author.Count.{below-more}
 use borrow.Author.Needs.{needs}
 use Rattle.reader.proofs.LabelSearch.{start-passes, no-start-passes}
-use Rattle.reader.proofs.TableFound.{start-small}
 use Rattle.sets.specs.Sets.{member}
+use Rattle.reader.proofs.TableFoundLaws.{start-small}
 use Rattle.walks.specs.TypeSets.{setAt}
 use Rattle.validator.proofs.TypeLaws.{set-has}
 use Rattle.validator.proofs.membership.some_start.Statement.{statement}

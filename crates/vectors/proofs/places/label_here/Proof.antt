@@ -1,8 +1,8 @@
 -- `places::label_here` meets its contract.
 use native.Mathlib.Omega.{arith}
 use mathlib.Core.Path.{refl, sym, _∙_}
-use Rattle.theory.proofs.BoolLaws.{not-both}
 use borrow.Author.Needs.{needs}
+use Rattle.theory.proofs.lists.BoolLaws.{not-both}
 use Rattle.vectors.proofs.places.label_here.Statement.{statement}
 use Rattle.vectors.proofs.places.label_here.Tie as tie
 

@@ -10,7 +10,7 @@ use borrow.Author.Needs.{needs}
 use borrow.Fn.Kinds.{In}
 use borrow.Fn.PlainCycle.{Measures, is, falls, and}
 use Rattle.grammar.specs.Limits.{standard}
-use Rattle.theory.proofs.MarkedPass.{Walked, isMarked}
+use Rattle.theory.specs.MarkedWalk.{Walked, isMarked}
 use Rattle.reader.specs.ContentAt.{ContentsAt}
 use Rattle.reader.proofs.ContentAtLaws.{content-inside, type-there, count-there, operands-there, operand-there}
 use Rattle.walks.specs.TypeSets.{setAt}

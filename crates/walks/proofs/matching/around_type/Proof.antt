@@ -5,7 +5,7 @@ use mathlib.Core.Bool.{Bool, _||_}
 use mathlib.Core.Path.{sym, _∙_, ap}
 use borrow.Author.Needs.{needs}
 use Rattle.grammar.specs.Limits.{standard}
-use Rattle.theory.proofs.MarkedPass.{Walked, isMarked}
+use Rattle.theory.specs.MarkedWalk.{Walked, isMarked}
 use Rattle.reader.proofs.ContentAtLaws.{content-inside, type-there, operand-there}
 use Rattle.walks.specs.TypeSets.{setAt}
 use Rattle.walks.specs.WalkAt.{walkAt, walked}

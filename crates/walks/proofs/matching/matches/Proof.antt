@@ -6,7 +6,7 @@ use mathlib.Core.Path.{_∙_, ap}
 use lib.ListN.{length, drop}
 use borrow.Author.Needs.{needs}
 use Rattle.grammar.specs.Limits.{standard}
-use Rattle.theory.proofs.MarkedPass.{Walked, isMarked}
+use Rattle.theory.specs.MarkedWalk.{Walked, isMarked}
 use Rattle.walks.specs.TypeSets.{setAt, testsAt}
 use Rattle.walks.specs.WalkAt.{walkAt, walksAt}
 use Rattle.walks.proofs.WalkLaws.{match-none, match-some}

@@ -8,7 +8,7 @@ use mathlib.Core.Path.{_≡_, refl, sym, _∙_, ap}
 use lib.Dec.{eqb}
 use lib.ListN.{length}
 use Rattle.grammar.specs.Limits.{standard}
-use Rattle.theory.proofs.MarkedPass.{isMarked}
+use Rattle.theory.specs.MarkedWalk.{isMarked}
 use Rattle.reader.proofs.ContentAtLaws.{content-inside}
 use Rattle.walks.specs.TypeSets.{testsAt}
 use Rattle.walks.specs.WalkAt.{walksAt}

@@ -13,7 +13,7 @@ deliver-requires : tie.Need-deliver-requires
 deliver-requires c κs = drafts.fits (sampleOf (c .before .before .before .before .before .before .before .before .before .before .before .before .before .args .document .now)) _ (c .before .before .before .before .before .before .before .draft-sample .result) (c .before .before .before .before .before .before .before .draft-sample .ensures)
 
 returns-2 : tie.Need-returns-2
-returns-2 c = 
+returns-2 c =
     let a = c .before .before .before .before .before .before .before .before .before .before .before .before .before .before .before .before .args in
     laws.sample-answered (a .document .now) (a .out .now) (a .work .now) (c .before .before .before .before .before .before .before .before .before .before .before .before .if1 .left) (c .before .before .deliver .result) _ _
     (c .before .before .deliver .ensures (sampleOf (a .document .now)) (c .before .before .before .before .before .before .before .before .before .before .draft-sample .ensures)) (c .before .before .before .before .before .before .before .clear-work .ensures)

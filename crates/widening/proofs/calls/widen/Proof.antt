@@ -11,12 +11,12 @@ use Rattle.widening.proofs.calls.widen.Statement.{statement}
 use Rattle.widening.proofs.calls.widen.Tie as tie
 
 returns : tie.Need-returns
-returns c = 
+returns c =
     let a = c .before .before .before .before .before .args in
     laws.widening-unanswered (kindOf (a .kind)) (a .source) (a .old .now) (a .addition .now) (a .out .now) (a .work .now) (c .if1 .taken)
 
 deliver-requires : tie.Need-deliver-requires
-deliver-requires c κs = 
+deliver-requires c κs =
     let a = c .before .before .before .before .before .before .before .before .before .before .before .before .before .before .before .before .before .args in
     drafts.fits (widenedFrom (a .source) (kindOf (a .kind)) (a .old .now) (a .addition .now)) _ (c .before .before .before .before .before .before .before .before .before .draft-widened .result) (c .before .before .before .before .before .before .before .before .before .draft-widened .ensures)
 
@@ -29,7 +29,7 @@ same-length-2 c =
     ∙ used-length (a .work .now) (d .last .1 .1 .1 .1 .0) enough (d .kept .1 .1 .1 .1 .0 ∙ length-take-le 16384 (a .work .now) enough)
 
 returns-2 : tie.Need-returns-2
-returns-2 c = 
+returns-2 c =
     let a = c .before .before .before .before .before .before .before .before .before .before .before .before .before .before .before .before .before .before .before .before .args in
     let d = c .before .before .before .before .before .before .before .before .before .before .before .before .draft-widened in
     laws.widening-answered (kindOf (a .kind)) (a .source) (a .old .now) (a .addition .now) (a .out .now) (a .work .now) (c .before .before .before .before .before .before .before .before .before .before .before .before .before .before .before .if1 .left) (c .before .before .deliver .result) _ _

@@ -1,7 +1,7 @@
 -- `read_and_widen` meets its contract: the refusal of the addition, else what widening by it made.
-use Rattle.reader.proofs.TableFound.{table-found}
 use Rattle.results.specs.Widened.{kindOf}
 use borrow.Author.Needs.{needs}
+use Rattle.reader.proofs.TableFoundLaws.{table-found}
 use Rattle.widening.proofs.DraftLaws as laws
 use Rattle.widening.proofs.drafting.read_and_widen.Statement.{statement}
 use Rattle.widening.proofs.drafting.read_and_widen.Tie as tie

@@ -8,13 +8,13 @@ use Rattle.widening.proofs.drafting.widen_read.Statement.{statement}
 use Rattle.widening.proofs.drafting.widen_read.Tie as tie
 
 returns : tie.Need-returns
-returns c = 
+returns c =
     let a = c .before .before .before .before .before .before .before .before .before .before .before .before .before .args in
     let m = c .before .before .before .before .read-and-widen in
     λ g held. subst (λ (s : Source). InDraft (widenedBy s (kindOf (a .kind)) g (a .addition .now)) (m .last .1 .1 .1 .1 .1 .0) (m .result)) (sym (c .before .before .before .before .before .before .before .enum-told .given .1)) (m .ensures g held)
 
 returns-2 : tie.Need-returns-2
-returns-2 c = 
+returns-2 c =
     let a = c .before .before .before .before .before .before .before .before .before .before .before .before .before .args in
     let m = c .before .before .before .before .widen-by-sample in
     λ g held. subst (λ (s : Source). InDraft (widenedBy s (kindOf (a .kind)) g (a .addition .now)) (m .last .1 .1 .1 .1 .1 .0) (m .result)) (sym (c .before .before .before .before .before .before .before .enum-told2 .given .1)) (m .ensures g held)

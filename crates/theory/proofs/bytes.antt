@@ -1,0 +1,13 @@
+pub mod OutcomeLaws
+pub mod FieldBytes
+pub mod ReadSteps
+pub mod NodeSteps
+pub mod TableBytes
+pub mod DocumentBytes
+pub mod ReadWithin
+pub mod WrittenBytes
+pub mod DocumentWithin
+pub mod CountedTables
+pub mod NumberedTable
+pub mod FormsNumbered
+pub mod SampleWithin

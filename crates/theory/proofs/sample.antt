@@ -1,0 +1,3 @@
+pub mod SampleRules
+pub mod SampleMembers
+pub mod SampleLeast

@@ -1,0 +1,14 @@
+pub mod UniteDocuments
+pub mod NormaliseDocuments
+pub mod Rounds
+pub mod Fruitful
+pub mod Reached
+pub mod ReduceDocuments
+pub mod ReducedUnion
+pub mod UsedLabelsDocuments
+pub mod LocalMerge
+pub mod SetsClosed
+pub mod SingleTypeMerge
+pub mod TidyTable
+pub mod FinishedForm
+pub mod LeastForms

@@ -1,0 +1,9 @@
+pub mod NamedLabels
+pub mod TableConditions
+pub mod KindLaws
+pub mod KindTests
+pub mod CarryDerivations
+pub mod Covering
+pub mod SameRules
+pub mod SameTree
+pub mod ReducedTable

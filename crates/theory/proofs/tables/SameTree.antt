@@ -1,0 +1,67 @@
+-- Trees that are equal up to equal names, an equivalence:
+--     same-derives    a type that derives a tree derives every tree that is the same
+--     same-let-in     so a table that lets in a document lets in every document that is the same
+use Prim.Native.Nat.{ℕ}
+use mathlib.Core.List.{List}
+use Rattle.grammar.specs.Names.{Name, SameName}
+use Rattle.grammar.specs.Tree.{Tree, node, Forest, []ᵗ, _∷ᵗ_}
+use Rattle.grammar.specs.Table.{Table}
+use Rattle.grammar.specs.Derivation.{Fits, Derives, derives, DerivesAll, derives-none, derives-next, LetsIn}
+use Rattle.theory.proofs.trees.NameLaws.{name-refl, name-sym, name-trans}
+use Rattle.theory.proofs.tables.NamedLabels.{same-named}
+
+mutual
+  pub data SameTree : Tree → Tree → Type 0 where
+    same-node : {m n : Name} {ts us : Forest} → SameName m n → SameForest ts us → SameTree (node m ts) (node n us)
+
+  pub data SameForest : Forest → Forest → Type 0 where
+    same-none : SameForest []ᵗ []ᵗ
+    same-next : {t u : Tree} {ts us : Forest} → SameTree t u → SameForest ts us → SameForest (t ∷ᵗ ts) (u ∷ᵗ us)
+
+mutual
+  pub same-refl : (t : Tree) → SameTree t t
+  same-refl (node n ts) = same-node (name-refl n) (same-all-refl ts)
+
+  pub same-all-refl : (ts : Forest) → SameForest ts ts
+  same-all-refl []ᵗ = same-none
+  same-all-refl (t ∷ᵗ ts) = same-next (same-refl t) (same-all-refl ts)
+
+mutual
+  pub same-sym : {t u : Tree} → SameTree t u → SameTree u t
+  same-sym (same-node {m = m} {n = n} e all) = same-node (name-sym m n e) (same-all-sym all)
+
+  pub same-all-sym : {ts us : Forest} → SameForest ts us → SameForest us ts
+  same-all-sym same-none = same-none
+  same-all-sym (same-next e all) = same-next (same-sym e) (same-all-sym all)
+
+mutual
+  pub same-trans : {t u v : Tree} → SameTree t u → SameTree u v → SameTree t v
+  same-trans (same-node {m = l} {n = m} e all) (same-node {n = n} e′ all′) =
+      same-node (name-trans l m n e e′) (same-all-trans all all′)
+
+  pub same-all-trans : {ts us vs : Forest} → SameForest ts us → SameForest us vs → SameForest ts vs
+  same-all-trans same-none same-none = same-none
+  same-all-trans (same-next e all) (same-next e′ all′) = same-next (same-trans e e′) (same-all-trans all all′)
+
+module _ {g : Table} where
+  -- a rule is of every name equal to one of its names
+  pub same-fits : {k : ℕ} {m n : Name} {w : List ℕ} → Fits g k m w → SameName m n → Fits g k n w
+  same-fits f e =
+      record {
+        rule = f .rule;
+        of-table = f .of-table;
+        of-type = f .of-type;
+        of-name = same-named (f .of-name) e;
+        word = f .word;
+      }
+
+  mutual
+    pub same-derives : {k : ℕ} {t u : Tree} → Derives g k t → SameTree t u → Derives g k u
+    same-derives (derives f all) (same-node e same) = derives (same-fits f e) (same-derives-all all same)
+
+    pub same-derives-all : {w : List ℕ} {ts us : Forest} → DerivesAll g w ts → SameForest ts us → DerivesAll g w us
+    same-derives-all derives-none same-none = derives-none
+    same-derives-all (derives-next d all) (same-next e same) = derives-next (same-derives d e) (same-derives-all all same)
+
+  pub same-let-in : {d e : Tree} → LetsIn g d → SameTree d e → LetsIn g e
+  same-let-in l e = record { start = l .start; of-table = l .of-table; derived = same-derives (l .derived) e }

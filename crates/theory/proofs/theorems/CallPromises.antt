@@ -1,0 +1,236 @@
+-- What a call leaves keeps its promises (grammar's Promises), for any limits and classes: `settled` gives the rest, by the theorems on
+-- membership, kinds and widening.
+--     membership, kind-test, sampling, widening
+use Prim.Native.Nat.{ℕ, _≤_, _<_}
+use native.Mathlib.Omega.{arith}
+use mathlib.Core.Bool.{Bool, true, false, true≢false}
+use mathlib.Core.List.{List, _++_}
+use mathlib.Core.Logic.{_↔_, _⊎_}
+use mathlib.Core.Path.{_≡_, refl, sym, _∙_, ap, subst}
+use lib.Dec.{ltb}
+use lib.ListN.{length, take, drop}
+use lib.Seq.{take-append-seam}
+use borrow.Author.Tests.{lt-ltb, le-ltb}
+use Rattle.grammar.specs.Limits.{Limits, LimitsAgree}
+use Rattle.grammar.specs.Names.{Classes}
+use Rattle.grammar.specs.Tree.{Tree}
+use Rattle.grammar.specs.Table.{Table}
+use Rattle.grammar.specs.Derivation.{LetsIn}
+use Rattle.grammar.specs.Kinds.{Kind, local, singleType, OfKind}
+use Rattle.grammar.specs.Least.{Addition, byTable, byDocument, Added}
+use Rattle.grammar.specs.Outcome.{Outcome, given, refused, _>>=_, _>>_, turnBack}
+use Rattle.grammar.specs.ReadTable.{readTable}
+use Rattle.grammar.specs.ReadDocument.{readDocument}
+use Rattle.grammar.specs.WriteTable.{tableBytes}
+use Rattle.grammar.specs.Membership.{letsIn}
+use Rattle.grammar.specs.KindTests.{isOfKind}
+use Rattle.grammar.specs.Sample.{sample}
+use Rattle.grammar.specs.Widen.{widen, sampleTable}
+use Rattle.grammar.specs.Claim.{WritesLeast}
+use Rattle.grammar.specs.Answers.{Numbers, refusedBy, saysYes, saysNo, numbersOf, bit}
+use Rattle.grammar.specs.Calls.{
+  workTooShort,
+  outAfter,
+  writtenTo,
+  After,
+  answered,
+  wrote,
+  tableReads,
+  documentReads,
+  tableLetsIn,
+  tableIsOfKind,
+  documentSample,
+  readAddition,
+  widened,
+}
+use Rattle.grammar.specs.Promises.{Decides, Membership, KindTest, Sampling, Widening}
+use Rattle.grammar.specs.declared.Source.{Source}
+use Rattle.grammar.specs.declared.Refusal.the-variants.{WorkTooShort, NoDocument, OutputTooShort}
+use Rattle.theory.proofs.bytes.OutcomeLaws.{given-then, no-fault, was-given, had-no-fault, given-eq}
+use Rattle.theory.proofs.theorems.AnswerNumbers.{numbers-given, numbers-refused}
+use Rattle.theory.proofs.matching.Membership.{lets-in}
+use Rattle.theory.proofs.tables.KindTests.{is-local, is-single-type}
+use Rattle.theory.proofs.bytes.DocumentWithin.{document-within}
+use Rattle.theory.proofs.theorems.ResultWithin.{sample-read-back}
+use Rattle.theory.proofs.theorems.WidenLeast.{sampled}
+use Rattle.theory.proofs.theorems.WideningTheorem.{widening-theorem, thirteen}
+
+-- a test that decides a fact
+decided : {Fact : Type 0} (b : Bool) → (b ≡ true) ↔ Fact → (answer : Numbers) → answer ≡ record { refusal = 0; value = bit b } → Decides answer Fact
+unfolding bit
+decided true f answer e =
+    record {
+      yes = (λ y. f .0 refl, λ x. e);
+      no = (
+        λ n. let z : _≡_ {A = ℕ} 1 0 = ap (λ (m : Numbers). m .value) (sym e ∙ n) in absurd (omega arith),
+        λ x. absurd (x (f .0 refl)),
+      );
+    }
+decided false f answer e =
+    record {
+      yes = (
+        λ y. let z : _≡_ {A = ℕ} 0 1 = ap (λ (m : Numbers). m .value) (sym e ∙ y) in absurd (omega arith),
+        λ x. absurd (true≢false (sym (f .1 x))),
+      );
+      no = (λ n x. true≢false (sym (f .1 x)), λ x. e);
+    }
+
+of-kind : (kind : Kind) (g : Table) → (isOfKind kind g ≡ true) ↔ OfKind kind g
+unfolding isOfKind
+of-kind local g = is-local g
+of-kind singleType g = is-single-type g
+
+-- reading with the working memory lent
+module _ (lim : Limits) (work : List ℕ) {A : Type 0} (o : Outcome A) where
+  abbrev pub lent : Outcome A
+  lent = turnBack (workTooShort lim work) WorkTooShort >> o
+
+  pub lent-short : length work < lim .words → lent ≡ refused WorkTooShort
+  unfolding workTooShort
+  lent-short h = ap (λ (b : Bool). turnBack b WorkTooShort >> o) (lt-ltb (length work) (lim .words) h)
+
+  pub lent-enough : lim .words ≤ length work → lent ≡ o
+  unfolding workTooShort
+  lent-enough h = no-fault (workTooShort lim work) WorkTooShort o (le-ltb (length work) (lim .words) h)
+
+  -- what was given in the end was read
+  lent-given : {B : Type 0} (next : A → Outcome B) (b : B) → (lent >>= next) ≡ given b → (a : A) → o ≡ given a → next a ≡ given b
+  lent-given next b e a p =
+      let (x, q, n) = was-given lent next b e in
+      let same = given-eq (sym (had-no-fault (workTooShort lim work) WorkTooShort o x q .1) ∙ p) in
+      subst (λ (y : A). next y ≡ given b) same n
+
+-- what is written is a table's bytes, and stands at the front of the output
+written-bytes : (out : List ℕ) (g : Table) (bytes : List ℕ) → writtenTo out g ≡ given bytes → tableBytes g ≡ bytes
+unfolding writtenTo
+written-bytes out g bytes e =
+    given-eq (had-no-fault (ltb (length out) (length (tableBytes g))) OutputTooShort (given (tableBytes g)) bytes e .1)
+
+module _ (lim : Limits) (o : Outcome (List ℕ)) (out work : List ℕ) (left : After Numbers) (settled : left ≡ wrote lim o out work) where
+  wrote-numbers : left .answer ≡ numbersOf length o
+  unfolding wrote
+  wrote-numbers = ap (λ (a : After Numbers). a .answer) settled
+
+  -- the bytes of a call that gave no refusal
+  wrote-bytes : left .answer .refusal ≡ 0 → (o ≡ given (take (left .answer .value) (left .out)))
+  unfolding wrote numbersOf outAfter
+  wrote-bytes z =
+      let (bytes, e) = numbers-given length o (ap (λ (n : Numbers). n .refusal) (sym wrote-numbers) ∙ z) in
+      let value : left .answer .value ≡ length bytes =
+      ap (λ (n : Numbers). n .value) (wrote-numbers ∙ ap (numbersOf length) e) in
+      let front : left .out ≡ bytes ++ drop (length bytes) out =
+      ap (λ (a : After Numbers). a .out) settled ∙ ap (λ (x : Outcome (List ℕ)). outAfter x out) e in
+      e
+      ∙ ap (λ (l : List ℕ). given l)
+      (sym (ap (λ (n : ℕ). take n (left .out)) value ∙ ap (take (length bytes)) front ∙ take-append-seam bytes (drop (length bytes) out)))
+
+module _ (lim : Limits) (classes : Classes) where
+  -- membership and kind
+  pub membership : (table document work : List ℕ) (left : After Numbers)
+      → left ≡ answered lim bit (tableLetsIn lim classes table document work) work → Membership lim classes table document work left
+  unfolding answered tableLetsIn tableReads numbersOf
+  membership table document work left s =
+      record {
+        settled = s;
+        decides = λ g d p q h.
+            decided (letsIn g d) (lets-in g d) (left .answer)
+            (ap (λ (a : After Numbers). a .answer) s
+            ∙ ap (λ (o : Outcome Table). numbersOf bit (o >>= λ g. (readDocument lim classes document >>= λ d. given (letsIn g d))))
+            (lent-enough lim work (readTable lim classes table) h ∙ p)
+            ∙ ap (λ (o : Outcome Tree). numbersOf bit (o >>= λ d. given (letsIn g d))) q);
+      }
+
+  pub kind-test : (kind : Kind) (table work : List ℕ) (left : After Numbers)
+      → left ≡ answered lim bit (tableIsOfKind lim classes kind table work) work → KindTest lim classes kind table work left
+  unfolding answered tableIsOfKind tableReads numbersOf
+  kind-test kind table work left s =
+      record {
+        settled = s;
+        decides = λ g p h.
+            decided (isOfKind kind g) (of-kind kind g) (left .answer)
+            (ap (λ (a : After Numbers). a .answer) s
+            ∙ ap (λ (o : Outcome Table). numbersOf bit (o >>= λ g. given (isOfKind kind g)))
+            (lent-enough lim work (readTable lim classes table) h ∙ p));
+      }
+
+  module _ (agree : LimitsAgree lim) where
+    pub sampling : (document out work : List ℕ) (left : After Numbers)
+        → left ≡ wrote lim (documentSample lim classes document out work) out work → Sampling lim classes document out work left
+    unfolding documentSample documentReads
+    sampling document out work left s =
+        record {
+          settled = s;
+          reads = λ z d p.
+              let bytes = take (left .answer .value) (left .out) in
+              let f =
+              lent-given lim work (readDocument lim classes document) (λ d. (sampleTable lim d >>= λ g. writtenTo out g)) bytes
+              (wrote-bytes lim (documentSample lim classes document out work) out work left s z) d p in
+              let (g, q, w) = was-given (sampleTable lim d) (λ g. writtenTo out g) bytes f in
+              ap (readTable lim classes) (sym (written-bytes out g bytes w))
+              ∙ sample-read-back lim classes agree d (document-within lim classes document d p) g q
+              ∙ ap (λ (x : Table). given x) (sampled lim d g q);
+        }
+
+    module _ (kind : Kind) (source : Source) (old addition out work : List ℕ) where
+      abbrev outcome : Outcome (List ℕ)
+      outcome = widened lim classes kind source old addition out work
+
+      module _ (g : Table) (a : Addition) (p : readTable lim classes old ≡ given g) (q : readAddition lim classes source addition ≡ given a) where
+        -- what a widening writes is least
+        writes-least : (bytes : List ℕ) → outcome ≡ given bytes → WritesLeast lim classes kind g a bytes
+        unfolding widened tableReads
+        writes-least bytes e =
+            let f =
+            lent-given lim work (readTable lim classes old)
+            (λ g. (readAddition lim classes source addition >>= λ a. (widen lim kind g a >>= λ r. writtenTo out r))) bytes e g p in
+            let (r, n, w) =
+            was-given (widen lim kind g a) (λ r. writtenTo out r) bytes
+            (sym (given-then (readAddition lim classes source addition) a (λ a. (widen lim kind g a >>= λ r. writtenTo out r)) q) ∙ f) in
+            subst (WritesLeast lim classes kind g a) (written-bytes out r bytes w)
+            (widening-theorem lim classes agree kind source old addition g a r p q n)
+
+        -- with enough working memory the outcome is that of widening
+        widens : lim .words ≤ length work → outcome ≡ (widen lim kind g a >>= writtenTo out)
+        unfolding widened tableReads
+        widens h =
+            ap
+            (λ (o : Outcome Table). o >>= λ g. (readAddition lim classes source addition >>= λ a. (widen lim kind g a >>= λ r. writtenTo out r)))
+            (lent-enough lim work (readTable lim classes old) h ∙ p)
+            ∙ ap (λ (o : Outcome Addition). o >>= λ a. (widen lim kind g a >>= λ r. writtenTo out r)) q
+
+        -- 13 comes from widening alone
+        writing-thirteen : (r : Table) → writtenTo out r ≡ refused NoDocument → ⊥
+        unfolding writtenTo
+        writing-thirteen r e = go (ltb (length out) (length (tableBytes r))) e
+          where
+            go : (b : Bool) → (turnBack b OutputTooShort >> given (tableBytes r)) ≡ refused NoDocument → ⊥
+            go true e = let z : _≡_ {A = ℕ} 0 1 = cc in omega arith
+            go false e = let z : _≡_ {A = ℕ} 0 1 = cc in omega arith
+
+        was-thirteen : (o : Outcome Table) → (o >>= writtenTo out) ≡ refused NoDocument → o ≡ refused NoDocument
+        was-thirteen (refused r) e = cc
+        was-thirteen (given r) e = absurd (writing-thirteen r e)
+
+        module _ (left : After Numbers) (s : left ≡ wrote lim outcome out work) (h : lim .words ≤ length work) where
+          so-thirteen : (left .answer ≡ refusedBy NoDocument) ↔ ((d : Tree) → LetsIn g d ⊎ Added a d → ⊥)
+          unfolding numbersOf
+          so-thirteen = (
+            λ e.
+                thirteen lim classes agree kind source old addition g a p q
+                .0
+                (was-thirteen (widen lim kind g a)
+                (sym (widens h) ∙ numbers-refused length outcome NoDocument (sym (wrote-numbers lim outcome out work left s) ∙ e))),
+            λ none.
+                wrote-numbers lim outcome out work left s
+                ∙ ap (numbersOf length)
+                (widens h
+                ∙ ap (λ (o : Outcome Table). o >>= writtenTo out) (thirteen lim classes agree kind source old addition g a p q .1 none)),
+          )
+
+      pub widening : (left : After Numbers) → left ≡ wrote lim outcome out work → Widening lim classes kind source old addition out work left
+      widening left s =
+          record {
+            settled = s;
+            least = λ z g a p q. writes-least g a p q _ (wrote-bytes lim outcome out work left s z);
+            no-document = λ g a p q h. so-thirteen g a p q left s h;
+          }

@@ -1,0 +1,4 @@
+pub mod NameLaws
+pub mod PathLaws
+pub mod TreeParts
+pub mod VisitedTrees

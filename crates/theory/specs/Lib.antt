@@ -1,0 +1,5 @@
+pub mod Alternatives
+pub mod Conditions
+pub mod Marked
+pub mod MarkedWalk
+pub mod SamplePaths
