@@ -50,7 +50,7 @@ use Rattle.emitting.proofs.FinishLaws.{
   headed-before,
 }
 use Rattle.reader.proofs.ContentAtLaws.{FirstThere, first-of, others-from, none-there}
-use Rattle.pairs.specs.Walks.{listOfType}
+use Rattle.union.specs.Walks.{listOfType}
 use Rattle.emitting.specs.Drafts.{Row, Kept, Newest, Unfit, TooWide, OperandsAdded, Gathers, Finished}
 use Rattle.emitting.specs.Emitting.{RoomForMore, Source, Sources, TypesKept, GathersTypes, Operands, Laid, Emits}
 use Rattle.emitting.proofs.WideLaws.{

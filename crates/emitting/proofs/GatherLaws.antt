@@ -16,7 +16,7 @@ use Rattle.theory.specs.Alternatives.{gathered}
 use Rattle.theory.proofs.emission.GatheringLaws.{gather-nothing, gather-more}
 use Rattle.reader.specs.ExprAt.{_upTo_, exprAt}
 use Rattle.reader.proofs.ExprLaws.{exprs-kept}
-use Rattle.pairs.specs.Walks.{listOfType}
+use Rattle.union.specs.Walks.{listOfType}
 use Rattle.emitting.specs.declared.drafts.Gathering.{Gathering}
 use Rattle.emitting.specs.declared.drafts.Gathering.the-variants.{TooLarge, Upto}
 use Rattle.emitting.specs.Drafts.{Row, Kept, Newest, TooWide, OperandsAdded, Gathers}

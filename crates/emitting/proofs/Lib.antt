@@ -7,4 +7,3 @@ pub mod TypesKeptLaws
 pub mod SourceLaws
 pub mod EmitLaws
 pub mod CompleteLaws
-pub mod PutLaws

@@ -38,7 +38,7 @@ use Rattle.reader.specs.ContentAt.{ContentAt, ContentsAt}
 use Rattle.emitting.specs.Emitting.{Maps}
 use Rattle.sets.specs.Sets.{member}
 use Rattle.reader.proofs.ContentAtLaws.{placed-of, content-inside, operands-there, operand-there}
-use Rattle.pairs.specs.Walks.{hasAt, hasRowAt, listOfType}
+use Rattle.union.specs.Walks.{hasAt, hasRowAt, listOfType}
 use Rattle.emitting.proofs.WideLaws.{Around, around-any-number, around-one-or-more, around-optional}
 
 -- how deep they nest

@@ -12,7 +12,7 @@ use Rattle.theory.specs.Alternatives.{someLeft}
 use Rattle.sets.specs.Sets.{member}
 use Rattle.reader.specs.ExprAt.{_upTo_, exprsAt}
 use Rattle.reader.specs.ContentAt.{ContentAt, ContentsAt}
-use Rattle.pairs.specs.Walks.{listOfType}
+use Rattle.union.specs.Walks.{listOfType}
 use Rattle.emitting.specs.Drafts.{Kept, Unfit, Gathers}
 use Rattle.emitting.specs.declared.drafts.Gathering.{Gathering}
 use Rattle.emitting.specs.declared.drafts.Gathering.the-variants as gathering

@@ -1,6 +1,5 @@
-// Contents of a result made in a draft, and fields written after one another.
+// Contents of a result made in a draft.
 pub mod completing;
 pub mod drafts;
 pub mod emitter;
 pub mod limits;
-pub mod writing;

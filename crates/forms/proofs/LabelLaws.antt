@@ -19,10 +19,10 @@ use Rattle.grammar.specs.SingleTypeForm.{TypeSet}
 use Rattle.theory.proofs.lists.BoolLaws.{not-both}
 use Rattle.theory.proofs.lists.ListLaws.{at-else, mem-in, numbers-end}
 use Rattle.theory.proofs.lists.DistinctLaws.{keep-append}
-use Rattle.pairs.specs.declared.union.United.{United}
-use Rattle.pairs.specs.View.{Views, labelIn}
-use Rattle.pairs.specs.PairNumbers.{ruleNumbered}
-use Rattle.pairs.proofs.ViewLaws.{seen}
+use Rattle.union.specs.declared.united.United.{United}
+use Rattle.union.specs.View.{Views, labelIn}
+use Rattle.union.specs.PairNumbers.{ruleNumbered}
+use Rattle.union.proofs.ViewLaws.{seen}
 use Rattle.forms.specs.declared.set_words.Counted.{Counted}
 use Rattle.forms.specs.declared.set_words.Counted.the-variants.{TooMany, Count}
 use Rattle.forms.specs.SetWords.{Ascending, SetsCounted}

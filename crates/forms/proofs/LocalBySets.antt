@@ -38,7 +38,7 @@ use Rattle.theory.proofs.lists.ListLaws.{
 use Rattle.theory.proofs.lists.PlaceLaws.{place-of, place-image}
 use Rattle.theory.proofs.emission.EmittedRule.{pairContents, pairsStanding, local-content}
 use Rattle.theory.proofs.steps.UsedLabelsDocuments.{used-differ}
-use Rattle.pairs.specs.PairNumbers.{ruleNumbered, isLeft, contentsIn}
+use Rattle.union.specs.PairNumbers.{ruleNumbered, isLeft, contentsIn}
 use Rattle.forms.specs.SetForms.{
   pairsLabelled,
   labelSets,

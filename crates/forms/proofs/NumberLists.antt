@@ -17,8 +17,8 @@ use Rattle.grammar.specs.Lists.{keep, isIn, numbersFrom, numbersBelow}
 use Rattle.theory.proofs.lists.BoolLaws.{same-test}
 use Rattle.theory.proofs.lists.ListLaws.{keep-yes, keep-no, kept, keep-mem, in-mem, mem-in, numbers-below, keep-on}
 use Rattle.sets.specs.Sets.{nothing}
-use Rattle.pairs.specs.Rounds.{puts}
-use Rattle.pairs.proofs.PutsLaws.{puts-was, puts-has}
+use Rattle.union.specs.Rounds.{puts}
+use Rattle.union.proofs.PutsLaws.{puts-was, puts-has}
 
 pub keep-below : (p q : ℕ → Bool) (n : ℕ) → ((i : ℕ) → i < n → p i ≡ q i) → keep p (numbersBelow n) ≡ keep q (numbersBelow n)
 keep-below p q n h = keep-on p q (numbersBelow n) (λ i m. h i (numbers-below n i .0 m))

@@ -34,11 +34,11 @@ use Rattle.theory.proofs.lists.ListLaws.{
   set-up-to,
   zeros-at,
 }
-use Rattle.pairs.specs.declared.lists.TypeLists.{TypeLists}
-use Rattle.pairs.specs.TypeLists.{ListsOf}
-use Rattle.pairs.specs.Walks.{listOfType, Listed}
-use Rattle.pairs.specs.PairNumbers.{ruleNumbered, fruitfulOf, isLeft}
-use Rattle.pairs.proofs.PairLists.{pairs-are}
+use Rattle.union.specs.declared.lists.TypeLists.{TypeLists}
+use Rattle.union.specs.TypeLists.{ListsOf}
+use Rattle.union.specs.Walks.{listOfType, Listed}
+use Rattle.union.specs.PairNumbers.{ruleNumbered, fruitfulOf, isLeft}
+use Rattle.union.proofs.PairLists.{pairs-are}
 use Rattle.forms.specs.Worklist.{NumbersOf}
 use Rattle.forms.specs.SetForms.{pairsLabelled, labelLeft, setNumber}
 

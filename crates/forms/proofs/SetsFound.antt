@@ -56,7 +56,7 @@ use Rattle.theory.proofs.steps.Reached.{start-reached}
 use Rattle.theory.proofs.steps.SetsClosed.{starts-first, newSets, more-end, more-next}
 use Rattle.theory.proofs.steps.SingleTypeMerge.{first-member}
 use Rattle.theory.proofs.lists.DistinctLaws.{keep-distinct, distinct-again, distinct-on}
-use Rattle.pairs.specs.PairNumbers.{ruleNumbered, isLeft, isStart, metIn}
+use Rattle.union.specs.PairNumbers.{ruleNumbered, isLeft, isStart, metIn}
 use Rattle.forms.specs.SetWords.{Ascending}
 use Rattle.forms.specs.Worklist.{setsWithin}
 use Rattle.forms.specs.SetForms.{pairsLabelled, labelSets, labelLeft, setLabel, singleTypeSets, metWithin}

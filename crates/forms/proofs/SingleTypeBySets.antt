@@ -20,7 +20,7 @@ use Rattle.theory.proofs.lists.ListLaws.{at-mem, at-map, just-eq, in-mem, mem-i
 use Rattle.theory.proofs.emission.EmittedRule.{set-content}
 use Rattle.theory.proofs.steps.SetsClosed.{OneLabelSet, sets-induct, set-met, start-set}
 use Rattle.theory.proofs.steps.SingleTypeMerge.{single-type-form-length, single-type-form-place}
-use Rattle.pairs.specs.PairNumbers.{metIn}
+use Rattle.union.specs.PairNumbers.{metIn}
 use Rattle.forms.specs.SetForms.{
   pairsLabelled,
   labelLeft,

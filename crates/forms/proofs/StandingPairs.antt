@@ -48,11 +48,11 @@ use Rattle.theory.proofs.tables.KindTests.{same-pair-sym}
 use Rattle.theory.proofs.steps.NormaliseDocuments.{pair-refl, pair-same, same-pair, pairs-of}
 use Rattle.theory.proofs.emission.EmittedContent.{joined-map}
 use Rattle.theory.proofs.emission.EmittedRule.{firstRules, pairsStanding, pairContents, ruleLeft, left-rules, set-met}
-use Rattle.pairs.specs.Rounds.{contentOfRule}
-use Rattle.pairs.specs.PairNumbers.{ruleNumbered, fruitfulOf, isLeft, contentsOfPair, contentsIn, metIn}
-use Rattle.pairs.proofs.PairLists.{firsts-are, noRule}
-use Rattle.pairs.proofs.MetLaws.{met-hold}
-use Rattle.pairs.proofs.ReachedLaws.{start-pairs, met-reached, reached-set}
+use Rattle.union.specs.Rounds.{contentOfRule}
+use Rattle.union.specs.PairNumbers.{ruleNumbered, fruitfulOf, isLeft, contentsOfPair, contentsIn, metIn}
+use Rattle.union.proofs.PairLists.{firsts-are, noRule}
+use Rattle.union.proofs.MetLaws.{met-hold}
+use Rattle.union.proofs.ReachedLaws.{start-pairs, met-reached, reached-set}
 use Rattle.forms.specs.SetForms.{pairsLabelled, labelLeft}
 use Rattle.forms.proofs.KeptLists.{map-itself, numbered, first-itself}
 

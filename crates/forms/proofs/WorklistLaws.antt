@@ -19,10 +19,10 @@ use Rattle.theory.specs.Alternatives.{pairsMet}
 use Rattle.theory.proofs.lists.ListLaws.{distinct-was, joined-from, below-at, numbers-decide, taken-mem}
 use Rattle.theory.proofs.lists.DistinctLaws.{distinct-left, distinct-again}
 use Rattle.sets.specs.Sets.{member}
-use Rattle.pairs.specs.declared.union.United.{United}
-use Rattle.pairs.specs.View.{Views, labelIn}
-use Rattle.pairs.specs.PairNumbers.{ruleNumbered, fruitfulOf, contentsIn, metIn}
-use Rattle.pairs.proofs.MetLaws.{met-hold}
+use Rattle.union.specs.declared.united.United.{United}
+use Rattle.union.specs.View.{Views, labelIn}
+use Rattle.union.specs.PairNumbers.{ruleNumbered, fruitfulOf, contentsIn, metIn}
+use Rattle.union.proofs.MetLaws.{met-hold}
 use Rattle.reducing.proofs.MeetingLaws.{distinct-in}
 use Rattle.forms.specs.declared.set_words.Counted.{Counted}
 use Rattle.forms.specs.declared.set_words.Counted.the-variants.{TooMany, Count}

@@ -15,7 +15,7 @@ use Rattle.grammar.specs.Normalise.{pairsOf, normalise}
 use Rattle.grammar.specs.Reduce.{fruitful, withoutUnfruitful, reduce}
 use Rattle.grammar.specs.SingleTypeForm.{TypeSet, allSets}
 use Rattle.theory.specs.Alternatives.{alts, written, resultsOf}
-use Rattle.pairs.specs.PairNumbers.{ruleNumbered, isLeft, isStart, contentsIn, metIn}
+use Rattle.union.specs.PairNumbers.{ruleNumbered, isLeft, isStart, contentsIn, metIn}
 
 module _ (u : Table) where
   -- those of some pairs that have a label

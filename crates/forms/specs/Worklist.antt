@@ -7,9 +7,9 @@ use lib.Dec.{eqb}
 use Rattle.grammar.specs.Lists.{distinct, isIn}
 use Rattle.grammar.specs.Table.{Table}
 use Rattle.grammar.specs.SingleTypeForm.{TypeSet}
-use Rattle.pairs.specs.declared.union.United.{United}
-use Rattle.pairs.specs.View.{labelIn}
-use Rattle.pairs.specs.PairNumbers.{ruleNumbered, metIn}
+use Rattle.union.specs.declared.united.United.{United}
+use Rattle.union.specs.View.{labelIn}
+use Rattle.union.specs.PairNumbers.{ruleNumbered, metIn}
 use Rattle.forms.specs.declared.set_words.Counted.{Counted}
 use Rattle.forms.specs.declared.set_words.Counted.the-variants.{Count}
 use Rattle.forms.specs.SetForms.{pairsLabelled, metWithin}

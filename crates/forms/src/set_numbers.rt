@@ -1,10 +1,10 @@
 // The lists of the fruitful pairs by type, with the numbers of sets in place of pairs.
 use crate::label_sets::Numbers;
-use pairs::lists::Lists;
-use pairs::lists::TypeLists;
-use pairs::union::United;
 use reader::numbers::wide;
 use sets::four::Set4;
+use union::lists::Lists;
+use union::lists::TypeLists;
+use union::united::United;
 ghost use mathlib.Core.Bool.{Bool};
 ghost use mathlib.Core.List.{List, map};
 ghost use mathlib.Core.Path.{_≡_};
@@ -18,9 +18,9 @@ ghost use Rattle.grammar.specs.Reduce.{fruitful};
 ghost use Rattle.theory.specs.Alternatives.{resultsOf};
 ghost use Rattle.theory.specs.Conditions.{Labelled};
 ghost use Rattle.sets.specs.Sets.{member};
-ghost use Rattle.pairs.specs.View.{Views, ViewSized};
-ghost use Rattle.pairs.specs.PairNumbers.{isLeft, fruitfulOf};
-ghost use Rattle.pairs.specs.TypeLists.{ListsOf};
+ghost use Rattle.union.specs.View.{Views, ViewSized};
+ghost use Rattle.union.specs.PairNumbers.{isLeft, fruitfulOf};
+ghost use Rattle.union.specs.TypeLists.{ListsOf};
 ghost use Rattle.forms.specs.Worklist.{LabelsSized, NumbersOf};
 ghost use Rattle.forms.specs.SetForms.{pairsLabelled, labelLeft, setNumber};
 

@@ -1,5 +1,5 @@
 // The lister: prints the local widening of the table `old.tbl` by the document `new.doc`, both in the folder where it runs.
-use folders::list_folder;
+use lister_folder::list_folder;
 
 fn main() {
     list_folder();

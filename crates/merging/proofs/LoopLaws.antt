@@ -22,8 +22,8 @@ use Rattle.theory.specs.Conditions.{Regular}
 use Rattle.theory.proofs.lists.ListLaws.{keep-yes, keep-no}
 use Rattle.theory.proofs.emission.EmittedContent.{joined-map, joined-twice}
 use Rattle.theory.proofs.emission.GatheringLaws.{gather-nothing, gather-more, written-gathered}
-use Rattle.pairs.specs.Rounds.{contentOfRule}
-use Rattle.pairs.specs.PairNumbers.{ruleNumbered, contentsOfPair, contentsIn}
+use Rattle.union.specs.Rounds.{contentOfRule}
+use Rattle.union.specs.PairNumbers.{ruleNumbered, contentsOfPair, contentsIn}
 use Rattle.emitting.specs.declared.drafts.Gathering.{Gathering}
 use Rattle.emitting.specs.declared.drafts.Gathering.the-variants.{TooLarge, Upto}
 use Rattle.emitting.specs.declared.completing.ContentMade.{ContentMade}

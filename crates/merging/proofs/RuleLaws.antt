@@ -19,13 +19,13 @@ use Rattle.theory.proofs.lists.ListLaws.{at-mem, at-else}
 use Rattle.theory.proofs.emission.AlternativeLaws.{alts-renamed}
 use Rattle.sets.specs.Sets.{bitOf, member}
 use Rattle.sets.specs.declared.four.Set4.{Set4}
-use Rattle.pairs.specs.declared.lists.TypeLists.{TypeLists}
-use Rattle.pairs.specs.declared.union.United.{United}
-use Rattle.pairs.specs.View.{SourceContent, FromAddition, Views, fromIn, toIn, firstIn}
-use Rattle.pairs.specs.Walks.{listOfType}
-use Rattle.pairs.specs.Rounds.{contentOfRule}
-use Rattle.pairs.specs.PairNumbers.{ruleNumbered}
-use Rattle.pairs.proofs.ViewLaws.{content-is, seen}
+use Rattle.union.specs.declared.lists.TypeLists.{TypeLists}
+use Rattle.union.specs.declared.united.United.{United}
+use Rattle.union.specs.View.{SourceContent, FromAddition, Views, fromIn, toIn, firstIn}
+use Rattle.union.specs.Walks.{listOfType}
+use Rattle.union.specs.Rounds.{contentOfRule}
+use Rattle.union.specs.PairNumbers.{ruleNumbered}
+use Rattle.union.proofs.ViewLaws.{content-is, seen}
 use Rattle.emitting.specs.declared.drafts.Gathering.{Gathering}
 use Rattle.emitting.specs.declared.drafts.Gathering.the-variants.{TooLarge, Upto}
 use Rattle.emitting.specs.Drafts.{Gathers}

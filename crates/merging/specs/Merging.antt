@@ -8,10 +8,10 @@ use Rattle.grammar.specs.Table.{Rule, Table}
 use Rattle.theory.specs.Alternatives.{someLeft}
 use Rattle.sets.specs.Sets.{member}
 use Rattle.sets.specs.declared.four.Set4.{Set4}
-use Rattle.pairs.specs.declared.lists.TypeLists.{TypeLists}
-use Rattle.pairs.specs.declared.union.United.{United}
-use Rattle.pairs.specs.View.{Views}
-use Rattle.pairs.specs.TypeLists.{ListsOf}
+use Rattle.union.specs.declared.lists.TypeLists.{TypeLists}
+use Rattle.union.specs.declared.united.United.{United}
+use Rattle.union.specs.View.{Views}
+use Rattle.union.specs.TypeLists.{ListsOf}
 use Rattle.emitting.specs.declared.drafts.Gathering.{Gathering}
 use Rattle.emitting.specs.declared.drafts.Gathering.the-variants.{TooLarge, Upto}
 use Rattle.emitting.specs.Drafts.{Row, Kept, TooWide}

@@ -34,13 +34,13 @@ use Rattle.sets.specs.Sets.{nothing, inEither}
 use Rattle.reader.specs.declared.tables.TableIndex.{TableIndex}
 use Rattle.reader.specs.TableIndex.{startType}
 use Rattle.reader.proofs.TableFoundLaws.{start-small}
-use Rattle.pairs.specs.declared.lists.TypeLists.{TypeLists}
-use Rattle.pairs.specs.View.{TableHeld}
-use Rattle.pairs.specs.PairNumbers.{fruitfulOf, isStart, isLeft, metIn}
-use Rattle.pairs.specs.TypeLists.{ListsOf}
-use Rattle.pairs.specs.Walks.{listOfType, Listed}
-use Rattle.pairs.proofs.MetLaws.{met-hold}
-use Rattle.pairs.proofs.ReachedLaws.{start-pairs, met-reached, reached-set}
+use Rattle.union.specs.declared.lists.TypeLists.{TypeLists}
+use Rattle.union.specs.View.{TableHeld}
+use Rattle.union.specs.PairNumbers.{fruitfulOf, isStart, isLeft, metIn}
+use Rattle.union.specs.TypeLists.{ListsOf}
+use Rattle.union.specs.Walks.{listOfType, Listed}
+use Rattle.union.proofs.MetLaws.{met-hold}
+use Rattle.union.proofs.ReachedLaws.{start-pairs, met-reached, reached-set}
 use Rattle.reducing.specs.PairsListed.{PartBelow, StartsSmall}
 use Rattle.reducing.proofs.MeetingLaws.{MetBy, met-was, met-has}
 

@@ -37,19 +37,19 @@ use Rattle.theory.proofs.lists.ListLaws.{
   joined-next,
 }
 use Rattle.sets.specs.Sets.{nothing}
-use Rattle.pairs.specs.declared.union.United.{United}
-use Rattle.pairs.specs.declared.lists.Lists.{Lists}
-use Rattle.pairs.specs.declared.lists.TypeLists.{TypeLists}
-use Rattle.pairs.specs.View.{Views, typeIn, firstIn}
-use Rattle.pairs.specs.Rounds.{puts}
-use Rattle.pairs.specs.TypeLists.{ListsOf}
-use Rattle.pairs.specs.Walks.{listOfType, Once}
-use Rattle.pairs.specs.PairNumbers.{ruleNumbered, fruitfulOf}
-use Rattle.pairs.proofs.OnceLaws.{new-room, adds-new, adds-once}
-use Rattle.pairs.proofs.MetLaws.{some-listed}
-use Rattle.pairs.proofs.PutsLaws.{puts-was, puts-has}
-use Rattle.pairs.proofs.ViewLaws.{seen}
-use Rattle.pairs.proofs.PairLists.{pairs-are}
+use Rattle.union.specs.declared.united.United.{United}
+use Rattle.union.specs.declared.lists.Lists.{Lists}
+use Rattle.union.specs.declared.lists.TypeLists.{TypeLists}
+use Rattle.union.specs.View.{Views, typeIn, firstIn}
+use Rattle.union.specs.Rounds.{puts}
+use Rattle.union.specs.TypeLists.{ListsOf}
+use Rattle.union.specs.Walks.{listOfType, Once}
+use Rattle.union.specs.PairNumbers.{ruleNumbered, fruitfulOf}
+use Rattle.union.proofs.OnceLaws.{new-room, adds-new, adds-once}
+use Rattle.union.proofs.MetLaws.{some-listed}
+use Rattle.union.proofs.PutsLaws.{puts-was, puts-has}
+use Rattle.union.proofs.ViewLaws.{seen}
+use Rattle.union.proofs.PairLists.{pairs-are}
 use Rattle.reducing.specs.PairsListed.{isPair, pairsIn, pairsFrom, ListsFilled, Appends, Earlier, ListsEach}
 use Rattle.reducing.proofs.NumberLaws.{joined-start}
 

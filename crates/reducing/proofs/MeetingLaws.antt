@@ -48,17 +48,17 @@ use Rattle.theory.proofs.steps.NormaliseDocuments.{pair-refl}
 use Rattle.theory.proofs.emission.AlternativeLaws.{pairs-renamed}
 use Rattle.theory.proofs.emission.EmittedContent.{joined-map, joined-twice}
 use Rattle.sets.specs.Sets.{member, putAt, inEither}
-use Rattle.pairs.specs.declared.union.United.{United}
-use Rattle.pairs.specs.declared.lists.TypeLists.{TypeLists}
-use Rattle.pairs.specs.declared.lists.Lists.{Lists}
-use Rattle.pairs.specs.declared.met.MetOne.{MetOne}
-use Rattle.pairs.specs.View.{SourceContent, Views, firstIn, fromIn, toIn}
-use Rattle.pairs.specs.Walks.{listOfType, Once, Adds, MetAsks, MetFinds}
-use Rattle.pairs.specs.Rounds.{contentOfRule}
-use Rattle.pairs.specs.PairNumbers.{ruleNumbered, fruitfulOf, contentsOfPair, contentsIn, metIn}
-use Rattle.pairs.proofs.ViewLaws.{content-is, seen}
-use Rattle.pairs.proofs.MetLaws.{finds-adds, finds-once}
-use Rattle.pairs.proofs.OnceLaws.{part-more, adds-none, adds-join, adds-same}
+use Rattle.union.specs.declared.united.United.{United}
+use Rattle.union.specs.declared.lists.TypeLists.{TypeLists}
+use Rattle.union.specs.declared.lists.Lists.{Lists}
+use Rattle.union.specs.declared.met.MetOne.{MetOne}
+use Rattle.union.specs.View.{SourceContent, Views, firstIn, fromIn, toIn}
+use Rattle.union.specs.Walks.{listOfType, Once, Adds, MetAsks, MetFinds}
+use Rattle.union.specs.Rounds.{contentOfRule}
+use Rattle.union.specs.PairNumbers.{ruleNumbered, fruitfulOf, contentsOfPair, contentsIn, metIn}
+use Rattle.union.proofs.ViewLaws.{content-is, seen}
+use Rattle.union.proofs.MetLaws.{finds-adds, finds-once}
+use Rattle.union.proofs.OnceLaws.{part-more, adds-none, adds-join, adds-same}
 use Rattle.reducing.specs.declared.meeting.Met.{Met}
 use Rattle.reducing.specs.PairsListed.{PartBelow}
 use Rattle.reducing.specs.PairsMet.{MetHeld, ContentMet, metInRule, metInPair, Meets}

@@ -8,11 +8,11 @@ use lib.Dec.{eqb}
 use Rattle.grammar.specs.Lists.{keep, joinedOf, numbersBelow}
 use Rattle.reader.specs.declared.tables.TableIndex.{TableIndex}
 use Rattle.reader.specs.TableIndex.{startType}
-use Rattle.pairs.specs.declared.union.United.{United}
-use Rattle.pairs.specs.declared.lists.Lists.{Lists}
-use Rattle.pairs.specs.declared.lists.TypeLists.{TypeLists}
-use Rattle.pairs.specs.View.{typeIn, firstIn}
-use Rattle.pairs.specs.Walks.{listOfType, Listed, Once}
+use Rattle.union.specs.declared.united.United.{United}
+use Rattle.union.specs.declared.lists.Lists.{Lists}
+use Rattle.union.specs.declared.lists.TypeLists.{TypeLists}
+use Rattle.union.specs.View.{typeIn, firstIn}
+use Rattle.union.specs.Walks.{listOfType, Listed, Once}
 
 -- the rule of this number is the first of a known pair of the type
 abbrev pub isPair : United → (ℕ → Bool) → (ty p : ℕ) → Bool

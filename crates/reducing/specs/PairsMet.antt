@@ -7,15 +7,15 @@ use Rattle.grammar.specs.Lists.{joinedOf}
 use Rattle.grammar.specs.Content.{Content}
 use Rattle.grammar.specs.Table.{Table}
 use Rattle.theory.specs.Alternatives.{pairsMet}
-use Rattle.pairs.specs.declared.union.United.{United}
-use Rattle.pairs.specs.declared.lists.TypeLists.{TypeLists}
-use Rattle.pairs.specs.View.{Views, Viewed}
-use Rattle.pairs.specs.declared.lists.Lists.{Lists}
+use Rattle.union.specs.declared.united.United.{United}
+use Rattle.union.specs.declared.lists.TypeLists.{TypeLists}
+use Rattle.union.specs.View.{Views, Viewed}
+use Rattle.union.specs.declared.lists.Lists.{Lists}
 use Rattle.reader.specs.ExprAt.{_upTo_, exprAt}
-use Rattle.pairs.specs.PairNumbers.{fruitfulOf, contentsOfPair}
-use Rattle.pairs.specs.TypeLists.{ListsOf}
-use Rattle.pairs.specs.Walks.{listOfType, Once, Adds}
-use Rattle.pairs.specs.Rounds.{contentOfRule}
+use Rattle.union.specs.PairNumbers.{fruitfulOf, contentsOfPair}
+use Rattle.union.specs.TypeLists.{ListsOf}
+use Rattle.union.specs.Walks.{listOfType, Once, Adds}
+use Rattle.union.specs.Rounds.{contentOfRule}
 use Rattle.reducing.specs.PairsListed.{BothListed}
 use Rattle.reducing.specs.declared.meeting.Met.{Met}
 

@@ -1,16 +1,16 @@
 // The pairs that reducing leaves: those that are reached from the pairs of the start types, by rounds until one adds nothing.
 use crate::meeting::met_set;
 use crate::meeting::with_part;
-use pairs::lists::Lists;
-use pairs::lists::TypeLists;
-use pairs::places::LEFT;
-use pairs::places::STARTS;
-use pairs::union::United;
 use reader::numbers::wide;
 use reader::tables::TableIndex;
 use sets::four::Set4;
 use sets::words::load;
 use sets::words::store;
+use union::lists::Lists;
+use union::lists::TypeLists;
+use union::places::LEFT;
+use union::places::STARTS;
+use union::united::United;
 ghost use mathlib.Core.Path.{_≡_};
 ghost use mathlib.Core.List.{List};
 ghost use Prim.Native.Nat.{ℕ, _≤_, _<_};
@@ -21,11 +21,11 @@ ghost use Rattle.grammar.specs.Table.{Table};
 ghost use Rattle.grammar.specs.Unite.{unite};
 ghost use Rattle.sets.specs.Sets.{member, setAt, inEither, OthersKept};
 ghost use Rattle.reader.specs.TableIndex.{startType};
-ghost use Rattle.pairs.specs.View.{Views, Viewed, TableHeld};
-ghost use Rattle.pairs.specs.Places.{startsAt, leftAt};
-ghost use Rattle.pairs.specs.PairNumbers.{fruitfulOf, isStart, isLeft};
-ghost use Rattle.pairs.specs.TypeLists.{ListsOf};
-ghost use Rattle.pairs.specs.Walks.{listOfType, Listed};
+ghost use Rattle.union.specs.View.{Views, Viewed, TableHeld};
+ghost use Rattle.union.specs.Places.{startsAt, leftAt};
+ghost use Rattle.union.specs.PairNumbers.{fruitfulOf, isStart, isLeft};
+ghost use Rattle.union.specs.TypeLists.{ListsOf};
+ghost use Rattle.union.specs.Walks.{listOfType, Listed};
 ghost use Rattle.reducing.specs.PairsListed.{BothListed, StartsSmall};
 
 // A set with the numbers of a type's list.

@@ -1,10 +1,10 @@
 // The pairs that are met in the contents of a set of pairs, once those are in normal form and reduced.
-use pairs::lists::Lists;
-use pairs::lists::TypeLists;
-use pairs::met::met;
-use pairs::union::United;
 use reader::numbers::wide;
 use sets::four::Set4;
+use union::lists::Lists;
+use union::lists::TypeLists;
+use union::met::met;
+use union::united::United;
 ghost use mathlib.Core.Path.{_≡_};
 ghost use Prim.Native.Nat.{_-_, _<_};
 ghost use lib.Dec.{eqb};
@@ -13,10 +13,10 @@ ghost use Rattle.grammar.specs.Lists.{isIn, distinct};
 ghost use Rattle.grammar.specs.Table.{Table};
 ghost use Rattle.theory.specs.Alternatives.{onlyIf};
 ghost use Rattle.sets.specs.Sets.{member, inEither};
-ghost use Rattle.pairs.specs.View.{Views, Viewed};
-ghost use Rattle.pairs.specs.Walks.{MetAsks};
-ghost use Rattle.pairs.specs.PairNumbers.{fruitfulOf, metIn};
-ghost use Rattle.pairs.specs.TypeLists.{ListsOf};
+ghost use Rattle.union.specs.View.{Views, Viewed};
+ghost use Rattle.union.specs.Walks.{MetAsks};
+ghost use Rattle.union.specs.PairNumbers.{fruitfulOf, metIn};
+ghost use Rattle.union.specs.TypeLists.{ListsOf};
 ghost use Rattle.reducing.specs.PairsListed.{BothListed, PartBelow};
 ghost use Rattle.reducing.specs.PairsMet.{ContentMet, metInRule, metInPair, MeetAsks, Meets, MetHeld};
 

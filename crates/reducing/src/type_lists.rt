@@ -1,11 +1,11 @@
 // The fruitful pairs of a union by type: for each type of the two tables a list.
-use pairs::fruitful::put_if;
-use pairs::lists::Lists;
-use pairs::lists::TypeLists;
-use pairs::places::KNOWN;
-use pairs::union::United;
 use sets::four::Set4;
 use sets::words::load;
+use union::fruitful::put_if;
+use union::lists::Lists;
+use union::lists::TypeLists;
+use union::places::KNOWN;
+use union::united::United;
 ghost use mathlib.Core.Path.{_≡_};
 ghost use mathlib.Core.Bool.{true, false};
 ghost use mathlib.Core.List.{List, [], _∷_};
@@ -17,10 +17,10 @@ ghost use Rattle.grammar.specs.Normalise.{normalise};
 ghost use Rattle.grammar.specs.Reduce.{fruitful};
 ghost use Rattle.theory.specs.Alternatives.{onlyIf, someLeft};
 ghost use Rattle.sets.specs.Sets.{member, setAt};
-ghost use Rattle.pairs.specs.View.{Views, ViewSized};
-ghost use Rattle.pairs.specs.Places.{knownAt};
-ghost use Rattle.pairs.specs.PairNumbers.{fruitfulOf};
-ghost use Rattle.pairs.specs.TypeLists.{ListsOf};
+ghost use Rattle.union.specs.View.{Views, ViewSized};
+ghost use Rattle.union.specs.Places.{knownAt};
+ghost use Rattle.union.specs.PairNumbers.{fruitfulOf};
+ghost use Rattle.union.specs.TypeLists.{ListsOf};
 ghost use Rattle.reducing.specs.PairsListed.{isPair, pairsIn, ListsFilled, Appends, Earlier, ListsEach};
 
 // Whether the rule of this number is the first of a known pair of the type.

@@ -10,9 +10,9 @@ use Rattle.grammar.specs.Reduce.{fruitful}
 use Rattle.theory.specs.Alternatives.{someLeft, resultsOf}
 use Rattle.sets.specs.Sets.{member}
 use Rattle.sets.specs.declared.four.Set4.{Set4}
-use Rattle.pairs.specs.declared.lists.TypeLists.{TypeLists}
-use Rattle.pairs.specs.declared.union.United.{United}
-use Rattle.pairs.specs.TypeLists.{ListsOf}
+use Rattle.union.specs.declared.lists.TypeLists.{TypeLists}
+use Rattle.union.specs.declared.united.United.{United}
+use Rattle.union.specs.TypeLists.{ListsOf}
 use Rattle.merging.specs.Merging.{Merging}
 use Rattle.forms.specs.SetForms.{setNumber}
 use Rattle.forms.specs.Worklist.{NumbersOf}

@@ -32,13 +32,13 @@ use Rattle.theory.proofs.lists.ListLaws.{
 }
 use Rattle.theory.proofs.lists.DistinctLaws.{keep-append}
 use Rattle.sets.specs.Sets.{nothing}
-use Rattle.pairs.specs.Rounds.{puts}
-use Rattle.pairs.proofs.PutsLaws.{puts-was, puts-has}
-use Rattle.pairs.proofs.UnitedLabelsLaws.{place-back}
-use Rattle.emitting.specs.declared.writing.Drafted.{Drafted}
-use Rattle.emitting.specs.declared.writing.Drafted.the-variants.{Length}
-use Rattle.emitting.specs.Writing.{Puts}
-use Rattle.emitting.proofs.PutLaws.{put-none}
+use Rattle.union.specs.Rounds.{puts}
+use Rattle.union.proofs.PutsLaws.{puts-was, puts-has}
+use Rattle.union.proofs.UnitedLabelsLaws.{place-back}
+use Rattle.writer.specs.declared.writing.Drafted.{Drafted}
+use Rattle.writer.specs.declared.writing.Drafted.the-variants.{Length}
+use Rattle.writer.specs.Writing.{Puts}
+use Rattle.writer.proofs.PutLaws.{put-none}
 use Rattle.reducing.proofs.NumberLaws.{keep-next, keep-start}
 use Rattle.sampling.proofs.NumberingLaws.{numbers-split}
 use Rattle.forms.specs.SetForms.{setLabel}

@@ -22,13 +22,13 @@ use Rattle.theory.specs.Conditions.{Regular}
 use Rattle.theory.proofs.lists.ListLaws.{mem-at, at-below}
 use Rattle.sets.specs.Sets.{setAt, nothing, OthersKept}
 use Rattle.sets.proofs.SetLaws.{set-after, kept-before}
-use Rattle.pairs.specs.declared.lists.TypeLists.{TypeLists}
-use Rattle.pairs.specs.declared.union.Union.{Union}
-use Rattle.pairs.specs.View.{labelIn}
-use Rattle.pairs.specs.Places.{setsEnd, startsAt, leftAt, startTypesAt}
-use Rattle.pairs.specs.Rounds.{puts}
-use Rattle.pairs.specs.PairNumbers.{isStart, isLeft}
-use Rattle.emitting.specs.declared.writing.Drafted.{Drafted}
+use Rattle.union.specs.declared.lists.TypeLists.{TypeLists}
+use Rattle.union.specs.declared.united.Union.{Union}
+use Rattle.union.specs.View.{labelIn}
+use Rattle.union.specs.Places.{setsEnd, startsAt, leftAt, startTypesAt}
+use Rattle.union.specs.Rounds.{puts}
+use Rattle.union.specs.PairNumbers.{isStart, isLeft}
+use Rattle.writer.specs.declared.writing.Drafted.{Drafted}
 use Rattle.sampling.specs.SampleTable.{TablePut}
 use Rattle.merging.proofs.AgreeLaws.{union-shallow}
 use Rattle.forms.specs.declared.set_words.Counted.{Counted}

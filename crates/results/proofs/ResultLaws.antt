@@ -27,10 +27,10 @@ use Rattle.theory.proofs.lists.ListLaws.{at-else}
 use Rattle.theory.proofs.emission.EmittedContent.{joined-map}
 use Rattle.reader.specs.TableIndex.{part, Inside}
 use Rattle.reader.proofs.LabelSearch.{name-at}
-use Rattle.pairs.specs.declared.labels.Names.{Names}
-use Rattle.pairs.specs.declared.union.Union.{Union}
-use Rattle.pairs.specs.UnitedLabels.{newNames}
-use Rattle.pairs.specs.View.{UnionSeen}
+use Rattle.union.specs.declared.labels.Names.{Names}
+use Rattle.union.specs.declared.united.Union.{Union}
+use Rattle.union.specs.UnitedLabels.{newNames}
+use Rattle.union.specs.View.{UnionSeen}
 use Rattle.emitting.specs.declared.completing.ContentMade.{ContentMade}
 use Rattle.emitting.specs.declared.completing.ContentMade.the-variants.{TooLarge, Upto}
 use Rattle.emitting.specs.Completing.{Stored, Made}

@@ -22,12 +22,12 @@ use Rattle.theory.proofs.lists.ListLaws.{any-of, at-mem, at-or-else}
 use Rattle.sets.specs.Sets.{member, wordsAt, OthersKept}
 use Rattle.sets.proofs.SetLaws.{length-words, kept-before}
 use Rattle.reader.proofs.TableFaults.{is-some}
-use Rattle.pairs.specs.declared.lists.TypeLists.{TypeLists}
-use Rattle.pairs.specs.declared.union.United.{United}
-use Rattle.pairs.specs.Places.{leftAt, usedAt}
-use Rattle.pairs.specs.View.{Views}
-use Rattle.pairs.specs.PairNumbers.{ruleNumbered, contentsIn}
-use Rattle.pairs.proofs.ViewLaws.{seen}
+use Rattle.union.specs.declared.lists.TypeLists.{TypeLists}
+use Rattle.union.specs.declared.united.United.{United}
+use Rattle.union.specs.Places.{leftAt, usedAt}
+use Rattle.union.specs.View.{Views}
+use Rattle.union.specs.PairNumbers.{ruleNumbered, contentsIn}
+use Rattle.union.proofs.ViewLaws.{seen}
 use Rattle.forms.specs.SetWords.{Ascending}
 use Rattle.forms.specs.Worklist.{LabelsSized}
 use Rattle.forms.specs.SetForms.{pairsLabelled, setLabel, labelsOf, setNumber, contentBySet, ruleBySet, pairsWithin}

@@ -17,11 +17,11 @@ use Rattle.grammar.specs.Reduce.{withoutUnfruitful}
 use Rattle.theory.proofs.lists.BoolLaws.{same-test}
 use Rattle.theory.proofs.lists.ListLaws.{any-of, any-found, in-mem, mem-in, keep-all, keep-on, numbers-below, at-or-else, at-mem}
 use Rattle.sets.specs.Sets.{nothing}
-use Rattle.pairs.specs.declared.union.United.{United}
-use Rattle.pairs.specs.View.{Views, labelIn}
-use Rattle.pairs.specs.Rounds.{puts}
-use Rattle.pairs.specs.PairNumbers.{ruleNumbered, isLeft, isStart}
-use Rattle.pairs.proofs.PutsLaws.{puts-was, puts-has}
+use Rattle.union.specs.declared.united.United.{United}
+use Rattle.union.specs.View.{Views, labelIn}
+use Rattle.union.specs.Rounds.{puts}
+use Rattle.union.specs.PairNumbers.{ruleNumbered, isLeft, isStart}
+use Rattle.union.proofs.PutsLaws.{puts-was, puts-has}
 use Rattle.forms.specs.SetForms.{pairsLabelled, setNumber, localSets, localStarts}
 use Rattle.forms.proofs.KeptLists.{kept-below}
 use Rattle.forms.proofs.StandingPairs.{left-pair, left-label}

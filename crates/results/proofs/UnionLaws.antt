@@ -17,12 +17,12 @@ use Rattle.grammar.specs.declared.Refusal.the-variants.{NoDocument}
 use Rattle.sets.specs.Sets.{member, wordsAt, setAt, Empties, OthersKept}
 use Rattle.sets.proofs.SetLaws.{kept-before}
 use Rattle.reader.specs.declared.tables.TableIndex.{TableIndex}
-use Rattle.pairs.specs.declared.lists.TypeLists.{TypeLists}
-use Rattle.pairs.specs.declared.union.Union.{Union}
-use Rattle.pairs.specs.View.{Viewed, TableHeld, UnionSeen}
-use Rattle.pairs.specs.PairNumbers.{fruitfulOf, isStart, isLeft}
-use Rattle.pairs.specs.TypeLists.{ListsOf}
-use Rattle.pairs.specs.Places.{startsAt, leftAt}
+use Rattle.union.specs.declared.lists.TypeLists.{TypeLists}
+use Rattle.union.specs.declared.united.Union.{Union}
+use Rattle.union.specs.View.{Viewed, TableHeld, UnionSeen}
+use Rattle.union.specs.PairNumbers.{fruitfulOf, isStart, isLeft}
+use Rattle.union.specs.TypeLists.{ListsOf}
+use Rattle.union.specs.Places.{startsAt, leftAt}
 use Rattle.reducing.specs.PairsListed.{BothListed}
 use Rattle.results.specs.declared.widen.Kind.{Kind}
 use Rattle.results.specs.declared.widen.Made.{Made}

@@ -32,9 +32,9 @@ use Rattle.theory.proofs.lists.BoolLaws.{or-left}
 use Rattle.theory.proofs.lists.ListLaws.{mem-some, in-mem, numbers-below}
 use Rattle.theory.proofs.bytes.OutcomeLaws.{no-fault}
 use Rattle.sets.specs.Sets.{nothing}
-use Rattle.pairs.specs.PairNumbers.{isStart}
-use Rattle.emitting.specs.declared.writing.Drafted.{Drafted}
-use Rattle.emitting.specs.declared.writing.Drafted.the-variants.{Length as Upto, TooLarge as Over}
+use Rattle.union.specs.PairNumbers.{isStart}
+use Rattle.writer.specs.declared.writing.Drafted.{Drafted}
+use Rattle.writer.specs.declared.writing.Drafted.the-variants.{Length as Upto, TooLarge as Over}
 use Rattle.sampling.specs.SampleTable.{TablePut}
 use Rattle.sampling.proofs.TableSize.{size-over, size-fits, content-over, bytes-over, all-fit}
 use Rattle.forms.specs.SetForms.{ruleBySet, pairsWithin}

@@ -14,15 +14,15 @@ use Rattle.grammar.specs.Kinds.{Kind}
 use Rattle.grammar.specs.SingleTypeForm.{TypeSet}
 use Rattle.theory.specs.Conditions.{Labelled, Regular}
 use Rattle.sets.specs.Sets.{setAt}
-use Rattle.pairs.specs.declared.labels.Names.{Names}
-use Rattle.pairs.specs.declared.lists.TypeLists.{TypeLists}
-use Rattle.pairs.specs.declared.union.United.{United}
-use Rattle.pairs.specs.declared.union.Union.{Union}
-use Rattle.pairs.specs.View.{Views}
-use Rattle.pairs.specs.TypeLists.{ListsOf}
-use Rattle.pairs.specs.Places.{leftAt, usedAt}
-use Rattle.pairs.specs.PairNumbers.{fruitfulOf, isLeft}
-use Rattle.pairs.specs.UnitedLabels.{NamesHeld}
+use Rattle.union.specs.declared.labels.Names.{Names}
+use Rattle.union.specs.declared.lists.TypeLists.{TypeLists}
+use Rattle.union.specs.declared.united.United.{United}
+use Rattle.union.specs.declared.united.Union.{Union}
+use Rattle.union.specs.View.{Views}
+use Rattle.union.specs.TypeLists.{ListsOf}
+use Rattle.union.specs.Places.{leftAt, usedAt}
+use Rattle.union.specs.PairNumbers.{fruitfulOf, isLeft}
+use Rattle.union.specs.UnitedLabels.{NamesHeld}
 use Rattle.merging.specs.Merging.{Shallow}
 use Rattle.forms.specs.SetForms.{setLabel, ruleBySet, pairsWithin}
 use Rattle.forms.specs.SetWords.{SetsHeld}

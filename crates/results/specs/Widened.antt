@@ -13,12 +13,12 @@ use Rattle.grammar.specs.WriteTable.{tableBytes}
 use Rattle.grammar.specs.WithinLimits.{TableWithin}
 use Rattle.grammar.specs.Unite.{unite}
 use Rattle.sets.specs.Sets.{setAt}
-use Rattle.pairs.specs.declared.lists.TypeLists.{TypeLists}
-use Rattle.pairs.specs.declared.union.Union.{Union}
-use Rattle.pairs.specs.View.{UnionSeen}
-use Rattle.pairs.specs.PairNumbers.{fruitfulOf, isStart, isLeft}
-use Rattle.pairs.specs.TypeLists.{ListsOf}
-use Rattle.pairs.specs.Places.{startsAt, leftAt}
+use Rattle.union.specs.declared.lists.TypeLists.{TypeLists}
+use Rattle.union.specs.declared.united.Union.{Union}
+use Rattle.union.specs.View.{UnionSeen}
+use Rattle.union.specs.PairNumbers.{fruitfulOf, isStart, isLeft}
+use Rattle.union.specs.TypeLists.{ListsOf}
+use Rattle.union.specs.Places.{startsAt, leftAt}
 use Rattle.forms.specs.SetForms.{labelSets}
 use Rattle.forms.specs.SetWords.{SetsHeld}
 use Rattle.grammar.specs.Widen.{widenByTable}
@@ -27,8 +27,8 @@ use Rattle.results.specs.declared.widen.Kind.{Kind}
 use Rattle.results.specs.declared.widen.Kind.the-variants.{Local, SingleType}
 use Rattle.results.specs.declared.widen.Made.{Made}
 use Rattle.results.specs.declared.widen.Made.the-variants.{Length, NoDocument, TooLarge}
-use Rattle.emitting.specs.declared.writing.Drafted.{Drafted}
-use Rattle.emitting.specs.declared.writing.Drafted.the-variants.{Length as Upto, TooLarge as Over}
+use Rattle.writer.specs.declared.writing.Drafted.{Drafted}
+use Rattle.writer.specs.declared.writing.Drafted.the-variants.{Length as Upto, TooLarge as Over}
 
 -- the kind that is meant
 unfoldable pub kindOf : Kind → kinds.Kind

@@ -1,13 +1,13 @@
 // The labels of a result: those that its sets have, in label order.
-use emitting::writing::Drafted;
-use emitting::writing::put_field;
 use forms::label_sets::set_label;
-use pairs::labels::Names;
-use pairs::places::USED;
-use pairs::union::United;
 use sets::four::Set4;
 use sets::words::load;
 use sets::words::store;
+use union::labels::Names;
+use union::places::USED;
+use union::united::United;
+use writer::writing::Drafted;
+use writer::writing::put_field;
 ghost use Prim.Native.Nat.{ℕ, _+_, _≤_, _<_};
 ghost use mathlib.Core.Bool.{true, false};
 ghost use mathlib.Core.Logic.{_⊎_};
@@ -19,8 +19,8 @@ ghost use Rattle.grammar.specs.Lists.{keep, place, numbersBelow};
 ghost use Rattle.grammar.specs.Fields.{fieldBytes};
 ghost use Rattle.theory.specs.Alternatives.{onlyIf};
 ghost use Rattle.sets.specs.Sets.{member, setAt, OthersKept};
-ghost use Rattle.pairs.specs.Places.{usedAt};
-ghost use Rattle.emitting.specs.Writing.{Puts};
+ghost use Rattle.union.specs.Places.{usedAt};
+ghost use Rattle.writer.specs.Writing.{Puts};
 ghost use Rattle.results.specs.Results.{isUsed, LabelsIn, SetsIn, labelsBytes};
 
 // Finds the labels that the sets in the words have.

@@ -1,21 +1,21 @@
 // The start types of a result, a set of numbers in the words.
 use forms::label_sets::Numbers;
-use pairs::fruitful::put_if;
-use pairs::places::START_TYPES;
-use pairs::places::STARTS;
-use pairs::union::United;
 use reader::numbers::wide;
 use sets::four::Set4;
 use sets::words::load;
 use sets::words::store;
+use union::fruitful::put_if;
+use union::places::START_TYPES;
+use union::places::STARTS;
+use union::united::United;
 ghost use mathlib.Core.Bool.{true};
 ghost use mathlib.Core.Path.{_≡_};
 ghost use Prim.Native.Nat.{ℕ, _≤_, _<_};
 ghost use lib.ListN.{length, getD};
 ghost use Rattle.sets.specs.Sets.{setAt, nothing, OthersKept};
-ghost use Rattle.pairs.specs.Places.{startsAt, startTypesAt};
-ghost use Rattle.pairs.specs.Rounds.{puts};
-ghost use Rattle.pairs.specs.View.{ViewSized, labelIn};
+ghost use Rattle.union.specs.Places.{startsAt, startTypesAt};
+ghost use Rattle.union.specs.Rounds.{puts};
+ghost use Rattle.union.specs.View.{ViewSized, labelIn};
 ghost use Rattle.forms.specs.Worklist.{LabelsSized};
 
 // Local: the numbers of the sets of the start pairs. `numbers` are those of the labels.

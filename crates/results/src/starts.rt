@@ -1,16 +1,16 @@
 // The starts of a result.
-use emitting::writing::Drafted;
-use emitting::writing::put_field;
-use pairs::places::START_TYPES;
 use sets::words::load;
+use union::places::START_TYPES;
+use writer::writing::Drafted;
+use writer::writing::put_field;
 ghost use Prim.Native.Nat.{_≤_, _<_};
 ghost use mathlib.Core.List.{[], _∷_};
 ghost use lib.ListN.{length};
 ghost use Rattle.grammar.specs.Fields.{fieldBytes};
 ghost use Rattle.theory.specs.Alternatives.{onlyIf};
 ghost use Rattle.sets.specs.Sets.{setAt};
-ghost use Rattle.pairs.specs.Places.{startTypesAt};
-ghost use Rattle.emitting.specs.Writing.{Puts};
+ghost use Rattle.union.specs.Places.{startTypesAt};
+ghost use Rattle.writer.specs.Writing.{Puts};
 ghost use Rattle.results.specs.Results.{startsBytes};
 
 // Writes a type as a start, if it is one.

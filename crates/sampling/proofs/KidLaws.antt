@@ -16,9 +16,9 @@ use Rattle.grammar.specs.Sample.{sequenceOf}
 use Rattle.theory.proofs.lists.ListLaws.{keep-yes, keep-no, joined-end, numbers-next}
 use Rattle.theory.proofs.lists.DistinctLaws.{keep-append}
 use Rattle.theory.proofs.bytes.SampleWithin.{operands-count}
-use Rattle.emitting.specs.Writing.{Put}
+use Rattle.writer.specs.Writing.{Put}
 use Rattle.sampling.specs.SampleContents.{kidTypes, kidBytes, kidsBytes, Kids}
-use Rattle.emitting.proofs.PutLaws.{put-none, put-one, put-two, put-join, put-length}
+use Rattle.writer.proofs.PutLaws.{put-none, put-one, put-two, put-join, put-length}
 
 -- a sequence's operands
 abbrev pairs : List ℕ → List ℕ

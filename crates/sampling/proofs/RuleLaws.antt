@@ -23,12 +23,12 @@ use Rattle.grammar.specs.Size.{contentTooLarge}
 use Rattle.theory.proofs.lists.ListLaws.{joined-next}
 use Rattle.reader.specs.ExprAt.{_upTo_, exprAt}
 use Rattle.reader.proofs.ExprLaws.{expr-forward, expr-bytes}
-use Rattle.emitting.specs.declared.writing.Drafted.{Drafted}
-use Rattle.emitting.specs.declared.writing.Drafted.the-variants.{Length, TooLarge}
-use Rattle.emitting.specs.Writing.{Put, Puts}
+use Rattle.writer.specs.declared.writing.Drafted.{Drafted}
+use Rattle.writer.specs.declared.writing.Drafted.the-variants.{Length, TooLarge}
+use Rattle.writer.specs.Writing.{Put, Puts}
 use Rattle.sampling.specs.SampleContents.{ruleEnd}
 use Rattle.sampling.specs.SampleTable.{ContentMade, RulePuts, ruleField, RulesPut, TablePut}
-use Rattle.emitting.proofs.PutLaws.{put-none, put-join}
+use Rattle.writer.proofs.PutLaws.{put-none, put-join}
 
 module _ (f : ℕ → List ℕ) where
   abbrev first : ℕ → List ℕ

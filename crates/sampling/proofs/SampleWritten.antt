@@ -43,8 +43,8 @@ use Rattle.theory.proofs.lists.ListLaws.{
 }
 use Rattle.theory.proofs.lists.DistinctLaws.{distinct-on}
 use Rattle.theory.proofs.emission.EmittedContent.{joined-map}
-use Rattle.emitting.specs.declared.writing.Drafted.{Drafted}
-use Rattle.emitting.specs.declared.writing.Drafted.the-variants.{Length, TooLarge}
+use Rattle.writer.specs.declared.writing.Drafted.{Drafted}
+use Rattle.writer.specs.declared.writing.Drafted.the-variants.{Length, TooLarge}
 use Rattle.sampling.specs.SampleContents.{kidTypes, sequenceIn, sequencesAmong}
 use Rattle.sampling.specs.SampleTable.{contentIn, ruleIn, labelField, ruleField, rulesBytes, startBytes, TablePut, SampleHeld, SampleReady, NodesHeld, RulesHeld, SampleDrafted}
 use Rattle.sampling.specs.SampleNodes.{

@@ -21,10 +21,10 @@ use Rattle.reader.proofs.ExprLaws.{expr-of, exprs-none, exprs-kept}
 use Rattle.emitting.specs.declared.drafts.Gathering.{Gathering}
 use Rattle.emitting.specs.declared.drafts.Gathering.the-variants.{TooLarge, Upto}
 use Rattle.emitting.specs.Drafts.{Row, Kept, Newest, TooWide, Gathers}
-use Rattle.emitting.specs.Writing.{Put}
+use Rattle.writer.specs.Writing.{Put}
 use Rattle.emitting.proofs.WideLaws.{wide-gathered}
 use Rattle.sampling.proofs.NumberingLaws.{numbers-split}
-use Rattle.emitting.proofs.PutLaws.{put-length, put-kept, put-there}
+use Rattle.writer.proofs.PutLaws.{put-length, put-kept, put-there}
 use Rattle.sampling.specs.SampleContents.{operandsEnd, sequenceIn, sequencesAmong, GathersInRule}
 
 module _ (parents types : List ℕ) (n k : ℕ) where

@@ -24,9 +24,9 @@ use Rattle.theory.specs.Alternatives.{gathered}
 use Rattle.reader.specs.declared.documents.DocumentIndex.{DocumentIndex}
 use Rattle.reader.specs.ExprAt.{_upTo_, exprAt}
 use Rattle.reader.specs.DocumentNodes.{nodesIn, NodesIndexed}
-use Rattle.emitting.specs.declared.writing.Drafted.{Drafted}
-use Rattle.emitting.specs.declared.writing.Drafted.the-variants.{Length, TooLarge}
-use Rattle.emitting.specs.Writing.{Put}
+use Rattle.writer.specs.declared.writing.Drafted.{Drafted}
+use Rattle.writer.specs.declared.writing.Drafted.the-variants.{Length, TooLarge}
+use Rattle.writer.specs.Writing.{Put}
 use Rattle.sampling.specs.SampleNodes.{nameIn, Whole, TypedTo}
 use Rattle.sampling.specs.SampleContents.{Kids, sequencesAmong, ruleEnd}
 

@@ -5,7 +5,7 @@ use crate::sequences::put_sequence;
 use emitting::drafts::Gathering;
 use emitting::drafts::finish;
 use emitting::drafts::settle;
-use emitting::writing::Drafted;
+use writer::writing::Drafted;
 ghost use Prim.Native.Nat.{ℕ, _≤_, _<_};
 ghost use mathlib.Core.List.{[], _∷_};
 ghost use lib.ListN.{length, getD};

@@ -1,12 +1,12 @@
 // The fields of a sample: labels, start, rules, end.
 use crate::rules::put_rules;
-use emitting::writing::Drafted;
-use emitting::writing::put_field;
+use writer::writing::Drafted;
+use writer::writing::put_field;
 ghost use Prim.Native.Nat.{_+_, _≤_};
 ghost use mathlib.Core.List.{_++_};
 ghost use lib.ListN.{length};
 ghost use Rattle.grammar.specs.Lists.{joinedOf, numbersBelow};
-ghost use Rattle.emitting.specs.Writing.{Puts};
+ghost use Rattle.writer.specs.Writing.{Puts};
 ghost use Rattle.sampling.specs.SampleContents.{scratchBytes};
 ghost use Rattle.sampling.specs.SampleTable.{ruleIn, NodesHeld, labelField, RulesHeld, TablePut, restBytes, startBytes};
 ghost use Rattle.sampling.specs.SampleNodes.{KeysAt};

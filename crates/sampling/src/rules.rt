@@ -1,7 +1,7 @@
 // The rules of a sample, in the order of the types.
 use crate::contents::make_content;
-use emitting::writing::Drafted;
-use emitting::writing::put_field;
+use writer::writing::Drafted;
+use writer::writing::put_field;
 ghost use Prim.Native.Nat.{_≤_, _<_};
 ghost use lib.ListN.{length};
 ghost use Rattle.sampling.specs.SampleContents.{scratchBytes};

@@ -4,7 +4,7 @@ ghost use mathlib.Core.Path.{_≡_};
 ghost use lib.Dec.{eqb};
 ghost use lib.ListN.{length};
 ghost use Rattle.grammar.specs.ReadContent.{contentBytes};
-ghost use Rattle.emitting.specs.Writing.{Put};
+ghost use Rattle.writer.specs.Writing.{Put};
 ghost use Rattle.sampling.specs.SampleContents.{kidBytes, kidsBytes, Kids, sequenceIn};
 
 // Writes a node's type, if it is a child of the node `i`.

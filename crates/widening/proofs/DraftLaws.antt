@@ -8,7 +8,7 @@ use lib.Seq.{paste, take-append-seam}
 use lib.Dec.{ltb}
 use borrow.Author.Tests.{lt-ltb, le-ltb}
 use Rattle.grammar.specs.Limits.{standard}
-use Rattle.emitting.proofs.PutLaws.{put-paste}
+use Rattle.writer.proofs.PutLaws.{put-paste}
 use Rattle.grammar.specs.Names.{asciiClasses}
 use Rattle.grammar.specs.Table.{Table}
 use Rattle.grammar.specs.Tree.{Tree}
@@ -42,9 +42,9 @@ use Rattle.reader.specs.declared.documents.DocumentRead.{DocumentRead}
 use Rattle.reader.proofs.AnswerLaws.{fault, never-given, was-written, was-unwritten}
 use Rattle.reader.proofs.DocumentAnswers.{document-tree, nodes-read, document-unread}
 use Rattle.reader.proofs.TableFoundLaws.{table-found, table-refused}
-use Rattle.pairs.specs.View.{TableHeld, Held}
-use Rattle.emitting.specs.declared.writing.Drafted.{Drafted}
-use Rattle.emitting.specs.declared.writing.Drafted.the-variants.{Length as DraftedTo, TooLarge as Undrafted}
+use Rattle.union.specs.View.{TableHeld, Held}
+use Rattle.writer.specs.declared.writing.Drafted.{Drafted}
+use Rattle.writer.specs.declared.writing.Drafted.the-variants.{Length as DraftedTo, TooLarge as Undrafted}
 use Rattle.sampling.specs.SampleTable.{SampleDrafted, HoldsNodes}
 use Rattle.results.specs.declared.widen.Made.{Made}
 use Rattle.results.specs.declared.widen.Made.the-variants.{Length as MadeTo, NoDocument as Nothing, TooLarge}

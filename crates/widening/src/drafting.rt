@@ -1,6 +1,4 @@
 // A call's table made in a draft, so that a refusal leaves the output as it came, and handed over.
-use emitting::writing::Drafted;
-use emitting::writing::copy;
 use grammar::Reading;
 use grammar::Refusal;
 use grammar::Source;
@@ -12,12 +10,14 @@ use results::widen::Kind;
 use results::widen::Made;
 use results::widen::widen_tables;
 use sampling::sample::sample_table;
+use writer::writing::Drafted;
+use writer::writing::copy;
 ghost use Prim.Native.Nat.{_≤_};
 ghost use lib.ListN.{length};
 ghost use Rattle.grammar.specs.Table.{Table};
 ghost use Rattle.grammar.specs.Outcome.{Outcome};
 ghost use Rattle.grammar.specs.declared.Source.the-variants.{Table as aTable, Document as aDocument};
-ghost use Rattle.pairs.specs.View.{TableHeld, Held};
+ghost use Rattle.union.specs.View.{TableHeld, Held};
 ghost use Rattle.results.specs.Widened.{kindOf};
 ghost use Rattle.widening.specs.Drafting.{sampleOf, widenedBy, widenedFrom, InDraft, FitsDraft, HandedOver};
 

@@ -73,13 +73,13 @@ use Rattle.emitting.proofs.emitter.gather_sequence.Reads as gather-sequ
 use Rattle.emitting.proofs.emitter.gather_sequence.Kinds as gather-sequence-kinds
 use Rattle.emitting.proofs.emitter.+emit_row+gather+gather_around+gather_compound+gather_row+gather_sequence.Lts-gather_sequence as gather-sequence-lts
 use Rattle.reader.proofs.numbers.wide.Reads as wide-reads
-use Rattle.pairs.specs.Walks.{listOfType}
+use Rattle.union.specs.Walks.{listOfType}
 use Rattle.emitting.proofs.drafts.finish.Reads as finish-reads
 use Rattle.emitting.proofs.drafts.settle.Reads as settle-reads
 use Rattle.emitting.proofs.emitter.gather_empty.Reads as gather-empty-reads
 use Rattle.emitting.proofs.emitter.gather_type.Reads as gather-type-reads
-use Rattle.pairs.proofs.productive.content_has.Reads as content-has-reads
-use Rattle.pairs.proofs.productive.row_has.Reads as row-has-reads
+use Rattle.union.proofs.productive.content_has.Reads as content-has-reads
+use Rattle.union.proofs.productive.row_has.Reads as row-has-reads
 use Rattle.emitting.proofs.emitter.+emit_row+gather+gather_around+gather_compound+gather_row+gather_sequence.{
   statement,
 }

@@ -10,7 +10,7 @@ use Rattle.grammar.specs.SingleTypeForm.{TypeSet}
 use Rattle.grammar.specs.Table.{Table}
 use Rattle.theory.proofs.lists.ListLaws.{set-all}
 use Rattle.sets.specs.Sets.{member}
-use Rattle.pairs.specs.View.{Views}
+use Rattle.union.specs.View.{Views}
 use Rattle.forms.specs.SetWords.{SetsHeld}
 use Rattle.forms.specs.Worklist.{NumbersOf}
 use Rattle.forms.specs.SetForms.{pairsLabelled}

@@ -8,7 +8,7 @@ use borrow.Author.Needs.{needs}
 use Rattle.grammar.specs.SingleTypeForm.{TypeSet}
 use Rattle.grammar.specs.Table.{Table}
 use Rattle.sets.specs.Sets.{member}
-use Rattle.pairs.specs.View.{Views}
+use Rattle.union.specs.View.{Views}
 use Rattle.forms.specs.declared.set_words.Counted.the-variants.{Count}
 use Rattle.forms.specs.SetWords.{SetsCounted}
 use Rattle.forms.proofs.SetWordLaws.{no-sets}

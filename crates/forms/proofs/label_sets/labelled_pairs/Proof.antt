@@ -10,8 +10,8 @@ use borrow.Author.Needs.{needs}
 use Rattle.grammar.specs.Lists.{isIn}
 use Rattle.sets.specs.Sets.{member, nothing}
 use Rattle.sets.proofs.SetLaws.{member-zeros}
-use Rattle.pairs.specs.Rounds.{puts}
-use Rattle.pairs.proofs.PutsLaws.{puts-start, puts-step}
+use Rattle.union.specs.Rounds.{puts}
+use Rattle.union.proofs.PutsLaws.{puts-start, puts-step}
 use Rattle.forms.proofs.NumberLists.{puts-kept}
 use Rattle.forms.proofs.LabelLaws.{labelled-is}
 use Rattle.forms.proofs.label_sets.labelled_pairs.Statement.{statement}

@@ -8,8 +8,8 @@ use borrow.Author.Needs.{needs}
 use Rattle.grammar.specs.Table.{Table}
 use Rattle.theory.proofs.lists.ListLaws.{set-all}
 use Rattle.sets.specs.Sets.{member}
-use Rattle.pairs.specs.View.{Views}
-use Rattle.pairs.specs.PairNumbers.{isLeft}
+use Rattle.union.specs.View.{Views}
+use Rattle.union.specs.PairNumbers.{isLeft}
 use Rattle.forms.specs.SetForms.{labelLeft}
 use Rattle.forms.specs.Worklist.{NumbersOf}
 use Rattle.forms.proofs.ResultLaws.{numbers-more, none-small}

@@ -10,8 +10,8 @@ use Rattle.grammar.specs.Lists.{distinct, isIn, sameNumbers}
 use Rattle.grammar.specs.SingleTypeForm.{TypeSet}
 use Rattle.grammar.specs.Table.{Table}
 use Rattle.sets.specs.Sets.{member}
-use Rattle.pairs.specs.View.{Views, labelIn}
-use Rattle.pairs.specs.PairNumbers.{metIn}
+use Rattle.union.specs.View.{Views, labelIn}
+use Rattle.union.specs.PairNumbers.{metIn}
 use Rattle.reducing.proofs.MeetingLaws.{once-at}
 use Rattle.forms.specs.declared.set_words.Counted.the-variants.{Count}
 use Rattle.forms.specs.SetWords.{SetsHeld, SetsCounted}

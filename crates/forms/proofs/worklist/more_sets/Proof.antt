@@ -7,10 +7,10 @@ use lib.ListN.{length}
 use borrow.Author.Needs.{needs}
 use Rattle.grammar.specs.Table.{Table}
 use Rattle.sets.specs.Sets.{member}
-use Rattle.pairs.specs.View.{Views}
-use Rattle.pairs.specs.PairNumbers.{fruitfulOf, isStart}
-use Rattle.pairs.specs.TypeLists.{ListsOf}
-use Rattle.pairs.proofs.ViewLaws.{views-sized}
+use Rattle.union.specs.View.{Views}
+use Rattle.union.specs.PairNumbers.{fruitfulOf, isStart}
+use Rattle.union.specs.TypeLists.{ListsOf}
+use Rattle.union.proofs.ViewLaws.{views-sized}
 use Rattle.forms.specs.SetForms.{labelSets}
 use Rattle.forms.specs.SetWords.{SetsHeld}
 use Rattle.forms.proofs.SetsFound.{found-start}

@@ -10,11 +10,11 @@ use Rattle.grammar.specs.Table.{Table}
 use Rattle.theory.proofs.lists.BoolLaws.{or-left}
 use Rattle.sets.specs.Sets.{member, size}
 use Rattle.sets.proofs.SetLaws.{member-union, length-union, length-words, store-set, store-kept}
-use Rattle.pairs.specs.Places.{startsAt, leftAt}
-use Rattle.pairs.specs.View.{Views}
-use Rattle.pairs.specs.PairNumbers.{fruitfulOf, isStart}
-use Rattle.pairs.specs.TypeLists.{ListsOf}
-use Rattle.pairs.proofs.PutsLaws.{fewer-outside}
+use Rattle.union.specs.Places.{startsAt, leftAt}
+use Rattle.union.specs.View.{Views}
+use Rattle.union.specs.PairNumbers.{fruitfulOf, isStart}
+use Rattle.union.specs.TypeLists.{ListsOf}
+use Rattle.union.proofs.PutsLaws.{fewer-outside}
 use Rattle.reducing.proofs.leaving.pairs_left.Statement.{statement}
 use Rattle.reducing.proofs.leaving.pairs_left.Tie as tie
 use Rattle.reducing.proofs.LeavingLaws.{SeenPairs, seen-start, seen-next, seen-end}

@@ -9,8 +9,8 @@ use Rattle.grammar.specs.Lists.{isIn, joinedOf, numbersBelow}
 use Rattle.sets.specs.Sets.{member, inEither}
 use Rattle.reader.specs.TableIndex.{startType}
 use Rattle.sets.proofs.SetLaws.{member-zeros, store-set}
-use Rattle.pairs.specs.Places.{startsAt}
-use Rattle.pairs.specs.Walks.{listOfType}
+use Rattle.union.specs.Places.{startsAt}
+use Rattle.union.specs.Walks.{listOfType}
 use Rattle.reducing.proofs.LeavingLaws.{start-set}
 use Rattle.reducing.proofs.leaving.start_pairs.Statement.{statement}
 use Rattle.reducing.proofs.leaving.start_pairs.Tie as tie

@@ -5,7 +5,7 @@ use lib.ListN.{take, drop}
 use borrow.Author.Needs.{needs}
 use Rattle.grammar.specs.Lists.{isIn}
 use Rattle.sets.specs.Sets.{member, inEither}
-use Rattle.pairs.specs.Walks.{listOfType}
+use Rattle.union.specs.Walks.{listOfType}
 use Rattle.reducing.proofs.LeavingLaws.{list-part}
 use Rattle.reducing.proofs.leaving.with_list.Statement.{statement}
 use Rattle.reducing.proofs.leaving.with_list.Tie as tie

@@ -8,8 +8,8 @@ use borrow.Author.Needs.{needs}
 use Rattle.grammar.specs.Lists.{isIn, joinedOf, numbersBelow}
 use Rattle.theory.proofs.lists.ListLaws.{joined-next}
 use Rattle.sets.specs.Sets.{member, inEither}
-use Rattle.pairs.specs.declared.lists.Lists.{Lists}
-use Rattle.pairs.specs.Walks.{listOfType}
+use Rattle.union.specs.declared.lists.Lists.{Lists}
+use Rattle.union.specs.Walks.{listOfType}
 use Rattle.reducing.proofs.NumberLaws.{both-start, both-next, joined-start}
 use Rattle.reducing.proofs.leaving.with_starts.Statement.{statement}
 use Rattle.reducing.proofs.leaving.with_starts.Tie as tie

@@ -1,6 +1,6 @@
 -- `met_in_content` meets its contract.
 use borrow.Author.Needs.{needs}
-use Rattle.pairs.proofs.SeenLaws.{seen-nothing}
+use Rattle.union.proofs.SeenLaws.{seen-nothing}
 use Rattle.reducing.proofs.MeetingLaws.{content-met}
 use Rattle.reducing.proofs.meeting.met_in_content.Statement.{statement}
 use Rattle.reducing.proofs.meeting.met_in_content.Tie as tie

@@ -8,8 +8,8 @@ use lib.Dec.{eqb}
 use Rattle.grammar.specs.Lists.{joinedOf, numbersBelow}
 use Rattle.grammar.specs.Table.{Table}
 use Rattle.theory.specs.Alternatives.{onlyIf}
-use Rattle.pairs.specs.declared.union.United.{United}
-use Rattle.pairs.specs.View.{firstIn}
+use Rattle.union.specs.declared.united.United.{United}
+use Rattle.union.specs.View.{firstIn}
 use Rattle.reducing.specs.PairsMet.{metInRule, metInPair, Meets}
 use Rattle.reducing.proofs.MeetingLaws.{meets-same, meets-start, meets-next, pair-met}
 use Rattle.reducing.proofs.meeting.met_in_pair.Statement.{statement}

@@ -1,6 +1,6 @@
 -- `met_in_rule` meets its contract: the content stands in the bytes of its own table, whose types have their own lists.
 use borrow.Author.Needs.{needs}
-use Rattle.pairs.proofs.ViewLaws.{seen, source-there}
+use Rattle.union.proofs.ViewLaws.{seen, source-there}
 use Rattle.reducing.proofs.MeetingLaws.{old-met, added-met}
 use Rattle.reducing.proofs.meeting.met_in_rule.Statement.{statement}
 use Rattle.reducing.proofs.meeting.met_in_rule.Tie as tie

@@ -6,7 +6,7 @@ use mathlib.Core.Path.{_∙_, ap}
 use borrow.Author.Needs.{needs}
 use Rattle.grammar.specs.Lists.{isIn}
 use Rattle.sets.specs.Sets.{member}
-use Rattle.pairs.specs.PairNumbers.{metIn}
+use Rattle.union.specs.PairNumbers.{metIn}
 use Rattle.reducing.proofs.MeetingLaws.{distinct-in}
 use Rattle.reducing.proofs.meeting.met_set.Statement.{statement}
 use Rattle.reducing.proofs.meeting.met_set.Tie as tie

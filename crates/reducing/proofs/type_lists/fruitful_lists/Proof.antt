@@ -2,7 +2,7 @@
 use native.Mathlib.Omega.{arith}
 use borrow.Author.Needs.{needs}
 use Rattle.sets.specs.Sets.{member}
-use Rattle.pairs.specs.PairNumbers.{fruitfulOf}
+use Rattle.union.specs.PairNumbers.{fruitfulOf}
 use Rattle.reducing.specs.PairsListed.{pairsIn}
 use Rattle.reducing.proofs.ListingLaws.{lists-both, pairs-fruitful}
 use Prim.Native.Nat.{ℕ, _+_}

@@ -9,9 +9,9 @@ use borrow.Author.Needs.{needs}
 use Rattle.theory.specs.Alternatives.{someLeft}
 use Rattle.sets.specs.Sets.{member, nothing}
 use Rattle.sets.proofs.SetLaws.{member-zeros}
-use Rattle.pairs.specs.Rounds.{puts}
-use Rattle.pairs.specs.TypeLists.{ListsOf}
-use Rattle.pairs.proofs.PutsLaws.{puts-start, puts-step}
+use Rattle.union.specs.Rounds.{puts}
+use Rattle.union.specs.TypeLists.{ListsOf}
+use Rattle.union.proofs.PutsLaws.{puts-start, puts-step}
 use Rattle.reducing.proofs.ListingLaws.{types-all}
 use Rattle.reducing.proofs.type_lists.types_listed.Statement.{statement}
 use Rattle.reducing.proofs.type_lists.types_listed.Tie as tie

@@ -8,10 +8,10 @@ use lib.ListN.{length, length-replicate}
 use borrow.Author.Needs.{needs}
 use Rattle.sets.specs.Sets.{member, nothing}
 use Rattle.sets.proofs.SetLaws.{member-zeros, store-set, store-kept}
-use Rattle.pairs.specs.Places.{usedAt}
-use Rattle.pairs.specs.Rounds.{puts}
-use Rattle.pairs.proofs.PutsLaws.{put-in, puts-start, puts-step}
-use Rattle.pairs.proofs.ViewLaws.{views-sized}
+use Rattle.union.specs.Places.{usedAt}
+use Rattle.union.specs.Rounds.{puts}
+use Rattle.union.proofs.PutsLaws.{put-in, puts-start, puts-step}
+use Rattle.union.proofs.ViewLaws.{views-sized}
 use Rattle.results.specs.Results.{SetsIn}
 use Rattle.results.proofs.LabelLaws.{labelAt, used-are}
 use Rattle.results.proofs.SetLaws.{set-held, set-room, set-four, set-ascending, set-some, label-small}

@@ -10,7 +10,7 @@ use Rattle.grammar.specs.Lists.{joinedOf, numbersBelow}
 use Rattle.grammar.specs.Fields.{fieldBytes}
 use Rattle.theory.specs.Alternatives.{onlyIf}
 use Rattle.sets.specs.Sets.{member}
-use Rattle.emitting.specs.Writing.{Put}
+use Rattle.writer.specs.Writing.{Put}
 use Rattle.sampling.proofs.RuleLaws.{up-start, step-stop, step-more}
 use Rattle.results.specs.Results.{LabelsIn, labelsBytes}
 use Rattle.results.proofs.ResultLaws.{nameField, labels-joined}

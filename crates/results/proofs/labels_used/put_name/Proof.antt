@@ -4,7 +4,7 @@ use mathlib.Core.Path.{subst}
 use Prim.Native.Nat.{ℕ}
 use borrow.Author.Needs.{needs}
 use Rattle.grammar.specs.Fields.{fieldBytes}
-use Rattle.emitting.specs.Writing.{Puts}
+use Rattle.writer.specs.Writing.{Puts}
 use Rattle.results.proofs.ResultLaws.{name-old, name-new}
 use Rattle.results.proofs.labels_used.put_name.Statement.{statement}
 use Rattle.results.proofs.labels_used.put_name.Tie as tie

@@ -5,7 +5,7 @@ use mathlib.Core.Path.{_≡_}
 use lib.ListN.{length}
 use borrow.Author.Needs.{needs}
 use Rattle.sets.specs.Sets.{setAt}
-use Rattle.pairs.specs.Places.{startTypesAt}
+use Rattle.union.specs.Places.{startTypesAt}
 use Rattle.sampling.specs.SampleTable.{restBytes}
 use Rattle.sampling.proofs.RuleLaws.{put-length-is, put-over, put-then}
 use Rattle.results.specs.Results.{ruleFrom, startsBytes}

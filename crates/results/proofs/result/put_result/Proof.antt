@@ -10,8 +10,8 @@ use Rattle.grammar.specs.Lists.{keep, numbersBelow}
 use Rattle.grammar.specs.WriteTable.{tableBytes}
 use Rattle.sets.specs.Sets.{setAt}
 use Rattle.sets.proofs.SetLaws.{kept-before}
-use Rattle.pairs.specs.Places.{startTypesAt, usedAt}
-use Rattle.emitting.specs.declared.writing.Drafted.the-variants.{TooLarge}
+use Rattle.union.specs.Places.{startTypesAt, usedAt}
+use Rattle.writer.specs.declared.writing.Drafted.the-variants.{TooLarge}
 use Rattle.sampling.specs.SampleTable.{TablePut}
 use Rattle.sampling.proofs.RuleLaws.{put-length-is, put-over, put-then}
 use Rattle.forms.specs.SetForms.{tableBySets, pairsWithin}

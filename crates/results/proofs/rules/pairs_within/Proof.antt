@@ -4,7 +4,7 @@ use mathlib.Core.Bool.{Bool}
 use mathlib.Core.Path.{sym, _∙_, ap}
 use borrow.Author.Needs.{needs}
 use Rattle.grammar.specs.Lists.{isIn}
-use Rattle.pairs.specs.PairNumbers.{metIn}
+use Rattle.union.specs.PairNumbers.{metIn}
 use Rattle.forms.specs.SetForms.{pairsWithin}
 use Rattle.results.specs.declared.widen.Kind.{Kind}
 use Rattle.results.specs.Widened.{kindOf}

@@ -10,7 +10,7 @@ use borrow.Author.Needs.{needs}
 use Rattle.grammar.specs.Lists.{keep, place, numbersBelow}
 use Rattle.grammar.specs.Table.{Rule}
 use Rattle.sets.specs.Sets.{member}
-use Rattle.pairs.proofs.ViewLaws.{views-sized}
+use Rattle.union.proofs.ViewLaws.{views-sized}
 use Rattle.sampling.specs.SampleTable.{RulePuts}
 use Rattle.sampling.proofs.RuleLaws.{rule-puts}
 use Rattle.results.specs.Results.{ruleFrom}

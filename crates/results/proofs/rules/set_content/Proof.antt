@@ -10,7 +10,7 @@ use Rattle.grammar.specs.Content.{Content}
 use Rattle.theory.specs.Conditions.{Regular}
 use Rattle.sets.specs.Sets.{member}
 use Rattle.sets.proofs.SetLaws.{length-words}
-use Rattle.pairs.proofs.ViewLaws.{views-sized}
+use Rattle.union.proofs.ViewLaws.{views-sized}
 use Rattle.emitting.specs.Completing.{Made}
 use Rattle.forms.specs.SetForms.{pairsLabelled}
 use Rattle.results.specs.Widened.{kindOf}

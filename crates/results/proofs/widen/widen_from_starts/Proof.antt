@@ -5,7 +5,7 @@ use mathlib.Core.Path.{_≡_}
 use lib.ListN.{length, take, drop}
 use borrow.Author.Needs.{needs}
 use Rattle.grammar.specs.Kinds.{singleType}
-use Rattle.pairs.specs.Places.{setsEnd}
+use Rattle.union.specs.Places.{setsEnd}
 use Rattle.results.specs.Widened.{kindOf}
 use Rattle.results.proofs.ReducedLaws as laws
 use Rattle.results.proofs.UnionLaws.{seen-viewed, listed-both}

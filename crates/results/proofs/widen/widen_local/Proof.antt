@@ -10,8 +10,8 @@ use Rattle.grammar.specs.Kinds.{local}
 use Rattle.grammar.specs.Unite.{unite}
 use Rattle.sets.specs.Sets.{member}
 use Rattle.sets.proofs.SetLaws.{length-words}
-use Rattle.pairs.specs.Places.{setsEnd, leftAt}
-use Rattle.pairs.proofs.ViewLaws.{views-sized}
+use Rattle.union.specs.Places.{setsEnd, leftAt}
+use Rattle.union.proofs.ViewLaws.{views-sized}
 use Rattle.forms.specs.SetForms.{localSets}
 use Rattle.forms.proofs.WidenedBySets.{setsOf}
 use Rattle.results.specs.Widened.{kindOf}

@@ -7,8 +7,8 @@ use lib.ListN.{length, take}
 use borrow.Author.Needs.{needs}
 use Rattle.sets.specs.Sets.{member}
 use Rattle.sets.proofs.SetLaws.{length-words}
-use Rattle.pairs.specs.Places.{setsEnd, startsAt}
-use Rattle.pairs.proofs.ViewLaws.{views-sized}
+use Rattle.union.specs.Places.{setsEnd, startsAt}
+use Rattle.union.proofs.ViewLaws.{views-sized}
 use Rattle.results.proofs.ReducedLaws as laws
 use Rattle.results.proofs.widen.widen_single_type.Statement.{statement}
 use Rattle.results.proofs.widen.widen_single_type.Tie as tie

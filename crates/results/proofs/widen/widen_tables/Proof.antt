@@ -3,7 +3,7 @@ use native.Mathlib.Omega.{arith}
 use mathlib.Core.Path.{_≡_}
 use lib.ListN.{length}
 use borrow.Author.Needs.{needs}
-use Rattle.pairs.proofs.ViewLaws.{views-sized}
+use Rattle.union.proofs.ViewLaws.{views-sized}
 use Rattle.reducing.proofs.LeavingLaws.{starts-small}
 use Rattle.results.specs.declared.widen.Kind.the-variants.{Local, SingleType}
 use Rattle.results.specs.Widened.{kindOf, Widens}

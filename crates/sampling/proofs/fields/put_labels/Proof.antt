@@ -7,7 +7,7 @@ use borrow.Author.Needs.{needs}
 use Rattle.grammar.specs.Lists.{joinedOf, numbersBelow}
 use Rattle.grammar.specs.Fields.{fieldBytes}
 use Rattle.theory.proofs.lists.ListLaws.{part-of}
-use Rattle.emitting.specs.Writing.{Put}
+use Rattle.writer.specs.Writing.{Put}
 use Rattle.sampling.specs.SampleTable.{labelField}
 use Rattle.sampling.proofs.RuleLaws.{up-start, step-stop, step-more}
 use Rattle.sampling.proofs.fields.put_labels.Statement.{statement}

@@ -9,7 +9,7 @@ use borrow.Author.Count.{below-more}
 use Rattle.grammar.specs.Lists.{joinedOf, numbersBelow}
 use Rattle.grammar.specs.Limits.{standard}
 use Rattle.grammar.specs.Size.{contentTooLarge}
-use Rattle.emitting.specs.Writing.{Put}
+use Rattle.writer.specs.Writing.{Put}
 use Rattle.sampling.specs.SampleTable.{ruleIn, ruleField}
 use Rattle.sampling.proofs.RuleLaws.{up-start, rules-stop, rules-more}
 use Rattle.sampling.proofs.rules.put_rules.Statement.{statement}

@@ -2,9 +2,9 @@
 use Prim.Native.Nat.{ℕ, suc, _+_, _-_, _≤_}
 use native.Mathlib.Omega.{arith}
 use mathlib.Core.Path.{_≡_, subst}
-use Rattle.emitting.specs.Writing.{Put}
+use Rattle.writer.specs.Writing.{Put}
 use Rattle.sampling.specs.SampleContents.{kidsBytes}
-use Rattle.emitting.proofs.PutLaws.{put-length}
+use Rattle.writer.proofs.PutLaws.{put-length}
 use Rattle.sampling.proofs.KidLaws.{kids-none, kid-room, kid-next}
 use Rattle.sampling.proofs.sequences.put_kids.Statement.{statement}
 use Rattle.sampling.proofs.sequences.put_kids.Tie as tie

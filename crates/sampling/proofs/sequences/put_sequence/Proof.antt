@@ -2,7 +2,7 @@
 use native.Mathlib.Omega.{arith}
 use mathlib.Core.Path.{_∙_}
 use lib.ListN.{length-set}
-use Rattle.emitting.proofs.PutLaws.{put-length}
+use Rattle.writer.proofs.PutLaws.{put-length}
 use Rattle.sampling.proofs.KidLaws.{put-empty, put-alone, put-several}
 use borrow.Author.Needs.{needs}
 use Rattle.sampling.proofs.sequences.put_sequence.Statement.{statement}

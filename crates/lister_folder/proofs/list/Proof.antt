@@ -1,0 +1,47 @@
+-- `list` meets its contract: the call's refusal, or the bytes that it wrote.
+use borrow.Author.Needs.{needs}
+use Rattle.lister_lines.proofs.ListingLaws.{list-refused, list-inside, list-written}
+use Rattle.lister_folder.proofs.list.Statement.{statement}
+use Rattle.lister_folder.proofs.list.Tie as tie
+
+part-list-bytes-end : tie.Need-part-list-bytes-end
+part-list-bytes-end c =
+    let a = c .before .before .before .before .before .before .before .before .before .before .before .before .before .before .before .before .args in
+    let w = c .before .before .before .before .before .before .before .before .widen-local-by-document .ensures in
+    list-inside (a .old .now) (a .document .now) (a .out .now) (a .work .now) (c .before .before .before .before .before .before .before .before .before .before .before .before .before .before .before .before .pre .1) (c .before .before .before .before .before .before .before .before .before .before .before .before .before .before .before .before .pre .0) (w .settled)
+    _ (c .before .before .n .given .1)
+
+returns : tie.Need-returns
+returns c =
+    let a = c .before .before .before .before .before .before .before .before .before .before .before .before .before .before .before .before .before .before .before .args in
+    let w = c .before .before .before .before .before .before .before .before .before .before .before .widen-local-by-document .ensures in
+    list-refused (a .old .now) (a .document .now) (a .out .now) (a .work .now) (c .before .before .before .before .before .before .before .before .before .before .before .before .before .before .before .before .before .before .before .pre .1) (c .before .before .before .before .before .before .before .before .before .before .before .before .before .before .before .before .before .before .before .pre .0) (w .settled)
+    _ (c .before .before .before .before .before .refusal .given .1) (c .before .before .refusal-line .ensures)
+
+returns-2 : tie.Need-returns-2
+returns-2 c =
+    let a = c .before .before .before .before .before .before .before .before .before .before .before .before .before .before .before .before .before .before .before .before .before .args in
+    let w = c .before .before .before .before .before .before .before .before .before .before .before .before .before .widen-local-by-document .ensures in
+    list-written (a .old .now) (a .document .now) (a .out .now) (a .work .now) (c .before .before .before .before .before .before .before .before .before .before .before .before .before .before .before .before .before .before .before .before .before .pre .1) (c .before .before .before .before .before .before .before .before .before .before .before .before .before .before .before .before .before .before .before .before .before .pre .0) (w .settled)
+    _ (c .before .before .before .before .before .before .before .n .given .1) (c .before .before .list-bytes .ensures)
+
+pub list-spec : {M : Type 1} → statement M
+list-spec =
+    tie.close
+    (tie.spec
+    (λ c κs. search needs)
+    (λ c. search needs)
+    (λ c κs. search needs)
+    (λ c. search needs)
+    (λ c. search needs)
+    (λ c. search needs)
+    part-list-bytes-end
+    (λ c κs. search needs)
+    (λ c. search needs)
+    (λ c. search needs)
+    (λ c. search needs)
+    returns
+    (λ c. search needs)
+    (λ c. search needs)
+    (λ c. search needs)
+    returns-2)

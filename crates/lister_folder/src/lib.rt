@@ -1,0 +1,61 @@
+// What the lister prints for the files of the folder where it runs.
+use grammar::Written;
+use libc::STDOUT_FILENO;
+use lister_lines::limits::TEXT;
+use lister_lines::lines::list_bytes;
+use lister_lines::lines::refusal_line;
+use reader::limits::INPUT;
+use reader::limits::WORDS;
+use widening::calls::widen_local_by_document;
+ghost use Prim.Native.Nat.{_≤_};
+ghost use lib.ListN.{length};
+ghost use Rattle.grammar.specs.Limits.{standard};
+ghost use Rattle.grammar.specs.Names.{asciiClasses};
+ghost use Rattle.grammar.specs.Listing.{listing};
+ghost use Rattle.writer.specs.Writing.{Put};
+
+// Bytes of a file that are read: one more than it may have shows that it is too long.
+const FILE: usize = INPUT + 1;
+
+// The text for the bytes of an old table and a document: of the local widening, or of the refusal.
+pub fn list(old: &[u8], document: &[u8], out: &mut [u8], work: &mut [u32], text: &mut [u8]) -> usize
+    requires { ⌜ (32768 ≤ length (now out)) × (16384 ≤ length (now work)) × (202000 ≤ length (now text)) ⌝ }
+    ensures { λ r. ⌜ Put (now (text .entry)) 0 (listing standard asciiClasses (now (old .entry)) (now (document .entry)))
+        (now (text .exit)) r ⌝ }
+{
+    match widen_local_by_document(old, document, out, work) {
+        Written::Refused(refusal) => refusal_line(refusal, text),
+        Written::Length(n) => list_bytes(&out[0..n], text),
+    }
+}
+
+// The bytes of a file, as far as there is room. A file that cannot be read counts as no bytes.
+fn read_file(name: &[u8], space: &mut [u8]) -> usize
+    ensures { λ r. ⌜ r ≤ length (now (space .exit)) ⌝ }
+{
+    let file = os::open_read(name);
+    if file < 0 {
+        return 0;
+    }
+    let n = io::read_full(file, space);
+    let mut after = [0u8; 1];
+    let end = libc::read(file, &mut after);
+    libc::close(file);
+    if end < 0 {
+        return 0;
+    }
+    n
+}
+
+// Prints what the files `old.tbl` and `new.doc` give.
+pub fn list_folder() {
+    let mut old = [0u8; FILE];
+    let mut document = [0u8; FILE];
+    let mut out = [0u8; INPUT];
+    let mut work = [0u32; WORDS];
+    let mut text = [0u8; TEXT];
+    let n = read_file(b"old.tbl", &mut old);
+    let m = read_file(b"new.doc", &mut document);
+    let end = list(&old[0..n], &document[0..m], &mut out, &mut work, &mut text);
+    io::write_all(STDOUT_FILENO, &text[0..end]);
+}

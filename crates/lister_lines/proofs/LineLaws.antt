@@ -1,0 +1,129 @@
+-- The lines of a table that was read:
+--   name-stands, name-size : a label's name ; content-asks, content-put, content-size : a rule's content
+--   rule-type-is, rule-label-is, line-joined : a rule's line ; start-line-size : a start's line ; joined-next, lines-next : one line more
+use Prim.Native.Nat.{ℕ, _+_, _-_, _≤_, _<_}
+use native.Mathlib.Omega.{arith}
+use native.Mathlib.Numerals.{add-one}
+use mathlib.Core.List.{List, [], _∷_, _++_}
+use mathlib.Core.Path.{_≡_, sym, _∙_, ap, subst}
+use lib.ListN.{length, getD, take, length-append}
+use lib.Seq.{take-suc}
+use Rattle.grammar.specs.Lists.{joinedOf}
+use Rattle.grammar.specs.Limits.{standard}
+use Rattle.grammar.specs.Names.{Name}
+use Rattle.grammar.specs.Content.{none}
+use Rattle.grammar.specs.Table.{Rule, Table}
+use Rattle.grammar.specs.ReadContent.{contentBytes}
+use Rattle.grammar.specs.WithinLimits.{ContentWithin}
+use Rattle.grammar.specs.Listing.{Text, typeText, contentText, startLine, ruleLine}
+use Rattle.theory.proofs.lists.ListLaws.{at-else, joined-end}
+use Rattle.reader.specs.declared.tables.TableIndex.{TableIndex}
+use Rattle.reader.specs.ContentAt.{ContentAt}
+use Rattle.reader.specs.TableIndex.{labelFrom, labelTo, ruleType, ruleLabel, contentFrom, contentTo, part, BytesStand, RuleAt}
+use Rattle.reader.specs.TableFound.{TableFound}
+use Rattle.reader.proofs.TableFoundLaws.{RuleFound, label-found-at, rule-found-at, content-in-part}
+use Rattle.union.specs.PairNumbers.{ruleNumbered}
+use Rattle.writer.specs.Writing.{Put}
+use Rattle.lister_lines.specs.declared.contents.Ends.{Ends}
+use Rattle.lister_lines.specs.Printing.{Printable, Printed}
+use Rattle.lister_lines.proofs.DecimalLaws.{type-size}
+use Rattle.lister_lines.proofs.RoomLaws.{content-short}
+
+pub joined-next : {A : Type 0} (f : A → Text) (xs : List A) (i : ℕ) (d : A) → i < length xs
+    → joinedOf f (take i xs) ++ f (getD xs i d) ≡ joinedOf f (take (i + 1) xs)
+joined-next f xs i d h =
+    sym (ap (λ (n : ℕ). joinedOf f (take n xs)) (add-one i) ∙ ap (joinedOf f) (take-suc xs i d h) ∙ joined-end f (take i xs) (getD xs i d))
+
+module _ {s : List ℕ} {index : TableIndex} (f : TableFound s index) where
+  abbrev g : Table
+  g = f .table
+
+  module _ (l : ℕ) (h : l < index .labels) where
+    pub name-stands : BytesStand s (labelFrom index l) (labelTo index l) (getD (g .labels) l [])
+    name-stands =
+        let a = label-found-at (f .indexes) (f .within) l h in
+        subst (λ (n : Name). BytesStand s (labelFrom index l) (labelTo index l) n) (sym (at-else (g .labels) l [] (a .1))) (a .2)
+
+    pub name-size : length (getD (g .labels) l []) ≤ 63
+    unfolding standard
+    name-size =
+        let a = label-found-at (f .indexes) (f .within) l h in
+        let e = ap length (at-else (g .labels) l [] (a .1)) in
+        let b = a .3 .size in
+        omega arith
+
+  -- a rule
+  module _ (i : ℕ) (h : i < index .rules) where
+    found : RuleFound s index g i
+    found = rule-found-at (f .indexes) (f .within) i h
+
+    rule-is : found .rule ≡ ruleNumbered g i
+    rule-is = sym (at-else (g .rules) i (record { type = 0; label = 0; content = none }) (found .listed))
+
+    rule-stands : RuleAt s index i (ruleNumbered g i)
+    rule-stands = subst (RuleAt s index i) rule-is (found .at)
+
+    content-within : ContentWithin standard (ruleNumbered g i .content)
+    content-within = subst (λ (r : Rule). ContentWithin standard (r .content)) rule-is (found .within .content)
+
+    pub rule-type-is : ruleType index i ≡ ruleNumbered g i .type
+    rule-type-is = rule-stands .type
+
+    pub rule-label-is : ruleLabel index i ≡ ruleNumbered g i .label
+    rule-label-is = rule-stands .label
+
+    pub content-stands : BytesStand s (contentFrom index i) (contentTo index i) (contentBytes (ruleNumbered g i .content))
+    content-stands = rule-stands .content
+
+    pub content-size : length (contentText (ruleNumbered g i .content)) ≤ 3071
+    unfolding standard
+    content-size =
+        let b = content-short (ruleNumbered g i .content) (content-within .proper) in
+        let c = content-within .size in
+        omega arith
+
+    abbrev content-there : ContentAt standard (part s (contentFrom index i) (contentTo index i)) 0
+    content-there =
+        record {
+          content = ruleNumbered g i .content;
+          next = contentTo index i - contentFrom index i;
+          stands = content-in-part (ruleNumbered g i .content) content-stands;
+          proper = content-within .proper;
+        }
+
+    content-room : (at room : ℕ) → at + 3071 ≤ room → at + length (contentText (ruleNumbered g i .content)) ≤ room
+    content-room at room r = let z = content-size in omega arith
+
+    pub content-asks : {text : List ℕ} {at : ℕ} → at + 3071 ≤ length text
+        → Printable (part s (contentFrom index i) (contentTo index i)) 0 text at
+    content-asks {text} {at} r = record { there = content-there; room = content-room at (length text) r }
+
+    pub content-put : {text : List ℕ} {at : ℕ} {after : List ℕ} {r : Ends} → at + 3071 ≤ length text
+        → ((q : Printable (part s (contentFrom index i) (contentTo index i)) 0 text at)
+        → Printed text at (contentText (q .there .content)) (q .there .next) after r)
+        → Put text at (contentText (ruleNumbered g i .content)) after (r .text)
+    content-put {text} {at} r walk = walk (record { there = content-there; room = content-room at (length text) r }) .put
+
+    pub lines-next : joinedOf (ruleLine g) (take i (g .rules)) ++ ruleLine g (ruleNumbered g i) ≡ joinedOf (ruleLine g) (take (i + 1) (g .rules))
+    lines-next =
+        joined-next (ruleLine g) (g .rules) i (record { type = 0; label = 0; content = none }) (omega (arith, f .indexes .rules))
+
+-- the parts of a rule's line
+pub line-joined : (g : Table) (x : Rule) (k l : ℕ) {before : List ℕ} {at : ℕ} {after : List ℕ} {end : ℕ} → k ≡ x .type → l ≡ x .label
+    → Put before at
+    (typeText k ++ (0x20 ∷ []) ++ getD (g .labels) l [] ++ (0x20 ∷ []) ++ contentText (x .content) ++ (0x0A ∷ [])) after end
+    → Put before at (ruleLine g x) after end
+unfolding ruleLine
+line-joined g x k l {before} {at} {after} {end} p q w =
+    subst
+    (λ (m : ℕ). Put before at
+    (typeText m ++ (0x20 ∷ []) ++ getD (g .labels) (x .label) [] ++ (0x20 ∷ []) ++ contentText (x .content) ++ (0x0A ∷ [])) after end)
+    p
+    (subst
+    (λ (m : ℕ). Put before at
+    (typeText k ++ (0x20 ∷ []) ++ getD (g .labels) m [] ++ (0x20 ∷ []) ++ contentText (x .content) ++ (0x0A ∷ [])) after end)
+    q w)
+
+pub start-line-size : (k : ℕ) → k < 100 → length (startLine k) ≤ 10
+unfolding startLine
+start-line-size k h = omega (arith, type-size k h, length-append (typeText k) (0x0A ∷ []))

@@ -1,0 +1,175 @@
+-- What the lister prints, by what the widening call gives, where the call is lent enough: a refusal is the lister's own, and bytes read as
+-- the table that the lister prints.
+--   listing-refused, listing-written : by the call's outcome ; list-refused, list-inside, list-written : by its answer and the output
+use Prim.Native.Nat.{ℕ, _-_, _≤_}
+use native.Mathlib.Omega.{arith}
+use mathlib.Core.List.{List, _++_}
+use mathlib.Core.Path.{_≡_, refl, sym, _∙_, ap}
+use lib.ListN.{length, take, drop, length-append}
+use lib.Seq.{take-append-seam}
+use lib.Dec.{ltb}
+use borrow.Author.Tests.{le-ltb}
+use Rattle.grammar.specs.Limits.{standard}
+use Rattle.grammar.specs.Names.{asciiClasses}
+use Rattle.grammar.specs.Tree.{Tree}
+use Rattle.grammar.specs.Table.{Table}
+use Rattle.grammar.specs.Kinds.{local}
+use Rattle.grammar.specs.Least.{byDocument}
+use Rattle.grammar.specs.Outcome.{Outcome, given, refused, _>>=_}
+use Rattle.grammar.specs.ReadTable.{readTable}
+use Rattle.grammar.specs.ReadDocument.{readDocument}
+use Rattle.grammar.specs.WriteTable.{tableBytes}
+use Rattle.grammar.specs.WithinLimits.{TableWithin}
+use Rattle.grammar.specs.Widen.{widen}
+use Rattle.grammar.specs.Calls.{tableReads, outAfter, writtenTo, readAddition, widened, After, after, wrote}
+use Rattle.grammar.specs.Answers.{Numbers, writtenNumbers, numbersOf}
+use Rattle.grammar.specs.declared.Source.the-variants.{Document as aDocument}
+use Rattle.grammar.specs.Listing.{outcomeText, listing}
+use Rattle.grammar.specs.declared.Refusal.{Refusal}
+use Rattle.grammar.specs.declared.Refusal.the-variants.{OutputTooShort}
+use Rattle.grammar.specs.declared.Written.{Written}
+use Rattle.grammar.specs.declared.Written.the-variants.{Length, Refused as Unwritten}
+use Rattle.theory.proofs.bytes.OutcomeLaws.{no-fault, was-given, given-eq}
+use Rattle.theory.proofs.bytes.NumberedTable.{standard-agree}
+use Rattle.theory.proofs.bytes.ReadWithin.{read-within}
+use Rattle.theory.proofs.bytes.DocumentWithin.{document-within}
+use Rattle.theory.proofs.theorems.ResultWithin.{document-result-within, document-result-read-back}
+use Rattle.theory.proofs.theorems.AnswerNumbers.{was-written, was-unwritten}
+use Rattle.reader.proofs.AnswerLaws.{never-given}
+use Rattle.reader.proofs.WorkLaws.{lent-enough}
+use Rattle.writer.specs.Writing.{Put}
+use Rattle.lister_lines.proofs.PrintSteps.{put-as}
+
+refused-eq : {A : Type 0} {q r : Refusal} → _≡_ {A = Outcome A} (refused q) (refused r) → q ≡ r
+refused-eq e = cc
+
+module _ (old document out work : List ℕ) (words : 16384 ≤ length work) (room : 32768 ≤ length out) where
+  abbrev result : Outcome Table
+  result =
+      readTable standard asciiClasses old
+      >>= λ g. readDocument standard asciiClasses document >>= λ d. widen standard local g (byDocument d)
+
+  abbrev called : Outcome (List ℕ)
+  called = widened standard asciiClasses local aDocument old document out work
+
+  called-is : called ≡ (result >>= writtenTo out)
+  unfolding widened tableReads readAddition
+  called-is =
+      ap
+      (λ (o : Outcome Table).
+      o
+      >>= λ g. ((readDocument standard asciiClasses document >>= λ d. given (byDocument d))
+      >>= λ a. (widen standard local g a >>= λ r. writtenTo out r)))
+      (lent-enough work (readTable standard asciiClasses old) words)
+      ∙ through (readTable standard asciiClasses old) (readDocument standard asciiClasses document)
+    where
+      through : (x : Outcome Table) (y : Outcome Tree)
+          → (x >>= λ g. ((y >>= λ d. given (byDocument d)) >>= λ a. (widen standard local g a >>= λ r. writtenTo out r)))
+          ≡ ((x >>= λ g. (y >>= λ d. widen standard local g (byDocument d))) >>= writtenTo out)
+      through (refused r) y = refl
+      through (given g) (refused r) = refl
+      through (given g) (given d) = refl
+
+  module _ (g : Table) (e : result ≡ given g) where
+    -- what was read and widened
+    steps : (h : Table) × (d : Tree) × (readTable standard asciiClasses old ≡ given h)
+        × (readDocument standard asciiClasses document ≡ given d) × (widen standard local h (byDocument d) ≡ given g)
+    steps =
+        let (h, p, q) =
+        was-given (readTable standard asciiClasses old)
+        (λ h. readDocument standard asciiClasses document >>= λ d. widen standard local h (byDocument d)) g e in
+        let (d, r, w) = was-given (readDocument standard asciiClasses document) (λ d. widen standard local h (byDocument d)) g q in
+        (h, d, p, r, w)
+
+    result-within : TableWithin standard asciiClasses g
+    result-within =
+        let (h, d, p, r, w) = steps in
+        document-result-within standard asciiClasses standard-agree d (document-within standard asciiClasses document d r) local h
+        (read-within standard asciiClasses old h p) g w
+
+    result-read-back : readTable standard asciiClasses (tableBytes g) ≡ given g
+    result-read-back =
+        let (h, d, p, r, w) = steps in
+        document-result-read-back standard asciiClasses standard-agree d (document-within standard asciiClasses document d r) local h
+        (read-within standard asciiClasses old h p) g w
+
+    called-given : called ≡ given (tableBytes g)
+    unfolding writtenTo standard
+    called-given =
+        let size = result-within .size in
+        called-is
+        ∙ ap (λ (o : Outcome Table). o >>= writtenTo out) e
+        ∙ no-fault (ltb (length out) (length (tableBytes g))) OutputTooShort (given (tableBytes g))
+        (le-ltb (length out) (length (tableBytes g)) (omega arith))
+
+  listing-is : listing standard asciiClasses old document ≡ outcomeText result
+  unfolding listing
+  listing-is = refl
+
+  pub listing-refused : (r : Refusal) → called ≡ refused r → listing standard asciiClasses old document ≡ outcomeText (refused r)
+  listing-refused r e = go result refl
+    where
+      go : (o : Outcome Table) → result ≡ o → listing standard asciiClasses old document ≡ outcomeText (refused r)
+      go (given g) p = absurd (never-given called r (tableBytes g) e (called-given g p))
+      go (refused q) p =
+          let same = refused-eq (sym (called-is ∙ ap (λ (o : Outcome Table). o >>= writtenTo out) p) ∙ e) in
+          listing-is ∙ ap outcomeText p ∙ ap (λ (s : Refusal). outcomeText (refused s)) same
+
+  pub listing-written : (bytes : List ℕ) → called ≡ given bytes
+      → listing standard asciiClasses old document ≡ outcomeText (readTable standard asciiClasses bytes)
+  listing-written bytes e = go result refl
+    where
+      go : (o : Outcome Table) → result ≡ o → listing standard asciiClasses old document ≡ outcomeText (readTable standard asciiClasses bytes)
+      go (refused q) p = absurd (never-given called q bytes (called-is ∙ ap (λ (o : Outcome Table). o >>= writtenTo out) p) e)
+      go (given g) p =
+          let same = given-eq (sym (called-given g p) ∙ e) in
+          listing-is
+          ∙ ap outcomeText (p ∙ sym (result-read-back g p))
+          ∙ ap (λ (b : List ℕ). outcomeText (readTable standard asciiClasses b)) same
+
+  -- by what the call leaves
+  module _ {answer : Written} {left workLeft : List ℕ} (kept : after (writtenNumbers answer) left workLeft ≡ wrote standard called out work) where
+    so : writtenNumbers answer ≡ numbersOf length called
+    unfolding wrote
+    so = ap (λ (a : After Numbers). a .answer) kept
+
+    out-left : left ≡ outAfter called out
+    unfolding wrote
+    out-left = ap (λ (a : After Numbers). a .out) kept
+
+    pub list-refused : {text more : List ℕ} {end : ℕ} (r : Refusal) → answer ≡ Unwritten r → Put text 0 (outcomeText (refused r)) more end
+        → Put text 0 (listing standard asciiClasses old document) more end
+    list-refused r e p = put-as (sym (listing-refused r (was-unwritten called r (ap writtenNumbers (sym e) ∙ so)))) p
+
+    module _ (n : ℕ) (e : answer ≡ Length n) where
+      abbrev bytes : List ℕ
+      bytes = was-written called n (ap writtenNumbers (sym e) ∙ so) .0
+
+      called-bytes : called ≡ given bytes
+      called-bytes = was-written called n (ap writtenNumbers (sym e) ∙ so) .1
+
+      size : n ≡ length bytes
+      size = was-written called n (ap writtenNumbers (sym e) ∙ so) .2
+
+      left-is : left ≡ bytes ++ drop (length bytes) out
+      unfolding outAfter
+      left-is = out-left ∙ ap (λ (o : Outcome (List ℕ)). outAfter o out) called-bytes
+
+      pub list-inside : n ≤ length left
+      list-inside =
+          let l = ap length left-is ∙ length-append bytes (drop (length bytes) out) in
+          let s = size in
+          omega arith
+
+      front-is : take (n - 0) (drop 0 left) ≡ bytes
+      front-is =
+          let z : n - 0 ≡ length bytes = omega (arith, size) in
+          ap (λ (k : ℕ). take k left) z ∙ ap (take (length bytes)) left-is ∙ take-append-seam bytes (drop (length bytes) out)
+
+      pub list-written : {text more : List ℕ} {end : ℕ}
+          → Put text 0 (outcomeText (readTable standard asciiClasses (take (n - 0) (drop 0 left)))) more end
+          → Put text 0 (listing standard asciiClasses old document) more end
+      list-written p =
+          put-as
+          (ap (λ (b : List ℕ). outcomeText (readTable standard asciiClasses b)) front-is ∙ sym (listing-written bytes called-bytes))
+          p

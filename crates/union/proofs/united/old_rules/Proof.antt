@@ -1,0 +1,68 @@
+-- `old_rules` meets its contract. The loop's invariant: the rules before `i` are put down.
+use Prim.Native.Nat.{ℕ, _-_, _≤_}
+use native.Mathlib.Omega.{arith}
+use borrow.Author.Needs.{needs}
+use mathlib.Core.List.{List}
+use mathlib.Core.Path.{_≡_, _∙_}
+use lib.ListN.{take}
+use lib.Seq.{take-all}
+use Rattle.grammar.specs.Table.{Table}
+use Rattle.union.specs.View.{TableHeld, Views, rulesOnly}
+use Rattle.union.proofs.UnionLaws.{views-same}
+use Rattle.union.proofs.united.old_rules.Statement.{statement}
+use Rattle.union.proofs.united.old_rules.Tie as tie
+
+abbrev Inv-loop : tie.InvT-loop
+Inv-loop index v₀ i₀ v i =
+    (i ≤ index .rules)
+    × (v .rules ≡ i)
+    × (v .«old_rules» ≡ index .rules)
+    × ((old add : List ℕ) (g : Table) → TableHeld old index g → Views old add v (rulesOnly (take i (g .rules))))
+
+abbrev μ-loop : tie.MeasureT-loop
+μ-loop index v₀ i₀ v i = index .rules - i
+
+loop-holds : tie.Need-loop-holds Inv-loop μ-loop
+loop-holds c =
+    (omega arith, c .no-rules .ensures .1, c .no-rules .ensures .2, λ old add g t. c .no-rules .ensures .0 old add)
+
+with-old-rule-requires : tie.Need-with-old-rule-requires Inv-loop μ-loop
+with-old-rule-requires c κs = (c .before .before .loop .inv .1, c .if1 .taken, c .before .before .before .before .pre, c .before .before .loop .inv .2)
+
+add-i : tie.Need-add-i Inv-loop μ-loop
+add-i c = omega (arith, c .before .before .before .before .before .pre)
+
+loop-again : tie.Need-loop-again Inv-loop μ-loop
+loop-again c =
+    let grown = c .with-old-rule .ensures .1 in
+    let one = grown .one in
+    let at = c .before .before .before .loop .inv .1 in (
+      omega arith,
+      omega arith,
+      grown .old ∙ c .before .before .before .loop .inv .2,
+      λ old add g t. c .with-old-rule .ensures .0 old add g t (c .before .before .before .loop .inv .3 old add g t),
+    )
+
+returns : tie.Need-returns Inv-loop μ-loop
+returns c =
+    let at = c .before .before .loop .inv .1 in (
+      λ old add g t.
+          let n = t .indexes .rules in
+          views-same (take-all (c .before .before .loop .i) (g .rules) (omega arith)) (c .before .before .loop .inv .3 old add g t),
+      omega arith,
+      c .before .before .loop .inv .2,
+    )
+
+pub old-rules-spec : {M : Type 1} → statement M
+old-rules-spec =
+    tie.close
+    (tie.spec
+    Inv-loop
+    μ-loop
+    (λ c κs. search needs)
+    loop-holds
+    with-old-rule-requires
+    add-i
+    (λ c. omega arith)
+    loop-again
+    returns)

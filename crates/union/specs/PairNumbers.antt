@@ -1,0 +1,43 @@
+-- The rules and pairs of a union by number. The number of a pair is that of its first rule.
+use Prim.Native.Nat.{ℕ}
+use mathlib.Core.Bool.{Bool}
+use mathlib.Core.List.{List, map}
+use lib.ListN.{length, getD}
+use lib.Dec.{eqb}
+use Rattle.grammar.specs.Lists.{keep, joinedOf, isIn, numbersBelow}
+use Rattle.grammar.specs.Content.{Content, none}
+use Rattle.grammar.specs.Table.{Rule, Table}
+use Rattle.grammar.specs.Normalise.{pairOf, pairsOf, normalise}
+use Rattle.grammar.specs.Reduce.{fruitful, withoutUnfruitful, reached}
+use Rattle.theory.specs.Alternatives.{pairsMet, pairsLeft}
+use Rattle.union.specs.Rounds.{contentOfRule}
+
+-- the rule of a number
+abbrev pub ruleNumbered : Table → ℕ → Rule
+ruleNumbered u i = getD (u .rules) i (record { type = 0; label = 0; content = none })
+
+-- the fruitful pairs of a type
+abbrev pub fruitfulOf : Table → ℕ → List ℕ
+fruitfulOf u = pairsLeft (pairsOf u) (fruitful (normalise u))
+
+-- the pairs that reducing leaves, and those of the start types
+abbrev pub isLeft : Table → ℕ → Bool
+isLeft u p = isIn p (reached (withoutUnfruitful (normalise u)))
+
+abbrev pub isStart : Table → ℕ → Bool
+isStart u p = isIn p (withoutUnfruitful (normalise u) .starts)
+
+-- the contents of a pair, in rule order
+unfoldable pub contentsOfPair : Table → ℕ → List Content
+unfolding keep numbersBelow contentOfRule
+contentsOfPair u p = map (contentOfRule u) (keep (λ i. eqb (pairOf u (ruleNumbered u i)) p) (numbersBelow (length (u .rules))))
+
+-- the contents of the pairs of a set
+unfoldable pub contentsIn : Table → (ℕ → Bool) → List Content
+unfolding joinedOf contentsOfPair keep numbersBelow
+contentsIn u set = joinedOf (contentsOfPair u) (keep set (numbersBelow (length (u .rules))))
+
+-- the pairs met in them, left to right
+unfoldable pub metIn : Table → (ℕ → Bool) → List ℕ
+unfolding joinedOf contentsIn pairsMet
+metIn u set = joinedOf (pairsMet (fruitfulOf u)) (contentsIn u set)
