@@ -1,10 +1,10 @@
 -- The values of the calls that write a table: a table that is given has at most 32,768 bytes, so no length written reaches 2^32.
---   sample-below, widening-below
+--   sampled-value, widened-value
 use Prim.Native.Nat.{ℕ, _≤_, _<_}
 use native.Mathlib.Omega.{arith}
 use mathlib.Core.Bool.{Bool, true, false}
 use mathlib.Core.List.{List}
-use mathlib.Core.Path.{_≡_, refl, sym, subst}
+use mathlib.Core.Path.{_≡_, refl, sym, ap, subst}
 use lib.ListN.{length}
 use lib.Dec.{ltb}
 use Rattle.grammar.specs.Limits.{standard}
@@ -14,12 +14,13 @@ use Rattle.grammar.specs.Table.{Table}
 use Rattle.grammar.specs.Kinds.{Kind}
 use Rattle.grammar.specs.Least.{Addition, byTable, byDocument}
 use Rattle.grammar.specs.Outcome.{Outcome, given, refused, _>>=_, _>>_, turnBack}
-use Rattle.grammar.specs.Answers.{refusedBy, numbersOf}
+use Rattle.grammar.specs.Answers.{Numbers, refusedBy, numbersOf}
 use Rattle.grammar.specs.WriteTable.{tableBytes}
 use Rattle.grammar.specs.Sample.{sample}
 use Rattle.grammar.specs.Size.{tooLarge}
 use Rattle.grammar.specs.Widen.{ofSize, sampleTable, widenByTable, widen}
-use Rattle.grammar.specs.Calls.{writtenTo, tableReads, documentReads, documentSample, readAddition, widened}
+use Rattle.grammar.specs.Calls.{writtenTo, tableReads, documentReads, documentSample, readAddition, widened, After, after, wrote}
+use Rattle.grammar.specs.Promises.{Sampling, Widening}
 use Rattle.grammar.specs.declared.Source.{Source}
 use Rattle.grammar.specs.declared.Refusal.the-variants.{ResultTooLarge, OutputTooShort}
 use Rattle.theory.proofs.bytes.OutcomeLaws.{was-given, had-no-fault, given-eq}
@@ -67,14 +68,14 @@ widen-size kind old (byDocument d) result e =
     let (a, _, p) = was-given (sampleTable standard d) (λ a. widenByTable standard kind old a) result e in
     result-size kind old a result p
 
-pub sample-below : (document out work : List ℕ)
+sample-below : (document out work : List ℕ)
     → numbersOf length (documentSample standard asciiClasses document out work) .value < 4294967296
 unfolding documentSample
 sample-below document out work =
     then-below (documentReads standard asciiClasses document work) _
     (λ d _. then-below (sampleTable standard d) _ (λ g e. table-below out g (sample-size d g e)))
 
-pub widening-below : (kind : Kind) (source : Source) (old addition out work : List ℕ)
+widening-below : (kind : Kind) (source : Source) (old addition out work : List ℕ)
     → numbersOf length (widened standard asciiClasses kind source old addition out work) .value < 4294967296
 unfolding widened
 widening-below kind source old addition out work =
@@ -82,3 +83,20 @@ widening-below kind source old addition out work =
     (λ g _.
     then-below (readAddition standard asciiClasses source addition) _
     (λ a _. then-below (widen standard kind g a) _ (λ r e. table-below out r (widen-size kind g a r e))))
+
+-- so is the value of what a call promised
+pub sampled-value : (document out work left kept : List ℕ) (n : Numbers) → Sampling standard asciiClasses document out work (after n left kept)
+    → n .value < 4294967296
+unfolding wrote
+sampled-value document out work left kept n s =
+    let same = ap (λ (a : After Numbers). a .answer .value) (s .settled) in
+    let below = sample-below document out work in
+    omega arith
+
+pub widened-value : (kind : Kind) (source : Source) (old addition out work left kept : List ℕ) (n : Numbers)
+    → Widening standard asciiClasses kind source old addition out work (after n left kept) → n .value < 4294967296
+unfolding wrote
+widened-value kind source old addition out work left kept n s =
+    let same = ap (λ (a : After Numbers). a .answer .value) (s .settled) in
+    let below = widening-below kind source old addition out work in
+    omega arith
