@@ -128,7 +128,7 @@ module _ (old document out work : List ℕ) (words : 16384 ≤ length work) (roo
           ∙ ap (λ (b : List ℕ). outcomeText (readTable standard asciiClasses b)) same
 
   -- by what the call leaves
-  module _ {answer : Written} {left workLeft : List ℕ} (kept : after (writtenNumbers answer) left workLeft ≡ wrote standard called out work) where
+  module _ (answer : Written) (left workLeft : List ℕ) (kept : after (writtenNumbers answer) left workLeft ≡ wrote standard called out work) where
     so : writtenNumbers answer ≡ numbersOf length called
     unfolding wrote
     so = ap (λ (a : After Numbers). a .answer) kept

@@ -1,0 +1,26 @@
+-- `cogarrune_lets_in` meets its contract.
+use mathlib.Core.List.{[]}
+use Rattle.grammar.specs.Limits.{standard}
+use Rattle.grammar.specs.Names.{asciiClasses}
+use Rattle.grammar.specs.Answers.{verdictNumbers}
+use Rattle.grammar.specs.Calls.{after}
+use Rattle.grammar.specs.Promises.{Membership}
+use Rattle.exports.proofs.Apart.{retold, verdict-below}
+use borrow.Author.Needs.{needs}
+use Rattle.exports.proofs.cogarrune_lets_in.Statement.{statement}
+use Rattle.exports.proofs.cogarrune_lets_in.Tie as tie
+
+returns : tie.Need-returns
+returns c =
+    let a = c .before .before .before .before .before .before .before .before .args in
+    let m = c .before .before .before .lets-in in
+    retold (λ n. Membership standard asciiClasses (a .table .now) (a .document .now) (a .work .now) (after n [] (m .last .1 .1 .0))) (verdictNumbers (m .result)) _ (c .of-verdict .ensures) (verdict-below (m .result)) (m .ensures)
+
+pub cogarrune-lets-in-spec : {M : Type 1} → statement M
+cogarrune-lets-in-spec =
+    tie.close
+    (tie.spec
+    (λ c κs. search needs)
+    (λ c κs. search needs)
+    (λ c. search needs)
+    returns)
