@@ -1,14 +1,13 @@
 -- Where a name stands, as one number.
-use Prim.Native.Nat.{ℕ, _*_, _+_, _-_, _≤_, _<_}
+use Prim.Native.Nat.{ℕ, _-_, _≤_, _<_}
 use native.Mathlib.Omega.{arith}
 use mathlib.Core.List.{List, []}
 use mathlib.Core.Path.{_≡_, refl, sym, _∙_, ap}
 use lib.ListN.{length}
 use Rattle.grammar.specs.Limits.{standard}
 use Rattle.grammar.specs.Names.{asciiClasses}
-use Rattle.grammar.specs.Outcome.{Outcome, given, refused}
-use Rattle.grammar.specs.Answers.{Numbers, refusedBy, numbersOf}
-use Rattle.grammar.specs.Calls.{Part, workAfter, after, labelName}
+use Rattle.grammar.specs.Answers.{refusedBy, numbersOf}
+use Rattle.grammar.specs.Calls.{workAfter, after, labelName}
 use Rattle.grammar.specs.Promises.{placeValue, NamePlace}
 use Rattle.grammar.specs.declared.Refusal.the-variants.{WorkTooShort}
 use Rattle.reader.specs.declared.label_places.LabelFound.{LabelFound}

@@ -22,7 +22,6 @@ use Rattle.theory.proofs.steps.SetsClosed.{OneLabelSet, sets-induct, set-met, s
 use Rattle.theory.proofs.steps.SingleTypeMerge.{single-type-form-length, single-type-form-place}
 use Rattle.union.specs.PairNumbers.{metIn}
 use Rattle.forms.specs.SetForms.{
-  pairsLabelled,
   labelLeft,
   setNumber,
   setLabel,

@@ -30,7 +30,7 @@ use Rattle.union.specs.PairNumbers.{ruleNumbered, contentsIn}
 use Rattle.union.proofs.ViewLaws.{seen}
 use Rattle.forms.specs.SetWords.{Ascending}
 use Rattle.forms.specs.Worklist.{LabelsSized}
-use Rattle.forms.specs.SetForms.{pairsLabelled, setLabel, labelsOf, setNumber, contentBySet, ruleBySet, pairsWithin}
+use Rattle.forms.specs.SetForms.{setLabel, labelsOf, setNumber, contentBySet, ruleBySet, pairsWithin}
 use Rattle.forms.proofs.SetWordLaws.{sets-stay}
 use Rattle.results.specs.Results.{resultRule, isUsed, SetsIn, RulesFrom}
 

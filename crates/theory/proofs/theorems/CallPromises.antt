@@ -17,17 +17,16 @@ use Rattle.grammar.specs.Tree.{Tree}
 use Rattle.grammar.specs.Table.{Table}
 use Rattle.grammar.specs.Derivation.{LetsIn}
 use Rattle.grammar.specs.Kinds.{Kind, local, singleType, OfKind}
-use Rattle.grammar.specs.Least.{Addition, byTable, byDocument, Added}
+use Rattle.grammar.specs.Least.{Addition, Added}
 use Rattle.grammar.specs.Outcome.{Outcome, given, refused, _>>=_, _>>_, turnBack}
 use Rattle.grammar.specs.ReadTable.{readTable}
 use Rattle.grammar.specs.ReadDocument.{readDocument}
 use Rattle.grammar.specs.WriteTable.{tableBytes}
 use Rattle.grammar.specs.Membership.{letsIn}
 use Rattle.grammar.specs.KindTests.{isOfKind}
-use Rattle.grammar.specs.Sample.{sample}
 use Rattle.grammar.specs.Widen.{widen, sampleTable}
 use Rattle.grammar.specs.Claim.{WritesLeast}
-use Rattle.grammar.specs.Answers.{Numbers, refusedBy, saysYes, saysNo, numbersOf, bit}
+use Rattle.grammar.specs.Answers.{Numbers, refusedBy, numbersOf, bit}
 use Rattle.grammar.specs.Calls.{
   workTooShort,
   outAfter,
