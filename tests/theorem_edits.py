@@ -15,7 +15,6 @@ EDITS = ROOT / "crates/grammar/must-fail"
 NOT_OF_THE_THEORY = {
     "children_of_201": "a number of the standard limits; the theorems are for all limits that agree",
     "nesting_of_33": "a number of the standard limits; the theorems are for all limits that agree",
-    "refusals_5_and_6_exchanged": "the numbers of refusals; the theorems name refusals and count none",
 }
 
 
