@@ -8,7 +8,6 @@ use lib.Seq.{paste, take-append-seam}
 use lib.Dec.{ltb}
 use borrow.Author.Tests.{lt-ltb, le-ltb}
 use Rattle.grammar.specs.Limits.{standard}
-use Rattle.writer.proofs.PutLaws.{put-paste}
 use Rattle.grammar.specs.Names.{asciiClasses}
 use Rattle.grammar.specs.Table.{Table}
 use Rattle.grammar.specs.Tree.{Tree}
@@ -132,26 +131,24 @@ module _ (o : Outcome Table) (draft out : List ℕ) (answer : Written) (i : InDr
       ∙ fault (ltb (length out) (length (tableBytes g))) OutputTooShort (given (tableBytes g)) (lt-ltb (length out) (length (tableBytes g)) short) in
       (sym (ap written f), sym (ap (λ (x : Outcome (List ℕ)). outAfter x out) f))
 
-  pub handed : (n : ℕ) → answer ≡ Length n → n ≤ length out → (m : ℕ) → m ≡ n → (left : List ℕ)
-      → left ≡ take m draft ++ drop (length (take m draft)) out → HandedOver o out left (Length n)
+  pub handed : (n : ℕ) → answer ≡ Length n → n ≤ length out → (left : List ℕ) → left ≡ take n draft ++ drop n out
+      → HandedOver o out left (Length n)
   unfolding written outAfter writtenTo
-  handed n e h m same left w =
+  handed n e h left w =
       let (g, p, size) = was-made o draft answer i n e in
       let long : length (tableBytes g) ≤ length out = omega arith in
       let f : (o >>= writtenTo out) ≡ given (tableBytes g) = given-then o g (writtenTo out) p
       ∙ no-fault (ltb (length out) (length (tableBytes g))) OutputTooShort (given (tableBytes g)) (le-ltb (length out) (length (tableBytes g)) long) in (
         ap (λ (k : ℕ). Length k) size ∙ sym (ap written f),
         w
-            ∙ ap (λ (l : List ℕ). l ++ drop (length l) out) (ap (λ (k : ℕ). take k draft) (same ∙ size) ∙ i .bytes g p)
+            ∙ ap (λ (k : ℕ). take k draft ++ drop k out) size
+            ∙ ap (λ (l : List ℕ). l ++ drop (length (tableBytes g)) out) (i .bytes g p)
             ∙ sym (ap (λ (x : Outcome (List ℕ)). outAfter x out) f),
       )
 
--- bytes copied to the front of the output
-pub copied : (out bytes left : List ℕ) → 0 + length bytes ≤ length out → left ≡ paste out 0 bytes (length bytes)
-    → left ≡ bytes ++ drop (length bytes) out
-copied out bytes left h e =
-    let z : 0 + length bytes ≡ length bytes = omega arith in
-    put-paste out 0 bytes left h e .is ∙ ap (λ (n : ℕ). bytes ++ drop n out) z
+-- bytes pasted at the front of the output
+pub at-front : (out draft : List ℕ) (n : ℕ) → paste out 0 draft n ≡ take n draft ++ drop n out
+at-front out draft n = let z : 0 + n ≡ n = omega arith in ap (λ (k : ℕ). take n draft ++ drop k out) z
 
 -- a table that was read is held
 pub found-held : {s : List ℕ} {index : TableIndex} → TableFound s index → Held s index

@@ -11,9 +11,10 @@ use results::widen::Made;
 use results::widen::widen_tables;
 use sampling::sample::sample_table;
 use writer::writing::Drafted;
-use writer::writing::copy;
 ghost use Prim.Native.Nat.{_≤_};
-ghost use lib.ListN.{length};
+ghost use mathlib.Core.List.{_++_};
+ghost use mathlib.Core.Path.{_≡_};
+ghost use lib.ListN.{length, take, drop};
 ghost use Rattle.grammar.specs.Table.{Table};
 ghost use Rattle.grammar.specs.Outcome.{Outcome};
 ghost use Rattle.grammar.specs.declared.Source.the-variants.{Table as aTable, Document as aDocument};
@@ -21,9 +22,24 @@ ghost use Rattle.union.specs.View.{TableHeld, Held};
 ghost use Rattle.results.specs.Widened.{kindOf};
 ghost use Rattle.widening.specs.Drafting.{sampleOf, widenedBy, widenedFrom, InDraft, FitsDraft, HandedOver};
 
+// The first `n` bytes of the draft at the front of the output. What stands behind them stays.
+fn hand_over(draft: &[u8], n: usize, out: &mut [u8])
+    requires { ⌜ (length (now draft) ≡ 32768) × (n ≤ length (now draft)) × (n ≤ length (now out)) ⌝ }
+    ensures { λ r. ⌜ now (out .exit) ≡ take n (now (draft .entry)) ++ drop n (now (out .entry)) ⌝ }
+{
+    let mut i: usize = 0;
+    while i < out.len() {
+        if n <= i {
+            return;
+        }
+        out[i] = draft[i];
+        i += 1;
+    }
+}
+
 // Hands over what stands in the draft, if the output has room.
 pub fn deliver(draft: &[u8], made: Written, out: &mut [u8]) -> Written
-    requires { ⌜ FitsDraft (now draft) made ⌝ }
+    requires { ⌜ (length (now draft) ≡ 32768) × FitsDraft (now draft) made ⌝ }
     ensures { λ r. ⌜ ((o : Outcome Table) → InDraft o (now (draft .entry)) made → HandedOver o (now (out .entry)) (now (out .exit)) r) ⌝ }
 {
     match made {
@@ -32,7 +48,7 @@ pub fn deliver(draft: &[u8], made: Written, out: &mut [u8]) -> Written
             if out.len() < n {
                 return Written::Refused(Refusal::OutputTooShort);
             }
-            copy(out, 0, &draft[0..n]);
+            hand_over(draft, n, out);
             Written::Length(n)
         }
     }

@@ -10,7 +10,10 @@ returns : tie.Need-returns
 returns c = laws.sample-unanswered (c .before .before .before .before .args .document .now) (c .before .before .before .before .args .out .now) (c .before .before .before .before .args .work .now) (c .if1 .taken)
 
 deliver-requires : tie.Need-deliver-requires
-deliver-requires c κs = drafts.fits (sampleOf (c .before .before .before .before .before .before .before .before .before .before .before .before .before .args .document .now)) _ (c .before .before .before .before .before .before .before .draft-sample .result) (c .before .before .before .before .before .before .before .draft-sample .ensures)
+deliver-requires c κs =
+    let a = c .before .before .before .before .before .before .before .before .before .before .before .before .before .args in
+    let d = c .before .before .before .before .before .before .before .draft-sample in
+    (d .kept .1 .0, drafts.fits (sampleOf (a .document .now)) _ (d .result) (d .ensures))
 
 returns-2 : tie.Need-returns-2
 returns-2 c =

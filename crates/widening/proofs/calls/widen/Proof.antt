@@ -18,7 +18,8 @@ returns c =
 deliver-requires : tie.Need-deliver-requires
 deliver-requires c κs =
     let a = c .before .before .before .before .before .before .before .before .before .before .before .before .before .before .before .before .before .args in
-    drafts.fits (widenedFrom (a .source) (kindOf (a .kind)) (a .old .now) (a .addition .now)) _ (c .before .before .before .before .before .before .before .before .before .draft-widened .result) (c .before .before .before .before .before .before .before .before .before .draft-widened .ensures)
+    let d = c .before .before .before .before .before .before .before .before .before .draft-widened in
+    (d .kept .1 .1 .1 .1 .1 .0, drafts.fits (widenedFrom (a .source) (kindOf (a .kind)) (a .old .now) (a .addition .now)) _ (d .result) (d .ensures))
 
 same-length-2 : tie.Need-same-length-2
 same-length-2 c =

@@ -9,19 +9,11 @@ use Rattle.widening.proofs.DraftLaws as laws
 use Rattle.widening.proofs.drafting.deliver.Statement.{statement}
 use Rattle.widening.proofs.drafting.deliver.Tie as tie
 
-part-copy-end : tie.Need-part-copy-end
-part-copy-end c =
-    let a = c .before .before .before .before .before .before .before .args in
-    laws.fits-to (a .draft .now) (a .made) (c .before .before .before .before .before .before .before .pre) _ (c .before .before .before .made2 .given .1)
-
-copy-requires : tie.Need-copy-requires
-copy-requires c κs =
-    let a = c .before .before .before .before .before .before .before .before .args in
-    let n = c .before .before .before .before .made2 .given .0 .0 in
-    let f = laws.fits-to (a .draft .now) (a .made) (c .before .before .before .before .before .before .before .before .pre) n (c .before .before .before .before .made2 .given .1) in
-    let l = length-take-le (n - 0) (a .draft .now) (omega arith) in
-    let h = c .before .before .if1 .left in
-    omega arith
+hand-over-requires : tie.Need-hand-over-requires
+hand-over-requires c κs =
+    let p = c .before .before .before .before .before .before .before .pre in
+    let f = laws.fits-to (c .before .before .before .before .before .before .before .args .draft .now) (c .before .before .before .before .before .before .before .args .made) (p .1) _ (c .before .before .before .made2 .given .1) in
+    (p .0, f, omega arith)
 
 returns : tie.Need-returns
 returns c =
@@ -35,14 +27,8 @@ returns-2 c =
 
 returns-3 : tie.Need-returns-3
 returns-3 c =
-    let a = c .before .before .before .before .before .before .before .before .before .before .before .args in
-    let n = c .before .before .before .before .before .before .before .made2 .given .0 .0 in
-    let e = c .before .before .before .before .before .before .before .made2 .given .1 in
-    let h = c .before .before .before .before .before .if1 .left in
-    let f = laws.fits-to (a .draft .now) (a .made) (c .before .before .before .before .before .before .before .before .before .before .before .pre) n e in
-    let l = length-take-le (n - 0) (a .draft .now) (omega arith) in
-    λ o i. laws.handed o (a .draft .now) (a .out .now) (a .made) i n e h _ (sub-zero _) _
-    (laws.copied (a .out .now) (take (n - 0) (a .draft .now)) _ (omega arith) (c .before .before .copy .ensures))
+    let a = c .before .before .before .before .before .before .before .before .before .before .args in
+    λ o i. laws.handed o (a .draft .now) (a .out .now) (a .made) i _ (c .before .before .before .before .before .before .made2 .given .1) (c .before .before .before .before .if1 .left) _ (c .before .before .hand-over .ensures)
 
 pub deliver-spec : {M : Type 1} → statement M
 deliver-spec =
@@ -51,10 +37,7 @@ deliver-spec =
     (λ c. search needs)
     (λ c. search needs)
     returns
-    (λ c. search needs)
-    (λ c. search needs)
-    part-copy-end
-    copy-requires
+    hand-over-requires
     returns-2
     (λ c. search needs)
     returns-3)
