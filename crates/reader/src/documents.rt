@@ -3,6 +3,7 @@ ghost use mathlib.Core.Path.{_≡_};
 ghost use Prim.Native.Nat.{_≤_, _<_};
 ghost use lib.ListN.{length, drop};
 ghost use lib.Seq.{slice};
+ghost use Rattle.grammar.specs.Names.{asciiClasses};
 ghost use Rattle.grammar.specs.Limits.{standard};
 ghost use Rattle.grammar.specs.Fields.{fieldsOf};
 ghost use Rattle.grammar.specs.ReadDocument.{nothingRead};
@@ -15,6 +16,7 @@ use crate::limits::INPUT;
 use crate::limits::LEVELS;
 use crate::limits::NAME;
 use crate::limits::NODES;
+use crate::names::CLASSES;
 use crate::names::is_name;
 use crate::numbers::wide;
 use grammar::Reading;
@@ -85,7 +87,16 @@ fn bad_node(nodes: usize, children: usize, depth: usize) -> bool
 }
 
 // What a field other than the end says.
-fn node_of(s: &[u8], tag: u8, from: usize, to: usize, nodes: usize, depth: usize) -> Step
+fn node_of(
+    classes: &[u8],
+    s: &[u8],
+    tag: u8,
+    from: usize,
+    to: usize,
+    nodes: usize,
+    depth: usize,
+) -> Step
+    requires { ⌜ now classes ≡ asciiClasses ⌝ }
     requires { ⌜ (from ≤ to) × (to ≤ length (now s)) ⌝ }
     ensures { λ r. ⌜ StepSays (now (s .entry)) from nodes depth
         (restWith (record { tag = tag; value = slice from to (now (s .entry)) }) (fieldsOf (drop to (now (s .entry))))) r ⌝ }
@@ -102,7 +113,7 @@ fn node_of(s: &[u8], tag: u8, from: usize, to: usize, nodes: usize, depth: usize
     }
     let children = wide(s[from]);
     let name = from + 1;
-    if is_name(&s[name..to]) {
+    if is_name(classes, &s[name..to]) {
         if bad_node(nodes, children, depth) {
             return Step::Stop(Reading::Refused(Refusal::BadTree));
         }
@@ -113,7 +124,8 @@ fn node_of(s: &[u8], tag: u8, from: usize, to: usize, nodes: usize, depth: usize
 }
 
 // What the field at a place says.
-fn step_at(s: &[u8], at: usize, nodes: usize, depth: usize) -> Step
+fn step_at(classes: &[u8], s: &[u8], at: usize, nodes: usize, depth: usize) -> Step
+    requires { ⌜ now classes ≡ asciiClasses ⌝ }
     ensures { λ r. ⌜ StepSays (now (s .entry)) at nodes depth (λ o. restOf o (fieldsOf (drop at (now (s .entry))))) r ⌝ }
 {
     match field_at(s, at) {
@@ -124,7 +136,7 @@ fn step_at(s: &[u8], at: usize, nodes: usize, depth: usize) -> Step
                 let answer = end_answer(to - from, depth, s.len() - to);
                 return Step::Stop(answer);
             }
-            node_of(s, tag, from, to, nodes, depth)
+            node_of(classes, s, tag, from, to, nodes, depth)
         }
     }
 }
@@ -158,7 +170,14 @@ fn after_node(coming: &mut [usize], depth: usize, children: usize) -> usize
 }
 
 // The fields of a document, front to back.
-fn read_fields(s: &[u8], names: &mut [u16], sizes: &mut [u16], children: &mut [u16]) -> NodesRead
+fn read_fields(
+    classes: &[u8],
+    s: &[u8],
+    names: &mut [u16],
+    sizes: &mut [u16],
+    children: &mut [u16],
+) -> NodesRead
+    requires { ⌜ now classes ≡ asciiClasses ⌝ }
     requires { ⌜ (length (now s) ≤ 32768) × (1024 ≤ length (now names)) × (1024 ≤ length (now sizes)) × (1024 ≤ length (now children)) ⌝ }
     ensures answer { λ r. ⌜ restOf nothingRead (fieldsOf (now (s .entry)))
         ≡ outcomeOf (r .answer) (firstNodes (now (s .entry)) (now (names .exit)) (now (sizes .exit)) (now (children .exit)) (r .nodes)) ⌝ }
@@ -170,7 +189,7 @@ fn read_fields(s: &[u8], names: &mut [u16], sizes: &mut [u16], children: &mut [u
     coming[0] = 1;
     let mut depth: usize = 1;
     loop {
-        match step_at(s, at, nodes, depth) {
+        match step_at(classes, s, at, nodes, depth) {
             Step::Node(from, to, count) => {
                 names[nodes] = from as u16;
                 sizes[nodes] = (to - from) as u16;
@@ -201,7 +220,8 @@ pub fn read_nodes(s: &[u8], names: &mut [u16], sizes: &mut [u16], children: &mut
             nodes: 0,
         };
     }
-    read_fields(s, names, sizes, children)
+    let classes = CLASSES;
+    read_fields(&classes, s, names, sizes, children)
 }
 
 // The nodes of a document.

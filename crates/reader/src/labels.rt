@@ -47,7 +47,8 @@ fn repeated_label(s: &[u8], from: usize, to: usize, index: TableIndex) -> bool
 }
 
 // Why a label is turned back, if it is.
-fn label_answer(s: &[u8], from: usize, to: usize, index: TableIndex) -> Reading
+fn label_answer(classes: &[u8], s: &[u8], from: usize, to: usize, index: TableIndex) -> Reading
+    requires { ⌜ now classes ≡ asciiClasses ⌝ }
     requires { ⌜ ValueAt (now s) from to index ⌝ }
     ensures { λ r. ⌜ AnswersFor (now (s .entry)) index (λ g. readLabel standard asciiClasses g (part (now (s .entry)) from to)) r ⌝ }
 {
@@ -63,7 +64,7 @@ fn label_answer(s: &[u8], from: usize, to: usize, index: TableIndex) -> Reading
     if NAME < to - from {
         return Reading::Refused(Refusal::BadField);
     }
-    if is_name(&s[from..to]) {
+    if is_name(classes, &s[from..to]) {
         if repeated_label(s, from, to, index) {
             return Reading::Refused(Refusal::Repeated);
         }
@@ -77,11 +78,12 @@ fn label_answer(s: &[u8], from: usize, to: usize, index: TableIndex) -> Reading
 }
 
 // The index after a label.
-pub fn after_label(s: &[u8], from: usize, to: usize, index: TableIndex) -> TableRead
+pub fn after_label(classes: &[u8], s: &[u8], from: usize, to: usize, index: TableIndex) -> TableRead
+    requires { ⌜ now classes ≡ asciiClasses ⌝ }
     requires { ⌜ ValueAt (now s) from to index ⌝ }
     ensures { λ r. ⌜ ReadsFor (now (s .entry)) index (λ g. readLabel standard asciiClasses g (part (now (s .entry)) from to)) r ⌝ }
 {
-    match label_answer(s, from, to, index) {
+    match label_answer(classes, s, from, to, index) {
         Reading::Refused(r) => TableRead {
             answer: Reading::Refused(r),
             index: index,

@@ -1,11 +1,12 @@
 // Names: which byte strings are names, and when two are equal.
 ghost use mathlib.Core.Path.{_≡_};
-ghost use lib.ListN.{getD};
-ghost use Rattle.grammar.specs.Names.{asciiClasses, isName, sameName};
+ghost use Prim.Native.Nat.{_≤_};
+ghost use lib.ListN.{length, getD};
+ghost use Rattle.grammar.specs.Names.{isName, sameName};
 use crate::numbers::wide;
 
 // The class of each byte: 0 never in a name, 1 not first, 2 anywhere.
-const CLASSES: [u8; 256] = [
+pub const CLASSES: [u8; 256] = [
     0,
     0,
     0,
@@ -265,27 +266,29 @@ const CLASSES: [u8; 256] = [
 ];
 
 // The class of a byte.
-pub fn class_of(b: u8) -> u8
-    ensures { λ r. ⌜ r ≡ getD asciiClasses b 0 ⌝ }
+fn class_of(classes: &[u8], b: u8) -> u8
+    requires { ⌜ 256 ≤ length (now classes) ⌝ }
+    ensures { λ r. ⌜ r ≡ getD (now (classes .entry)) b 0 ⌝ }
 {
     let i = wide(b);
-    CLASSES[i]
+    classes[i]
 }
 
 // The first byte is of class 2, and no byte is of class 0.
-pub fn is_name(s: &[u8]) -> bool
-    ensures { λ r. ⌜ r ≡ isName asciiClasses (now (s .entry)) ⌝ }
+pub fn is_name(classes: &[u8], s: &[u8]) -> bool
+    requires { ⌜ 256 ≤ length (now classes) ⌝ }
+    ensures { λ r. ⌜ r ≡ isName (now (classes .entry)) (now (s .entry)) ⌝ }
 {
     if s.len() == 0 {
         return false;
     }
-    let first = class_of(s[0]);
+    let first = class_of(classes, s[0]);
     if first != 2 {
         return false;
     }
     let mut i: usize = 1;
     while i < s.len() {
-        let class = class_of(s[i]);
+        let class = class_of(classes, s[i]);
         if class == 0 {
             return false;
         }

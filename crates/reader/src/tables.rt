@@ -14,6 +14,7 @@ use crate::fields::FieldAt;
 use crate::fields::field_at;
 use crate::labels::after_label;
 use crate::limits::INPUT;
+use crate::names::CLASSES;
 use crate::rules::after_rule;
 use crate::starts::after_start;
 use grammar::Reading;
@@ -48,13 +49,21 @@ pub struct TableRead {
 }
 
 // The index after a field that is not the end.
-fn after_field(s: &[u8], tag: u8, from: usize, to: usize, index: TableIndex) -> TableRead
+fn after_field(
+    classes: &[u8],
+    s: &[u8],
+    tag: u8,
+    from: usize,
+    to: usize,
+    index: TableIndex,
+) -> TableRead
+    requires { ⌜ now classes ≡ asciiClasses ⌝ }
     requires { ⌜ ValueAt (now s) from to index ⌝ }
     ensures { λ r. ⌜ ReadsFor (now (s .entry)) index
         (λ g. readTableField standard asciiClasses g (record { tag = tag; value = part (now (s .entry)) from to })) r ⌝ }
 {
     if tag == LABEL_TAG {
-        return after_label(s, from, to, index);
+        return after_label(classes, s, from, to, index);
     }
     if tag == START_TAG {
         return after_start(s, from, to, index);
@@ -102,7 +111,8 @@ fn no_index() -> TableIndex
 }
 
 // The fields of a table, front to back.
-fn read_fields(s: &[u8]) -> TableRead
+fn read_fields(classes: &[u8], s: &[u8]) -> TableRead
+    requires { ⌜ now classes ≡ asciiClasses ⌝ }
     ensures { λ r. ⌜ Reads (now (s .entry)) (readTableFields standard asciiClasses emptyTable (fieldsOf (now (s .entry)))) r ⌝ }
 {
     let mut index = no_index();
@@ -116,7 +126,7 @@ fn read_fields(s: &[u8]) -> TableRead
                         index: index,
                     };
                 }
-                let read = after_field(s, tag, from, to, index);
+                let read = after_field(classes, s, tag, from, to, index);
                 let answer = read.answer;
                 if let Reading::Refused(_) = answer {
                     return read;
@@ -151,5 +161,6 @@ pub fn read_table(s: &[u8]) -> TableRead
             index: no_index(),
         };
     }
-    read_fields(s)
+    let classes = CLASSES;
+    read_fields(&classes, s)
 }

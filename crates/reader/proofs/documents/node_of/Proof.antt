@@ -1,8 +1,11 @@
 -- `documents::node_of` meets its contract: each way through the code is a case of `readNode`.
+use Prim.Native.Nat.{_+_}
 use native.Mathlib.Omega.{arith}
 use mathlib.Core.Path.{sym, _∙_}
 use Rattle.grammar.specs.Fields.{fieldsOf}
 use lib.ListN.{drop}
+use Rattle.reader.specs.TableIndex.{part}
+use Rattle.reader.proofs.ClassTable.{all-bytes, as-tested}
 use Rattle.reader.proofs.DocumentFields.{
   node-foreign,
   node-short,
@@ -17,69 +20,72 @@ use Rattle.reader.proofs.documents.node_of.Tie as tie
 
 returns : tie.Need-returns
 returns c =
-    let a = c .before .before .args in
-    let s = a .s .now in
-    let p = c .before .before .pre in
-    λ o z. node-foreign s (a .from) (a .to) (p .0) (p .1) (a .tag) (fieldsOf (drop (a .to) s)) o (c .if1 .taken)
-
-returns-2 : tie.Need-returns-2
-returns-2 c =
     let a = c .before .before .before .args in
     let s = a .s .now in
     let p = c .before .before .before .pre in
-    λ o z. node-short s (a .from) (a .to) (p .0) (p .1) (a .tag) (fieldsOf (drop (a .to) s)) o (omega arith)
+    λ o z. node-foreign s (a .from) (a .to) (p .1 .0) (p .1 .1) (a .tag) (fieldsOf (drop (a .to) s)) o (c .if1 .taken)
 
-returns-3 : tie.Need-returns-3
-returns-3 c =
+returns-2 : tie.Need-returns-2
+returns-2 c =
     let a = c .before .before .before .before .args in
     let s = a .s .now in
     let p = c .before .before .before .before .pre in
-    λ o z. node-long s (a .from) (a .to) (p .0) (p .1) (a .tag) (fieldsOf (drop (a .to) s)) o (omega arith)
+    λ o z. node-short s (a .from) (a .to) (p .1 .0) (p .1 .1) (a .tag) (fieldsOf (drop (a .to) s)) o (omega arith)
+
+returns-3 : tie.Need-returns-3
+returns-3 c =
+    let a = c .before .before .before .before .before .args in
+    let s = a .s .now in
+    let p = c .before .before .before .before .before .pre in
+    λ o z. node-long s (a .from) (a .to) (p .1 .0) (p .1 .1) (a .tag) (fieldsOf (drop (a .to) s)) o (omega arith)
+
+is-name-requires : tie.Need-is-name-requires
+is-name-requires c κs = all-bytes (c .before .before .before .before .before .before .before .before .pre .0)
 
 returns-4 : tie.Need-returns-4
 returns-4 c =
-    let a = c .before .before .before .before .before .before .before .before .before .before .before .args in
+    let a = c .before .before .before .before .before .before .before .before .before .before .before .before .args in
     let s = a .s .now in
-    let p = c .before .before .before .before .before .before .before .before .before .before .before .pre in
+    let p = c .before .before .before .before .before .before .before .before .before .before .before .before .pre in
     λ o z.
-    node-misplaced s (a .from) (a .to) (p .0) (p .1) (a .tag) (fieldsOf (drop (a .to) s)) o
+    node-misplaced s (a .from) (a .to) (p .1 .0) (p .1 .1) (a .tag) (fieldsOf (drop (a .to) s)) o
     (c .before .before .before .before .before .before .before .before .before .if1 .left) (omega arith) (omega arith)
     (a .nodes) (a .depth) (c .before .before .before .before .before .wide .result) (c .before .before .before .before .before .wide .ensures .0) z
-    (sym (c .before .before .before .is-name .ensures) ∙ c .before .before .if4 .taken)
+    (as-tested (p .0) (part s (a .from + 1) (a .to)) (c .before .before .before .is-name .ensures) (c .before .before .if4 .taken))
     (sym (c .before .bad-node .ensures) ∙ c .if5 .taken)
 
 returns-5 : tie.Need-returns-5
 returns-5 c =
-    let a = c .before .before .before .before .before .before .before .before .before .before .before .args in
+    let a = c .before .before .before .before .before .before .before .before .before .before .before .before .args in
     let s = a .s .now in
-    let p = c .before .before .before .before .before .before .before .before .before .before .before .pre in
+    let p = c .before .before .before .before .before .before .before .before .before .before .before .before .pre in
     let counts = good-counts (a .nodes) (c .before .before .before .before .before .wide .result) (a .depth) (sym (c .before .bad-node .ensures) ∙ c .if5 .left) in
     record {
       forward = omega arith;
       order = omega arith;
-      within = p .1;
+      within = p .1 .1;
       room = counts .room;
       some-level = counts .some-level;
       level = counts .level;
       few = counts .few;
       goes =
           λ o z.
-          node-here s (a .from) (a .to) (p .0) (p .1) (a .tag) (fieldsOf (drop (a .to) s)) o
+          node-here s (a .from) (a .to) (p .1 .0) (p .1 .1) (a .tag) (fieldsOf (drop (a .to) s)) o
           (c .before .before .before .before .before .before .before .before .before .if1 .left) (omega arith) (omega arith)
           (a .nodes) (a .depth) (c .before .before .before .before .before .wide .result) (c .before .before .before .before .before .wide .ensures .0) z
-          (sym (c .before .before .before .is-name .ensures) ∙ c .before .before .if4 .taken)
+          (as-tested (p .0) (part s (a .from + 1) (a .to)) (c .before .before .before .is-name .ensures) (c .before .before .if4 .taken))
           (sym (c .before .bad-node .ensures) ∙ c .if5 .left);
     }
 
 returns-6 : tie.Need-returns-6
 returns-6 c =
-    let a = c .before .before .before .before .before .before .before .before .before .args in
+    let a = c .before .before .before .before .before .before .before .before .before .before .args in
     let s = a .s .now in
-    let p = c .before .before .before .before .before .before .before .before .before .pre in
+    let p = c .before .before .before .before .before .before .before .before .before .before .pre in
     λ o z.
-    node-misnamed s (a .from) (a .to) (p .0) (p .1) (a .tag) (fieldsOf (drop (a .to) s)) o
+    node-misnamed s (a .from) (a .to) (p .1 .0) (p .1 .1) (a .tag) (fieldsOf (drop (a .to) s)) o
     (c .before .before .before .before .before .before .before .if1 .left) (omega arith) (omega arith)
-    (sym (c .before .is-name .ensures) ∙ c .if4 .left)
+    (as-tested (p .0) (part s (a .from + 1) (a .to)) (c .before .is-name .ensures) (c .if4 .left))
 
 pub node-of-spec : {M : Type 1} → statement M
 node-of-spec =
@@ -96,7 +102,7 @@ node-of-spec =
     (λ c. omega arith)
     (λ c. omega arith)
     (λ c. omega arith)
-    (λ c κs. tt)
+    is-name-requires
     (λ c κs. tt)
     returns-4
     returns-5

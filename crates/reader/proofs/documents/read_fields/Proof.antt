@@ -11,7 +11,7 @@ use Rattle.reader.proofs.documents.read_fields.Tie as tie
 use Rattle.reader.proofs.DocumentLoop.{NodesSoFar, says-node, so-far-none, so-far-next, so-far-stop}
 
 abbrev Inv-loop : tie.InvT-loop
-Inv-loop s names₀ sizes₀ children₀ nodes₀ at₀ coming₀ depth₀ names sizes children nodes at coming depth =
+Inv-loop classes s names₀ sizes₀ children₀ nodes₀ at₀ coming₀ depth₀ names sizes children nodes at coming depth =
     NodesSoFar s names sizes children nodes at coming depth
     × (length coming ≡ 65)
     × (length names ≡ length names₀)
@@ -19,21 +19,21 @@ Inv-loop s names₀ sizes₀ children₀ nodes₀ at₀ coming₀ depth₀ names
     × (length children ≡ length children₀)
 
 abbrev μ-loop : tie.MeasureT-loop
-μ-loop s names₀ sizes₀ children₀ nodes₀ at₀ coming₀ depth₀ names sizes children nodes at coming depth = length s - at
+μ-loop classes s names₀ sizes₀ children₀ nodes₀ at₀ coming₀ depth₀ names sizes children nodes at coming depth = length s - at
 
 -- in the arm of a node
 step : (c : tie.After-known-told Inv-loop μ-loop)
     → NodeStep
-    (c .before .before .before .before .before .before .before .before .before .args .s .now)
+    (c .before .before .before .before .before .before .before .before .before .before .args .s .now)
     (c .before .before .before .before .loop .at)
     (c .before .before .before .before .loop .nodes)
     (c .before .before .before .before .loop .depth)
-    (λ o. restOf o (fieldsOf (drop (c .before .before .before .before .loop .at) (c .before .before .before .before .before .before .before .before .before .args .s .now))))
+    (λ o. restOf o (fieldsOf (drop (c .before .before .before .before .loop .at) (c .before .before .before .before .before .before .before .before .before .before .args .s .now))))
     (c .before .from .given .0 .0)
     (c .before .from .given .0 .1 .0)
     (c .before .from .given .0 .1 .1 .0)
 step c =
-    let s = c .before .before .before .before .before .before .before .before .before .args .s .now in
+    let s = c .before .before .before .before .before .before .before .before .before .before .args .s .now in
     let loop = c .before .before .before .before .loop in
     says-node
     s
@@ -47,8 +47,8 @@ step c =
 
 loop-holds : tie.Need-loop-holds Inv-loop μ-loop
 loop-holds c =
-    let p = c .before .before .before .before .pre in
-    (so-far-none (c .before .before .before .before .args .s .now) _ _ _ _ (p .1) (p .2) (p .3) refl, refl, refl, refl, refl)
+    let p = c .before .before .before .before .before .pre .1 in
+    (so-far-none (c .before .before .before .before .before .args .s .now) _ _ _ _ (p .1) (p .2) (p .3) refl, refl, refl, refl, refl)
 
 cast-names : tie.Need-cast-names Inv-loop μ-loop
 cast-names c = let order = step c .order in let within = step c .within in omega arith
@@ -91,7 +91,7 @@ loop-again c =
     let l = c .before .before .before .before .before .before .before .loop in
     let g = c .before .before .before .before .from .given .0 in (
       so-far-next
-          (c .before .before .before .before .before .before .before .before .before .before .before .before .args .s .now)
+          (c .before .before .before .before .before .before .before .before .before .before .before .before .before .args .s .now)
           (l .names)
           (l .sizes)
           (l .children)
@@ -115,7 +115,7 @@ loop-again c =
 
 returns : tie.Need-returns Inv-loop μ-loop
 returns c =
-    let s = c .before .before .before .before .before .before .before .before .before .args .s .now in
+    let s = c .before .before .before .before .before .before .before .before .before .before .args .s .now in
     let l = c .before .before .before .before .loop in (
       so-far-stop
           s
@@ -141,7 +141,7 @@ read-fields-spec =
     μ-loop
     (λ c. search needs)
     loop-holds
-    (λ c κs. tt)
+    (λ c κs. c .before .before .before .before .before .before .pre .0)
     (λ c. search needs)
     cast-names
     (λ c. let r = step c .room in omega arith)

@@ -4,6 +4,7 @@ use mathlib.Core.Path.{_∙_}
 use borrow.Author.Needs.{needs}
 use Rattle.grammar.specs.Limits.{standard}
 use Rattle.grammar.specs.Names.{asciiClasses}
+use Rattle.reader.proofs.ClassTable.{held-is}
 use Rattle.reader.proofs.DocumentFields.{reads-long, reads-short}
 use Rattle.reader.proofs.documents.read_nodes.Statement.{statement}
 use Rattle.reader.proofs.documents.read_nodes.Tie as tie
@@ -16,11 +17,14 @@ returns c =
       indexed = record { few = omega arith; within = λ i h. absurd (omega arith); counts = λ i h. absurd (omega arith) };
     }
 
+read-fields-requires : tie.Need-read-fields-requires
+read-fields-requires c κs = let p = c .before .before .before .before .before .before .before .before .before .pre in (held-is, (omega arith, p .0, p .1, p .2))
+
 returns-2 : tie.Need-returns-2
 unfolding standard
 returns-2 c =
     record {
-      outcome = reads-short standard asciiClasses (c .before .before .before .before .before .before .before .before .before .before .before .before .before .before .before .args .s .now) (c .before .before .before .before .before .before .before .before .before .before .if1 .left) ∙ c .before .before .before .before .before .before .read-fields .ensures .0;
+      outcome = reads-short standard asciiClasses (c .before .before .before .before .before .before .before .before .before .before .before .before .before .before .before .before .args .s .now) (c .before .before .before .before .before .before .before .before .before .before .before .if1 .left) ∙ c .before .before .before .before .before .before .read-fields .ensures .0;
       indexed = c .before .before .before .before .before .before .read-fields .ensures .1;
     }
 
@@ -29,7 +33,8 @@ read-nodes-spec =
     tie.close
     (tie.spec
     returns
-    (λ c κs. search needs)
+    (λ c. search needs)
+    read-fields-requires
     (λ c. search needs)
     (λ c. search needs)
     (λ c. search needs)

@@ -15,17 +15,17 @@ use Rattle.reader.proofs.documents.step_at.Tie as tie
 
 sub-end-answer : tie.Need-sub-end-answer
 sub-end-answer c =
-    let a = c .before .before .before .before .before .before .args in
+    let a = c .before .before .before .before .before .before .before .args in
     field-found (a .s .now) (a .at) (sym (c .before .before .before .before .field-at .ensures) ∙ c .before .before .tag .given .1) .order
 
 sub-end-answer-2 : tie.Need-sub-end-answer-2
 sub-end-answer-2 c =
-    let a = c .before .before .before .before .before .before .args in
+    let a = c .before .before .before .before .before .before .before .args in
     field-found (a .s .now) (a .at) (sym (c .before .before .before .before .field-at .ensures) ∙ c .before .before .tag .given .1) .within
 
 returns : tie.Need-returns
 returns c =
-    let a = c .before .before .before .before .before .before .before .args in
+    let a = c .before .before .before .before .before .before .before .before .args in
     let s = a .s .now in
     let g = c .before .before .before .tag .given .0 in
     let found = field-found s (a .at) (sym (c .before .before .before .before .before .field-at .ensures) ∙ c .before .before .before .tag .given .1) in
@@ -35,25 +35,25 @@ returns c =
 
 node-of-requires : tie.Need-node-of-requires
 node-of-requires c κs =
-    let a = c .before .before .before .before .before .before .args in
+    let a = c .before .before .before .before .before .before .before .args in
     let found = field-found (a .s .now) (a .at) (sym (c .before .before .before .before .field-at .ensures) ∙ c .before .before .tag .given .1) in
-    (found .order, found .within)
+    (c .before .before .before .before .before .before .before .pre, (found .order, found .within))
 
 returns-2 : tie.Need-returns-2
 returns-2 c =
-    let a = c .before .before .before .before .args in
+    let a = c .before .before .before .before .before .args in
     let s = a .s .now in
     λ o z. stops-none o (fieldsOf (drop (a .at) s)) (field-none s (a .at) (sym (c .before .before .field-at .ensures) ∙ c .enum-told .given .1) .1)
 
 returns-3 : tie.Need-returns-3
 returns-3 c =
-    let a = c .before .before .before .before .args in
+    let a = c .before .before .before .before .before .args in
     let s = a .s .now in
     λ o z. stops-past o (fieldsOf (drop (a .at) s)) (field-past s (a .at) (sym (c .before .before .field-at .ensures) ∙ c .enum-told2 .given .1) .1)
 
 returns-4 : tie.Need-returns-4
 returns-4 c =
-    let a = c .before .before .before .before .before .before .before .args in
+    let a = c .before .before .before .before .before .before .before .before .args in
     let s = a .s .now in
     let g = c .before .before .before .tag .given .0 in
     let found = field-found s (a .at) (sym (c .before .before .before .before .before .field-at .ensures) ∙ c .before .before .before .tag .given .1) in

@@ -19,27 +19,27 @@ mul-more c = search needs
 
 element-write-more : tie.Need-element-write-more
 element-write-more c =
-    let x = c .before .before .before .before .pre .indexed .indexes in
-    label-room x (c .before .before .before .before .pre .inside) (sym (c .before .before .label-answer .ensures (c .before .before .before .before .pre .indexed .table) x) ∙ c .enum-told .given .1)
+    let x = c .before .before .before .before .before .pre .1 .indexed .indexes in
+    label-room x (c .before .before .before .before .before .pre .1 .inside) (sym (c .before .before .label-answer .ensures (c .before .before .before .before .before .pre .1 .indexed .table) x) ∙ c .enum-told .given .1)
 
 mul-more-2 : tie.Need-mul-more-2
 mul-more-2 c = search needs
 
 element-write-more-2 : tie.Need-element-write-more-2
 element-write-more-2 c =
-    let x = c .before .before .before .before .pre .indexed .indexes in
-    label-room x (c .before .before .before .before .pre .inside) (sym (c .before .before .label-answer .ensures (c .before .before .before .before .pre .indexed .table) x) ∙ c .enum-told .given .1)
+    let x = c .before .before .before .before .before .pre .1 .indexed .indexes in
+    label-room x (c .before .before .before .before .before .pre .1 .inside) (sym (c .before .before .label-answer .ensures (c .before .before .before .before .before .pre .1 .indexed .table) x) ∙ c .enum-told .given .1)
 
 add-more : tie.Need-add-more
 add-more c = search needs
 
 returns : tie.Need-returns
 returns c =
-    λ g x. refused-reads _ _ _ (c .before .before .before .before .before .args .index) (sym (c .before .before .before .label-answer .ensures g x) ∙ c .before .r .given .1)
+    λ g x. refused-reads _ _ _ (c .before .before .before .before .before .before .args .index) (sym (c .before .before .before .label-answer .ensures g x) ∙ c .before .r .given .1)
 
 returns-2 : tie.Need-returns-2
 returns-2 c =
-    λ g x. label-reads x (c .before .before .before .before .pre .inside) (sym (c .before .before .label-answer .ensures g x) ∙ c .enum-told .given .1)
+    λ g x. label-reads x (c .before .before .before .before .before .pre .1 .inside) (sym (c .before .before .label-answer .ensures g x) ∙ c .enum-told .given .1)
 
 pub after-label-spec : {M : Type 1} → statement M
 after-label-spec =

@@ -4,40 +4,40 @@ use native.Mathlib.Omega.{arith}
 use mathlib.Core.Path.{_≡_, sym, _∙_}
 use lib.ListN.{length, drop}
 use Rattle.grammar.specs.Lists.{all}
-use Rattle.grammar.specs.Names.{asciiClasses, isName}
+use Rattle.grammar.specs.Names.{isName}
 use Rattle.reader.proofs.NameReading.{later, name-empty, name-first, name-not-first, later-next, later-fails, later-end}
 use Rattle.reader.proofs.names.is_name.Statement.{statement}
 use Rattle.reader.proofs.names.is_name.Tie as tie
 
 abbrev Inv-loop : tie.InvT-loop
-Inv-loop s first i₀ i = isName asciiClasses s ≡ all (later asciiClasses) (drop i s)
+Inv-loop classes s first i₀ i = isName classes s ≡ all (later classes) (drop i s)
 
 abbrev μ-loop : tie.MeasureT-loop
-μ-loop s first i₀ i = length s - i
+μ-loop classes s first i₀ i = length s - i
 
 returns : tie.Need-returns Inv-loop μ-loop
-returns c = sym (name-empty asciiClasses (c .before .before .args .s .now) (c .if1 .taken))
+returns c = sym (name-empty (c .before .before .before .args .classes .now) (c .before .before .before .args .s .now) (c .if1 .taken))
 
 returns-2 : tie.Need-returns-2 Inv-loop μ-loop
 returns-2 c =
-    sym (name-not-first asciiClasses (c .before .before .before .before .before .args .s .now) (omega arith) (λ e. c .if2 .taken (c .before .class-of .ensures ∙ e)))
+    sym (name-not-first (c .before .before .before .before .before .before .args .classes .now) (c .before .before .before .before .before .before .args .s .now) (omega arith) (λ e. c .if2 .taken (c .before .class-of .ensures ∙ e)))
 
 loop-holds : tie.Need-loop-holds Inv-loop μ-loop
-loop-holds c = name-first asciiClasses (c .before .before .before .before .before .args .s .now) (omega arith) (sym (c .before .class-of .ensures) ∙ c .if2 .left)
+loop-holds c = name-first (c .before .before .before .before .before .before .args .classes .now) (c .before .before .before .before .before .before .args .s .now) (omega arith) (sym (c .before .class-of .ensures) ∙ c .if2 .left)
 
 returns-3 : tie.Need-returns-3 Inv-loop μ-loop
 returns-3 c =
     sym
     (c .before .before .before .before .loop .inv
-    ∙ later-fails asciiClasses (c .before .before .before .before .before .before .before .before .before .before .args .s .now) (c .before .before .before .before .loop .i) (c .before .before .before .loop-test .taken) (sym (c .before .class-of2 .ensures) ∙ c .if3 .taken))
+    ∙ later-fails (c .before .before .before .before .before .before .before .before .before .before .before .args .classes .now) (c .before .before .before .before .before .before .before .before .before .before .before .args .s .now) (c .before .before .before .before .loop .i) (c .before .before .before .loop-test .taken) (sym (c .before .class-of2 .ensures) ∙ c .if3 .taken))
 
 loop-again : tie.Need-loop-again Inv-loop μ-loop
 loop-again c =
     c .before .before .before .before .loop .inv
-    ∙ later-next asciiClasses (c .before .before .before .before .before .before .before .before .before .before .args .s .now) (c .before .before .before .before .loop .i) (c .before .before .before .loop-test .taken) (λ e. c .if3 .left (c .before .class-of2 .ensures ∙ e))
+    ∙ later-next (c .before .before .before .before .before .before .before .before .before .before .before .args .classes .now) (c .before .before .before .before .before .before .before .before .before .before .before .args .s .now) (c .before .before .before .before .loop .i) (c .before .before .before .loop-test .taken) (λ e. c .if3 .left (c .before .class-of2 .ensures ∙ e))
 
 returns-4 : tie.Need-returns-4 Inv-loop μ-loop
-returns-4 c = sym (c .before .loop .inv ∙ later-end asciiClasses (c .before .before .before .before .before .before .before .args .s .now) (c .before .loop .i) (omega arith))
+returns-4 c = sym (c .before .loop .inv ∙ later-end (c .before .before .before .before .before .before .before .before .args .classes .now) (c .before .before .before .before .before .before .before .before .args .s .now) (c .before .loop .i) (omega arith))
 
 pub is-name-spec : {M : Type 1} → statement M
 is-name-spec =
@@ -47,11 +47,11 @@ is-name-spec =
     μ-loop
     returns
     (λ c. omega arith)
-    (λ c κs. tt)
+    (λ c κs. c .before .before .before .before .pre)
     returns-2
     loop-holds
     (λ c. omega arith)
-    (λ c κs. tt)
+    (λ c κs. c .before .before .before .before .before .before .before .before .before .pre)
     returns-3
     (λ c. omega arith)
     (λ c. omega arith)

@@ -17,8 +17,8 @@ after-label-requires c κs = search needs
 returns : tie.Need-returns
 returns c =
     λ g x.
-    subst (λ (o : Outcome Table). Reads (c .before .before .before .args .s .now) o (c .after-label .result))
-    (sym (label-field g (c .before .before .before .args .tag) (part (c .before .before .before .args .s .now) (c .before .before .before .args .from) (c .before .before .before .args .to)) (c .before .if1 .taken)))
+    subst (λ (o : Outcome Table). Reads (c .before .before .before .before .args .s .now) o (c .after-label .result))
+    (sym (label-field g (c .before .before .before .before .args .tag) (part (c .before .before .before .before .args .s .now) (c .before .before .before .before .args .from) (c .before .before .before .before .args .to)) (c .before .if1 .taken)))
     (c .after-label .ensures g x)
 
 after-start-requires : tie.Need-after-start-requires
@@ -27,8 +27,8 @@ after-start-requires c κs = search needs
 returns-2 : tie.Need-returns-2
 returns-2 c =
     λ g x.
-    subst (λ (o : Outcome Table). Reads (c .before .before .before .before .args .s .now) o (c .after-start .result))
-    (sym (start-field g (c .before .before .before .before .args .tag) (part (c .before .before .before .before .args .s .now) (c .before .before .before .before .args .from) (c .before .before .before .before .args .to)) (c .before .before .if1 .left) (c .before .if2 .taken)))
+    subst (λ (o : Outcome Table). Reads (c .before .before .before .before .before .args .s .now) o (c .after-start .result))
+    (sym (start-field g (c .before .before .before .before .before .args .tag) (part (c .before .before .before .before .before .args .s .now) (c .before .before .before .before .before .args .from) (c .before .before .before .before .before .args .to)) (c .before .before .if1 .left) (c .before .if2 .taken)))
     (c .after-start .ensures g x)
 
 after-rule-requires : tie.Need-after-rule-requires
@@ -37,13 +37,13 @@ after-rule-requires c κs = search needs
 returns-3 : tie.Need-returns-3
 returns-3 c =
     λ g x.
-    subst (λ (o : Outcome Table). Reads (c .before .before .before .before .before .args .s .now) o (c .after-rule .result))
-    (sym (rule-field g (c .before .before .before .before .before .args .tag) (part (c .before .before .before .before .before .args .s .now) (c .before .before .before .before .before .args .from) (c .before .before .before .before .before .args .to)) (c .before .before .before .if1 .left) (c .before .before .if2 .left) (c .before .if3 .taken)))
+    subst (λ (o : Outcome Table). Reads (c .before .before .before .before .before .before .args .s .now) o (c .after-rule .result))
+    (sym (rule-field g (c .before .before .before .before .before .before .args .tag) (part (c .before .before .before .before .before .before .args .s .now) (c .before .before .before .before .before .before .args .from) (c .before .before .before .before .before .before .args .to)) (c .before .before .before .if1 .left) (c .before .before .if2 .left) (c .before .if3 .taken)))
     (c .after-rule .ensures g x)
 
 returns-4 : tie.Need-returns-4
 returns-4 c =
-    λ g x. refused-reads _ _ BadField (c .before .before .before .before .args .index) (unreadable _ BadField (foreign-field g (c .before .before .before .before .args .tag) (part (c .before .before .before .before .args .s .now) (c .before .before .before .before .args .from) (c .before .before .before .before .args .to)) (c .before .before .if1 .left) (c .before .if2 .left) (c .if3 .left)))
+    λ g x. refused-reads _ _ BadField (c .before .before .before .before .before .args .index) (unreadable _ BadField (foreign-field g (c .before .before .before .before .before .args .tag) (part (c .before .before .before .before .before .args .s .now) (c .before .before .before .before .before .args .from) (c .before .before .before .before .before .args .to)) (c .before .before .if1 .left) (c .before .if2 .left) (c .if3 .left)))
 
 pub after-field-spec : {M : Type 1} → statement M
 after-field-spec =

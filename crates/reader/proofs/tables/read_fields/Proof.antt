@@ -20,10 +20,10 @@ use Rattle.reader.proofs.TableReading.{
 }
 
 abbrev Inv-loop : tie.InvT-loop
-Inv-loop s index₀ at₀ index at = TableReached s at index
+Inv-loop classes s index₀ at₀ index at = TableReached s at index
 
 abbrev μ-loop : tie.MeasureT-loop
-μ-loop s index₀ at₀ index at = length s - at
+μ-loop classes s index₀ at₀ index at = length s - at
 
 no-index-requires : tie.Need-no-index-requires Inv-loop μ-loop
 no-index-requires c κs =
@@ -31,7 +31,7 @@ no-index-requires c κs =
 
 loop-holds : tie.Need-loop-holds Inv-loop μ-loop
 loop-holds c =
-    reached-none (c .before .before .args .s .now) (c .no-index .result) (c .no-index .ensures (c .before .before .args .s .now))
+    reached-none (c .before .before .before .args .s .now) (c .no-index .result) (c .no-index .ensures (c .before .before .before .args .s .now))
 
 field-at-requires : tie.Need-field-at-requires Inv-loop μ-loop
 field-at-requires c κs =
@@ -43,15 +43,15 @@ enum-known-tag c =
 
 end-answer-requires : tie.Need-end-answer-requires Inv-loop μ-loop
 end-answer-requires c κs =
-    found-inside (field-found (c .before .before .before .before .before .before .before .before .args .s .now) (c .before .before .before .before .before .loop .at) (sym (c .before .before .before .before .field-at .ensures) ∙ c .before .before .tag .given .1))
+    found-inside (field-found (c .before .before .before .before .before .before .before .before .before .args .s .now) (c .before .before .before .before .before .loop .at) (sym (c .before .before .before .before .field-at .ensures) ∙ c .before .before .tag .given .1))
 
 returns : tie.Need-returns Inv-loop μ-loop
 returns c =
-    ends-here (c .before .before .before .before .before .before .loop .inv) (field-found (c .before .before .before .before .before .before .before .before .before .args .s .now) (c .before .before .before .before .before .before .loop .at) (sym (c .before .before .before .before .before .field-at .ensures) ∙ c .before .before .before .tag .given .1)) (c .before .if1 .taken) (c .end-answer .result) (c .end-answer .ensures (c .before .before .before .before .before .before .loop .inv .table))
+    ends-here (c .before .before .before .before .before .before .loop .inv) (field-found (c .before .before .before .before .before .before .before .before .before .before .args .s .now) (c .before .before .before .before .before .before .loop .at) (sym (c .before .before .before .before .before .field-at .ensures) ∙ c .before .before .before .tag .given .1)) (c .before .if1 .taken) (c .end-answer .result) (c .end-answer .ensures (c .before .before .before .before .before .before .loop .inv .table))
 
 after-field-requires : tie.Need-after-field-requires Inv-loop μ-loop
 after-field-requires c κs =
-    record { inside = found-inside (field-found (c .before .before .before .before .before .before .before .before .args .s .now) (c .before .before .before .before .before .loop .at) (sym (c .before .before .before .before .field-at .ensures) ∙ c .before .before .tag .given .1)); indexed = indexed (c .before .before .before .before .before .loop .inv) }
+    (c .before .before .before .before .before .before .before .before .before .pre, record { inside = found-inside (field-found (c .before .before .before .before .before .before .before .before .before .args .s .now) (c .before .before .before .before .before .loop .at) (sym (c .before .before .before .before .field-at .ensures) ∙ c .before .before .tag .given .1)); indexed = indexed (c .before .before .before .before .before .loop .inv) })
 
 enum-told : tie.Need-enum-told Inv-loop μ-loop
 enum-told c =
@@ -59,7 +59,7 @@ enum-told c =
 
 returns-2 : tie.Need-returns-2 Inv-loop μ-loop
 returns-2 c =
-    stops-here (c .before .before .before .before .before .before .before .before .loop .inv) (field-found (c .before .before .before .before .before .before .before .before .before .before .before .args .s .now) (c .before .before .before .before .before .before .before .before .loop .at) (sym (c .before .before .before .before .before .before .before .field-at .ensures) ∙ c .before .before .before .before .before .tag .given .1)) (c .before .before .before .if1 .left) (c .before .before .after-field .result) (c .before .before .after-field .ensures (c .before .before .before .before .before .before .before .before .loop .inv .table) (c .before .before .before .before .before .before .before .before .loop .inv .indexes)) _ (c .enum-told .given .1)
+    stops-here (c .before .before .before .before .before .before .before .before .loop .inv) (field-found (c .before .before .before .before .before .before .before .before .before .before .before .before .args .s .now) (c .before .before .before .before .before .before .before .before .loop .at) (sym (c .before .before .before .before .before .before .before .field-at .ensures) ∙ c .before .before .before .before .before .tag .given .1)) (c .before .before .before .if1 .left) (c .before .before .after-field .result) (c .before .before .after-field .ensures (c .before .before .before .before .before .before .before .before .loop .inv .table) (c .before .before .before .before .before .before .before .before .loop .inv .indexes)) _ (c .enum-told .given .1)
 
 enum-told-2 : tie.Need-enum-told-2 Inv-loop μ-loop
 enum-told-2 c =
@@ -67,11 +67,11 @@ enum-told-2 c =
 
 loop-less : tie.Need-loop-less Inv-loop μ-loop
 loop-less c =
-    let w = field-found (c .before .before .before .before .before .before .before .before .before .before .before .before .args .s .now) (c .before .before .before .before .before .before .before .before .before .loop .at) (sym (c .before .before .before .before .before .before .before .before .field-at .ensures) ∙ c .before .before .before .before .before .before .tag .given .1) in omega (arith, c .before .before .before .before .before .before .before .before .before .loop .inv .inside)
+    let w = field-found (c .before .before .before .before .before .before .before .before .before .before .before .before .before .args .s .now) (c .before .before .before .before .before .before .before .before .before .loop .at) (sym (c .before .before .before .before .before .before .before .before .field-at .ensures) ∙ c .before .before .before .before .before .before .tag .given .1) in omega (arith, c .before .before .before .before .before .before .before .before .before .loop .inv .inside)
 
 loop-again : tie.Need-loop-again Inv-loop μ-loop
 loop-again c =
-    reached-next (c .before .before .before .before .before .before .before .before .before .loop .inv) (field-found (c .before .before .before .before .before .before .before .before .before .before .before .before .args .s .now) (c .before .before .before .before .before .before .before .before .before .loop .at) (sym (c .before .before .before .before .before .before .before .before .field-at .ensures) ∙ c .before .before .before .before .before .before .tag .given .1)) (c .before .before .before .before .if1 .left) (c .before .before .before .after-field .result) (c .before .before .before .after-field .ensures (c .before .before .before .before .before .before .before .before .before .loop .inv .table) (c .before .before .before .before .before .before .before .before .before .loop .inv .indexes)) (c .before .enum-told2 .given .1)
+    reached-next (c .before .before .before .before .before .before .before .before .before .loop .inv) (field-found (c .before .before .before .before .before .before .before .before .before .before .before .before .before .args .s .now) (c .before .before .before .before .before .before .before .before .before .loop .at) (sym (c .before .before .before .before .before .before .before .before .field-at .ensures) ∙ c .before .before .before .before .before .before .tag .given .1)) (c .before .before .before .before .if1 .left) (c .before .before .before .after-field .result) (c .before .before .before .after-field .ensures (c .before .before .before .before .before .before .before .before .before .loop .inv .table) (c .before .before .before .before .before .before .before .before .before .loop .inv .indexes)) (c .before .enum-told2 .given .1)
 
 enum-told-3 : tie.Need-enum-told-3 Inv-loop μ-loop
 enum-told-3 c =
