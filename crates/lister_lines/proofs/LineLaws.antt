@@ -10,7 +10,7 @@ use lib.ListN.{length, getD, take, length-append}
 use lib.Seq.{take-suc}
 use Rattle.grammar.specs.Lists.{joinedOf}
 use Rattle.grammar.specs.Limits.{standard}
-use Rattle.grammar.specs.Names.{Name}
+use Rattle.grammar.specs.Names.{Name, asciiClasses}
 use Rattle.grammar.specs.Content.{none}
 use Rattle.grammar.specs.Table.{Rule, Table}
 use Rattle.grammar.specs.ReadContent.{contentBytes}
@@ -20,7 +20,7 @@ use Rattle.theory.proofs.lists.ListLaws.{at-else, joined-end}
 use Rattle.reader.specs.declared.tables.TableIndex.{TableIndex}
 use Rattle.reader.specs.ContentAt.{ContentAt}
 use Rattle.reader.specs.TableIndex.{labelFrom, labelTo, ruleType, ruleLabel, contentFrom, contentTo, part, BytesStand, RuleAt}
-use Rattle.reader.specs.TableFound.{TableFound}
+use Rattle.reader.specs.Held.{SomeHeld}
 use Rattle.reader.proofs.TableFoundLaws.{RuleFound, label-found-at, rule-found-at, content-in-part}
 use Rattle.union.specs.PairNumbers.{ruleNumbered}
 use Rattle.writer.specs.Writing.{Put}
@@ -34,20 +34,20 @@ pub joined-next : {A : Type 0} (f : A → Text) (xs : List A) (i : ℕ) (d : A) 
 joined-next f xs i d h =
     sym (ap (λ (n : ℕ). joinedOf f (take n xs)) (add-one i) ∙ ap (joinedOf f) (take-suc xs i d h) ∙ joined-end f (take i xs) (getD xs i d))
 
-module _ {s : List ℕ} {index : TableIndex} (f : TableFound s index) where
+module _ {s : List ℕ} {index : TableIndex} (f : SomeHeld standard asciiClasses s index) where
   abbrev g : Table
   g = f .table
 
   module _ (l : ℕ) (h : l < index .labels) where
     pub name-stands : BytesStand s (labelFrom index l) (labelTo index l) (getD (g .labels) l [])
     name-stands =
-        let a = label-found-at (f .indexes) (f .within) l h in
+        let a = label-found-at (f .held .indexes) (f .held .within) l h in
         subst (λ (n : Name). BytesStand s (labelFrom index l) (labelTo index l) n) (sym (at-else (g .labels) l [] (a .1))) (a .2)
 
     pub name-size : length (getD (g .labels) l []) ≤ 63
     unfolding standard
     name-size =
-        let a = label-found-at (f .indexes) (f .within) l h in
+        let a = label-found-at (f .held .indexes) (f .held .within) l h in
         let e = ap length (at-else (g .labels) l [] (a .1)) in
         let b = a .3 .size in
         omega arith
@@ -55,7 +55,7 @@ module _ {s : List ℕ} {index : TableIndex} (f : TableFound s index) where
   -- a rule
   module _ (i : ℕ) (h : i < index .rules) where
     found : RuleFound s index g i
-    found = rule-found-at (f .indexes) (f .within) i h
+    found = rule-found-at (f .held .indexes) (f .held .within) i h
 
     rule-is : found .rule ≡ ruleNumbered g i
     rule-is = sym (at-else (g .rules) i (record { type = 0; label = 0; content = none }) (found .listed))
@@ -106,7 +106,7 @@ module _ {s : List ℕ} {index : TableIndex} (f : TableFound s index) where
 
     pub lines-next : joinedOf (ruleLine g) (take i (g .rules)) ++ ruleLine g (ruleNumbered g i) ≡ joinedOf (ruleLine g) (take (i + 1) (g .rules))
     lines-next =
-        joined-next (ruleLine g) (g .rules) i (record { type = 0; label = 0; content = none }) (omega (arith, f .indexes .rules))
+        joined-next (ruleLine g) (g .rules) i (record { type = 0; label = 0; content = none }) (omega (arith, f .held .indexes .rules))
 
 -- the parts of a rule's line
 pub line-joined : (g : Table) (x : Rule) (k l : ℕ) {before : List ℕ} {at : ℕ} {after : List ℕ} {end : ℕ} → k ≡ x .type → l ≡ x .label

@@ -4,12 +4,13 @@ use mathlib.Core.List.{List, [], _∷_, _++_}
 use mathlib.Core.Path.{_≡_}
 use lib.ListN.{length, getD}
 use Rattle.grammar.specs.Limits.{standard}
+use Rattle.grammar.specs.Names.{asciiClasses}
 use Rattle.grammar.specs.Content.{Contents, []ᶜ, _∷ᶜ_}
 use Rattle.grammar.specs.Table.{Table}
 use Rattle.grammar.specs.Listing.{Text, contentText, continued}
 use Rattle.reader.specs.declared.tables.TableIndex.{TableIndex}
 use Rattle.reader.specs.ContentAt.{ContentAt, ContentsAt}
-use Rattle.reader.specs.TableFound.{TableFound}
+use Rattle.reader.specs.Held.{SomeHeld}
 use Rattle.writer.specs.Writing.{Put}
 use Rattle.lister_lines.specs.declared.contents.Ends.{Ends}
 
@@ -41,5 +42,5 @@ pub record Printed (before : List ℕ) (at : ℕ) (bytes : Text) (next : ℕ) (a
 -- This text of the table that was read is written, and it is no longer than so much.
 pub record TextPut (s : List ℕ) (index : TableIndex) (words : Table → Text) (most : ℕ) (before : List ℕ) (at : ℕ) (after : List ℕ)
     (r : ℕ) : Type 0 where
-  pub put : (f : TableFound s index) → Put before at (words (f .table)) after r
+  pub put : (f : SomeHeld standard asciiClasses s index) → Put before at (words (f .table)) after r
   pub short : r ≤ at + most

@@ -19,14 +19,14 @@ ghost use Rattle.grammar.specs.Names.{asciiClasses};
 ghost use Rattle.grammar.specs.Outcome.{refused};
 ghost use Rattle.grammar.specs.ReadTable.{readTable};
 ghost use Rattle.grammar.specs.Listing.{contentText, startLine, ruleLine, localText, outcomeText};
-ghost use Rattle.reader.specs.TableFound.{TableFound};
+ghost use Rattle.reader.specs.Held.{SomeHeld};
 ghost use Rattle.union.specs.PairNumbers.{ruleNumbered};
 ghost use Rattle.writer.specs.Writing.{Put};
 ghost use Rattle.lister_lines.specs.Printing.{TextPut};
 
 // A label's name.
 fn put_name(table: &[u8], index: TableIndex, label: usize, text: &mut [u8], at: usize) -> usize
-    requires { ⌜ TableFound (now table) index × (label < index .labels) × (at + 63 ≤ length (now text)) ⌝ }
+    requires { ⌜ SomeHeld standard asciiClasses (now table) index × (label < index .labels) × (at + 63 ≤ length (now text)) ⌝ }
     ensures { λ r. ⌜ TextPut (now (table .entry)) index (λ g. getD (g .labels) label []) 63 (now (text .entry)) at (now (text .exit)) r ⌝ }
 {
     let label_from = index.label_from;
@@ -38,7 +38,7 @@ fn put_name(table: &[u8], index: TableIndex, label: usize, text: &mut [u8], at: 
 
 // The content of a rule.
 fn put_rule_content(table: &[u8], index: TableIndex, i: usize, text: &mut [u8], at: usize) -> usize
-    requires { ⌜ TableFound (now table) index × (i < index .rules) × (at + 3071 ≤ length (now text)) ⌝ }
+    requires { ⌜ SomeHeld standard asciiClasses (now table) index × (i < index .rules) × (at + 3071 ≤ length (now text)) ⌝ }
     ensures { λ r. ⌜ TextPut (now (table .entry)) index (λ g. contentText (ruleNumbered g i .content)) 3071
         (now (text .entry)) at (now (text .exit)) r ⌝ }
 {
@@ -52,7 +52,7 @@ fn put_rule_content(table: &[u8], index: TableIndex, i: usize, text: &mut [u8], 
 
 // The line of a rule: type, name and content.
 fn put_rule_line(table: &[u8], index: TableIndex, i: usize, text: &mut [u8], at: usize) -> usize
-    requires { ⌜ TableFound (now table) index × (i < index .rules) × (at + 3140 ≤ length (now text)) ⌝ }
+    requires { ⌜ SomeHeld standard asciiClasses (now table) index × (i < index .rules) × (at + 3140 ≤ length (now text)) ⌝ }
     ensures { λ r. ⌜ TextPut (now (table .entry)) index (λ g. ruleLine g (ruleNumbered g i)) 3140 (now (text .entry)) at
         (now (text .exit)) r ⌝ }
 {
@@ -78,7 +78,7 @@ fn put_start_line(text: &mut [u8], at: usize, k: usize) -> usize
 
 // The lines of the starts.
 fn put_starts(table: &[u8], index: TableIndex, text: &mut [u8], at: usize) -> usize
-    requires { ⌜ TableFound (now table) index × (at + 640 ≤ length (now text)) ⌝ }
+    requires { ⌜ SomeHeld standard asciiClasses (now table) index × (at + 640 ≤ length (now text)) ⌝ }
     ensures { λ r. ⌜ TextPut (now (table .entry)) index (λ g. joinedOf startLine (g .starts)) 640
         (now (text .entry)) at (now (text .exit)) r ⌝ }
 {
@@ -95,7 +95,7 @@ fn put_starts(table: &[u8], index: TableIndex, text: &mut [u8], at: usize) -> us
 
 // The lines of the rules.
 fn put_rules(table: &[u8], index: TableIndex, text: &mut [u8], at: usize) -> usize
-    requires { ⌜ TableFound (now table) index × (at + 200960 ≤ length (now text)) ⌝ }
+    requires { ⌜ SomeHeld standard asciiClasses (now table) index × (at + 200960 ≤ length (now text)) ⌝ }
     ensures { λ r. ⌜ TextPut (now (table .entry)) index (λ g. joinedOf (ruleLine g) (g .rules)) 200960
         (now (text .entry)) at (now (text .exit)) r ⌝ }
 {
@@ -111,7 +111,7 @@ fn put_rules(table: &[u8], index: TableIndex, text: &mut [u8], at: usize) -> usi
 
 // The text of a table that was read: a first line `local`, the starts, the rules.
 fn list_table(table: &[u8], index: TableIndex, text: &mut [u8]) -> usize
-    requires { ⌜ TableFound (now table) index × (202000 ≤ length (now text)) ⌝ }
+    requires { ⌜ SomeHeld standard asciiClasses (now table) index × (202000 ≤ length (now text)) ⌝ }
     ensures { λ r. ⌜ TextPut (now (table .entry)) index localText 202000 (now (text .entry)) 0 (now (text .exit)) r ⌝ }
 {
     let starts = put_bytes(text, 0, b"local\n");

@@ -37,7 +37,7 @@ use Rattle.reader.specs.declared.tables.TableRead.{TableRead}
 use Rattle.reader.specs.declared.documents.DocumentRead.{DocumentRead}
 use Rattle.reader.specs.DocumentNodes.{DocumentReads}
 use Rattle.reader.specs.TableIndex.{part, labelFrom, labelTo, Inside, Reads}
-use Rattle.reader.specs.TableFound.{TableFound}
+use Rattle.reader.specs.Held.{SomeHeld}
 use Rattle.reader.specs.LabelPlaces.{LabelSought, labelIn, nameBegins}
 use Rattle.reader.proofs.AnswerLaws.{was-unreadable}
 use Rattle.reader.proofs.DocumentAnswers.{document-answer}
@@ -132,20 +132,20 @@ module _ (s : List ℕ) (label : ℕ) (r : TableRead) (so : Reads s (readTable s
       sought-none s (labelIn s label) q (label-unread s label q (was-unreadable (readTable standard asciiClasses s) q (sym (so .answer) ∙ e)))
 
   module _ (e : r .answer ≡ Readable) where
-    pub table-there : TableFound s (r .index)
-    table-there = table-found s r so e
+    pub table-there : SomeHeld standard asciiClasses s (r .index)
+    table-there = table-found s r so e .some
 
     pub find-past : r .index .labels ≤ label → LabelSought s (labelIn s label) (Unfound OutOfRange)
     find-past h =
         let f = table-found s r so e in
-        sought-none s (labelIn s label) OutOfRange (label-past s label (f .table) (f .read) (omega (arith, f .indexes .labels)))
+        sought-none s (labelIn s label) OutOfRange (label-past s label (f .some .table) (f .read) (omega (arith, f .some .held .indexes .labels)))
 
     pub find-at : label < r .index .labels → ((i : ℕ) → getD s i 0 < 256) → (from : ℕ)
-        → ((f : TableFound s (r .index)) → from ≡ nameBegins (f .table .labels) label)
+        → ((f : SomeHeld standard asciiClasses s (r .index)) → from ≡ nameBegins (f .table .labels) label)
         → LabelSought s (labelIn s label) (At from (from + (labelTo (r .index) label - labelFrom (r .index) label)))
     find-at h small from begins =
         let f = table-found s r so e in
-        let p = place-found f (are-bytes s small) label h from (begins f) in
+        let p = place-found f (are-bytes s small) label h from (begins (f .some)) in
         sought-at s (labelIn s label) from _ (p .0) (p .1)
 
 module _ (table : List ℕ) (label : ℕ) (work : List ℕ) where

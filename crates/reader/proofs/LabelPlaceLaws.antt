@@ -26,12 +26,12 @@ use Rattle.theory.proofs.bytes.OutcomeLaws.{was-given, had-no-fault, given-eq}
 use Rattle.theory.proofs.bytes.ReadWithin.{read-within}
 use Rattle.reader.specs.declared.tables.TableIndex.{TableIndex}
 use Rattle.reader.specs.TableIndex.{labelFrom, labelTo, Inside}
-use Rattle.reader.specs.TableFound.{TableFound}
+use Rattle.reader.specs.Held.{SomeHeld}
 use Rattle.reader.specs.LabelPlaces.{labelIn, nameBegins}
 use Rattle.reader.proofs.FieldReading.{field-length}
 use Rattle.reader.proofs.LabelParts.{label-inside, label-found}
 use Rattle.reader.proofs.TableFaults.{part-size}
-use Rattle.reader.proofs.TableFoundLaws.{label-found-at}
+use Rattle.reader.proofs.TableFoundLaws.{TableFound, label-found-at}
 
 -- three bytes, and three more and the name for each label before
 unfoldable pub summed : List ℕ → List ℕ → ℕ → ℕ
@@ -54,19 +54,19 @@ begins-next : (labels : List Name) (i : ℕ) (n : Name) → getElem? labels i �
 unfolding nameBegins partOfLabel
 begins-next labels i n e = let j = joined-next (fieldBytes labelTag) labels i n e in let l = field-length labelTag n in omega arith
 
-module _ {s : List ℕ} {index : TableIndex} (f : TableFound s index) where
+module _ {s : List ℕ} {index : TableIndex} (f : SomeHeld standard asciiClasses s index) where
   label-size : (i : ℕ) → i < index .labels
       → (n : Name) × (getElem? (f .table .labels) i ≡ just n) × (labelTo index i - labelFrom index i ≡ length n) × (length n ≤ 63)
   unfolding standard
   label-size i h =
-      let p = label-found-at (f .indexes) (f .within) i h in
+      let p = label-found-at (f .held .indexes) (f .held .within) i h in
       let w = p .3 .size in
       (p .0, p .1, sym (part-size s (labelFrom index i) (labelTo index i) (p .2 .inside)) ∙ ap length (p .2 .bytes-are), omega arith)
 
   pub label-short : (i : ℕ) → i < index .labels → (labelFrom index i ≤ labelTo index i) × (labelTo index i - labelFrom index i ≤ 63)
   label-short i h =
       let p = label-size i h in
-      let q = label-found-at (f .indexes) (f .within) i h in
+      let q = label-found-at (f .held .indexes) (f .held .within) i h in
       let e = p .2 in
       let w = p .3 in
       (q .2 .inside .order, omega arith)
@@ -101,19 +101,22 @@ module _ {s : List ℕ} {index : TableIndex} (f : TableFound s index) (small : A
   abbrev size : ℕ
   size = labelTo index label - labelFrom index label
 
-  pub place-found : (from : ℕ) → from ≡ nameBegins (f .table .labels) label
+  abbrev g : Table
+  g = f .some .table
+
+  pub place-found : (from : ℕ) → from ≡ nameBegins (g .labels) label
       → Inside s from (from + size) × (labelIn s label ≡ given (record { from = from; size = (from + size) - from }))
   unfolding nameBegins partOfLabel
   place-found from e =
-      let few = f .indexes .labels in
-      let p = label-size f label h in
-      let inside = label-inside standard asciiClasses s (f .table) small (f .read) label (p .0) (p .1) in
-      let name : length (getD (f .table .labels) label []) ≡ length (p .0) = ap length (at-else (f .table .labels) label [] (p .1)) in
+      let few = f .some .held .indexes .labels in
+      let p = label-size (f .some) label h in
+      let inside = label-inside standard asciiClasses s g small (f .read) label (p .0) (p .1) in
+      let name : length (getD (g .labels) label []) ≡ length (p .0) = ap length (at-else (g .labels) label [] (p .1)) in
       let long = p .2 in
-      let same : length (getD (f .table .labels) label []) ≡ (from + size) - from = omega arith in (
+      let same : length (getD (g .labels) label []) ≡ (from + size) - from = omega arith in (
         record { order = omega arith; within = omega arith },
-        label-found s label (f .table) (f .read) (omega arith)
-            ∙ ap (λ (k : ℕ). given (record { from = k; size = length (getD (f .table .labels) label []) })) (sym e)
+        label-found s label g (f .read) (omega arith)
+            ∙ ap (λ (k : ℕ). given (record { from = k; size = length (getD (g .labels) label []) })) (sym e)
             ∙ ap (λ (k : ℕ). given (record { from = from; size = k })) same,
       )
 

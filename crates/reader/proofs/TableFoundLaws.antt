@@ -15,7 +15,7 @@ use Rattle.grammar.specs.Limits.{standard}
 use Rattle.grammar.specs.Names.{Name, asciiClasses}
 use Rattle.grammar.specs.Content.{Content}
 use Rattle.grammar.specs.Table.{Rule, Table}
-use Rattle.grammar.specs.Outcome.{refused}
+use Rattle.grammar.specs.Outcome.{given, refused}
 use Rattle.grammar.specs.ReadContent.{contentBytes}
 use Rattle.grammar.specs.ReadTable.{readTable}
 use Rattle.grammar.specs.WithinLimits.{NameWithin, RuleWithin, TableWithin}
@@ -26,7 +26,7 @@ use Rattle.theory.proofs.bytes.ReadWithin.{read-within}
 use Rattle.reader.specs.declared.tables.TableIndex.{TableIndex}
 use Rattle.reader.specs.declared.tables.TableRead.{TableRead}
 use Rattle.reader.specs.ExprAt.{_upTo_, exprAt}
-use Rattle.reader.specs.TableFound.{TableFound}
+use Rattle.reader.specs.Held.{SomeHeld}
 use Rattle.reader.specs.TableIndex.{
   part,
   labelFrom,
@@ -44,15 +44,21 @@ use Rattle.reader.proofs.ExprLaws.{expr-of}
 use Rattle.reader.proofs.TableFaults.{part-size}
 use Rattle.reader.proofs.TableIndexLaws.{label-at, start-at, rule-at}
 
+-- the table that was read is held
+pub record TableFound (s : List ℕ) (index : TableIndex) : Type 0 where
+  pub some : SomeHeld standard asciiClasses s index
+  pub read : readTable standard asciiClasses s ≡ given (some .table)
+
 module _ (s : List ℕ) (r : TableRead) (so : Reads s (readTable standard asciiClasses s) r) where
   pub table-found : r .answer ≡ Readable → TableFound s (r .index)
   table-found e =
       let f = was-readable (readTable standard asciiClasses s) (sym (so .answer) ∙ e) in
       record {
-        table = f .0;
+        some = record {
+          table = f .0;
+          held = record { indexes = so .index (f .0) (f .1); within = read-within standard asciiClasses s (f .0) (f .1) };
+        };
         read = f .1;
-        indexes = so .index (f .0) (f .1);
-        within = read-within standard asciiClasses s (f .0) (f .1);
       }
 
   pub table-refused : (q : Refusal) → r .answer ≡ Unreadable q → readTable standard asciiClasses s ≡ refused q

@@ -6,6 +6,6 @@ pub mod DocumentNodes
 pub mod NodeTrees
 pub mod DocumentSteps
 pub mod TableIndex
-pub mod TableFound
+pub mod Held
 pub mod NamePlaces
 pub mod LabelPlaces

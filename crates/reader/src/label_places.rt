@@ -5,8 +5,10 @@ use grammar::Reading;
 use grammar::Refusal;
 ghost use mathlib.Core.Path.{_≡_};
 ghost use Prim.Native.Nat.{_<_, _≤_};
-ghost use Rattle.reader.specs.TableFound.{TableFound};
+ghost use Rattle.grammar.specs.Limits.{standard};
+ghost use Rattle.grammar.specs.Names.{asciiClasses};
 ghost use Rattle.reader.specs.LabelPlaces.{LabelSought, labelIn, nameBegins};
+ghost use Rattle.reader.specs.Held.{SomeHeld};
 
 // Where a label's name stands, or why there is none.
 pub enum LabelFound {
@@ -16,9 +18,9 @@ pub enum LabelFound {
 
 // A name begins behind the fields of the labels before it, and its own tag and length.
 fn name_begins(table: &[u8], index: TableIndex, label: usize) -> usize
-    requires { ⌜ TableFound (now table) index ⌝ }
+    requires { ⌜ SomeHeld standard asciiClasses (now table) index ⌝ }
     requires { ⌜ label < index .labels ⌝ }
-    ensures { λ r. ⌜ ((f : TableFound (now (table .entry)) index) → r ≡ nameBegins (f .table .labels) label) ⌝ }
+    ensures { λ r. ⌜ ((f : SomeHeld standard asciiClasses (now (table .entry)) index) → r ≡ nameBegins (f .table .labels) label) ⌝ }
     ensures { λ r. ⌜ r ≤ 4227 ⌝ }
 {
     let label_from = index.label_from;

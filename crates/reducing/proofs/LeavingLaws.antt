@@ -12,6 +12,7 @@ use mathlib.Core.Path.{_≡_, sym, _∙_, ap, subst, fun-ext}
 use lib.ListN.{getD}
 use Rattle.grammar.specs.Lists.{isIn, joinedOf, numbersBelow}
 use Rattle.grammar.specs.Limits.{standard}
+use Rattle.grammar.specs.Names.{asciiClasses}
 use Rattle.grammar.specs.Table.{Table}
 use Rattle.grammar.specs.Unite.{shifted, unite}
 use Rattle.grammar.specs.Normalise.{pairsOf, normalise}
@@ -33,9 +34,9 @@ use Rattle.theory.proofs.steps.Reached.{start-reached}
 use Rattle.sets.specs.Sets.{nothing, inEither}
 use Rattle.reader.specs.declared.tables.TableIndex.{TableIndex}
 use Rattle.reader.specs.TableIndex.{startType}
+use Rattle.reader.specs.Held.{Held}
 use Rattle.reader.proofs.TableFoundLaws.{start-small}
 use Rattle.union.specs.declared.lists.TypeLists.{TypeLists}
-use Rattle.union.specs.View.{TableHeld}
 use Rattle.union.specs.PairNumbers.{fruitfulOf, isStart, isLeft, metIn}
 use Rattle.union.specs.TypeLists.{ListsOf}
 use Rattle.union.specs.Walks.{listOfType, Listed}
@@ -54,7 +55,7 @@ list-part {from} {numbers} l k first end h a b =
     record { order = omega arith; inside = omega arith; below = λ i s. l .below i }
 
 -- the start types
-module _ {s : List ℕ} {index : TableIndex} {g : Table} (x : TableHeld s index g) where
+module _ {s : List ℕ} {index : TableIndex} {g : Table} (x : Held standard asciiClasses s index g) where
   pub starts-small : StartsSmall index
   starts-small = record { few = x .indexes .few-starts; small = start-small (x .indexes) (x .within) }
 
@@ -81,7 +82,7 @@ module _ {s : List ℕ} {index : TableIndex} {g : Table} (x : TableHeld s index 
         (subst (λ (t : ℕ). List·Memᴰ p (f t)) (sym (x .indexes .start (a .0) k (a .1))) q)
 
 -- the pairs in the lists of both tables' start types
-module _ {old add : List ℕ} {index addition : TableIndex} {g h : Table} (x : TableHeld old index g) (y : TableHeld add addition h)
+module _ {old add : List ℕ} {index addition : TableIndex} {g h : Table} (x : Held standard asciiClasses old index g) (y : Held standard asciiClasses add addition h)
     {lists : TypeLists} (l : ListsOf (fruitfulOf (unite standard g h)) lists) where
   abbrev of : ℕ → List ℕ
   of = fruitfulOf (unite standard g h)

@@ -17,11 +17,13 @@ ghost use Prim.Native.Nat.{ℕ, _≤_, _<_};
 ghost use lib.ListN.{length};
 ghost use Rattle.grammar.specs.Lists.{isIn, joinedOf, numbersBelow};
 ghost use Rattle.grammar.specs.Limits.{standard};
+ghost use Rattle.grammar.specs.Names.{asciiClasses};
 ghost use Rattle.grammar.specs.Table.{Table};
 ghost use Rattle.grammar.specs.Unite.{unite};
 ghost use Rattle.sets.specs.Sets.{member, setAt, inEither, OthersKept};
 ghost use Rattle.reader.specs.TableIndex.{startType};
-ghost use Rattle.union.specs.View.{Views, Viewed, TableHeld};
+ghost use Rattle.reader.specs.Held.{Held};
+ghost use Rattle.union.specs.View.{Views, Viewed};
 ghost use Rattle.union.specs.Places.{startsAt, leftAt};
 ghost use Rattle.union.specs.PairNumbers.{fruitfulOf, isStart, isLeft};
 ghost use Rattle.union.specs.TypeLists.{ListsOf};
@@ -62,7 +64,7 @@ fn with_starts(set: Set4, lists: Lists, index: TableIndex) -> Set4
 // Finds the fruitful pairs of the start types.
 pub fn start_pairs(lists: TypeLists, index: TableIndex, addition: TableIndex, words: &mut [u32])
     requires { ⌜ (BothListed lists) × (StartsSmall index) × (StartsSmall addition) × (16384 ≤ length (now words)) ⌝ }
-    ensures { λ r. ⌜ ((old add : List ℕ) (g h : Table) → TableHeld old index g → TableHeld add addition h
+    ensures { λ r. ⌜ ((old add : List ℕ) (g h : Table) → Held standard asciiClasses old index g → Held standard asciiClasses add addition h
         → ListsOf (fruitfulOf (unite standard g h)) lists → setAt (now (words .exit)) startsAt ≡ isStart (unite standard g h)) ⌝ }
 {
     let none = Set4::empty();

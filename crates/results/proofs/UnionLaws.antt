@@ -9,6 +9,7 @@ use mathlib.Core.Bool.{Bool, true, false}
 use mathlib.Core.List.{List}
 use mathlib.Core.Path.{_≡_, sym, _∙_, ap, subst}
 use Rattle.grammar.specs.Limits.{standard}
+use Rattle.grammar.specs.Names.{asciiClasses}
 use Rattle.grammar.specs.Table.{Table}
 use Rattle.grammar.specs.Outcome.{refused}
 use Rattle.grammar.specs.Unite.{unite}
@@ -17,9 +18,10 @@ use Rattle.grammar.specs.declared.Refusal.the-variants.{NoDocument}
 use Rattle.sets.specs.Sets.{member, wordsAt, setAt, Empties, OthersKept}
 use Rattle.sets.proofs.SetLaws.{kept-before}
 use Rattle.reader.specs.declared.tables.TableIndex.{TableIndex}
+use Rattle.reader.specs.Held.{Held}
 use Rattle.union.specs.declared.lists.TypeLists.{TypeLists}
 use Rattle.union.specs.declared.united.Union.{Union}
-use Rattle.union.specs.View.{Viewed, TableHeld, UnionSeen}
+use Rattle.union.specs.View.{Viewed, UnionSeen}
 use Rattle.union.specs.PairNumbers.{fruitfulOf, isStart, isLeft}
 use Rattle.union.specs.TypeLists.{ListsOf}
 use Rattle.union.specs.Places.{startsAt, leftAt}
@@ -35,7 +37,7 @@ seen-viewed {old} {add} {g} {h} s = record { table = unite standard g h; views =
 pub listed-both : {of : ℕ → List ℕ} {lists : TypeLists} → ListsOf of lists → BothListed lists
 listed-both l = record { old = l .old-listed; added = l .added-listed }
 
-module _ {old add : List ℕ} {index addition : TableIndex} {g h : Table} (p : TableHeld old index g) (q : TableHeld add addition h) where
+module _ {old add : List ℕ} {index addition : TableIndex} {g h : Table} (p : Held standard asciiClasses old index g) (q : Held standard asciiClasses add addition h) where
   pub none-started : (kind : Kind) (words : List ℕ) {starts : List ℕ} {empty : Bool} → setAt words startsAt ≡ isStart (unite standard g h)
       → starts ≡ wordsAt words startsAt 4 → Empties starts empty → empty ≡ true → widenByTable standard (kindOf kind) g h ≡ refused NoDocument
   none-started kind words are loaded told e =

@@ -24,10 +24,11 @@ ghost use mathlib.Core.Path.{_≡_};
 ghost use Prim.Native.Nat.{_+_, _≤_};
 ghost use lib.ListN.{length};
 ghost use Rattle.grammar.specs.Limits.{standard};
+ghost use Rattle.grammar.specs.Names.{asciiClasses};
 ghost use Rattle.grammar.specs.Table.{Table};
 ghost use Rattle.grammar.specs.Unite.{unite};
 ghost use Rattle.grammar.specs.Kinds.{local, singleType};
-ghost use Rattle.union.specs.View.{TableHeld, Held};
+ghost use Rattle.reader.specs.Held.{Held, SomeHeld};
 ghost use Rattle.union.specs.PairNumbers.{isStart};
 ghost use Rattle.forms.specs.SetForms.{labelSets};
 ghost use Rattle.forms.specs.SetWords.{SetsHeld};
@@ -174,8 +175,10 @@ pub fn widen_tables(
     words: &mut [u32],
     draft: &mut [u8],
 ) -> Made
-    requires { ⌜ (Held (now old) index) × (Held (now add) addition) × (16384 ≤ length (now words)) × (32768 ≤ length (now draft)) ⌝ }
-    ensures { λ r. ⌜ ((g h : Table) → TableHeld (now (old .entry)) index g → TableHeld (now (add .entry)) addition h
+    requires { ⌜ (SomeHeld standard asciiClasses (now old) index) × (SomeHeld standard asciiClasses (now add) addition)
+        × (16384 ≤ length (now words)) × (32768 ≤ length (now draft)) ⌝ }
+    ensures { λ r. ⌜ ((g h : Table) → Held standard asciiClasses (now (old .entry)) index g
+        → Held standard asciiClasses (now (add .entry)) addition h
         → Widens (kindOf kind) g h (now (draft .entry)) (now (draft .exit)) r) ⌝ }
 {
     let union = unite_tables(old, index, add, addition);

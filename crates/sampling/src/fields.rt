@@ -3,7 +3,6 @@ use crate::rules::put_rules;
 use writer::writing::Drafted;
 use writer::writing::put_field;
 ghost use Prim.Native.Nat.{_+_, _≤_};
-ghost use mathlib.Core.List.{_++_};
 ghost use lib.ListN.{length};
 ghost use Rattle.grammar.specs.Lists.{joinedOf, numbersBelow};
 ghost use Rattle.writer.specs.Writing.{Puts};
@@ -12,7 +11,7 @@ ghost use Rattle.sampling.specs.SampleTable.{ruleIn, NodesHeld, labelFie
 ghost use Rattle.sampling.specs.SampleNodes.{KeysAt};
 
 // Writes the labels: each first node's name.
-fn put_labels(
+pub fn put_labels(
     draft: &mut [u8],
     s: &[u8],
     names: &[u16],
@@ -83,7 +82,7 @@ fn put_rest(
 }
 
 // Writes the start, the rules and the end.
-fn put_start(
+pub fn put_start(
     draft: &mut [u8],
     at: usize,
     scratch: &mut [u8],
@@ -106,50 +105,6 @@ fn put_start(
     match put_field(draft, at, 0x11, &root) {
         Drafted::TooLarge => Drafted::TooLarge,
         Drafted::Length(end) => put_rest(
-            draft,
-            end,
-            scratch,
-            parents,
-            types,
-            children,
-            nodes,
-            firsts,
-            labels,
-            count,
-        ),
-    }
-}
-
-// Writes the table: labels, start, rules, end.
-pub fn put_table(
-    draft: &mut [u8],
-    s: &[u8],
-    names: &[u16],
-    sizes: &[u16],
-    keys: &[usize],
-    named: &[usize],
-    total: usize,
-    scratch: &mut [u8],
-    parents: &[usize],
-    types: &[usize],
-    children: &[u16],
-    nodes: usize,
-    firsts: &[usize],
-    labels: &[usize],
-    count: usize,
-) -> Drafted
-    requires { ⌜ (32768 ≤ length (now draft)) × (scratchBytes ≤ length (now scratch)) × (total ≤ 64)
-        × KeysAt (now s) (now names) (now sizes) (now keys) (now named) total
-        × NodesHeld (now parents) (now types) (now children) nodes × RulesHeld (now types) (now firsts) (now labels) nodes count ⌝ }
-    ensures { λ r. ⌜ TablePut (now (draft .entry)) 0
-        (ruleIn (now (parents .entry)) (now (types .entry)) (now (firsts .entry)) (now (labels .entry)) nodes) count
-        (joinedOf (labelField (now (s .entry)) (now (names .entry)) (now (sizes .entry)) (now (named .entry))) (numbersBelow total)
-        ++ startBytes (ruleIn (now (parents .entry)) (now (types .entry)) (now (firsts .entry)) (now (labels .entry)) nodes) count)
-        (now (draft .exit)) r ⌝ }
-{
-    match put_labels(draft, s, names, sizes, keys, named, total) {
-        Drafted::TooLarge => Drafted::TooLarge,
-        Drafted::Length(end) => put_start(
             draft,
             end,
             scratch,

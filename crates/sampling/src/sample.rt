@@ -1,5 +1,6 @@
 // The sample of a document: one type for each path of names, written as a table.
-use crate::fields::put_table;
+use crate::fields::put_labels;
+use crate::fields::put_start;
 use crate::labels::labels_of;
 use crate::limits::SCRATCH;
 use crate::parents::parents_of;
@@ -45,24 +46,21 @@ fn write_sample(
     let found = labels_of(s, names, sizes, keys, firsts, count);
     let labels = found.of;
     let named = found.firsts;
-    let total = found.count;
-    put_table(
-        draft,
-        s,
-        names,
-        sizes,
-        keys,
-        &named,
-        total,
-        scratch,
-        parents,
-        types,
-        children,
-        nodes,
-        firsts,
-        &labels,
-        count,
-    )
+    match put_labels(draft, s, names, sizes, keys, &named, found.count) {
+        Drafted::TooLarge => Drafted::TooLarge,
+        Drafted::Length(end) => put_start(
+            draft,
+            end,
+            scratch,
+            parents,
+            types,
+            children,
+            nodes,
+            firsts,
+            &labels,
+            count,
+        ),
+    }
 }
 
 // The sample of a document as a table, from the draft's beginning.

@@ -14,7 +14,7 @@ use lib.Seq.{take-suc, take-all, getD-set-same, getD-set-other, length-take-le}
 use lib.Dec.{eqb}
 use Rattle.grammar.specs.Lists.{place}
 use Rattle.grammar.specs.Limits.{standard}
-use Rattle.grammar.specs.Names.{sameName}
+use Rattle.grammar.specs.Names.{sameName, asciiClasses}
 use Rattle.grammar.specs.Content.{Content}
 use Rattle.grammar.specs.Table.{Rule, Table}
 use Rattle.grammar.specs.KindTests.{samePair}
@@ -27,12 +27,13 @@ use Rattle.theory.proofs.steps.NormaliseDocuments.{pair-refl}
 use Rattle.reader.specs.declared.tables.TableIndex.{TableIndex}
 use Rattle.reader.specs.ExprAt.{_upTo_}
 use Rattle.reader.specs.TableIndex.{part, BytesStand, Indexes, ruleType, ruleLabel, contentFrom, contentTo}
+use Rattle.reader.specs.Held.{Held}
 use Rattle.reader.proofs.ExprLaws.{expr-of}
 use Rattle.reader.proofs.LabelSearch.{place-first, place-nowhere, index-names}
 use Rattle.reader.proofs.TableIndexLaws.{at-end, rule-at}
 use Rattle.union.specs.declared.labels.Names.{Names}
 use Rattle.union.specs.declared.united.United.{United}
-use Rattle.union.specs.View.{SourceContent, typeIn, labelIn, RuleSeen, Views, rulesOnly, NextRule, TableHeld, AddingTo}
+use Rattle.union.specs.View.{SourceContent, typeIn, labelIn, RuleSeen, Views, rulesOnly, NextRule, AddingTo}
 use Rattle.union.specs.UnitedLabels.{NamesHeld, newNames, unitedNames}
 
 -- the place of a pair
@@ -225,7 +226,7 @@ take-more xs i {x} e =
     ∙ ap (λ y. take i xs ++ (y ∷ [])) (at-else xs i x e)
 
 -- the next rule of the old table
-module _ {old add : List ℕ} {v : United} {index : TableIndex} {g : Table} (t : TableHeld old index g) (i : ℕ) (h : i < index .rules)
+module _ {old add : List ℕ} {v : United} {index : TableIndex} {g : Table} (t : Held standard asciiClasses old index g) (i : ℕ) (h : i < index .rules)
     (few : v .«old_rules» ≡ index .rules) (at : v .rules ≡ i) where
   pub old-next : (ty label : ℕ) → ty ≡ ruleType index i → label ≡ ruleLabel index i
       → (x : Rule)

@@ -11,12 +11,11 @@ use Rattle.grammar.specs.Content.{Content, type, replace}
 use Rattle.grammar.specs.Table.{Rule, Table}
 use Rattle.grammar.specs.ReadContent.{isProper}
 use Rattle.grammar.specs.Names.{asciiClasses}
-use Rattle.grammar.specs.WithinLimits.{TableWithin}
 use Rattle.grammar.specs.Unite.{shifted, unitedLabels, unite}
 use Rattle.grammar.specs.Normalise.{pairOf}
 use Rattle.reader.specs.ExprAt.{_upTo_, exprAt}
 use Rattle.reader.specs.declared.tables.TableIndex.{TableIndex}
-use Rattle.reader.specs.TableIndex.{Indexes}
+use Rattle.reader.specs.Held.{Held}
 use Rattle.union.specs.declared.labels.Names.{Names}
 use Rattle.union.specs.declared.united.United.{United}
 use Rattle.union.specs.declared.united.Union.{Union}
@@ -103,21 +102,12 @@ pub record Grown (v more : United) : Type 0 where
   pub one : more .rules ≡ v .rules + 1
   pub old : more .«old_rules» ≡ v .«old_rules»
 
--- the index is that of a table that was read
-pub record TableHeld (s : List ℕ) (index : TableIndex) (g : Table) : Type 0 where
-  pub indexes : Indexes s index g
-  pub within : TableWithin standard asciiClasses g
-
-pub record Held (s : List ℕ) (index : TableIndex) : Type 0 where
-  pub table : Table
-  pub held : TableHeld s index table
-
 -- where the labels stand as the addition's rules are put down, and which the addition is
 pub record AddingTo (old : List ℕ) (olds : Names) (add : List ℕ) (adds fresh : Names) (index : TableIndex) (g h : Table) : Type 0 where
   pub old-names : NamesHeld old olds (g .labels)
   pub added-names : NamesHeld add adds (h .labels)
   pub new-names : NamesHeld add fresh (newNames (g .labels) (h .labels))
-  pub addition : TableHeld add index h
+  pub addition : Held standard asciiClasses add index h
 
 pub record Adding (old : List ℕ) (olds : Names) (add : List ℕ) (adds fresh : Names) (index : TableIndex) : Type 0 where
   pub first : Table

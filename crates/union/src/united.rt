@@ -11,10 +11,12 @@ ghost use Prim.Native.Nat.{ℕ, _+_, _<_, _≤_};
 ghost use lib.ListN.{take};
 ghost use Rattle.grammar.specs.Lists.{place};
 ghost use Rattle.grammar.specs.Limits.{standard};
+ghost use Rattle.grammar.specs.Names.{asciiClasses};
 ghost use Rattle.grammar.specs.Table.{Rule, Table};
 ghost use Rattle.grammar.specs.KindTests.{samePair};
 ghost use Rattle.grammar.specs.Unite.{added, unite};
-ghost use Rattle.union.specs.View.{Views, rulesOnly, NextRule, TableHeld, Held, Grown, Adding, AddingTo, UnionSeen};
+ghost use Rattle.reader.specs.Held.{Held, SomeHeld};
+ghost use Rattle.union.specs.View.{Views, rulesOnly, NextRule, Grown, Adding, AddingTo, UnionSeen};
 
 // Old rules come first. A type of the addition counts from 64 on. `firsts` has the number of the first rule of each rule's pair; the
 // content of a rule stands in the bytes of its own table.
@@ -90,7 +92,7 @@ pub fn no_rules(olds: usize) -> United
 // One rule more of the old table.
 pub fn with_old_rule(v: United, index: TableIndex, i: usize) -> United
     requires { ⌜ (v .rules ≡ i) × (i < index .rules) × (index .rules ≤ 64) × (v .«old_rules» ≡ index .rules) ⌝ }
-    ensures { λ r. ⌜ (((old add : List ℕ) (g : Table) → TableHeld old index g
+    ensures { λ r. ⌜ (((old add : List ℕ) (g : Table) → Held standard asciiClasses old index g
         → Views old add v (rulesOnly (take i (g .rules))) → Views old add r (rulesOnly (take (i + 1) (g .rules)))) × Grown v r) ⌝ }
 {
     let rule_type = index.rule_type;
@@ -109,7 +111,7 @@ pub fn with_old_rule(v: United, index: TableIndex, i: usize) -> United
 // The rules of the old table.
 pub fn old_rules(index: TableIndex) -> United
     requires { ⌜ index .rules ≤ 64 ⌝ }
-    ensures { λ r. ⌜ (((old add : List ℕ) (g : Table) → TableHeld old index g → Views old add r (rulesOnly (g .rules)))
+    ensures { λ r. ⌜ (((old add : List ℕ) (g : Table) → Held standard asciiClasses old index g → Views old add r (rulesOnly (g .rules)))
         × (r .rules ≡ index .rules) × (r .«old_rules» ≡ index .rules)) ⌝ }
 {
     let mut v = no_rules(index.rules);
@@ -181,8 +183,9 @@ pub fn new_rules(
 
 // The union of two tables that were read.
 pub fn unite_tables(old: &[u8], index: TableIndex, add: &[u8], addition: TableIndex) -> Union
-    requires { ⌜ (Held (now old) index) × (Held (now add) addition) ⌝ }
-    ensures { λ r. ⌜ ((g h : Table) → TableHeld (now (old .entry)) index g → TableHeld (now (add .entry)) addition h
+    requires { ⌜ (SomeHeld standard asciiClasses (now old) index) × (SomeHeld standard asciiClasses (now add) addition) ⌝ }
+    ensures { λ r. ⌜ ((g h : Table) → Held standard asciiClasses (now (old .entry)) index g
+        → Held standard asciiClasses (now (add .entry)) addition h
         → UnionSeen (now (old .entry)) (now (add .entry)) g h r) ⌝ }
 {
     let old_from = index.label_from;

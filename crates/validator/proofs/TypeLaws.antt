@@ -17,7 +17,7 @@ use borrow.Author.Count.{below-more}
 use borrow.Author.Tests.{eqb-true, eq-eqb, ne-eqb}
 use Rattle.grammar.specs.Lists.{any, keep, isIn, allDistinct, place}
 use Rattle.grammar.specs.Limits.{standard}
-use Rattle.grammar.specs.Names.{Name, sameName}
+use Rattle.grammar.specs.Names.{Name, sameName, asciiClasses}
 use Rattle.grammar.specs.Table.{Rule, Table}
 use Rattle.grammar.specs.Membership.{isNamed}
 use Rattle.theory.specs.Marked.{holds}
@@ -43,12 +43,13 @@ use Rattle.sets.proofs.SetLaws.{member-put, member-words, member-zeros, length-
 use Rattle.reader.specs.ExprAt.{_upTo_, exprAt}
 use Rattle.reader.specs.TableIndex.{part, ruleLabel, contentFrom, contentTo}
 use Rattle.reader.specs.declared.tables.TableIndex.{TableIndex}
+use Rattle.reader.specs.Held.{Held}
 use Rattle.reader.proofs.TableFaults.{part-size}
 use Rattle.reader.proofs.TableFoundLaws.{RuleFound, rule-found-at, content-in-part}
 use Rattle.walks.specs.TypeSets.{setAt}
 use Rattle.walks.specs.WalkAt.{runAt, WholeAt}
 use Rattle.validator.specs.Chains.{Keyed, PlaceFrom}
-use Rattle.validator.specs.KnownTable.{Known, ruleFits, typesFor, PutIf}
+use Rattle.validator.specs.KnownTable.{ruleFits, typesFor, PutIf}
 use Rattle.walks.proofs.WalkLaws.{run-at}
 
 -- where labels differ, a name has just the label at its place
@@ -74,7 +75,7 @@ named-by-place g differ l n below =
     )
 
 -- A rule of a table that is known.
-module _ {s : List ℕ} {index : TableIndex} {g : Table} (known : Known s index g) (i : ℕ) (below : i < index .rules) where
+module _ {s : List ℕ} {index : TableIndex} {g : Table} (known : Held standard asciiClasses s index g) (i : ℕ) (below : i < index .rules) where
   abbrev pub known-rule : RuleFound s index g i
   known-rule = rule-found-at (known .indexes) (known .within) i below
 
@@ -124,7 +125,7 @@ module _ {s : List ℕ} {index : TableIndex} {g : Table} (known : Known s index 
         sym (rule-fits-is ∙ ap (λ (b : Bool). b && runAt (part s (contentFrom index i) (contentTo index i)) tests) (ne-eqb (ruleLabel index i) label h))
 
 -- Labels of a table that is known are few enough to be keys.
-module _ {s : List ℕ} {index : TableIndex} {g : Table} (known : Known s index g) where
+module _ {s : List ℕ} {index : TableIndex} {g : Table} (known : Held standard asciiClasses s index g) where
   pub rules-keyed : Keyed (index .«rule_label») (index .rules)
   rules-keyed =
       let x = known .indexes in
@@ -214,7 +215,7 @@ module _ (g : Table) (n : Name) (tests : List (ℕ → Bool)) where
           ∙ append-nil (typesFor g n tests (take i (g .rules)))))
 
 -- the rules up to the next one of the node's label, too: they have other labels, so none of them fits
-module _ {s : List ℕ} {index : TableIndex} {g : Table} (known : Known s index g) (n : Name) (tests : List (ℕ → Bool)) (label : ℕ)
+module _ {s : List ℕ} {index : TableIndex} {g : Table} (known : Held standard asciiClasses s index g) (n : Name) (tests : List (ℕ → Bool)) (label : ℕ)
     (named : label ≡ place sameName n (g .labels)) where
   abbrev of-first : ℕ → List ℕ
   of-first i = typesFor g n tests (take i (g .rules))

@@ -27,22 +27,16 @@ use Rattle.theory.proofs.theorems.AnswerNumbers.{verdict-numbers}
 use Rattle.theory.proofs.theorems.CallPromises.{membership, kind-test}
 use Rattle.reader.specs.DocumentNodes.{DocumentReads, nodesIn}
 use Rattle.reader.specs.TableIndex.{Reads}
-use Rattle.reader.specs.TableFound.{TableFound}
 use Rattle.reader.specs.declared.documents.DocumentRead.{DocumentRead}
 use Rattle.reader.specs.declared.tables.TableRead.{TableRead}
-use Rattle.reader.specs.declared.tables.TableIndex.{TableIndex}
+use Rattle.reader.specs.Held.{Held}
 use Rattle.reader.proofs.CallLaws.{left-as, left-short}
 use Rattle.reader.proofs.WorkLaws.{lent-short, lent-enough}
 use Rattle.reader.proofs.DocumentTrees.{complete}
 use Rattle.reader.proofs.DocumentAnswers.{document-tree, nodes-read, document-unread}
-use Rattle.reader.proofs.TableFoundLaws.{table-found, table-refused}
-use Rattle.validator.specs.KnownTable.{Known, SomeTable}
+use Rattle.reader.proofs.TableFoundLaws.{TableFound, table-found, table-refused}
 use Rattle.validator.specs.KnownDocument.{KnownNodes}
 use Rattle.validator.specs.Deciding.{letsInOf, isOfKindOf}
-
--- a table that was read is known
-pub found-table : {s : List ℕ} {index : TableIndex} → TableFound s index → SomeTable s index
-found-table f = record { table = f .table; known = record { indexes = f .indexes; within = f .within } }
 
 -- what a call leaves, by its outcome where there is enough working memory
 module _ (o : Outcome Bool) (work : List ℕ) where
@@ -83,12 +77,12 @@ module _ (table document : List ℕ) where
       found = table-found table r so e
 
       lets-in-from : (o : Outcome Tree) → readDocument standard asciiClasses document ≡ o
-          → letsInOf table document ≡ (o >>= λ d. given (letsIn (found .table) d))
+          → letsInOf table document ≡ (o >>= λ d. given (letsIn (found .some .table) d))
       unfolding letsInOf
       lets-in-from o p =
-          given-then (readTable standard asciiClasses table) (found .table)
+          given-then (readTable standard asciiClasses table) (found .some .table)
           (λ g. (readDocument standard asciiClasses document >>= λ d. given (letsIn g d))) (found .read)
-          ∙ ap (λ (x : Outcome Tree). x >>= λ d. given (letsIn (found .table) d)) p
+          ∙ ap (λ (x : Outcome Tree). x >>= λ d. given (letsIn (found .some .table) d)) p
 
       pub document-refuses : (q : Refusal) → f .answer ≡ Unreadable q → Undecided q ≡ verdict (letsInOf table document)
       unfolding verdict
@@ -101,13 +95,12 @@ module _ (table document : List ℕ) where
             record { indexed = reads .indexed; one-tree = c .0; enough = c .1 }
 
         pub decided : (answer : Verdict) (says-yes : Bool) → answer ≡ verdict (given says-yes)
-            → ((g : Table) → Known table (r .index) g → (t : Tree) → treeOf (nodesIn document (f .index)) ≡ given t → says-yes ≡ letsIn g t)
+            → ((g : Table) → Held standard asciiClasses table (r .index) g → (t : Tree) → treeOf (nodesIn document (f .index)) ≡ given t → says-yes ≡ letsIn g t)
             → answer ≡ verdict (letsInOf table document)
-        unfolding found-table
         decided answer says-yes a says =
             let t = document-tree standard asciiClasses document (nodesIn document (f .index)) (nodes-read document f reads p) in
             a
-            ∙ ap (λ (b : Bool). verdict (given b)) (says (found .table) (found-table found .known) (t .0) (t .1))
+            ∙ ap (λ (b : Bool). verdict (given b)) (says (found .some .table) (found .some .held) (t .0) (t .1))
             ∙ sym (ap verdict (lets-in-from (given (t .0)) (t .2)))
 
 -- kinds
@@ -128,13 +121,13 @@ module _ (kind : Kind) (table : List ℕ) where
         sym (ap (λ (o : Outcome Table). verdict (o >>= λ g. given (isOfKind kind g))) (table-refused table r so q e))
 
     pub kind-decided : r .answer ≡ Readable → (answer : Verdict) (says-yes : Bool) → answer ≡ verdict (given says-yes)
-        → ((g : Table) → Known table (r .index) g → says-yes ≡ isOfKind kind g) → answer ≡ verdict (isOfKindOf kind table)
-    unfolding isOfKindOf found-table
+        → ((g : Table) → Held standard asciiClasses table (r .index) g → says-yes ≡ isOfKind kind g) → answer ≡ verdict (isOfKindOf kind table)
+    unfolding isOfKindOf
     kind-decided e answer says-yes a says =
         let f = table-found table r so e in
         a
-        ∙ ap (λ (b : Bool). verdict (given b)) (says (f .table) (found-table f .known))
-        ∙ sym (ap verdict (given-then (readTable standard asciiClasses table) (f .table) (λ g. given (isOfKind kind g)) (f .read)))
+        ∙ ap (λ (b : Bool). verdict (given b)) (says (f .some .table) (f .some .held))
+        ∙ sym (ap verdict (given-then (readTable standard asciiClasses table) (f .some .table) (λ g. given (isOfKind kind g)) (f .read)))
 
   module _ (work : List ℕ) where
     pub kind-unanswered : length work < 16384

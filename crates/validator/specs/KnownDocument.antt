@@ -3,6 +3,8 @@ use Prim.Native.Nat.{ℕ, _+_, _≤_}
 use mathlib.Core.List.{List}
 use mathlib.Core.Path.{_≡_}
 use lib.ListN.{length, drop}
+use Rattle.grammar.specs.Limits.{standard}
+use Rattle.grammar.specs.Names.{asciiClasses}
 use Rattle.grammar.specs.Table.{Table}
 use Rattle.grammar.specs.Tree.{Tree}
 use Rattle.grammar.specs.Outcome.{given}
@@ -13,7 +15,7 @@ use Rattle.reader.specs.declared.documents.DocumentIndex.{DocumentIndex}
 use Rattle.reader.specs.declared.tables.TableIndex.{TableIndex}
 use Rattle.reader.specs.DocumentNodes.{NodesIndexed, nodesIn}
 use Rattle.reader.specs.NodeTrees.{treeCount, Enough}
-use Rattle.validator.specs.KnownTable.{Known}
+use Rattle.reader.specs.Held.{Held}
 use Rattle.walks.specs.TypeSets.{setAt}
 
 -- the index of so many nodes in arrays
@@ -40,4 +42,5 @@ pub record Brought (words : List ℕ) (from to : ℕ) (after : List ℕ) : Type 
 -- the set at a word has the types of the root
 pub record RootTypes (s : List ℕ) (index : TableIndex) (d : List ℕ) (nodes : DocumentIndex) (words : List ℕ) (at : ℕ) : Type 0 where
   pub inside : at + 4 ≤ length words
-  pub types : (g : Table) → Known s index g → (t : Tree) → treeOf (nodesIn d nodes) ≡ given t → setAt words at ≡ holds (typesOf g t)
+  pub types : (g : Table) → Held standard asciiClasses s index g
+      → (t : Tree) → treeOf (nodesIn d nodes) ≡ given t → setAt words at ≡ holds (typesOf g t)

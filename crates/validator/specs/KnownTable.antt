@@ -1,4 +1,4 @@
--- A table that was read, known by where its labels, starts and rules stand; and what it says of a node whose children are known.
+-- What a table that is held says of a node whose children are known.
 use Prim.Native.Nat.{ℕ, _+_, _≤_, _<_}
 use mathlib.Core.Bool.{Bool, true, false, _&&_}
 use mathlib.Core.List.{List, [], map}
@@ -9,23 +9,14 @@ use Rattle.grammar.specs.Limits.{standard}
 use Rattle.grammar.specs.Names.{Name, asciiClasses, sameName}
 use Rattle.grammar.specs.Table.{Rule, Table}
 use Rattle.grammar.specs.Membership.{isNamed}
-use Rattle.grammar.specs.WithinLimits.{TableWithin}
 use Rattle.theory.specs.Marked.{run, holds}
 use Rattle.sets.specs.Sets.{add}
-use Rattle.reader.specs.TableIndex.{part, Indexes}
+use Rattle.reader.specs.TableIndex.{part}
 use Rattle.reader.specs.declared.tables.TableIndex.{TableIndex}
+use Rattle.reader.specs.Held.{Held, SomeHeld}
 use Rattle.validator.specs.Chains.{ChainAre}
 use Rattle.walks.specs.TypeSets.{setAt, testsAt}
 use Rattle.walks.specs.WalkAt.{runAt}
-
-pub record Known (s : List ℕ) (index : TableIndex) (g : Table) : Type 0 where
-  pub indexes : Indexes s index g
-  pub within : TableWithin standard asciiClasses g
-
--- some table is
-pub record SomeTable (s : List ℕ) (index : TableIndex) : Type 0 where
-  pub table : Table
-  pub known : Known s index table
 
 -- for each rule, whether its content matches no children
 pub record NullableAre (s from to : List ℕ) (rules : ℕ) (nullable : List Bool) : Type 0 where
@@ -51,12 +42,12 @@ withRules index ruleTypes ruleLabels from to rules =
 -- the arrays say where the contents of the rules of some table stand
 pub record SomeContents (s from to : List ℕ) (rules : ℕ) : Type 0 where
   pub index : TableIndex
-  pub at : SomeTable s (withRules index (index .«rule_type») (index .«rule_label») from to rules)
+  pub at : SomeHeld standard asciiClasses s (withRules index (index .«rule_type») (index .«rule_label») from to rules)
 
--- the arrays are those of the rules of a table that is known, and tell which contents match no children
+-- the arrays are those of the rules of a table that is held, and tell which contents match no children
 pub record RulesAt (s ruleTypes ruleLabels from to : List ℕ) (nullable : List Bool) (rules : ℕ) (g : Table) : Type 0 where
   pub index : TableIndex
-  pub known : Known s (withRules index ruleTypes ruleLabels from to rules) g
+  pub held : Held standard asciiClasses s (withRules index ruleTypes ruleLabels from to rules) g
   pub nullables : NullableAre s from to rules nullable
 
 -- the same, with the rules chained by their labels in place of the labels themselves
@@ -86,11 +77,11 @@ withStarts index startTypes starts =
       rules = index .rules;
     }
 
--- the array is that of the starts of a table that is known
+-- the array is that of the starts of a table that is held
 pub record StartsAt (startTypes : List ℕ) (starts : ℕ) (g : Table) : Type 0 where
   pub bytes : List ℕ
   pub index : TableIndex
-  pub known : Known bytes (withStarts index startTypes starts) g
+  pub held : Held standard asciiClasses bytes (withStarts index startTypes starts) g
 
 -- of some table
 pub record SomeStarts (startTypes : List ℕ) (starts : ℕ) : Type 0 where

@@ -17,6 +17,7 @@ ghost use mathlib.Core.Path.{_≡_};
 ghost use Prim.Native.Nat.{_+_, _*_, _<_, _≤_};
 ghost use lib.ListN.{length};
 ghost use Rattle.grammar.specs.Limits.{standard};
+ghost use Rattle.grammar.specs.Names.{asciiClasses};
 ghost use Rattle.grammar.specs.Lists.{any};
 ghost use Rattle.grammar.specs.Membership.{letsIn};
 ghost use Rattle.grammar.specs.Outcome.{given};
@@ -24,10 +25,11 @@ ghost use Rattle.grammar.specs.ReadDocument.{treeOf};
 ghost use Rattle.grammar.specs.Table.{Table};
 ghost use Rattle.grammar.specs.Tree.{Tree};
 ghost use Rattle.reader.specs.DocumentNodes.{nodesIn};
+ghost use Rattle.reader.specs.Held.{Held, SomeHeld};
 ghost use Rattle.walks.specs.TypeSets.{setAt, testsAt};
 ghost use Rattle.walks.specs.WalkAt.{runAt, WholeAt, WalkRoom};
 ghost use Rattle.validator.specs.KnownDocument.{indexOf, NodeRoom, KnownNodes, Brought, RootTypes};
-ghost use Rattle.validator.specs.KnownTable.{Known, SomeTable, SomeContents, NullableAre, SomeRules, StartsAt, SomeStarts};
+ghost use Rattle.validator.specs.KnownTable.{SomeContents, NullableAre, SomeRules, StartsAt, SomeStarts};
 ghost use Rattle.validator.specs.KnownTable.{PutIf, TypesAre};
 
 // Whether the content of each rule matches no children.
@@ -139,7 +141,8 @@ fn root_types(
     marks: &mut [u8],
     words: &mut [u32],
 ) -> usize
-    requires { ⌜ (SomeTable (now table) index) × (KnownNodes (now document) (indexOf (now names) (now sizes) (now children) nodes))
+    requires { ⌜ (SomeHeld standard asciiClasses (now table) index)
+        × (KnownNodes (now document) (indexOf (now names) (now sizes) (now children) nodes))
         × (NodeRoom (now names) (now sizes) (now children)) × (1024 ≤ length (now marks)) × (4096 ≤ length (now words)) ⌝ }
     ensures { λ r. ⌜ RootTypes (now (table .entry)) index (now (document .entry))
         (indexOf (now (names .entry)) (now (sizes .entry)) (now (children .entry)) nodes) (now (words .exit)) r ⌝ }
@@ -213,9 +216,10 @@ pub fn lets_in_read(
     nodes: usize,
     words: &mut [u32],
 ) -> bool
-    requires { ⌜ (SomeTable (now table) index) × (KnownNodes (now document) (indexOf (now names) (now sizes) (now children) nodes))
+    requires { ⌜ (SomeHeld standard asciiClasses (now table) index)
+        × (KnownNodes (now document) (indexOf (now names) (now sizes) (now children) nodes))
         × (NodeRoom (now names) (now sizes) (now children)) × (4096 ≤ length (now words)) ⌝ }
-    ensures { λ r. ⌜ ((g : Table) → Known (now (table .entry)) index g → (t : Tree)
+    ensures { λ r. ⌜ ((g : Table) → Held standard asciiClasses (now (table .entry)) index g → (t : Tree)
         → treeOf (nodesIn (now (document .entry)) (indexOf (now (names .entry)) (now (sizes .entry)) (now (children .entry)) nodes))
         ≡ given t → r ≡ letsIn g t) ⌝ }
 {

@@ -33,15 +33,13 @@ use Rattle.theory.proofs.bytes.NumberedTable.{standard-agree}
 use Rattle.theory.proofs.bytes.DocumentWithin.{document-within}
 use Rattle.theory.proofs.theorems.ResultWithin.{sample-read-back}
 use Rattle.reader.specs.TableIndex.{Reads}
-use Rattle.reader.specs.TableFound.{TableFound}
 use Rattle.reader.specs.DocumentNodes.{DocumentReads, nodesIn}
-use Rattle.reader.specs.declared.tables.TableIndex.{TableIndex}
 use Rattle.reader.specs.declared.tables.TableRead.{TableRead}
 use Rattle.reader.specs.declared.documents.DocumentRead.{DocumentRead}
+use Rattle.reader.specs.Held.{Held}
 use Rattle.reader.proofs.AnswerLaws.{fault, never-given, was-written, was-unwritten}
 use Rattle.reader.proofs.DocumentAnswers.{document-tree, nodes-read, document-unread}
-use Rattle.reader.proofs.TableFoundLaws.{table-found, table-refused}
-use Rattle.union.specs.View.{TableHeld, Held}
+use Rattle.reader.proofs.TableFoundLaws.{TableFound, table-found, table-refused}
 use Rattle.writer.specs.declared.writing.Drafted.{Drafted}
 use Rattle.writer.specs.declared.writing.Drafted.the-variants.{Length as DraftedTo, TooLarge as Undrafted}
 use Rattle.sampling.specs.SampleTable.{SampleDrafted, HoldsNodes}
@@ -150,19 +148,15 @@ module _ (o : Outcome Table) (draft out : List ℕ) (answer : Written) (i : InDr
 pub at-front : (out draft : List ℕ) (n : ℕ) → paste out 0 draft n ≡ take n draft ++ drop n out
 at-front out draft n = let z : 0 + n ≡ n = omega arith in ap (λ (k : ℕ). take n draft ++ drop k out) z
 
--- a table that was read is held
-pub found-held : {s : List ℕ} {index : TableIndex} → TableFound s index → Held s index
-found-held f = record { table = f .table; held = record { indexes = f .indexes; within = f .within } }
-
 -- reading a table and going on with it
 module _ (table : List ℕ) (r : TableRead) (so : Reads table (readTable standard asciiClasses table) r) (next : Table → Outcome Table) where
   table-refuses : (q : Refusal) → r .answer ≡ Unreadable q → (readTable standard asciiClasses table >>= next) ≡ refused q
   table-refuses q e = ap (λ (o : Outcome Table). o >>= next) (table-refused table r so q e)
 
-  table-goes-on : (e : r .answer ≡ Readable) → (readTable standard asciiClasses table >>= next) ≡ next (table-found table r so e .table)
+  table-goes-on : (e : r .answer ≡ Readable) → (readTable standard asciiClasses table >>= next) ≡ next (table-found table r so e .some .table)
   table-goes-on e =
       let f = table-found table r so e in
-      given-then (readTable standard asciiClasses table) (f .table) next (f .read)
+      given-then (readTable standard asciiClasses table) (f .some .table) next (f .read)
 
   -- the old table, with any outcome that begins by reading it
   module _ (o : Outcome Table) (is : o ≡ (readTable standard asciiClasses table >>= next)) (draft : List ℕ) where
@@ -170,11 +164,10 @@ module _ (table : List ℕ) (r : TableRead) (so : Reads table (readTable standar
     old-refuses q e = unmade o draft q (is ∙ table-refuses q e)
 
     pub old-goes-on : r .answer ≡ Readable → (answer : Written)
-        → ((g : Table) → TableHeld table (r .index) g → InDraft (next g) draft answer) → InDraft o draft answer
-    unfolding found-held
+        → ((g : Table) → Held standard asciiClasses table (r .index) g → InDraft (next g) draft answer) → InDraft o draft answer
     old-goes-on e answer h =
         let f = table-found table r so e in
-        subst (λ (x : Outcome Table). InDraft x draft answer) (sym (is ∙ table-goes-on e)) (h (f .table) (found-held f .held))
+        subst (λ (x : Outcome Table). InDraft x draft answer) (sym (is ∙ table-goes-on e)) (h (f .some .table) (f .some .held))
 
 pub from-old : (source : Source) (kind : Kind) (old addition : List ℕ)
     → widenedFrom source kind old addition ≡ (readTable standard asciiClasses old >>= λ g. widenedBy source kind g addition)
@@ -210,31 +203,30 @@ module _ (kind : Kind) (g : Table) (addition : List ℕ) (r : TableRead) (so : R
       (by-table kind g addition ∙ table-refuses addition r so (λ a. widenByTable standard kind g a) q e)
 
   module _ (e : r .answer ≡ Readable) (before : List ℕ) (m : Made)
-      (w : (h : Table) → TableHeld addition (r .index) h → Widens kind g h before draft m) where
+      (w : (h : Table) → Held standard asciiClasses addition (r .index) h → Widens kind g h before draft m) where
     abbrev found : TableFound addition (r .index)
     found = table-found addition r so e
 
-    so-widens : Widens kind g (found .table) before draft m
-    unfolding found-held
-    so-widens = w (found .table) (found-held found .held)
+    so-widens : Widens kind g (found .some .table) before draft m
+    so-widens = w (found .some .table) (found .some .held)
 
-    added : widenedBy aTable kind g addition ≡ widenByTable standard kind g (found .table)
+    added : widenedBy aTable kind g addition ≡ widenByTable standard kind g (found .some .table)
     added = by-table kind g addition ∙ table-goes-on addition r so (λ a. widenByTable standard kind g a) e
 
     pub widens-nothing : m ≡ Nothing → InDraft (widenedBy aTable kind g addition) draft (Refused NoDocument)
     unfolding Widens
     widens-nothing p =
-        unmade (widenedBy aTable kind g addition) draft NoDocument (added ∙ subst (Widens kind g (found .table) before draft) p so-widens)
+        unmade (widenedBy aTable kind g addition) draft NoDocument (added ∙ subst (Widens kind g (found .some .table) before draft) p so-widens)
 
     pub widens-too-far : m ≡ TooLarge → InDraft (widenedBy aTable kind g addition) draft (Refused ResultTooLarge)
     unfolding Widens
     widens-too-far p =
-        unmade (widenedBy aTable kind g addition) draft ResultTooLarge (added ∙ subst (Widens kind g (found .table) before draft) p so-widens)
+        unmade (widenedBy aTable kind g addition) draft ResultTooLarge (added ∙ subst (Widens kind g (found .some .table) before draft) p so-widens)
 
     pub widens-to : (n : ℕ) → m ≡ MadeTo n → InDraft (widenedBy aTable kind g addition) draft (Length n)
     unfolding Widens
     widens-to n p =
-        let d : ResultDrafted kind g (found .table) before draft n = subst (Widens kind g (found .table) before draft) p so-widens in
+        let d : ResultDrafted kind g (found .some .table) before draft n = subst (Widens kind g (found .some .table) before draft) p so-widens in
         made (widenedBy aTable kind g addition) draft (d .result) n (drop n before) (added ∙ d .widened) (d .size) (d .bytes)
 
 -- the sample of a document

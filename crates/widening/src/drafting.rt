@@ -15,10 +15,12 @@ ghost use Prim.Native.Nat.{_≤_};
 ghost use mathlib.Core.List.{_++_};
 ghost use mathlib.Core.Path.{_≡_};
 ghost use lib.ListN.{length, take, drop};
+ghost use Rattle.grammar.specs.Limits.{standard};
+ghost use Rattle.grammar.specs.Names.{asciiClasses};
 ghost use Rattle.grammar.specs.Table.{Table};
 ghost use Rattle.grammar.specs.Outcome.{Outcome};
 ghost use Rattle.grammar.specs.declared.Source.the-variants.{Table as aTable, Document as aDocument};
-ghost use Rattle.union.specs.View.{TableHeld, Held};
+ghost use Rattle.reader.specs.Held.{Held, SomeHeld};
 ghost use Rattle.results.specs.Widened.{kindOf};
 ghost use Rattle.widening.specs.Drafting.{sampleOf, widenedBy, widenedFrom, InDraft, FitsDraft, HandedOver};
 
@@ -63,8 +65,8 @@ fn read_and_widen(
     words: &mut [u32],
     draft: &mut [u8],
 ) -> Written
-    requires { ⌜ (Held (now old) index) × (16384 ≤ length (now words)) × (32768 ≤ length (now draft)) ⌝ }
-    ensures { λ r. ⌜ ((g : Table) → TableHeld (now (old .entry)) index g
+    requires { ⌜ (SomeHeld standard asciiClasses (now old) index) × (16384 ≤ length (now words)) × (32768 ≤ length (now draft)) ⌝ }
+    ensures { λ r. ⌜ ((g : Table) → Held standard asciiClasses (now (old .entry)) index g
         → InDraft (widenedBy aTable (kindOf kind) g (now (addition .entry))) (now (draft .exit)) r) ⌝ }
 {
     let added = read_table(addition);
@@ -104,8 +106,8 @@ fn widen_by_sample(
     words: &mut [u32],
     draft: &mut [u8],
 ) -> Written
-    requires { ⌜ (Held (now old) index) × (16384 ≤ length (now words)) × (32768 ≤ length (now draft)) ⌝ }
-    ensures { λ r. ⌜ ((g : Table) → TableHeld (now (old .entry)) index g
+    requires { ⌜ (SomeHeld standard asciiClasses (now old) index) × (16384 ≤ length (now words)) × (32768 ≤ length (now draft)) ⌝ }
+    ensures { λ r. ⌜ ((g : Table) → Held standard asciiClasses (now (old .entry)) index g
         → InDraft (widenedBy aDocument (kindOf kind) g (now (document .entry))) (now (draft .exit)) r) ⌝ }
 {
     let mut sample = [0u8; 32768];
@@ -125,8 +127,8 @@ fn widen_read(
     words: &mut [u32],
     draft: &mut [u8],
 ) -> Written
-    requires { ⌜ (Held (now old) index) × (16384 ≤ length (now words)) × (32768 ≤ length (now draft)) ⌝ }
-    ensures { λ r. ⌜ ((g : Table) → TableHeld (now (old .entry)) index g
+    requires { ⌜ (SomeHeld standard asciiClasses (now old) index) × (16384 ≤ length (now words)) × (32768 ≤ length (now draft)) ⌝ }
+    ensures { λ r. ⌜ ((g : Table) → Held standard asciiClasses (now (old .entry)) index g
         → InDraft (widenedBy source (kindOf kind) g (now (addition .entry))) (now (draft .exit)) r) ⌝ }
 {
     match source {

@@ -9,7 +9,7 @@ use Rattle.lister_lines.proofs.lines.list_bytes.Tie as tie
 
 list-table-requires : tie.Need-list-table-requires
 list-table-requires c κs =
-    (table-found (c .before .before .before .before .before .before .args .table .now) (c .before .before .before .read-table .result) (c .before .before .before .read-table .ensures) (c .before .enum-told .given .1), c .before .before .before .before .before .before .pre)
+    (table-found (c .before .before .before .before .before .before .args .table .now) (c .before .before .before .read-table .result) (c .before .before .before .read-table .ensures) (c .before .enum-told .given .1) .some, c .before .before .before .before .before .before .pre)
 
 returns : tie.Need-returns
 returns c =
@@ -20,7 +20,7 @@ returns-2 : tie.Need-returns-2
 unfolding outcomeText
 returns-2 c =
     let found = table-found (c .before .before .before .before .before .before .before .before .before .args .table .now) (c .before .before .before .before .before .before .read-table .result) (c .before .before .before .before .before .before .read-table .ensures) (c .before .before .before .before .enum-told .given .1) in
-    put-as (ap outcomeText (sym (found .read))) (c .before .before .list-table .ensures .put found)
+    put-as (ap outcomeText (sym (found .read))) (c .before .before .list-table .ensures .put (found .some))
 
 pub list-bytes-spec : {M : Type 1} → statement M
 list-bytes-spec =

@@ -13,7 +13,7 @@ use Rattle.lister_lines.proofs.lines.put_rule_line.Tie as tie
 put-type-requires : tie.Need-put-type-requires
 put-type-requires c κs =
     let pre = c .before .before .before .before .before .before .pre in
-    let small = rule-found-at (pre .0 .indexes) (pre .0 .within) _ (pre .1) .type-below in
+    let small = rule-found-at (pre .0 .held .indexes) (pre .0 .held .within) _ (pre .1) .type-below in
     let e = c .wide .ensures .0 in
     let n = type-size (c .wide .result) (omega arith) in
     let h = pre .2 in
@@ -22,7 +22,7 @@ put-type-requires c κs =
 put-byte-requires : tie.Need-put-byte-requires
 put-byte-requires c κs =
     let pre = c .before .before .before .before .before .before .before .before .before .before .pre in
-    let small = rule-found-at (pre .0 .indexes) (pre .0 .within) _ (pre .1) .type-below in
+    let small = rule-found-at (pre .0 .held .indexes) (pre .0 .held .within) _ (pre .1) .type-below in
     let e = c .before .before .before .before .wide .ensures .0 in
     let n = type-size (c .before .before .before .before .wide .result) (omega arith) in
     let h = pre .2 in
@@ -33,7 +33,7 @@ put-byte-requires c κs =
 put-name-requires : tie.Need-put-name-requires
 put-name-requires c κs =
     let pre = c .before .before .before .before .before .before .before .before .before .before .before .before .before .before .before .pre in
-    let rule = rule-found-at (pre .0 .indexes) (pre .0 .within) _ (pre .1) in
+    let rule = rule-found-at (pre .0 .held .indexes) (pre .0 .held .within) _ (pre .1) in
     let small = rule .type-below in
     let label = rule .label-below in
     let e = c .before .before .before .before .before .before .before .before .before .wide .ensures .0 in
@@ -49,7 +49,7 @@ put-name-requires c κs =
 put-byte-requires-2 : tie.Need-put-byte-requires-2
 put-byte-requires-2 c κs =
     let pre = c .before .before .before .before .before .before .before .before .before .before .before .before .before .before .before .before .before .before .before .pre in
-    let small = rule-found-at (pre .0 .indexes) (pre .0 .within) _ (pre .1) .type-below in
+    let small = rule-found-at (pre .0 .held .indexes) (pre .0 .held .within) _ (pre .1) .type-below in
     let e = c .before .before .before .before .before .before .before .before .before .before .before .before .before .wide .ensures .0 in
     let n = type-size (c .before .before .before .before .before .before .before .before .before .before .before .before .before .wide .result) (omega arith) in
     let h = pre .2 in
@@ -64,7 +64,7 @@ put-byte-requires-2 c κs =
 put-rule-content-requires : tie.Need-put-rule-content-requires
 put-rule-content-requires c κs =
     let pre = c .before .before .before .before .before .before .before .before .before .before .before .before .before .before .before .before .before .before .before .before .before .before .before .pre in
-    let small = rule-found-at (pre .0 .indexes) (pre .0 .within) _ (pre .1) .type-below in
+    let small = rule-found-at (pre .0 .held .indexes) (pre .0 .held .within) _ (pre .1) .type-below in
     let e = c .before .before .before .before .before .before .before .before .before .before .before .before .before .before .before .before .before .wide .ensures .0 in
     let n = type-size (c .before .before .before .before .before .before .before .before .before .before .before .before .before .before .before .before .before .wide .result) (omega arith) in
     let h = pre .2 in
@@ -81,7 +81,7 @@ put-rule-content-requires c κs =
 put-byte-requires-3 : tie.Need-put-byte-requires-3
 put-byte-requires-3 c κs =
     let pre = c .before .before .before .before .before .before .before .before .before .before .before .before .before .before .before .before .before .before .before .before .before .before .before .before .before .before .before .pre in
-    let small = rule-found-at (pre .0 .indexes) (pre .0 .within) _ (pre .1) .type-below in
+    let small = rule-found-at (pre .0 .held .indexes) (pre .0 .held .within) _ (pre .1) .type-below in
     let e = c .before .before .before .before .before .before .before .before .before .before .before .before .before .before .before .before .before .before .before .before .before .wide .ensures .0 in
     let n = type-size (c .before .before .before .before .before .before .before .before .before .before .before .before .before .before .before .before .before .before .before .before .before .wide .result) (omega arith) in
     let h = pre .2 in
@@ -101,7 +101,7 @@ returns : tie.Need-returns
 returns c =
     let start = c .before .before .before .before .before .before .before .before .before .before .before .before .before .before .before .before .before .before .before .before .before .before .before .before .before .before .before .before .before .before in
     let h = start .pre .1 in
-    let small = rule-found-at (start .pre .0 .indexes) (start .pre .0 .within) _ h .type-below in
+    let small = rule-found-at (start .pre .0 .held .indexes) (start .pre .0 .held .within) _ h .type-below in
     let e = c .before .before .before .before .before .before .before .before .before .before .before .before .before .before .before .before .before .before .before .before .before .before .before .before .wide .ensures .0 in
     let m = c .before .before .before .before .before .before .before .before .before .before .before .before .before .before .before .before .wide2 .ensures .0 in
     let n = type-size (c .before .before .before .before .before .before .before .before .before .before .before .before .before .before .before .before .before .before .before .before .before .before .before .before .wide .result) (omega arith) in

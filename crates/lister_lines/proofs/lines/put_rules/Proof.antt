@@ -5,8 +5,10 @@ use mathlib.Core.Path.{_≡_, refl, ap}
 use lib.ListN.{length, take}
 use lib.Seq.{take-all}
 use Rattle.grammar.specs.Lists.{joinedOf}
+use Rattle.grammar.specs.Limits.{standard}
+use Rattle.grammar.specs.Names.{asciiClasses}
 use Rattle.grammar.specs.Listing.{ruleLine}
-use Rattle.reader.specs.TableFound.{TableFound}
+use Rattle.reader.specs.Held.{SomeHeld}
 use Rattle.writer.specs.Writing.{Put}
 use Rattle.writer.proofs.PutLaws.{put-join, put-none}
 use Rattle.lister_lines.proofs.PrintSteps.{put-as}
@@ -19,7 +21,7 @@ Inv-loop table index text₀ at rules end₀ i₀ text end i =
     (i ≤ rules)
     × (length text ≡ length text₀)
     × (end ≤ at + 3140 * i)
-    × ((f : TableFound table index) → Put text₀ at (joinedOf (ruleLine (f .table)) (take i (f .table .rules))) text end)
+    × ((f : SomeHeld standard asciiClasses table index) → Put text₀ at (joinedOf (ruleLine (f .table)) (take i (f .table .rules))) text end)
 
 abbrev μ-loop : tie.MeasureT-loop
 μ-loop table index text₀ at rules end₀ i₀ text end i = rules - i
@@ -32,13 +34,13 @@ loop-holds c =
 
 put-rule-line-requires : tie.Need-put-rule-line-requires Inv-loop μ-loop
 put-rule-line-requires c κs =
-    let few = c .before .before .before .before .before .pre .0 .indexes .few-rules in
+    let few = c .before .before .before .before .before .pre .0 .held .indexes .few-rules in
     let h = c .before .before .before .before .before .pre .1 in
     (c .before .before .before .before .before .pre .0, c .before .loop-test .taken, omega arith)
 
 add-i : tie.Need-add-i Inv-loop μ-loop
 add-i c =
-    let few = c .before .before .before .before .before .before .before .before .pre .0 .indexes .few-rules in
+    let few = c .before .before .before .before .before .before .before .before .pre .0 .held .indexes .few-rules in
     omega arith
 
 loop-again : tie.Need-loop-again Inv-loop μ-loop
@@ -62,11 +64,11 @@ returns : tie.Need-returns Inv-loop μ-loop
 returns c =
     let start = c .before .before .before .before in
     let l = c .before .loop in
-    let few = start .pre .0 .indexes .few-rules in
+    let few = start .pre .0 .held .indexes .few-rules in
     record {
       put =
           λ f.
-          let n = f .indexes .rules in
+          let n = f .held .indexes .rules in
           put-as (ap (joinedOf (ruleLine (f .table))) (take-all (l .i) (f .table .rules) (omega arith))) (l .inv .3 f);
       short = omega arith;
     }

@@ -32,21 +32,21 @@ loop-holds c =
 
 array-read-wide : tie.Need-array-read-wide Inv-loop μ-loop
 array-read-wide c =
-    let few = c .before .before .before .before .before .before .pre .0 .indexes .few-starts in
+    let few = c .before .before .before .before .before .before .pre .0 .held .indexes .few-starts in
     omega arith
 
 put-start-line-requires : tie.Need-put-start-line-requires Inv-loop μ-loop
 put-start-line-requires c κs =
     let table = c .before .before .before .before .before .before .before .pre .0 in
-    let k = start-small (table .indexes) (table .within) (c .before .before .before .loop .i) (c .before .before .loop-test .taken) in
+    let k = start-small (table .held .indexes) (table .held .within) (c .before .before .before .loop .i) (c .before .before .loop-test .taken) in
     let e = c .wide .ensures .0 in
-    let few = table .indexes .few-starts in
+    let few = table .held .indexes .few-starts in
     let h = c .before .before .before .before .before .before .before .pre .1 in
     (omega arith, omega arith)
 
 add-i : tie.Need-add-i Inv-loop μ-loop
 add-i c =
-    let few = c .before .before .before .before .before .before .before .before .before .before .pre .0 .indexes .few-starts in
+    let few = c .before .before .before .before .before .before .before .before .before .before .pre .0 .held .indexes .few-starts in
     omega arith
 
 loop-again : tie.Need-loop-again Inv-loop μ-loop
@@ -54,9 +54,9 @@ loop-again c =
     let start = c .before .before .before .before .before .before .before .before .before .before in
     let l = c .before .before .before .before .before .before .loop in
     let types = start .args .index .«start_type» in
-    let few = start .pre .0 .indexes .few-starts in
-    let rooms = start .pre .0 .indexes .rooms .start-type in
-    let small = start-small (start .pre .0 .indexes) (start .pre .0 .within) (l .i) (c .before .before .before .before .before .loop-test .taken) in
+    let few = start .pre .0 .held .indexes .few-starts in
+    let rooms = start .pre .0 .held .indexes .rooms .start-type in
+    let small = start-small (start .pre .0 .held .indexes) (start .pre .0 .held .within) (l .i) (c .before .before .before .before .before .loop-test .taken) in
     let e = c .before .before .before .wide .ensures .0 in
     let p = c .before .before .put-start-line .ensures in
     let size = start-line-size (c .before .before .before .wide .result) (omega arith) in
@@ -75,12 +75,12 @@ returns : tie.Need-returns Inv-loop μ-loop
 returns c =
     let start = c .before .before .before .before .before in
     let l = c .before .loop in
-    let few = start .pre .0 .indexes .few-starts in
+    let few = start .pre .0 .held .indexes .few-starts in
     let z : l .i ≡ start .args .index .starts = omega arith in
     record {
       put =
           λ f.
-          put-as (ap (λ (n : ℕ). joinedOf startLine (take n (start .args .index .«start_type»))) z ∙ ap (joinedOf startLine) (starts-are (f .indexes)))
+          put-as (ap (λ (n : ℕ). joinedOf startLine (take n (start .args .index .«start_type»))) z ∙ ap (joinedOf startLine) (starts-are (f .held .indexes)))
           (l .inv .3);
       short = omega arith;
     }

@@ -22,16 +22,16 @@ name-begins-requires : tie.Need-name-begins-requires
 name-begins-requires c κs = (table-there (c .before .before .before .before .before .before .before .before .before .args .table .now) (c .before .before .before .before .before .before .before .before .before .args .label) (c .before .before .before .before .before .before .before .read-table .result) (c .before .before .before .before .before .before .before .read-table .ensures) (c .before .before .before .before .before .enum-told .given .1), c .before .before .if1 .left)
 
 mul-t13 : tie.Need-mul-t13
-mul-t13 c = let few = (table-there (c .before .before .before .before .before .before .before .before .before .before .args .table .now) (c .before .before .before .before .before .before .before .before .before .before .args .label) (c .before .before .before .before .before .before .before .before .read-table .result) (c .before .before .before .before .before .before .before .before .read-table .ensures) (c .before .before .before .before .before .before .enum-told .given .1)) .indexes .few-labels in omega arith
+mul-t13 c = let few = (table-there (c .before .before .before .before .before .before .before .before .before .before .args .table .now) (c .before .before .before .before .before .before .before .before .before .before .args .label) (c .before .before .before .before .before .before .before .before .read-table .result) (c .before .before .before .before .before .before .before .before .read-table .ensures) (c .before .before .before .before .before .before .enum-told .given .1)) .held .indexes .few-labels in omega arith
 
 array-read-t16 : tie.Need-array-read-t16
-array-read-t16 c = let few = (table-there (c .before .before .before .before .before .before .before .before .before .before .args .table .now) (c .before .before .before .before .before .before .before .before .before .before .args .label) (c .before .before .before .before .before .before .before .before .read-table .result) (c .before .before .before .before .before .before .before .before .read-table .ensures) (c .before .before .before .before .before .before .enum-told .given .1)) .indexes .few-labels in omega arith
+array-read-t16 c = let few = (table-there (c .before .before .before .before .before .before .before .before .before .before .args .table .now) (c .before .before .before .before .before .before .before .before .before .before .args .label) (c .before .before .before .before .before .before .before .before .read-table .result) (c .before .before .before .before .before .before .before .before .read-table .ensures) (c .before .before .before .before .before .before .enum-told .given .1)) .held .indexes .few-labels in omega arith
 
 mul-t17 : tie.Need-mul-t17
-mul-t17 c = let few = (table-there (c .before .before .before .before .before .before .before .before .before .before .args .table .now) (c .before .before .before .before .before .before .before .before .before .before .args .label) (c .before .before .before .before .before .before .before .before .read-table .result) (c .before .before .before .before .before .before .before .before .read-table .ensures) (c .before .before .before .before .before .before .enum-told .given .1)) .indexes .few-labels in omega arith
+mul-t17 c = let few = (table-there (c .before .before .before .before .before .before .before .before .before .before .args .table .now) (c .before .before .before .before .before .before .before .before .before .before .args .label) (c .before .before .before .before .before .before .before .before .read-table .result) (c .before .before .before .before .before .before .before .before .read-table .ensures) (c .before .before .before .before .before .before .enum-told .given .1)) .held .indexes .few-labels in omega arith
 
 array-read-t20 : tie.Need-array-read-t20
-array-read-t20 c = let few = (table-there (c .before .before .before .before .before .before .before .before .before .before .args .table .now) (c .before .before .before .before .before .before .before .before .before .before .args .label) (c .before .before .before .before .before .before .before .before .read-table .result) (c .before .before .before .before .before .before .before .before .read-table .ensures) (c .before .before .before .before .before .before .enum-told .given .1)) .indexes .few-labels in omega arith
+array-read-t20 c = let few = (table-there (c .before .before .before .before .before .before .before .before .before .before .args .table .now) (c .before .before .before .before .before .before .before .before .before .before .args .label) (c .before .before .before .before .before .before .before .before .read-table .result) (c .before .before .before .before .before .before .before .before .read-table .ensures) (c .before .before .before .before .before .before .enum-told .given .1)) .held .indexes .few-labels in omega arith
 
 sub-t21 : tie.Need-sub-t21
 sub-t21 c = label-short (table-there (c .before .before .before .before .before .before .before .before .before .before .args .table .now) (c .before .before .before .before .before .before .before .before .before .before .args .label) (c .before .before .before .before .before .before .before .before .read-table .result) (c .before .before .before .before .before .before .before .before .read-table .ensures) (c .before .before .before .before .before .before .enum-told .given .1)) (c .before .before .before .before .before .before .before .before .before .before .args .label) (c .before .before .before .if1 .left) .0

@@ -20,16 +20,16 @@ unfolding summed
 loop-holds c = (refl, omega arith, omega arith)
 
 mul-begins : tie.Need-mul-begins Inv-loop μ-loop
-mul-begins c = omega (arith, c .before .before .before .before .pre .0 .indexes .few-labels)
+mul-begins c = omega (arith, c .before .before .before .before .pre .0 .held .indexes .few-labels)
 
 array-read-begins : tie.Need-array-read-begins Inv-loop μ-loop
-array-read-begins c = omega (arith, c .before .before .before .before .pre .0 .indexes .few-labels)
+array-read-begins c = omega (arith, c .before .before .before .before .pre .0 .held .indexes .few-labels)
 
 mul-begins-2 : tie.Need-mul-begins-2 Inv-loop μ-loop
-mul-begins-2 c = omega (arith, c .before .before .before .before .pre .0 .indexes .few-labels)
+mul-begins-2 c = omega (arith, c .before .before .before .before .pre .0 .held .indexes .few-labels)
 
 array-read-begins-2 : tie.Need-array-read-begins-2 Inv-loop μ-loop
-array-read-begins-2 c = omega (arith, c .before .before .before .before .pre .0 .indexes .few-labels)
+array-read-begins-2 c = omega (arith, c .before .before .before .before .pre .0 .held .indexes .few-labels)
 
 sub-begins : tie.Need-sub-begins Inv-loop μ-loop
 sub-begins c = label-short (c .before .before .before .before .pre .0) (c .before .loop .i) (omega arith) .0
@@ -38,7 +38,7 @@ add-begins : tie.Need-add-begins Inv-loop μ-loop
 add-begins c = omega (arith, label-short (c .before .before .before .before .pre .0) (c .before .loop .i) (omega arith) .1)
 
 add-begins-2 : tie.Need-add-begins-2 Inv-loop μ-loop
-add-begins-2 c = omega (arith, label-short (c .before .before .before .before .pre .0) (c .before .loop .i) (omega arith) .1, c .before .before .before .before .pre .0 .indexes .few-labels)
+add-begins-2 c = omega (arith, label-short (c .before .before .before .before .pre .0) (c .before .loop .i) (omega arith) .1, c .before .before .before .before .pre .0 .held .indexes .few-labels)
 
 add-i : tie.Need-add-i Inv-loop μ-loop
 add-i c = omega arith
@@ -62,7 +62,7 @@ returns c =
     let inv = c .before .loop .inv in
     let last : c .before .loop .i ≡ c .before .before .before .before .args .label = omega arith in (
       (λ f. inv .0 ∙ begins-at f (c .before .loop .i) (omega arith) ∙ ap (λ n. nameBegins (f .table .labels) n) last),
-      omega (arith, c .before .before .before .before .pre .0 .indexes .few-labels),
+      omega (arith, c .before .before .before .before .pre .0 .held .indexes .few-labels),
     )
 
 pub name-begins-spec : {M : Type 1} → statement M

@@ -6,8 +6,11 @@ use mathlib.Core.List.{List}
 use mathlib.Core.Path.{_≡_, _∙_}
 use lib.ListN.{take}
 use lib.Seq.{take-all}
+use Rattle.grammar.specs.Limits.{standard}
+use Rattle.grammar.specs.Names.{asciiClasses}
 use Rattle.grammar.specs.Table.{Table}
-use Rattle.union.specs.View.{TableHeld, Views, rulesOnly}
+use Rattle.reader.specs.Held.{Held}
+use Rattle.union.specs.View.{Views, rulesOnly}
 use Rattle.union.proofs.UnionLaws.{views-same}
 use Rattle.union.proofs.united.old_rules.Statement.{statement}
 use Rattle.union.proofs.united.old_rules.Tie as tie
@@ -17,7 +20,7 @@ Inv-loop index v₀ i₀ v i =
     (i ≤ index .rules)
     × (v .rules ≡ i)
     × (v .«old_rules» ≡ index .rules)
-    × ((old add : List ℕ) (g : Table) → TableHeld old index g → Views old add v (rulesOnly (take i (g .rules))))
+    × ((old add : List ℕ) (g : Table) → Held standard asciiClasses old index g → Views old add v (rulesOnly (take i (g .rules))))
 
 abbrev μ-loop : tie.MeasureT-loop
 μ-loop index v₀ i₀ v i = index .rules - i

@@ -39,7 +39,7 @@ lets-in-read-requires c κs =
     let e = c .before .before .before .before .before .before .before .before .before .before .before .before .before .before .enum-told .given .1 in
     let p = c .before .before .before .before .before .enum-told2 .given .1 in
     let room = c .before .before .before .before .before .before .before .before .before .before .before .before .before .before .before .before .before .before .before .before .pre in (
-      laws.found-table (table-found (a .table .now) t so e),
+      table-found (a .table .now) t so e .some,
       laws.nodes-known (a .table .now) (a .document .now) t so e d (c .before .before .before .before .before .before .before .before .before .before .read-nodes .ensures) p,
       record { for-names = omega (arith, kept .0); for-sizes = omega (arith, kept .1 .0); for-children = omega (arith, kept .1 .1 .0) },
       omega arith,

@@ -15,7 +15,7 @@ returns c =
 local-table-requires : tie.Need-local-table-requires
 local-table-requires c κs =
     let a = c .before .before .before .before .before .args in
-    table-found (a .table .now) (c .before .before .before .read-table .result) (c .before .before .before .read-table .ensures) (c .before .enum-told .given .1) .indexes .few-rules
+    table-found (a .table .now) (c .before .before .before .read-table .result) (c .before .before .before .read-table .ensures) (c .before .enum-told .given .1) .some .held .indexes .few-rules
 
 returns-2 : tie.Need-returns-2
 unfolding isOfKind

@@ -18,7 +18,7 @@ single-type-table-requires c κs =
     let f = table-found (c .before .before .before .before .before .before .before .args .table .now) (c .before .before .before .before .read-table .result) (c .before .before .before .before .read-table .ensures) (c .before .before .enum-told .given .1) in
     let room = c .before .before .before .before .before .before .before .pre in
     let size = length-take-le 8 (c .before .before .before .before .before .before .before .args .words .now) (omega arith) in
-    (record { table = f .table; indexes = f .indexes }, omega arith)
+    (record { table = f .some .table; indexes = f .some .held .indexes }, omega arith)
 
 returns-2 : tie.Need-returns-2
 unfolding isOfKind

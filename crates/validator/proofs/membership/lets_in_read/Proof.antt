@@ -11,13 +11,13 @@ use Rattle.validator.proofs.membership.lets_in_read.Tie as tie
 some-start-requires : tie.Need-some-start-requires
 some-start-requires c κs =
     let pre = c .before .before .before .before .before .before .before .before .before .before .before .before .before .before .before .pre in
-    (record { table = pre .0 .table; at = record { bytes = c .before .before .before .before .before .before .before .before .before .before .before .before .before .before .before .args .table .now; index = c .before .before .before .before .before .before .before .before .before .before .before .before .before .before .before .args .index; known = pre .0 .known } }, c .before .before .before .before .before .before .root-types .ensures .inside)
+    (record { table = pre .0 .table; at = record { bytes = c .before .before .before .before .before .before .before .before .before .before .before .before .before .before .before .args .table .now; index = c .before .before .before .before .before .before .before .before .before .before .before .before .before .before .before .args .index; held = pre .0 .held } }, c .before .before .before .before .before .before .root-types .ensures .inside)
 
 returns : tie.Need-returns
 unfolding letsIn
 returns c =
     λ g known t e.
-    c .some-start .ensures g (record { bytes = c .before .before .before .before .before .before .before .before .before .before .before .before .before .before .before .before .args .table .now; index = c .before .before .before .before .before .before .before .before .before .before .before .before .before .before .before .before .args .index; known = known })
+    c .some-start .ensures g (record { bytes = c .before .before .before .before .before .before .before .before .before .before .before .before .before .before .before .before .args .table .now; index = c .before .before .before .before .before .before .before .before .before .before .before .before .before .before .before .before .args .index; held = known })
     ∙ ap (λ (has : ℕ → Bool). any has (g .starts)) (c .before .before .before .before .before .before .before .root-types .ensures .types g known t e)
 
 pub lets-in-read-spec : {M : Type 1} → statement M

@@ -28,40 +28,40 @@ loop-holds c = (omega arith, refl, length-replicate {A = Bool} 64 false, below-n
 
 mul-from : tie.Need-mul-from Inv-loop μ-loop
 mul-from c =
-    let few = c .before .before .before .before .before .before .before .pre .0 .at .known .indexes .few-rules in
+    let few = c .before .before .before .before .before .before .before .pre .0 .at .held .indexes .few-rules in
     omega arith
 
 shared-slice-read-from : tie.Need-shared-slice-read-from Inv-loop μ-loop
 shared-slice-read-from c =
-    let x = c .before .before .before .before .before .before .before .before .pre .0 .at .known .indexes in
+    let x = c .before .before .before .before .before .before .before .before .pre .0 .at .held .indexes in
     let few = x .few-rules in
     let room = x .rooms .content-from in
     omega arith
 
 mul-to : tie.Need-mul-to Inv-loop μ-loop
 mul-to c =
-    let few = c .before .before .before .before .before .before .before .before .pre .0 .at .known .indexes .few-rules in
+    let few = c .before .before .before .before .before .before .before .before .pre .0 .at .held .indexes .few-rules in
     omega arith
 
 shared-slice-read-to : tie.Need-shared-slice-read-to Inv-loop μ-loop
 shared-slice-read-to c =
-    let x = c .before .before .before .before .before .before .before .before .before .pre .0 .at .known .indexes in
+    let x = c .before .before .before .before .before .before .before .before .before .pre .0 .at .held .indexes in
     let few = x .few-rules in
     let room = x .rooms .content-to in
     omega arith
 
 sub-matches : tie.Need-sub-matches Inv-loop μ-loop
-sub-matches c = laws.known-rule (c .before .before .before .before .before .before .before .before .before .pre .0 .at .known) (c .before .before .before .loop .rule) (c .before .before .loop-test .taken) .at .content .inside .order
+sub-matches c = laws.known-rule (c .before .before .before .before .before .before .before .before .before .pre .0 .at .held) (c .before .before .before .loop .rule) (c .before .before .loop-test .taken) .at .content .inside .order
 
 part-matches-start : tie.Need-part-matches-start Inv-loop μ-loop
-part-matches-start c = laws.known-rule (c .before .before .before .before .before .before .before .before .before .pre .0 .at .known) (c .before .before .before .loop .rule) (c .before .before .loop-test .taken) .at .content .inside .order
+part-matches-start c = laws.known-rule (c .before .before .before .before .before .before .before .before .before .pre .0 .at .held) (c .before .before .before .loop .rule) (c .before .before .loop-test .taken) .at .content .inside .order
 
 part-matches-end : tie.Need-part-matches-end Inv-loop μ-loop
-part-matches-end c = laws.known-rule (c .before .before .before .before .before .before .before .before .before .pre .0 .at .known) (c .before .before .before .loop .rule) (c .before .before .loop-test .taken) .at .content .inside .within
+part-matches-end c = laws.known-rule (c .before .before .before .before .before .before .before .before .before .pre .0 .at .held) (c .before .before .before .loop .rule) (c .before .before .loop-test .taken) .at .content .inside .within
 
 matches-requires : tie.Need-matches-requires Inv-loop μ-loop
 matches-requires c κs =
-    let known = c .before .before .before .before .before .before .before .before .before .before .before .pre .0 .at .known in
+    let known = c .before .before .before .before .before .before .before .before .before .before .before .pre .0 .at .held in
     let size = laws.rule-size known (c .before .before .before .before .before .loop .rule) (c .before .before .before .before .loop-test .taken) in
     let inv = c .before .before .before .before .before .loop .inv in
     let pre = c .before .before .before .before .before .before .before .before .before .before .before .pre in
@@ -69,24 +69,24 @@ matches-requires c κs =
 
 array-write-nullable : tie.Need-array-write-nullable Inv-loop μ-loop
 array-write-nullable c =
-    let few = c .before .before .before .before .before .before .before .before .before .before .before .before .before .before .pre .0 .at .known .indexes .few-rules in
+    let few = c .before .before .before .before .before .before .before .before .before .before .before .before .before .before .pre .0 .at .held .indexes .few-rules in
     omega arith
 
 add-rule : tie.Need-add-rule Inv-loop μ-loop
 add-rule c =
-    let few = c .before .before .before .before .before .before .before .before .before .before .before .before .before .before .pre .0 .at .known .indexes .few-rules in
+    let few = c .before .before .before .before .before .before .before .before .before .before .before .before .before .before .pre .0 .at .held .indexes .few-rules in
     omega arith
 
 loop-less : tie.Need-loop-less Inv-loop μ-loop
 loop-less c =
-    let few = c .before .before .before .before .before .before .before .before .before .before .before .before .before .before .pre .0 .at .known .indexes .few-rules in
+    let few = c .before .before .before .before .before .before .before .before .before .before .before .before .before .before .pre .0 .at .held .indexes .few-rules in
     omega arith
 
 loop-again : tie.Need-loop-again Inv-loop μ-loop
 unfolding testsAt
 loop-again c =
     let inv = c .before .before .before .before .before .before .before .before .loop .inv in
-    let few = c .before .before .before .before .before .before .before .before .before .before .before .before .before .before .pre .0 .at .known .indexes .few-rules in
+    let few = c .before .before .before .before .before .before .before .before .before .before .before .before .before .before .pre .0 .at .held .indexes .few-rules in
     let below = c .before .before .before .before .before .before .before .loop-test .taken in (
       omega arith,
       c .before .before .matches .kept .1 .0 ∙ inv .1,
@@ -100,7 +100,7 @@ same-length c = c .before .loop .inv .1
 returns : tie.Need-returns Inv-loop μ-loop
 returns c =
     let inv = c .before .loop .inv in
-    let few = c .before .before .before .before .before .before .before .pre .0 .at .known .indexes .few-rules in
+    let few = c .before .before .before .before .before .before .before .pre .0 .at .held .indexes .few-rules in
     record {
       each = λ i below. inv .3 i (omega arith);
       room = omega arith;

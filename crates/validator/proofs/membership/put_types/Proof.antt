@@ -60,20 +60,20 @@ loop-holds c =
       λ g x h.
           subst (λ (k : ℕ). k < a .rules → getD (x .labels) k 0 ≡ a .label) (sym at) (x .chain .first (a .label) (pre .1) .found) h,
       λ g x n named.
-          laws.types-passed (x .at .known) n tests (a .label) named _ 0 (c .wide .result)
+          laws.types-passed (x .at .held) n tests (a .label) named _ 0 (c .wide .result)
           (subst (PlaceFrom (x .labels) (a .rules) (a .label) 0) (sym at) (x .chain .first (a .label) (pre .1)))
           (laws.emptied (a .words .now) (c .before .before .before .before .store .last .0) _ (a .base) (omega arith) (c .before .before .before .before .before .empty .ensures) (c .before .before .before .before .store .ensures) .0 ∙ sym (laws.types-none g n tests)),
     )
 
 mul-from : tie.Need-mul-from Inv-loop μ-loop
 mul-from c =
-    let few = c .before .before .before .before .before .before .before .before .before .before .before .before .before .before .before .before .before .pre .0 .at .at .known .indexes .few-rules in
+    let few = c .before .before .before .before .before .before .before .before .before .before .before .before .before .before .before .before .before .pre .0 .at .at .held .indexes .few-rules in
     let below = c .loop-test .taken in
     omega arith
 
 shared-slice-read-from : tie.Need-shared-slice-read-from Inv-loop μ-loop
 shared-slice-read-from c =
-    let x = c .before .before .before .before .before .before .before .before .before .before .before .before .before .before .before .before .before .before .pre .0 .at .at .known .indexes in
+    let x = c .before .before .before .before .before .before .before .before .before .before .before .before .before .before .before .before .before .before .pre .0 .at .at .held .indexes in
     let few = x .few-rules in
     let room = x .rooms .content-from in
     let below = c .before .loop-test .taken in
@@ -81,13 +81,13 @@ shared-slice-read-from c =
 
 mul-to : tie.Need-mul-to Inv-loop μ-loop
 mul-to c =
-    let few = c .before .before .before .before .before .before .before .before .before .before .before .before .before .before .before .before .before .before .pre .0 .at .at .known .indexes .few-rules in
+    let few = c .before .before .before .before .before .before .before .before .before .before .before .before .before .before .before .before .before .before .pre .0 .at .at .held .indexes .few-rules in
     let below = c .before .loop-test .taken in
     omega arith
 
 shared-slice-read-to : tie.Need-shared-slice-read-to Inv-loop μ-loop
 shared-slice-read-to c =
-    let x = c .before .before .before .before .before .before .before .before .before .before .before .before .before .before .before .before .before .before .before .pre .0 .at .at .known .indexes in
+    let x = c .before .before .before .before .before .before .before .before .before .before .before .before .before .before .before .before .before .before .before .pre .0 .at .at .held .indexes in
     let few = x .few-rules in
     let room = x .rooms .content-to in
     let below = c .before .before .loop-test .taken in
@@ -95,15 +95,15 @@ shared-slice-read-to c =
 
 sub-content-fits : tie.Need-sub-content-fits Inv-loop μ-loop
 sub-content-fits c =
-    laws.known-rule (c .before .before .before .before .before .before .before .before .before .before .before .before .before .before .before .before .before .before .before .pre .0 .at .at .known) (c .before .before .before .loop .i) (c .before .before .loop-test .taken) .at .content .inside .order
+    laws.known-rule (c .before .before .before .before .before .before .before .before .before .before .before .before .before .before .before .before .before .before .before .pre .0 .at .at .held) (c .before .before .before .loop .i) (c .before .before .loop-test .taken) .at .content .inside .order
 
 part-content-fits-start : tie.Need-part-content-fits-start Inv-loop μ-loop
 part-content-fits-start c =
-    laws.known-rule (c .before .before .before .before .before .before .before .before .before .before .before .before .before .before .before .before .before .before .before .pre .0 .at .at .known) (c .before .before .before .loop .i) (c .before .before .loop-test .taken) .at .content .inside .order
+    laws.known-rule (c .before .before .before .before .before .before .before .before .before .before .before .before .before .before .before .before .before .before .before .pre .0 .at .at .held) (c .before .before .before .loop .i) (c .before .before .loop-test .taken) .at .content .inside .order
 
 part-content-fits-end : tie.Need-part-content-fits-end Inv-loop μ-loop
 part-content-fits-end c =
-    laws.known-rule (c .before .before .before .before .before .before .before .before .before .before .before .before .before .before .before .before .before .before .before .pre .0 .at .at .known) (c .before .before .before .loop .i) (c .before .before .loop-test .taken) .at .content .inside .within
+    laws.known-rule (c .before .before .before .before .before .before .before .before .before .before .before .before .before .before .before .before .before .before .before .pre .0 .at .at .held) (c .before .before .before .loop .i) (c .before .before .loop-test .taken) .at .content .inside .within
 
 shared-slice-read-content-fits : tie.Need-shared-slice-read-content-fits Inv-loop μ-loop
 shared-slice-read-content-fits c =
@@ -123,15 +123,15 @@ content-fits-requires c κs =
     let rules = pre .0 .at .at in
     let i = c .before .before .before .before .before .before .before .loop .i in
     let below = c .before .before .before .before .before .before .loop-test .taken in
-    let size = laws.rule-size (rules .known) i below in
+    let size = laws.rule-size (rules .held) i below in
     let inv = c .before .before .before .before .before .before .before .loop .inv in
     let kept = c .before .before .before .before .before .before .before .before .before .before .before .before .store .kept .0 in
     let room = pre .3 in
-    (laws.rule-whole (rules .known) i below, record { few = size; mark-each = omega arith; four-words = omega arith }, omega arith, rules .nullables .each i below)
+    (laws.rule-whole (rules .held) i below, record { few = size; mark-each = omega arith; four-words = omega arith }, omega arith, rules .nullables .each i below)
 
 shared-slice-read-wide-2 : tie.Need-shared-slice-read-wide-2 Inv-loop μ-loop
 shared-slice-read-wide-2 c =
-    let x = c .before .before .before .before .before .before .before .before .before .before .before .before .before .before .before .before .before .before .before .before .before .before .before .before .before .before .before .before .pre .0 .at .at .known .indexes in
+    let x = c .before .before .before .before .before .before .before .before .before .before .before .before .before .before .before .before .before .before .before .before .before .before .before .before .before .before .before .before .pre .0 .at .at .held .indexes in
     let few = x .few-rules in
     let room = x .rooms .rule-type in
     let below = c .before .before .before .before .before .before .before .before .before .before .before .loop-test .taken in
@@ -140,7 +140,7 @@ shared-slice-read-wide-2 c =
 put-if-requires : tie.Need-put-if-requires Inv-loop μ-loop
 put-if-requires c κs =
     let pre = c .before .before .before .before .before .before .before .before .before .before .before .before .before .before .before .before .before .before .before .before .before .before .before .before .before .before .before .before .before .pre in
-    let type = laws.known-rule (pre .0 .at .at .known) (c .before .before .before .before .before .before .before .before .before .before .before .before .before .loop .i) (c .before .before .before .before .before .before .before .before .before .before .before .before .loop-test .taken) .type-below in
+    let type = laws.known-rule (pre .0 .at .at .held) (c .before .before .before .before .before .before .before .before .before .before .before .before .before .loop .i) (c .before .before .before .before .before .before .before .before .before .before .before .before .loop-test .taken) .type-below in
     let read = c .wide2 .ensures .0 in
     let inv = c .before .before .before .before .before .before .before .before .before .before .before .before .before .loop .inv in
     let kept = c .before .before .before .before .before .before .before .before .before .before .before .before .before .before .before .before .before .before .store .kept .0 in
@@ -150,7 +150,7 @@ put-if-requires c κs =
 shared-slice-read-wide-3 : tie.Need-shared-slice-read-wide-3 Inv-loop μ-loop
 shared-slice-read-wide-3 c =
     let x = c .before .before .before .before .before .before .before .before .before .before .before .before .before .before .before .before .before .before .before .before .before .before .before .before .before .before .before .before .before .before .before .before .before .pre .0 .at in
-    let few = x .at .known .indexes .few-rules in
+    let few = x .at .held .indexes .few-rules in
     let room = x .chain .room in
     let below = c .before .before .before .before .before .before .before .before .before .before .before .before .before .before .before .before .loop-test .taken in
     omega arith
@@ -185,12 +185,12 @@ loop-again c =
       c .before .before .before .before .put-if .ensures .behind ∙ inv .3,
       λ g x. onward g x .found,
       λ g x n named.
-          let rule = laws.known-rule (x .at .known) i below in
-          laws.types-passed (x .at .known) n tests (a .label) named _ (i + 1) (c .wide3 .result) (onward g x)
+          let rule = laws.known-rule (x .at .held) i below in
+          laws.types-passed (x .at .held) n tests (a .label) named _ (i + 1) (c .wide3 .result) (onward g x)
           (laws.types-step g n tests i (rule .rule) (rule .listed) old (c .before .before .before .before .put-if .last .0) (a .base) (c .before .before .before .before .before .before .before .before .before .before .content-fits .result) (c .before .before .before .before .before .wide2 .result)
           (c .before .before .before .before .before .before .before .before .before .before .content-fits .ensures
           ∙ ap (runAt content) same
-          ∙ laws.asked-is (x .at .known) i below n tests (a .label) named (inv .4 g x below))
+          ∙ laws.asked-is (x .at .held) i below n tests (a .label) named (inv .4 g x below))
           (c .before .before .before .before .before .wide2 .ensures .0 ∙ rule .at .type)
           (c .before .before .before .before .put-if .ensures)
           (inv .5 g x n named)),
@@ -212,7 +212,7 @@ returns c =
     record {
       types =
           λ g x n named.
-          let all = x .at .known .indexes .rules in
+          let all = x .at .held .indexes .rules in
           inv .5 g x n named
           ∙ ap holds (laws.types-all g n (testsAt first (a .base + 4) (a .count)) (c .before .loop .i) (omega arith))
           ∙ ap (λ (ts : List (ℕ → Bool)). holds (typesFor g n ts (g .rules)))

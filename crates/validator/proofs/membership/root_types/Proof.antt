@@ -36,32 +36,32 @@ inside i n h k = omega arith
 
 slice-aggregate-chained-labels : tie.Need-slice-aggregate-chained-labels Inv-loop μ-loop
 slice-aggregate-chained-labels c =
-    sym (c .before .before .before .before .before .before .before .before .before .before .pre .0 .known .indexes .rooms .label-from)
+    sym (c .before .before .before .before .before .before .before .before .before .before .pre .0 .held .indexes .rooms .label-from)
 
 slice-aggregate-chained-labels-2 : tie.Need-slice-aggregate-chained-labels-2 Inv-loop μ-loop
 slice-aggregate-chained-labels-2 c =
-    sym (c .before .before .before .before .before .before .before .before .before .before .before .pre .0 .known .indexes .rooms .label-to)
+    sym (c .before .before .before .before .before .before .before .before .before .before .before .pre .0 .held .indexes .rooms .label-to)
 
 chained-labels-requires : tie.Need-chained-labels-requires Inv-loop μ-loop
 chained-labels-requires c κs =
     let table = c .before .before .before .before .before .before .before .before .before .before .before .pre .0 in
-    (record { list = table .table .labels; at = index-names (table .known .indexes) }, table .known .indexes .few-labels)
+    (record { list = table .table .labels; at = index-names (table .held .indexes) }, table .held .indexes .few-labels)
 
 slice-aggregate-chained : tie.Need-slice-aggregate-chained Inv-loop μ-loop
 slice-aggregate-chained c =
-    sym (c .before .before .before .before .before .before .before .before .before .before .before .before .before .before .before .pre .0 .known .indexes .rooms .rule-label)
+    sym (c .before .before .before .before .before .before .before .before .before .before .before .before .before .before .before .pre .0 .held .indexes .rooms .rule-label)
 
 chained-requires : tie.Need-chained-requires Inv-loop μ-loop
 chained-requires c κs =
-    rules-keyed (c .before .before .before .before .before .before .before .before .before .before .before .before .before .before .before .pre .0 .known)
+    rules-keyed (c .before .before .before .before .before .before .before .before .before .before .before .before .before .before .before .pre .0 .held)
 
 slice-aggregate-nullable-contents : tie.Need-slice-aggregate-nullable-contents Inv-loop μ-loop
 slice-aggregate-nullable-contents c =
-    sym (c .before .before .before .before .before .before .before .before .before .before .before .before .before .before .before .before .before .before .before .pre .0 .known .indexes .rooms .content-from)
+    sym (c .before .before .before .before .before .before .before .before .before .before .before .before .before .before .before .before .before .before .before .pre .0 .held .indexes .rooms .content-from)
 
 slice-aggregate-nullable-contents-2 : tie.Need-slice-aggregate-nullable-contents-2 Inv-loop μ-loop
 slice-aggregate-nullable-contents-2 c =
-    sym (c .before .before .before .before .before .before .before .before .before .before .before .before .before .before .before .before .before .before .before .before .pre .0 .known .indexes .rooms .content-to)
+    sym (c .before .before .before .before .before .before .before .before .before .before .before .before .before .before .before .before .before .before .before .before .pre .0 .held .indexes .rooms .content-to)
 
 nullable-contents-requires : tie.Need-nullable-contents-requires Inv-loop μ-loop
 nullable-contents-requires c κs =
@@ -165,11 +165,11 @@ part-name-end c =
 
 slice-aggregate-label-of : tie.Need-slice-aggregate-label-of Inv-loop μ-loop
 slice-aggregate-label-of c =
-    sym (c .before .before .before .before .before .before .before .before .before .before .before .before .before .before .before .before .before .before .before .before .before .before .before .before .before .before .before .before .before .before .before .before .pre .0 .known .indexes .rooms .label-from)
+    sym (c .before .before .before .before .before .before .before .before .before .before .before .before .before .before .before .before .before .before .before .before .before .before .before .before .before .before .before .before .before .before .before .before .pre .0 .held .indexes .rooms .label-from)
 
 slice-aggregate-label-of-2 : tie.Need-slice-aggregate-label-of-2 Inv-loop μ-loop
 slice-aggregate-label-of-2 c =
-    sym (c .before .before .before .before .before .before .before .before .before .before .before .before .before .before .before .before .before .before .before .before .before .before .before .before .before .before .before .before .before .before .before .before .before .pre .0 .known .indexes .rooms .label-to)
+    sym (c .before .before .before .before .before .before .before .before .before .before .before .before .before .before .before .before .before .before .before .before .before .before .before .before .before .before .before .before .before .before .before .before .before .pre .0 .held .indexes .rooms .label-to)
 
 slice-aggregate-label-of-3 : tie.Need-slice-aggregate-label-of-3 Inv-loop μ-loop
 slice-aggregate-label-of-3 c =
@@ -177,7 +177,7 @@ slice-aggregate-label-of-3 c =
 
 slice-aggregate-put-types : tie.Need-slice-aggregate-put-types Inv-loop μ-loop
 slice-aggregate-put-types c =
-    sym (c .before .before .before .before .before .before .before .before .before .before .before .before .before .before .before .before .before .before .before .before .before .before .before .before .before .before .before .before .before .before .before .before .before .before .before .before .pre .0 .known .indexes .rooms .rule-type)
+    sym (c .before .before .before .before .before .before .before .before .before .before .before .before .before .before .before .before .before .before .before .before .before .before .before .before .before .before .before .before .before .before .before .before .before .before .before .before .pre .0 .held .indexes .rooms .rule-type)
 
 slice-aggregate-put-types-2 : tie.Need-slice-aggregate-put-types-2 Inv-loop μ-loop
 slice-aggregate-put-types-2 c =
@@ -185,16 +185,16 @@ slice-aggregate-put-types-2 c =
 
 slice-aggregate-put-types-3 : tie.Need-slice-aggregate-put-types-3 Inv-loop μ-loop
 slice-aggregate-put-types-3 c =
-    sym (c .before .before .before .before .before .before .before .before .before .before .before .before .before .before .before .before .before .before .before .before .before .before .before .before .before .before .before .before .before .before .before .before .before .before .before .before .before .before .pre .0 .known .indexes .rooms .content-from)
+    sym (c .before .before .before .before .before .before .before .before .before .before .before .before .before .before .before .before .before .before .before .before .before .before .before .before .before .before .before .before .before .before .before .before .before .before .before .before .before .before .pre .0 .held .indexes .rooms .content-from)
 
 slice-aggregate-put-types-4 : tie.Need-slice-aggregate-put-types-4 Inv-loop μ-loop
 slice-aggregate-put-types-4 c =
-    sym (c .before .before .before .before .before .before .before .before .before .before .before .before .before .before .before .before .before .before .before .before .before .before .before .before .before .before .before .before .before .before .before .before .before .before .before .before .before .before .before .pre .0 .known .indexes .rooms .content-to)
+    sym (c .before .before .before .before .before .before .before .before .before .before .before .before .before .before .before .before .before .before .before .before .before .before .before .before .before .before .before .before .before .before .before .before .before .before .before .before .before .before .before .pre .0 .held .indexes .rooms .content-to)
 
 label-of-requires : tie.Need-label-of-requires Inv-loop μ-loop
 label-of-requires c κs =
     let table = c .before .before .before .before .before .before .before .before .before .before .before .before .before .before .before .before .before .before .before .before .before .before .before .before .before .before .before .before .before .before .before .before .before .before .pre .0 in
-    record { list = table .table .labels; at = index-names (table .known .indexes); chained = c .before .before .before .before .before .before .before .before .before .before .before .before .before .before .before .before .before .before .before .before .before .before .chained-labels .ensures }
+    record { list = table .table .labels; at = index-names (table .held .indexes); chained = c .before .before .before .before .before .before .before .before .before .before .before .before .before .before .before .before .before .before .before .before .before .before .chained-labels .ensures }
 
 slice-aggregate-put-types-5 : tie.Need-slice-aggregate-put-types-5 Inv-loop μ-loop
 slice-aggregate-put-types-5 c =
@@ -213,11 +213,11 @@ put-types-requires c κs =
         at =
             record {
               labels = a .index .«rule_label»;
-              at = record { index = a .index; known = table .known; nullables = c .before .before .before .before .before .before .before .before .before .before .before .before .before .before .before .before .before .before .before .nullable-contents .ensures };
+              at = record { index = a .index; held = table .held; nullables = c .before .before .before .before .before .before .before .before .before .before .before .before .before .before .before .before .before .before .before .nullable-contents .ensures };
               chain = c .before .before .before .before .before .before .before .before .before .before .before .before .before .before .before .before .before .before .before .before .before .before .before .before .before .before .chained .ensures;
             };
       },
-      label-few (table .known) _ (c .before .before .before .before .before .before .before .label-of .ensures (table .table .labels) (index-names (table .known .indexes))),
+      label-few (table .held) _ (c .before .before .before .before .before .before .before .label-of .ensures (table .table .labels) (index-names (table .held .indexes))),
       omega arith,
       omega arith,
     )
@@ -315,7 +315,7 @@ returns c =
           (inv .4 g (index-names (k .indexes))
           (record {
             labels = a .index .«rule_label»;
-            at = record { index = a .index; known = k; nullables = c .before .before .before .before .nullable-contents .ensures };
+            at = record { index = a .index; held = k; nullables = c .before .before .before .before .nullable-contents .ensures };
             chain = c .before .before .before .before .before .before .before .before .before .before .before .chained .ensures;
           })))
           t

@@ -22,14 +22,14 @@ abbrev μ-loop : tie.MeasureT-loop
 
 shared-slice-read-wide : tie.Need-shared-slice-read-wide Inv-loop μ-loop
 shared-slice-read-wide c =
-    let x = c .before .before .before .before .before .pre .0 .at .known .indexes in
+    let x = c .before .before .before .before .before .pre .0 .at .held .indexes in
     let few = x .few-starts in
     let room = x .rooms .start-type in
     omega arith
 
 has-requires : tie.Need-has-requires Inv-loop μ-loop
 has-requires c κs =
-    let table = c .before .before .before .before .before .before .pre .0 .at .known in
+    let table = c .before .before .before .before .before .before .pre .0 .at .held in
     let small = start-small (table .indexes) (table .within) (c .before .before .before .loop .start) (c .before .before .loop-test .taken) in
     let read = c .wide .ensures .0 in
     let room = c .before .before .before .before .before .before .pre .1 in
@@ -40,22 +40,22 @@ returns c =
     let a = c .before .before .before .before .before .before .before .before .args in
     let i = c .before .before .before .before .before .loop .start in
     let below = c .before .before .before .before .loop-test .taken in
-    let table = c .before .before .before .before .before .before .before .before .pre .0 .at .known in
+    let table = c .before .before .before .before .before .before .before .before .pre .0 .at .held in
     let small = start-small (table .indexes) (table .within) i below in
     λ g x.
-    sym (start-passes (x .known .indexes) (setAt (a .words .now) (a .at)) i below
+    sym (start-passes (x .held .indexes) (setAt (a .words .now) (a .at)) i below
     (sym (set-has (a .words .now) (a .at) (getD (a .start-type .now) i 0) small)
     ∙ sym (c .before .has .ensures ∙ ap (λ (k : ℕ). member (a .words .now) (a .at) k) (c .before .before .wide .ensures .0))
     ∙ c .if1 .taken))
 
 add-start : tie.Need-add-start Inv-loop μ-loop
-add-start c = omega (arith, c .before .before .before .before .before .before .before .before .pre .0 .at .known .indexes .few-starts)
+add-start c = omega (arith, c .before .before .before .before .before .before .before .before .pre .0 .at .held .indexes .few-starts)
 
 loop-again : tie.Need-loop-again Inv-loop μ-loop
 loop-again c =
     let a = c .before .before .before .before .before .before .before .before .args in
     let i = c .before .before .before .before .before .loop .start in
-    let table = c .before .before .before .before .before .before .before .before .pre .0 .at .known in
+    let table = c .before .before .before .before .before .before .before .before .pre .0 .at .held in
     let small = start-small (table .indexes) (table .within) i (c .before .before .before .before .loop-test .taken) in
     below-more _ i (c .before .before .before .before .before .loop .inv)
     (sym (set-has (a .words .now) (a .at) (getD (a .start-type .now) i 0) small)
@@ -67,7 +67,7 @@ returns-2 c =
     let a = c .before .before .before .before .args in
     let inv = c .before .loop .inv in
     let over = c .loop-test .left in
-    λ g x. sym (no-start-passes (x .known .indexes) (setAt (a .words .now) (a .at)) (λ i h. inv i (omega arith)))
+    λ g x. sym (no-start-passes (x .held .indexes) (setAt (a .words .now) (a .at)) (λ i h. inv i (omega arith)))
 
 pub some-start-spec : {M : Type 1} → statement M
 some-start-spec =

@@ -1,9 +1,5 @@
 -- `deliver` meets its contract: the refusal, too little room, or the bytes copied.
-use Prim.Native.Nat.{_-_}
-use native.Mathlib.Nat.{sub-zero}
 use native.Mathlib.Omega.{arith}
-use lib.ListN.{take}
-use lib.Seq.{length-take-le}
 use borrow.Author.Needs.{needs}
 use Rattle.widening.proofs.DraftLaws as laws
 use Rattle.widening.proofs.drafting.deliver.Statement.{statement}

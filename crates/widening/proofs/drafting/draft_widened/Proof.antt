@@ -18,7 +18,7 @@ widen-read-requires : tie.Need-widen-read-requires
 widen-read-requires c κs =
     let a = c .before .before .before .before .before .before .before .before .before .args in
     let t = c .before .before .before .before .read-table in
-    (laws.found-held (table-found (a .old .now) (t .result) (t .ensures) (c .before .before .enum-told .given .1)), c .before .before .before .before .before .before .before .before .before .pre .0, c .before .before .before .before .before .before .before .before .before .pre .1)
+    (table-found (a .old .now) (t .result) (t .ensures) (c .before .before .enum-told .given .1) .some, c .before .before .before .before .before .before .before .before .before .pre .0, c .before .before .before .before .before .before .before .before .before .pre .1)
 
 returns-2 : tie.Need-returns-2
 returns-2 c =

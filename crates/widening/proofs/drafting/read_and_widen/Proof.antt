@@ -16,7 +16,7 @@ widen-tables-requires : tie.Need-widen-tables-requires
 widen-tables-requires c κs =
     let a = c .before .before .before .before .before .before .before .before .before .args in
     let t = c .before .before .before .before .read-table in
-    (c .before .before .before .before .before .before .before .before .before .pre .0, laws.found-held (table-found (a .addition .now) (t .result) (t .ensures) (c .before .before .enum-told .given .1)), c .before .before .before .before .before .before .before .before .before .pre .1, c .before .before .before .before .before .before .before .before .before .pre .2)
+    (c .before .before .before .before .before .before .before .before .before .pre .0, table-found (a .addition .now) (t .result) (t .ensures) (c .before .before .enum-told .given .1) .some, c .before .before .before .before .before .before .before .before .before .pre .1, c .before .before .before .before .before .before .before .before .before .pre .2)
 
 returns-2 : tie.Need-returns-2
 returns-2 c =
