@@ -165,8 +165,14 @@ fn root_types(
         let from = names[at] as usize;
         let to = from + sizes[at] as usize;
         let count = children[at] as usize;
-        let name = &document[from..to];
-        let label = label_of(name, table, &label_from, &label_to, &by_key, labels);
+        let label = label_of(
+            &document[from..to],
+            table,
+            &label_from,
+            &label_to,
+            &by_key,
+            labels,
+        );
         let base = top - 4;
         put_types(
             table,
