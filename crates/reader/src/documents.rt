@@ -19,12 +19,10 @@ use crate::limits::NODES;
 use crate::names::CLASSES;
 use crate::names::is_name;
 use crate::numbers::wide;
+use crate::tags::DOCUMENT_END_TAG;
+use crate::tags::NODE_TAG;
 use grammar::Reading;
 use grammar::Refusal;
-
-const NODE_TAG: u8 = 0x30;
-
-const END_TAG: u8 = 0x3F;
 
 // What the next field says.
 enum Step {
@@ -132,7 +130,7 @@ fn step_at(classes: &[u8], s: &[u8], at: usize, nodes: usize, depth: usize) -> S
         FieldAt::NoBytes => Step::Stop(Reading::Refused(Refusal::FieldPastEnd)),
         FieldAt::PastEnd => Step::Stop(Reading::Refused(Refusal::FieldPastEnd)),
         FieldAt::Found(tag, from, to) => {
-            if tag == END_TAG {
+            if tag == DOCUMENT_END_TAG {
                 let answer = end_answer(to - from, depth, s.len() - to);
                 return Step::Stop(answer);
             }

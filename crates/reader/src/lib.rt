@@ -12,4 +12,5 @@ pub mod refusals;
 pub mod rules;
 pub mod starts;
 pub mod tables;
+pub mod tags;
 pub mod work;

@@ -17,16 +17,12 @@ use crate::limits::INPUT;
 use crate::names::CLASSES;
 use crate::rules::after_rule;
 use crate::starts::after_start;
+use crate::tags::LABEL_TAG;
+use crate::tags::RULE_TAG;
+use crate::tags::START_TAG;
+use crate::tags::TABLE_END_TAG;
 use grammar::Reading;
 use grammar::Refusal;
-
-const LABEL_TAG: u8 = 0x10;
-
-const START_TAG: u8 = 0x11;
-
-const RULE_TAG: u8 = 0x12;
-
-const END_TAG: u8 = 0x1F;
 
 // Where the labels, starts and rules of a table stand in its bytes, each in the order of the file.
 pub struct TableIndex {
@@ -120,7 +116,7 @@ fn read_fields(classes: &[u8], s: &[u8]) -> TableRead
     loop {
         match field_at(s, at) {
             FieldAt::Found(tag, from, to) => {
-                if tag == END_TAG {
+                if tag == TABLE_END_TAG {
                     return TableRead {
                         answer: end_answer(s, from, to),
                         index: index,

@@ -10,6 +10,7 @@ use Rattle.grammar.specs.Lists.{any, keep, joinedOf, numbersBelow}
 use Rattle.grammar.specs.Names.{Name}
 use Rattle.grammar.specs.Table.{Rule, Table}
 use Rattle.grammar.specs.Fields.{fieldBytes}
+use Rattle.grammar.specs.ReadTable.{labelTag, startTag}
 use Rattle.grammar.specs.Kinds.{Kind}
 use Rattle.grammar.specs.SingleTypeForm.{TypeSet}
 use Rattle.theory.specs.Conditions.{Labelled, Regular}
@@ -87,10 +88,10 @@ pub record ResultFrom (old add : List ℕ) (union : Union) (lists : TypeLists) (
 
 -- the bytes of some of the labels, and of some of the types as starts
 abbrev pub labelsBytes : List Name → (ℕ → Bool) → List ℕ
-labelsBytes names on = joinedOf (λ l. fieldBytes 0x10 (getD names l [])) (keep on (numbersBelow (length names)))
+labelsBytes names on = joinedOf (λ l. fieldBytes labelTag (getD names l [])) (keep on (numbersBelow (length names)))
 
 abbrev pub startsBytes : (ℕ → Bool) → ℕ → List ℕ
-startsBytes on count = joinedOf (λ k. fieldBytes 0x11 (k ∷ [])) (keep on (numbersBelow count))
+startsBytes on count = joinedOf (λ k. fieldBytes startTag (k ∷ [])) (keep on (numbersBelow count))
 
 -- the starts, the rules and the end
 abbrev pub bodyBytes : (ℕ → Bool) → (ℕ → Rule) → ℕ → List ℕ

@@ -1,5 +1,6 @@
 // The labels of a result: those that its sets have, in label order.
 use forms::label_sets::set_label;
+use reader::tags::LABEL_TAG;
 use sets::four::Set4;
 use sets::words::load;
 use sets::words::store;
@@ -17,6 +18,7 @@ ghost use lib.Dec.{eqb};
 ghost use lib.ListN.{length, getD};
 ghost use Rattle.grammar.specs.Lists.{keep, place, numbersBelow};
 ghost use Rattle.grammar.specs.Fields.{fieldBytes};
+ghost use Rattle.grammar.specs.ReadTable.{labelTag};
 ghost use Rattle.theory.specs.Alternatives.{onlyIf};
 ghost use Rattle.sets.specs.Sets.{member, setAt, OthersKept};
 ghost use Rattle.union.specs.Places.{usedAt};
@@ -81,17 +83,17 @@ fn put_name(
     requires { ⌜ (at ≤ 32768) × (32768 ≤ length (now draft)) × (label < olds .count + news .count)
         × LabelsIn (now old) (now add) olds news ⌝ }
     ensures { λ r. ⌜ ((q : LabelsIn (now (old .entry)) (now (add .entry)) olds news)
-        → Puts (now (draft .entry)) at (fieldBytes 0x10 (getD (q .first ++ q .second) label [])) (now (draft .exit)) r) ⌝ }
+        → Puts (now (draft .entry)) at (fieldBytes labelTag (getD (q .first ++ q .second) label [])) (now (draft .exit)) r) ⌝ }
 {
     if label < olds.count {
         let from = olds.from[label];
         let to = olds.to[label];
-        return put_field(draft, at, 0x10, &old[from..to]);
+        return put_field(draft, at, LABEL_TAG, &old[from..to]);
     }
     let l = label - olds.count;
     let from = news.from[l];
     let to = news.to[l];
-    put_field(draft, at, 0x10, &add[from..to])
+    put_field(draft, at, LABEL_TAG, &add[from..to])
 }
 
 // The same, if the label is used.
@@ -108,7 +110,7 @@ fn put_label(
     requires { ⌜ (at ≤ 32768) × (32768 ≤ length (now draft)) × (label < olds .count + news .count)
         × LabelsIn (now old) (now add) olds news ⌝ }
     ensures { λ r. ⌜ ((q : LabelsIn (now (old .entry)) (now (add .entry)) olds news)
-        → Puts (now (draft .entry)) at (onlyIf on (fieldBytes 0x10 (getD (q .first ++ q .second) label []))) (now (draft .exit)) r) ⌝ }
+        → Puts (now (draft .entry)) at (onlyIf on (fieldBytes labelTag (getD (q .first ++ q .second) label []))) (now (draft .exit)) r) ⌝ }
 {
     if on {
         return put_name(draft, at, old, add, olds, news, label);

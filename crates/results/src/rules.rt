@@ -6,6 +6,8 @@ use forms::label_sets::label_numbers;
 use forms::label_sets::set_label;
 use forms::set_numbers::result_lists;
 use merging::contents::content_of_set;
+use reader::tags::RULE_TAG;
+use reader::tags::TABLE_END_TAG;
 use reducing::meeting::met_set;
 use reducing::type_lists::types_listed;
 use sets::four::Set4;
@@ -122,7 +124,7 @@ fn put_rule(
             scratch[0] = i as u8;
             scratch[1] = label as u8;
             let stop = end + 2;
-            put_field(draft, at, 0x12, &scratch[0..stop])
+            put_field(draft, at, RULE_TAG, &scratch[0..stop])
         }
     }
 }
@@ -208,6 +210,6 @@ pub fn put_rest(
         kind,
     ) {
         Drafted::TooLarge => Drafted::TooLarge,
-        Drafted::Length(end) => put_field(draft, end, 0x1F, &scratch[0..0]),
+        Drafted::Length(end) => put_field(draft, end, TABLE_END_TAG, &scratch[0..0]),
     }
 }

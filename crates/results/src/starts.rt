@@ -1,4 +1,5 @@
 // The starts of a result.
+use reader::tags::START_TAG;
 use sets::words::load;
 use union::places::START_TYPES;
 use writer::writing::Drafted;
@@ -7,6 +8,7 @@ ghost use Prim.Native.Nat.{_≤_, _<_};
 ghost use mathlib.Core.List.{[], _∷_};
 ghost use lib.ListN.{length};
 ghost use Rattle.grammar.specs.Fields.{fieldBytes};
+ghost use Rattle.grammar.specs.ReadTable.{startTag};
 ghost use Rattle.theory.specs.Alternatives.{onlyIf};
 ghost use Rattle.sets.specs.Sets.{setAt};
 ghost use Rattle.union.specs.Places.{startTypesAt};
@@ -16,11 +18,11 @@ ghost use Rattle.results.specs.Results.{startsBytes};
 // Writes a type as a start, if it is one.
 fn put_start(draft: &mut [u8], at: usize, kind: usize, on: bool) -> Drafted
     requires { ⌜ (at ≤ 32768) × (32768 ≤ length (now draft)) × (kind < 256) ⌝ }
-    ensures { λ r. ⌜ Puts (now (draft .entry)) at (onlyIf on (fieldBytes 0x11 (kind ∷ []))) (now (draft .exit)) r ⌝ }
+    ensures { λ r. ⌜ Puts (now (draft .entry)) at (onlyIf on (fieldBytes startTag (kind ∷ []))) (now (draft .exit)) r ⌝ }
 {
     if on {
         let value = [kind as u8; 1];
-        return put_field(draft, at, 0x11, &value);
+        return put_field(draft, at, START_TAG, &value);
     }
     Drafted::Length(at)
 }

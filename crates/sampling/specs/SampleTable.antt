@@ -11,6 +11,7 @@ use Rattle.grammar.specs.Limits.{standard}
 use Rattle.grammar.specs.Content.{Content, choiceOf}
 use Rattle.grammar.specs.Table.{Rule}
 use Rattle.grammar.specs.Fields.{fieldBytes}
+use Rattle.grammar.specs.ReadTable.{labelTag, startTag, ruleTag, tableEndTag}
 use Rattle.grammar.specs.WriteTable.{ruleBytes, tableBytes}
 use Rattle.grammar.specs.Size.{contentTooLarge}
 use Rattle.grammar.specs.Names.{asciiClasses}
@@ -56,16 +57,16 @@ pub record NodesHeld (parents types children : List ℕ) (n : ℕ) : Type 0 wher
 -- a rule is written; or its content, or the whole, is too large
 abbrev pub RulePuts : List ℕ → ℕ → Rule → List ℕ → Drafted → Type 0
 RulePuts before at r after (Length n) =
-    Put before at (fieldBytes 0x12 (ruleBytes r)) after n × (n ≤ 32768) × (contentTooLarge standard (r .content) ≡ false)
+    Put before at (fieldBytes ruleTag (ruleBytes r)) after n × (n ≤ 32768) × (contentTooLarge standard (r .content) ≡ false)
 RulePuts before at r after TooLarge =
-    (contentTooLarge standard (r .content) ≡ true) ⊎ (32768 < at + length (fieldBytes 0x12 (ruleBytes r)))
+    (contentTooLarge standard (r .content) ≡ true) ⊎ (32768 < at + length (fieldBytes ruleTag (ruleBytes r)))
 
 -- the fields of labels and of rules, by number
 abbrev pub labelField : (s names sizes firsts : List ℕ) → ℕ → List ℕ
-labelField s names sizes firsts l = fieldBytes 0x10 (nameIn s names sizes (getD firsts l 0))
+labelField s names sizes firsts l = fieldBytes labelTag (nameIn s names sizes (getD firsts l 0))
 
 abbrev pub ruleField : (ℕ → Rule) → ℕ → List ℕ
-ruleField rule t = fieldBytes 0x12 (ruleBytes (rule t))
+ruleField rule t = fieldBytes ruleTag (ruleBytes (rule t))
 
 -- these bytes are written, and the rules' contents are not too large; or one of them, or the whole, is
 abbrev pub TablePut : List ℕ → ℕ → (ℕ → Rule) → ℕ → List ℕ → List ℕ → Drafted → Type 0
@@ -82,10 +83,10 @@ RulesPut before at rule count after r = TablePut before at rule count (rulesByte
 
 -- the rules and the end; the start, the rules and the end
 abbrev pub restBytes : (ℕ → Rule) → ℕ → List ℕ
-restBytes rule count = rulesBytes rule count ++ fieldBytes 0x1F []
+restBytes rule count = rulesBytes rule count ++ fieldBytes tableEndTag []
 
 abbrev pub startBytes : (ℕ → Rule) → ℕ → List ℕ
-startBytes rule count = fieldBytes 0x11 (0 ∷ []) ++ restBytes rule count
+startBytes rule count = fieldBytes startTag (0 ∷ []) ++ restBytes rule count
 
 -- the arrays hold the first node and the label of each type
 pub record RulesHeld (types firsts labels : List ℕ) (n count : ℕ) : Type 0 where

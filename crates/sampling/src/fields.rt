@@ -1,5 +1,8 @@
 // The fields of a sample: labels, start, rules, end.
 use crate::rules::put_rules;
+use reader::tags::LABEL_TAG;
+use reader::tags::START_TAG;
+use reader::tags::TABLE_END_TAG;
 use writer::writing::Drafted;
 use writer::writing::put_field;
 ghost use Prim.Native.Nat.{_+_, _≤_};
@@ -31,7 +34,7 @@ pub fn put_labels(
         let i = firsts[l];
         let from = names[i] as usize;
         let to = from + sizes[i] as usize;
-        match put_field(draft, end, 0x10, &s[from..to]) {
+        match put_field(draft, end, LABEL_TAG, &s[from..to]) {
             Drafted::TooLarge => {
                 return Drafted::TooLarge;
             }
@@ -77,7 +80,7 @@ fn put_rest(
         count,
     ) {
         Drafted::TooLarge => Drafted::TooLarge,
-        Drafted::Length(end) => put_field(draft, end, 0x1F, &scratch[0..0]),
+        Drafted::Length(end) => put_field(draft, end, TABLE_END_TAG, &scratch[0..0]),
     }
 }
 
@@ -102,7 +105,7 @@ pub fn put_start(
         (now (draft .exit)) r ⌝ }
 {
     let root = [0u8; 1];
-    match put_field(draft, at, 0x11, &root) {
+    match put_field(draft, at, START_TAG, &root) {
         Drafted::TooLarge => Drafted::TooLarge,
         Drafted::Length(end) => put_rest(
             draft,

@@ -1,5 +1,6 @@
 // The rules of a sample, in the order of the types.
 use crate::contents::make_content;
+use reader::tags::RULE_TAG;
 use writer::writing::Drafted;
 use writer::writing::put_field;
 ghost use Prim.Native.Nat.{_≤_, _<_};
@@ -30,7 +31,7 @@ fn put_rule(
         Drafted::Length(stop) => {
             scratch[0] = k as u8;
             scratch[1] = label as u8;
-            put_field(draft, at, 0x12, &scratch[0..stop])
+            put_field(draft, at, RULE_TAG, &scratch[0..stop])
         }
     }
 }

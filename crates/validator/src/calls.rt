@@ -23,7 +23,7 @@ pub fn lets_in(table: &[u8], document: &[u8], work: &mut [u32]) -> Verdict
     if work.len() < WORDS {
         return Verdict::Refused(Refusal::WorkTooShort);
     }
-    let answer = read_and_decide(table, document, &mut work[0..16384]);
+    let answer = read_and_decide(table, document, &mut work[0..WORDS]);
     clear_work(work);
     answer
 }
@@ -49,7 +49,7 @@ pub fn is_single_type(table: &[u8], work: &mut [u32]) -> Verdict
     if work.len() < WORDS {
         return Verdict::Refused(Refusal::WorkTooShort);
     }
-    let answer = read_and_test_single_type(table, &mut work[0..16384]);
+    let answer = read_and_test_single_type(table, &mut work[0..WORDS]);
     clear_work(work);
     answer
 }

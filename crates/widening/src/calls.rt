@@ -48,7 +48,7 @@ fn widen(
         return Written::Refused(Refusal::WorkTooShort);
     }
     let mut draft = [0u8; 32768];
-    let made = draft_widened(kind, source, old, addition, &mut work[0..16384], &mut draft);
+    let made = draft_widened(kind, source, old, addition, &mut work[0..WORDS], &mut draft);
     clear_work(work);
     deliver(&draft, made, out)
 }
