@@ -13,23 +13,6 @@ use Rattle.reader.specs.ExprAt.{_upTo_, exprAt, exprsAt}
 use Rattle.emitting.specs.declared.drafts.Gathering.{Gathering}
 use Rattle.emitting.specs.declared.drafts.Gathering.the-variants.{TooLarge, Upto}
 
--- an expression stands at a place
-pub record ExpressionAt (s : List ℕ) (at : ℕ) : Type 0 where
-  pub content : Content
-  pub next : ℕ
-  pub stands : exprAt s at ≡ just (content upTo next)
-
--- some expressions that end at a place
-pub record ExpressionsUpTo (s : List ℕ) (at n next : ℕ) : Type 0 where
-  pub contents : Contents
-  pub stand : exprsAt s at n ≡ just (contents upTo next)
-
--- What the first bytes of an expression say: its operands stand after them. There is at least one such byte.
-pub record Headed (s : List ℕ) (at width count next : ℕ) : Type 0 where
-  pub operands : ExpressionsUpTo s (at + width) count next
-  pub some : 1 ≤ width
-  pub inside : at + width ≤ length s
-
 -- from base, so many operands stand up to here, and they are these; no two are equal
 pub record Row (draft : List ℕ) (base count : ℕ) (ds : List Content) (end : ℕ) : Type 0 where
   pub stand : exprsAt draft base count ≡ just (operands ds upTo end)

@@ -33,6 +33,7 @@ fn gather_content(
     count: usize,
     end: usize,
     kept: &mut [u32],
+    marks: &mut [u32],
 ) -> Gathering
     requires { ⌜ ((q : Source (now content) 0 (now types) (lists .from) (lists .numbers) (now draft) 2 count end 1026)
         × TypesKept (now kept) (q .kept .list)) ⌝ }
@@ -56,6 +57,7 @@ fn gather_content(
         end,
         HEADED,
         kept,
+        marks,
     )
 }
 
@@ -71,6 +73,7 @@ fn gather_rule(
     count: usize,
     end: usize,
     kept: &mut [u32],
+    marks: &mut [u32],
 ) -> Gathering
     requires { ⌜ Merging (now old) (now add) v types results × (i < v .rules) × Ready (now draft) (now kept) count end ⌝ }
     ensures { λ r. ⌜ ((q : Merging (now (old .entry)) (now (add .entry)) v types results)
@@ -85,10 +88,28 @@ fn gather_rule(
     let words = types.words;
     if i < v.old_rules {
         let lists = results.old;
-        return gather_content(&old[from..to], &words, lists, draft, count, end, kept);
+        return gather_content(
+            &old[from..to],
+            &words,
+            lists,
+            draft,
+            count,
+            end,
+            kept,
+            marks,
+        );
     }
     let lists = results.addition;
-    gather_content(&add[from..to], &words[2..4], lists, draft, count, end, kept)
+    gather_content(
+        &add[from..to],
+        &words[2..4],
+        lists,
+        draft,
+        count,
+        end,
+        kept,
+        marks,
+    )
 }
 
 // The same if the rule is asked for.
@@ -104,6 +125,7 @@ fn gather_rule_if(
     count: usize,
     end: usize,
     kept: &mut [u32],
+    marks: &mut [u32],
 ) -> Gathering
     requires { ⌜ Merging (now old) (now add) v types results × (i < v .rules) × Ready (now draft) (now kept) count end ⌝ }
     ensures { λ r. ⌜ ((q : Merging (now (old .entry)) (now (add .entry)) v types results)
@@ -112,7 +134,19 @@ fn gather_rule_if(
         (gathered (k .kept .list) (onlyIf on (alts (q .of) (contentOfRule (q .table) i)))) r) ⌝ }
 {
     if on {
-        return gather_rule(old, add, v, i, types, results, draft, count, end, kept);
+        return gather_rule(
+            old,
+            add,
+            v,
+            i,
+            types,
+            results,
+            draft,
+            count,
+            end,
+            kept,
+            marks,
+        );
     }
     Gathering::Upto {
         next: 0,
@@ -133,6 +167,7 @@ fn gather_pair(
     count: usize,
     end: usize,
     kept: &mut [u32],
+    marks: &mut [u32],
 ) -> Gathering
     requires { ⌜ Merging (now old) (now add) v types results × Ready (now draft) (now kept) count end ⌝ }
     ensures { λ r. ⌜ ((q : Merging (now (old .entry)) (now (add .entry)) v types results)
@@ -159,6 +194,7 @@ fn gather_pair(
             total,
             last,
             kept,
+            marks,
         ) {
             Gathering::TooLarge => {
                 return Gathering::TooLarge;
@@ -194,6 +230,7 @@ fn gather_pair_if(
     count: usize,
     end: usize,
     kept: &mut [u32],
+    marks: &mut [u32],
 ) -> Gathering
     requires { ⌜ Merging (now old) (now add) v types results × Ready (now draft) (now kept) count end ⌝ }
     ensures { λ r. ⌜ ((q : Merging (now (old .entry)) (now (add .entry)) v types results)
@@ -202,7 +239,19 @@ fn gather_pair_if(
         (gathered (k .kept .list) (onlyIf on (joinedOf (alts (q .of)) (contentsOfPair (q .table) p)))) r) ⌝ }
 {
     if on {
-        return gather_pair(old, add, v, p, types, results, draft, count, end, kept);
+        return gather_pair(
+            old,
+            add,
+            v,
+            p,
+            types,
+            results,
+            draft,
+            count,
+            end,
+            kept,
+            marks,
+        );
     }
     Gathering::Upto {
         next: 0,
@@ -228,6 +277,7 @@ fn gather_set(
 {
     let rules = v.rules;
     let mut kept = [0u32; 8];
+    let mut marks = [0u32; 8160];
     let mut total = 0usize;
     let mut last = 2usize;
     let mut p: usize = 0;
@@ -244,6 +294,7 @@ fn gather_set(
             total,
             last,
             &mut kept,
+            &mut marks,
         ) {
             Gathering::TooLarge => {
                 return Gathering::TooLarge;

@@ -26,6 +26,7 @@ fn one_more(
     i: usize,
     count: usize,
     end: usize,
+    marks: &mut [u32],
 ) -> Gathering
     requires { ⌜ Kids (now parents) (now types) nodes i kids × Kept (now scratch) 4 count end × (end ≤ operandsEnd)
         × (scratchBytes ≤ length (now scratch)) ⌝ }
@@ -41,7 +42,7 @@ fn one_more(
         };
     }
     let fresh = put_sequence(scratch, end, parents, types, nodes, i, kids);
-    settle(scratch, 4, count, end, fresh, OPERANDS_END, 0)
+    settle(scratch, 4, count, end, fresh, OPERANDS_END, 0, marks)
 }
 
 // Gathers the child sequences of the nodes of a type.
@@ -58,12 +59,24 @@ fn gather(
     ensures { λ r. ⌜ GathersInRule (now (scratch .exit))
         (gathered [] (sequencesAmong (now (parents .entry)) (now (types .entry)) nodes k (numbersBelow nodes))) r ⌝ }
 {
+    let mut marks = [0u32; 255];
     let mut count: usize = 0;
     let mut end: usize = 4;
     let mut i: usize = 0;
     while i < nodes {
         let kids = children[i] as usize;
-        match one_more(scratch, parents, types, nodes, kids, k, i, count, end) {
+        match one_more(
+            scratch,
+            parents,
+            types,
+            nodes,
+            kids,
+            k,
+            i,
+            count,
+            end,
+            &mut marks,
+        ) {
             Gathering::TooLarge => {
                 return Gathering::TooLarge;
             }
