@@ -13,6 +13,10 @@ use Rattle.reader.specs.ExprAt.{_upTo_, exprAt, exprsAt}
 use Rattle.emitting.specs.declared.drafts.Gathering.{Gathering}
 use Rattle.emitting.specs.declared.drafts.Gathering.the-variants.{TooLarge, Upto}
 
+-- How long a draft is: a content, and two bytes before its operands, for each level that contents nest and one more.
+abbrev pub draftLength : ℕ
+draftLength = 33858
+
 -- from base, so many operands stand up to here, and they are these; no two are equal
 pub record Row (draft : List ℕ) (base count : ℕ) (ds : List Content) (end : ℕ) : Type 0 where
   pub stand : exprsAt draft base count ≡ just (operands ds upTo end)

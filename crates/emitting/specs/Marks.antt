@@ -26,6 +26,10 @@ unfoldable pub marksOf : ℕ → List Content → List ℕ
 marksOf before [] = []
 marksOf before (d ∷ ds) = mark before (contentBytes d) ∷ marksOf (before + length (contentBytes d)) ds
 
+-- how many words hold the marks of every row: those of the operands of a choice, for each level that contents nest
+abbrev pub marksLength : ℕ
+marksLength = 8160
+
 -- the first words are the marks of these operands, and there is room for those of as many as a choice can have
 pub record Marked (marks : List ℕ) (ds : List Content) : Type 0 where
   pub room : 255 ≤ length marks

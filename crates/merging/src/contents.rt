@@ -1,11 +1,12 @@
 // The content of a set of pairs of a union: what the contents of all their rules give, pair by pair and rule by rule, as one content.
-// `results` has the result types of each type of the union, `types` is the set of the types that have some, and `kept` that of the
-// result types that are among the operands.
+// `results` has the result types of each type of the union, `types` is the set of the types that have some, `kept` that of the
+// result types that are among the operands, and `marks` has the operands' marks.
 use emitting::completing::ContentMade;
 use emitting::completing::complete;
 use emitting::drafts::Gathering;
 use emitting::emitter::gather;
 use emitting::limits::HEADED;
+use emitting::limits::MARKS;
 use sets::four::Set4;
 use union::lists::Lists;
 use union::lists::TypeLists;
@@ -20,7 +21,8 @@ ghost use Rattle.sets.specs.Sets.{member};
 ghost use Rattle.union.specs.PairNumbers.{contentsOfPair, contentsIn};
 ghost use Rattle.union.specs.Walks.{listOfType};
 ghost use Rattle.union.specs.Rounds.{contentOfRule};
-ghost use Rattle.emitting.specs.Emitting.{Source, TypesKept};
+ghost use Rattle.emitting.specs.Drafts.{draftLength};
+ghost use Rattle.emitting.specs.Emitting.{Source, Noted};
 ghost use Rattle.emitting.specs.Completing.{Made};
 ghost use Rattle.merging.specs.Merging.{Merging, Ready, GathersInContent, GathersKept};
 
@@ -35,12 +37,12 @@ fn gather_content(
     kept: &mut [u32],
     marks: &mut [u32],
 ) -> Gathering
-    requires { ⌜ ((q : Source (now content) 0 (now types) (lists .from) (lists .numbers) (now draft) 2 count end 1026)
-        × TypesKept (now kept) (q .kept .list)) ⌝ }
+    requires { ⌜ ((q : Source (now content) 0 (now types) (lists .from) (lists .numbers) (now draft) 2 count end 1026
+        (length (now marks))) × Noted (now kept) (now marks) (q .kept .list)) ⌝ }
     ensures { λ r. ⌜ ((q : Source (now (content .entry)) 0 (now (types .entry)) (lists .from) (lists .numbers)
-        (now (draft .entry)) 2 count end 1026)
-        → TypesKept (now (kept .entry)) (q .kept .list)
-        → GathersKept (now (draft .exit)) (now (kept .exit))
+        (now (draft .entry)) 2 count end 1026 (length (now (marks .entry))))
+        → Noted (now (kept .entry)) (now (marks .entry)) (q .kept .list)
+        → GathersKept (now (draft .exit)) (now (kept .exit)) (now (marks .exit))
         (gathered (q .kept .list) (alts (listOfType (lists .from) (lists .numbers)) (q .there .content))) r) ⌝ }
 {
     let from = lists.from;
@@ -75,10 +77,10 @@ fn gather_rule(
     kept: &mut [u32],
     marks: &mut [u32],
 ) -> Gathering
-    requires { ⌜ Merging (now old) (now add) v types results × (i < v .rules) × Ready (now draft) (now kept) count end ⌝ }
+    requires { ⌜ Merging (now old) (now add) v types results × (i < v .rules) × Ready (now draft) (now kept) (now marks) count end ⌝ }
     ensures { λ r. ⌜ ((q : Merging (now (old .entry)) (now (add .entry)) v types results)
-        (k : Ready (now (draft .entry)) (now (kept .entry)) count end)
-        → GathersKept (now (draft .exit)) (now (kept .exit))
+        (k : Ready (now (draft .entry)) (now (kept .entry)) (now (marks .entry)) count end)
+        → GathersKept (now (draft .exit)) (now (kept .exit)) (now (marks .exit))
         (gathered (k .kept .list) (alts (q .of) (contentOfRule (q .table) i))) r) ⌝ }
 {
     let content_from = v.content_from;
@@ -127,10 +129,10 @@ fn gather_rule_if(
     kept: &mut [u32],
     marks: &mut [u32],
 ) -> Gathering
-    requires { ⌜ Merging (now old) (now add) v types results × (i < v .rules) × Ready (now draft) (now kept) count end ⌝ }
+    requires { ⌜ Merging (now old) (now add) v types results × (i < v .rules) × Ready (now draft) (now kept) (now marks) count end ⌝ }
     ensures { λ r. ⌜ ((q : Merging (now (old .entry)) (now (add .entry)) v types results)
-        (k : Ready (now (draft .entry)) (now (kept .entry)) count end)
-        → GathersKept (now (draft .exit)) (now (kept .exit))
+        (k : Ready (now (draft .entry)) (now (kept .entry)) (now (marks .entry)) count end)
+        → GathersKept (now (draft .exit)) (now (kept .exit)) (now (marks .exit))
         (gathered (k .kept .list) (onlyIf on (alts (q .of) (contentOfRule (q .table) i)))) r) ⌝ }
 {
     if on {
@@ -169,10 +171,10 @@ fn gather_pair(
     kept: &mut [u32],
     marks: &mut [u32],
 ) -> Gathering
-    requires { ⌜ Merging (now old) (now add) v types results × Ready (now draft) (now kept) count end ⌝ }
+    requires { ⌜ Merging (now old) (now add) v types results × Ready (now draft) (now kept) (now marks) count end ⌝ }
     ensures { λ r. ⌜ ((q : Merging (now (old .entry)) (now (add .entry)) v types results)
-        (k : Ready (now (draft .entry)) (now (kept .entry)) count end)
-        → GathersKept (now (draft .exit)) (now (kept .exit))
+        (k : Ready (now (draft .entry)) (now (kept .entry)) (now (marks .entry)) count end)
+        → GathersKept (now (draft .exit)) (now (kept .exit)) (now (marks .exit))
         (gathered (k .kept .list) (joinedOf (alts (q .of)) (contentsOfPair (q .table) p))) r) ⌝ }
 {
     let firsts = v.firsts;
@@ -232,10 +234,10 @@ fn gather_pair_if(
     kept: &mut [u32],
     marks: &mut [u32],
 ) -> Gathering
-    requires { ⌜ Merging (now old) (now add) v types results × Ready (now draft) (now kept) count end ⌝ }
+    requires { ⌜ Merging (now old) (now add) v types results × Ready (now draft) (now kept) (now marks) count end ⌝ }
     ensures { λ r. ⌜ ((q : Merging (now (old .entry)) (now (add .entry)) v types results)
-        (k : Ready (now (draft .entry)) (now (kept .entry)) count end)
-        → GathersKept (now (draft .exit)) (now (kept .exit))
+        (k : Ready (now (draft .entry)) (now (kept .entry)) (now (marks .entry)) count end)
+        → GathersKept (now (draft .exit)) (now (kept .exit)) (now (marks .exit))
         (gathered (k .kept .list) (onlyIf on (joinedOf (alts (q .of)) (contentsOfPair (q .table) p)))) r) ⌝ }
 {
     if on {
@@ -270,14 +272,14 @@ fn gather_set(
     results: TypeLists,
     draft: &mut [u8],
 ) -> Gathering
-    requires { ⌜ Merging (now old) (now add) v types results × (33858 ≤ length (now draft)) ⌝ }
+    requires { ⌜ Merging (now old) (now add) v types results × (draftLength ≤ length (now draft)) ⌝ }
     ensures { λ r. ⌜ ((q : Merging (now (old .entry)) (now (add .entry)) v types results)
         → GathersInContent (now (draft .exit))
         (gathered [] (joinedOf (alts (q .of)) (contentsIn (q .table) (member (set .words) 0)))) r) ⌝ }
 {
     let rules = v.rules;
     let mut kept = [0u32; 8];
-    let mut marks = [0u32; 8160];
+    let mut marks = [0u32; MARKS];
     let mut total = 0usize;
     let mut last = 2usize;
     let mut p: usize = 0;
@@ -327,7 +329,7 @@ pub fn content_of_set(
     results: TypeLists,
     draft: &mut [u8],
 ) -> ContentMade
-    requires { ⌜ Merging (now old) (now add) v types results × (33858 ≤ length (now draft)) ⌝ }
+    requires { ⌜ Merging (now old) (now add) v types results × (draftLength ≤ length (now draft)) ⌝ }
     ensures { λ r. ⌜ ((q : Merging (now (old .entry)) (now (add .entry)) v types results)
         → Regular (written (joinedOf (alts (q .of)) (contentsIn (q .table) (member (set .words) 0))))
         → Made (now (draft .exit)) (written (joinedOf (alts (q .of)) (contentsIn (q .table) (member (set .words) 0)))) r) ⌝ }
