@@ -51,8 +51,8 @@ use Rattle.emitting.proofs.FinishLaws.{
 }
 use Rattle.reader.proofs.ContentAtLaws.{FirstThere, first-of, others-from, none-there}
 use Rattle.union.specs.Walks.{listOfType}
-use Rattle.emitting.specs.Drafts.{Row, Kept, Newest, Unfit, TooWide, OperandsAdded, Gathers, Finished}
-use Rattle.emitting.specs.Marks.{Marked, GathersWith}
+use Rattle.emitting.specs.Drafts.{Row, Kept, Newest, Unfit, TooWide, OperandsAdded, Gathers, GathersWith, Finished}
+use Rattle.emitting.specs.Marks.{Marked}
 use Rattle.emitting.specs.Emitting.{RoomForMore, Source, Sources, TypesKept, Noted, Operands, Laid, Emits}
 use Rattle.emitting.proofs.WideLaws.{
   one-long,

@@ -20,8 +20,7 @@ use Rattle.reader.proofs.ExprLaws.{exprs-kept}
 use Rattle.union.specs.Walks.{listOfType}
 use Rattle.emitting.specs.declared.drafts.Gathering.{Gathering}
 use Rattle.emitting.specs.declared.drafts.Gathering.the-variants.{TooLarge, Upto}
-use Rattle.emitting.specs.Drafts.{Row, Kept, Newest, TooWide, OperandsAdded, Gathers}
-use Rattle.emitting.specs.Marks.{GathersWith}
+use Rattle.emitting.specs.Drafts.{Row, Kept, Newest, TooWide, OperandsAdded, Gathers, GathersWith}
 use Rattle.emitting.proofs.WideLaws.{wide-gathered}
 use Rattle.emitting.proofs.MarkLaws.{no-upto}
 

@@ -1,31 +1,31 @@
 -- The marks of operands:
---   print-small   a fingerprint is below 65536; mark-print, mark-before : what a mark holds
---   marked-none, marked-more, marked-front : no operand yet; one more; and marks after them do not matter
+--   print-small   a fingerprint is below 65536; fold-next, fold-done, print-short, print-long : it is folded byte by byte
+--   mark-print, mark-before : what a mark holds
+--   marked-none, marked-more, marked-front : no operand yet; one more; the words after a row do not matter
 --   part-words, part-long : the words lent for the rows within
 --   no-upto       too large is no list of operands
 use Prim.Native.Nat.{ℕ, suc, _+_, _-_, _*_, _/_, _%_, _≤_, _<_}
 use native.Mathlib.Omega.{arith}
 use native.Mathlib.Numerals.{add-one}
 use mathlib.Core.List.{List, [], _∷_, _++_}
-use mathlib.Core.Path.{_≡_, refl, sym, _∙_, ap, ap₂, subst}
+use mathlib.Core.Path.{_≡_, refl, sym, _∙_, ap, ap₂}
 use lib.ListN.{length, getD, take, drop, set, length-append, length-set, length-take, length-drop}
 use lib.Seq.{length-take-le, take-all, drop-cons, take-take, take-append-le, take-suc-set}
 use Rattle.grammar.specs.Content.{Content, operands}
 use Rattle.grammar.specs.ReadContent.{contentBytes, operandBytes}
-use Rattle.theory.specs.Alternatives.{gathered}
-use Rattle.emitting.specs.declared.drafts.Gathering.{Gathering}
 use Rattle.emitting.specs.declared.drafts.Gathering.the-variants.{TooLarge, Upto}
-use Rattle.emitting.specs.Drafts.{TooWide, Gathers}
-use Rattle.emitting.specs.Marks.{folded, fingerprint, mark, marksOf, Marked, GathersWith}
+use Rattle.emitting.specs.Marks.{folded, fingerprint, mark, marksOf, Marked}
 
 folded-small : (h : ℕ) (bs : List ℕ) → h < 65536 → folded h bs < 65536
 unfolding folded
 folded-small h [] l = l
 folded-small h (b ∷ bs) l = folded-small ((h * 31 + b) % 65536) bs (omega arith)
 
-pub print-small : (bs : List ℕ) → fingerprint bs < 65536
+pub print-small : (print : ℕ) (bs : List ℕ) → print ≡ fingerprint bs → print < 65536
 unfolding fingerprint
-print-small bs = folded-small 0 (take 16 bs) (omega arith)
+print-small print bs e =
+    let h : fingerprint bs < 65536 = folded-small 0 (take 16 bs) (omega arith) in
+    omega arith
 
 -- the fingerprint is folded byte by byte, up to the sixteenth
 module _ (d : List ℕ) (i to h : ℕ) where
@@ -130,6 +130,3 @@ module _ (l : List ℕ) where
 
 pub no-upto : {n count end : ℕ} {A : Type 0} → TooLarge ≡ Upto n count end → A
 no-upto e = let z : _≡_ {A = ℕ} 0 1 = cc e in absurd (omega arith)
-
-pub print-below : (print : ℕ) (bs : List ℕ) → print ≡ fingerprint bs → print < 65536
-print-below print bs e = let h = print-small bs in omega arith

@@ -39,8 +39,7 @@ use Rattle.reader.specs.ExprAt.{_upTo_, exprAt}
 use Rattle.reader.proofs.ExprLaws.{expr-bytes, expr-forward}
 use Rattle.emitting.specs.declared.drafts.Gathering.{Gathering}
 use Rattle.emitting.specs.declared.drafts.Gathering.the-variants.{TooLarge, Upto}
-use Rattle.emitting.specs.Drafts.{Row, OperandsAdded, Gathers}
-use Rattle.emitting.specs.Marks.{Marked, GathersWith}
+use Rattle.emitting.specs.Drafts.{Row, OperandsAdded, Gathers, GathersWith}
 use Rattle.emitting.specs.Emitting.{RoomForMore, TypesKept, Noted}
 use Rattle.emitting.proofs.GatherLaws.{gathers-then, told-large, told-upto, first-wide, with-as, with-large, typesFrom, types-first}
 

@@ -1,6 +1,6 @@
 -- The draft in which a content is made. What stands in it is said by reading it back with `exprAt` and `exprsAt`; the records that
 -- hold a content or a list are what a caller has to show once, and an answer is stated for each such record.
-use Prim.Native.Nat.{ℕ, _+_, _-_, _≤_, _<_}
+use Prim.Native.Nat.{ℕ, _-_, _≤_, _<_}
 use mathlib.Core.List.{List}
 use mathlib.Core.Option.{some as just}
 use mathlib.Core.Path.{_≡_}
@@ -57,6 +57,12 @@ pub record OperandsAdded (before after : List ℕ) (base old : ℕ) (ds : List C
 unfoldable pub Gathers : List ℕ → List ℕ → ℕ → ℕ → ℕ → ℕ → List Content → Gathering → Type 0
 Gathers before after base old limit next ds TooLarge = TooWide (limit - base) ds
 Gathers before after base old limit next ds (Upto n count end) = (n ≡ next) × OperandsAdded before after base old ds limit count end
+
+-- the same, and where the operands fit, what is noted of them
+pub record GathersWith (Holds : List Content → Type 0) (before after : List ℕ) (base old limit next : ℕ) (ds : List Content)
+    (r : Gathering) : Type 0 where
+  pub gathers : Gathers before after base old limit next ds r
+  pub noted : {n count end : ℕ} → r ≡ Upto n count end → Holds ds
 
 -- one finished content stands at a place, and the bytes before it are kept
 pub record Finished (before after : List ℕ) (start : ℕ) (c : Content) (end : ℕ) : Type 0 where

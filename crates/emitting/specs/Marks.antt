@@ -5,9 +5,6 @@ use mathlib.Core.Path.{_≡_}
 use lib.ListN.{length, take}
 use Rattle.grammar.specs.Content.{Content}
 use Rattle.grammar.specs.ReadContent.{contentBytes}
-use Rattle.emitting.specs.declared.drafts.Gathering.{Gathering}
-use Rattle.emitting.specs.declared.drafts.Gathering.the-variants.{Upto}
-use Rattle.emitting.specs.Drafts.{Gathers}
 
 -- bytes folded into a number below 65536, from such a number on
 unfoldable pub folded : ℕ → List ℕ → ℕ
@@ -34,9 +31,3 @@ marksLength = 8160
 pub record Marked (marks : List ℕ) (ds : List Content) : Type 0 where
   pub room : 255 ≤ length marks
   pub there : take (length ds) marks ≡ marksOf 0 ds
-
--- the answer of a gathering; where the operands fit, with what is noted of them
-pub record GathersWith (Holds : List Content → Type 0) (before after : List ℕ) (base old limit next : ℕ) (ds : List Content)
-    (r : Gathering) : Type 0 where
-  pub gathers : Gathers before after base old limit next ds r
-  pub noted : {n count end : ℕ} → r ≡ Upto n count end → Holds ds

@@ -13,8 +13,8 @@ ghost use Rattle.grammar.specs.Lists.{any};
 ghost use Rattle.grammar.specs.Content.{choiceOf};
 ghost use Rattle.grammar.specs.ReadContent.{sameContent};
 ghost use Rattle.theory.specs.Alternatives.{gathered};
-ghost use Rattle.emitting.specs.Drafts.{Kept, Newest, Finished};
-ghost use Rattle.emitting.specs.Marks.{folded, fingerprint, Marked, GathersWith};
+ghost use Rattle.emitting.specs.Drafts.{Kept, Newest, Finished, GathersWith};
+ghost use Rattle.emitting.specs.Marks.{folded, fingerprint, Marked};
 
 // The operands after gathering, and where the source goes on; or they do not fit.
 pub enum Gathering {

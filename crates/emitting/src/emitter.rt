@@ -1,6 +1,7 @@
 // From a source content to the tidied content of the result. The alternatives that the source content gives are gathered in the
 // draft, each once; their choice is the content. `types` is the set of the source types that have result types, and `from` and
-// `results` give the result types of each.
+// `results` give the result types of each. `marks` has the marks of the operands, and after those of a row there is room for the
+// marks of the rows within.
 use crate::drafts::Gathering;
 use crate::drafts::finish;
 use crate::drafts::keep;
@@ -21,7 +22,8 @@ ghost use Rattle.grammar.specs.Lists.{joinedOf};
 ghost use Rattle.grammar.specs.Content.{empty, type, operands};
 ghost use Rattle.theory.specs.Alternatives.{alts, altsOfEach, written, gathered};
 ghost use Rattle.union.specs.Walks.{listOfType};
-ghost use Rattle.emitting.specs.Marks.{Marked, GathersWith};
+ghost use Rattle.emitting.specs.Drafts.{GathersWith};
+ghost use Rattle.emitting.specs.Marks.{Marked};
 ghost use Rattle.emitting.specs.Emitting.{RoomForMore, Source, Sources, Noted, Operands, Emits};
 
 // Where the operands of an expression end in the draft, and where the source goes on; or they do not fit.
@@ -59,7 +61,8 @@ fn gather_empty(
     settle(draft, base, count, end, end + 1, limit, next, marks)
 }
 
-// A result type as an alternative. `kept` is the set of the result types that are among the operands.
+// A result type as an alternative. `kept` is the set of the result types that are among the operands. Its two bytes, 2 and its number,
+// fold into 2 * 31 and its number: its fingerprint.
 fn gather_result(
     result: u8,
     draft: &mut [u8],
@@ -117,23 +120,19 @@ fn gather_types(
         → GathersWith (Noted (now (kept .exit)) (now (marks .exit))) (now (draft .entry)) (now (draft .exit)) base end limit next
         (gathered (q .kept .list) (map type (take (stop - first) (drop first (now (results .entry)))))) r) ⌝ }
 {
-    let mut total = count;
-    let mut last = end;
+    let mut count = count;
+    let mut end = end;
     let mut i = first;
     while i < stop {
         if results.len() <= i {
-            return Gathering::Upto {
-                next,
-                count: total,
-                end: last,
-            };
+            return Gathering::Upto { next, count, end };
         }
         match gather_result(
             results[i],
             draft,
             base,
-            total,
-            last,
+            count,
+            end,
             limit,
             next,
             kept,
@@ -147,17 +146,13 @@ fn gather_types(
                 count: more,
                 end: fresh,
             } => {
-                total = more;
-                last = fresh;
+                count = more;
+                end = fresh;
             }
         }
         i += 1;
     }
-    Gathering::Upto {
-        next,
-        count: total,
-        end: last,
-    }
+    Gathering::Upto { next, count, end }
 }
 
 // The result types of a source type as alternatives.
@@ -582,10 +577,8 @@ fn emit_row(
         (operands (map written (altsOfEach (listOfType (now (from .entry)) (now (results .entry))) (q .there .contents)))) r) ⌝ }
 {
     if n == 0 {
-        return Emitted::Upto {
-            next: at,
-            end: place,
-        };
+        let next = at;
+        return Emitted::Upto { next, end: place };
     }
     let mut kept = [0u32; 8];
     match gather(

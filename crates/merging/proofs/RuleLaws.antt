@@ -28,8 +28,7 @@ use Rattle.union.specs.PairNumbers.{ruleNumbered}
 use Rattle.union.proofs.ViewLaws.{content-is, seen}
 use Rattle.emitting.specs.declared.drafts.Gathering.{Gathering}
 use Rattle.emitting.specs.declared.drafts.Gathering.the-variants.{TooLarge, Upto}
-use Rattle.emitting.specs.Drafts.{Gathers}
-use Rattle.emitting.specs.Marks.{GathersWith}
+use Rattle.emitting.specs.Drafts.{Gathers, GathersWith}
 use Rattle.emitting.specs.Emitting.{Maps, Source, Noted}
 use Rattle.merging.specs.Merging.{Merging, Ready, GathersInContent, GathersKept}
 use Rattle.merging.proofs.AgreeLaws.{alts-agree, nesting-renamed}

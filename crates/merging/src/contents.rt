@@ -179,8 +179,8 @@ fn gather_pair(
 {
     let firsts = v.firsts;
     let rules = v.rules;
-    let mut total = count;
-    let mut last = end;
+    let mut count = count;
+    let mut end = end;
     let mut i: usize = 0;
     while i < rules {
         let first = firsts[i];
@@ -193,8 +193,8 @@ fn gather_pair(
             types,
             results,
             draft,
-            total,
-            last,
+            count,
+            end,
             kept,
             marks,
         ) {
@@ -206,17 +206,14 @@ fn gather_pair(
                 count: more,
                 end: fresh,
             } => {
-                total = more;
-                last = fresh;
+                count = more;
+                end = fresh;
             }
         }
         i += 1;
     }
-    Gathering::Upto {
-        next: 0,
-        count: total,
-        end: last,
-    }
+    let next = 0;
+    Gathering::Upto { next, count, end }
 }
 
 // The same if the pair is asked for.
@@ -280,8 +277,8 @@ fn gather_set(
     let rules = v.rules;
     let mut kept = [0u32; 8];
     let mut marks = [0u32; MARKS];
-    let mut total = 0usize;
-    let mut last = 2usize;
+    let mut count = 0usize;
+    let mut end = 2usize;
     let mut p: usize = 0;
     while p < rules {
         match gather_pair_if(
@@ -293,8 +290,8 @@ fn gather_set(
             types,
             results,
             draft,
-            total,
-            last,
+            count,
+            end,
             &mut kept,
             &mut marks,
         ) {
@@ -306,17 +303,14 @@ fn gather_set(
                 count: more,
                 end: fresh,
             } => {
-                total = more;
-                last = fresh;
+                count = more;
+                end = fresh;
             }
         }
         p += 1;
     }
-    Gathering::Upto {
-        next: 0,
-        count: total,
-        end: last,
-    }
+    let next = 0;
+    Gathering::Upto { next, count, end }
 }
 
 // Makes the content of a set of pairs at the front of the draft.

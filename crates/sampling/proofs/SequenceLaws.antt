@@ -20,8 +20,8 @@ use Rattle.reader.specs.ExprAt.{_upTo_}
 use Rattle.reader.proofs.ExprLaws.{expr-of, exprs-none, exprs-kept}
 use Rattle.emitting.specs.declared.drafts.Gathering.{Gathering}
 use Rattle.emitting.specs.declared.drafts.Gathering.the-variants.{TooLarge, Upto}
-use Rattle.emitting.specs.Drafts.{Row, Kept, Newest, TooWide, Gathers}
-use Rattle.emitting.specs.Marks.{Marked, GathersWith}
+use Rattle.emitting.specs.Drafts.{Row, Kept, Newest, TooWide, Gathers, GathersWith}
+use Rattle.emitting.specs.Marks.{Marked}
 use Rattle.writer.specs.Writing.{Put}
 use Rattle.emitting.proofs.MarkLaws.{marked-none}
 use Rattle.emitting.proofs.WideLaws.{wide-gathered}

@@ -1,9 +1,9 @@
 -- `is_there` meets its contract. The loop's invariant: an equal one is among all operands just where it is among those from the
 -- next mark on.
-use Prim.Native.Nat.{ℕ, _+_, _-_, _≤_, _<_}
+use Prim.Native.Nat.{ℕ, _-_, _≤_, _<_}
 use native.Mathlib.Omega.{arith}
 use mathlib.Core.List.{List}
-use mathlib.Core.Path.{_≡_, sym, _∙_, ap, subst}
+use mathlib.Core.Path.{_≡_, sym, _∙_, ap}
 use lib.ListN.{take, drop}
 use Rattle.grammar.specs.ReadContent.{contentBytes}
 use Rattle.reader.proofs.ExprLaws.{expr-bytes, expr-forward}

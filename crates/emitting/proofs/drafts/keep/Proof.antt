@@ -3,7 +3,7 @@ use native.Mathlib.Omega.{arith}
 use mathlib.Core.Path.{refl}
 use borrow.Author.Needs.{needs}
 use Rattle.emitting.specs.Drafts.{Gathers}
-use Rattle.emitting.proofs.MarkLaws.{print-below, no-upto}
+use Rattle.emitting.proofs.MarkLaws.{print-small, no-upto}
 use Rattle.emitting.proofs.KeptLaws.{more-row, more-marked, too-long, too-many}
 use Rattle.emitting.proofs.drafts.keep.Statement.{statement}
 use Rattle.emitting.proofs.drafts.keep.Tie as tie
@@ -19,19 +19,19 @@ returns-2 c =
     λ q t m. record { gathers = too-many _ _ _ _ _ _ q (c .before .before .pre .1) t (c .if2 .taken); noted = λ u. no-upto u }
 
 mul-marks : tie.Need-mul-marks
-mul-marks c = let p = print-below _ _ (c .before .before .pre .3) in omega arith
+mul-marks c = let p = print-small _ _ (c .before .before .pre .3) in omega arith
 
 sub-marks : tie.Need-sub-marks
 sub-marks c = let r = c .before .before .pre .0 .0 .kept .row .forward in omega arith
 
 add-marks : tie.Need-add-marks
-add-marks c = let p = print-below _ _ (c .before .before .pre .3) in omega arith
+add-marks c = let p = print-small _ _ (c .before .before .pre .3) in omega arith
 
 cast-marks : tie.Need-cast-marks
-cast-marks c = let p = print-below _ _ (c .before .before .pre .3) in omega arith
+cast-marks c = let p = print-small _ _ (c .before .before .pre .3) in omega arith
 
 mul-marks-2 : tie.Need-mul-marks-2
-mul-marks-2 c = let p = print-below _ _ (c .before .before .pre .3) in omega arith
+mul-marks-2 c = let p = print-small _ _ (c .before .before .pre .3) in omega arith
 
 slice-write-marks : tie.Need-slice-write-marks
 slice-write-marks c = let m = c .before .before .pre .0 .2 .room in omega arith

@@ -270,9 +270,6 @@ module _ {s : List ℕ} {at n : ℕ} {types from results d : List ℕ} {base cou
   choices-of b e =
       counted-of standard s at n (q .there) choice e (omega arith) (omega arith) (ap (getElem? operators) b ∙ operator-choice)
 
-emit-row-returns : (t : ℕ) → emit-row-lts.Need-returns (emit-row-calls t) (emit-row-at t) emit-row.Post
-emit-row-returns t c = λ q. no-operands q _ (c .if1 .taken)
-
 emit-row-add-gather : (t : ℕ) → emit-row-lts.Need-add-gather (emit-row-calls t) (emit-row-at t) emit-row.Post
 emit-row-add-gather t c =
     let q = c .before .before .before .before .before .before .before .before .pre .1 in
@@ -288,9 +285,6 @@ emit-row-add-gather-3 t c =
     let q = c .before .before .before .before .before .before .before .before .pre .1 in
     omega arith
 
-emit-row-slice-aggregate-gather : (t : ℕ) → emit-row-lts.Need-slice-aggregate-gather (emit-row-calls t) (emit-row-at t) emit-row.Post
-emit-row-slice-aggregate-gather t c = refl
-
 emit-row-gather-requires : (t : ℕ) → emit-row-lts.Need-gather-requires (emit-row-calls t) (emit-row-at t) emit-row.Post
 emit-row-gather-requires t c κs =
     let a = c .before .before .before .before .before .before .before .before .before .before .args in
@@ -299,12 +293,6 @@ emit-row-gather-requires t c κs =
     let m = c .before .before .before .before .before .before .before .before .before .before .pre .0 in
     let q = c .before .before .before .before .before .before .before .before .before .before .pre .1 in
     (omega arith, (first-operand q res some, operand-noted q res some (a .marks .now) refl))
-
-emit-row-enum-told : (t : ℕ) → emit-row-lts.Need-enum-told (emit-row-calls t) (emit-row-at t) emit-row.Post
-emit-row-enum-told t c = search needs
-
-emit-row-enum-known-next : (t : ℕ) → emit-row-lts.Need-enum-known-next (emit-row-calls t) (emit-row-at t) emit-row.Post
-emit-row-enum-known-next t c = search needs
 
 emit-row-finish-requires : (t : ℕ) → emit-row-lts.Need-finish-requires (emit-row-calls t) (emit-row-at t) emit-row.Post
 emit-row-finish-requires t c κs =
@@ -323,9 +311,6 @@ emit-row-add-if2 t c =
 emit-row-same-length : (t : ℕ) → emit-row-lts.Need-same-length (emit-row-calls t) (emit-row-at t) emit-row.Post
 emit-row-same-length t c =
     c .before .before .before .finish .kept .0 ∙ c .before .before .before .before .before .before .before .before .before .before .before .before .before .gather .kept .1 .1 .1 .1 .1 .0
-
-emit-row-same-length-2 : (t : ℕ) → emit-row-lts.Need-same-length-2 (emit-row-calls t) (emit-row-at t) emit-row.Post
-emit-row-same-length-2 t c = c .before .before .before .before .before .before .before .before .before .before .before .before .before .gather .kept .1 .1 .1 .1 .1 .1 .1 .1 .1 .1 .1 .0
 
 emit-row-returns-2 : (t : ℕ) → emit-row-lts.Need-returns-2 (emit-row-calls t) (emit-row-at t) emit-row.Post
 emit-row-returns-2 t c =
@@ -361,12 +346,6 @@ emit-row-emit-row-requires t c κs =
     let i = others .there .inside in
     (omega arith, others)
 
-emit-row-same-length-3 : (t : ℕ) → emit-row-lts.Need-same-length-3 (emit-row-calls t) (emit-row-at t) emit-row.Post
-emit-row-same-length-3 t c = c .before .before .before .before .before .before .before .gather .kept .1 .1 .1 .1 .1 .0
-
-emit-row-same-length-4 : (t : ℕ) → emit-row-lts.Need-same-length-4 (emit-row-calls t) (emit-row-at t) emit-row.Post
-emit-row-same-length-4 t c = c .before .before .before .before .before .before .before .gather .kept .1 .1 .1 .1 .1 .1 .1 .1 .1 .1 .1 .0
-
 emit-row-returns-3 : (t : ℕ) → emit-row-lts.Need-returns-3 (emit-row-calls t) (emit-row-at t) emit-row.Post
 emit-row-returns-3 t c =
     let a = c .before .before .before .before .before .before .before .before .before .before .before .before .before .before .before .before .before .before .args in
@@ -399,9 +378,6 @@ gather-shared-slice-read-wide t c =
     let q = c .before .before .before .before .before .before .before .before .pre .1 .0 in
     content-inside standard _ _ (q .there) .0
 
-gather-wide-requires : (t : ℕ) → gather-lts.Need-wide-requires (gather-calls t) (gather-at t) gather.Post
-gather-wide-requires t c κs = search needs
-
 gather-add-t18 : (t : ℕ) → gather-lts.Need-add-t18 (gather-calls t) (gather-at t) gather.Post
 gather-add-t18 t c =
     let q = c .before .before .before .before .before .before .before .before .before .before .pre .1 .0 in
@@ -425,9 +401,6 @@ gather-add-wide t c =
 
 gather-shared-slice-read-wide-2 : (t : ℕ) → gather-lts.Need-shared-slice-read-wide-2 (gather-calls t) (gather-at t) gather.Post
 gather-shared-slice-read-wide-2 t c = type-there standard _ _ (c .before .before .before .before .before .before .before .before .before .before .before .pre .1 .0 .there) (sym (c .before .before .wide .ensures .0) ∙ c .before .match .keys3) .0
-
-gather-wide-requires-2 : (t : ℕ) → gather-lts.Need-wide-requires-2 (gather-calls t) (gather-at t) gather.Post
-gather-wide-requires-2 t c κs = search needs
 
 gather-add-gather-type : (t : ℕ) → gather-lts.Need-add-gather-type (gather-calls t) (gather-at t) gather.Post
 gather-add-gather-type t c =
@@ -459,12 +432,6 @@ gather-returns t c =
     let b = sym (c .before .wide .ensures .0) ∙ c .match .keys1 in
     λ q s. none-gives q _ b s
 
-gather-same-length : (t : ℕ) → gather-lts.Need-same-length (gather-calls t) (gather-at t) gather.Post
-gather-same-length t c = c .before .before .before .before .gather-empty .kept .0
-
-gather-same-length-2 : (t : ℕ) → gather-lts.Need-same-length-2 (gather-calls t) (gather-at t) gather.Post
-gather-same-length-2 t c = c .before .before .before .before .gather-empty .kept .1 .1 .1 .1 .1 .1 .0
-
 gather-returns-2 : (t : ℕ) → gather-lts.Need-returns-2 (gather-calls t) (gather-at t) gather.Post
 gather-returns-2 t c =
     let b = sym (c .before .before .before .before .before .before .before .before .wide .ensures .0) ∙ c .before .before .before .before .before .before .before .match .keys2 in
@@ -472,31 +439,10 @@ gather-returns-2 t c =
     (s .types)
     (empty-gives q _ b _ _ (c .before .before .before .before .gather-empty .ensures (source-room q) (s .marked)))
 
-gather-same-length-3 : (t : ℕ) → gather-lts.Need-same-length-3 (gather-calls t) (gather-at t) gather.Post
-gather-same-length-3 t c = c .before .before .before .before .before .before .gather-type .kept .1 .1 .1 .0
-
-gather-same-length-4 : (t : ℕ) → gather-lts.Need-same-length-4 (gather-calls t) (gather-at t) gather.Post
-gather-same-length-4 t c = c .before .before .before .before .before .before .gather-type .kept .1 .1 .1 .1 .1 .1 .1 .1 .1 .0
-
-gather-same-length-5 : (t : ℕ) → gather-lts.Need-same-length-5 (gather-calls t) (gather-at t) gather.Post
-gather-same-length-5 t c = c .before .before .before .before .before .before .gather-type .kept .1 .1 .1 .1 .1 .1 .1 .1 .1 .1 .0
-
 gather-returns-3 : (t : ℕ) → gather-lts.Need-returns-3 (gather-calls t) (gather-at t) gather.Post
 gather-returns-3 t c =
     let b = sym (c .before .before .before .before .before .before .before .before .before .before .before .before .before .wide .ensures .0) ∙ c .before .before .before .before .before .before .before .before .before .before .before .before .match .keys3 in
     λ q s. type-gives q b _ (c .before .before .before .before .before .before .before .before .before .before .wide2 .ensures .0) _ _ (c .before .before .before .before .before .before .gather-type .ensures (source-room q) s)
-
-gather-same-length-6 : (t : ℕ) → gather-lts.Need-same-length-6 (gather-calls t) (gather-at t) gather.Post
-gather-same-length-6 t c = c .before .before .before .before .before .before .gather-compound .kept .1 .1 .1 .1 .1 .0
-
-gather-same-length-7 : (t : ℕ) → gather-lts.Need-same-length-7 (gather-calls t) (gather-at t) gather.Post
-gather-same-length-7 t c = c .before .before .before .before .before .before .gather-compound .kept .1 .1 .1 .1 .1 .1 .1 .1 .1 .1 .0
-
-gather-same-length-8 : (t : ℕ) → gather-lts.Need-same-length-8 (gather-calls t) (gather-at t) gather.Post
-gather-same-length-8 t c = c .before .before .before .before .before .before .gather-compound .kept .1 .1 .1 .1 .1 .1 .1 .1 .1 .1 .1 .0
-
-gather-returns-4 : (t : ℕ) → gather-lts.Need-returns-4 (gather-calls t) (gather-at t) gather.Post
-gather-returns-4 t c = c .before .before .before .before .before .before .gather-compound .ensures
 
 gather-around-shared-slice-read-operator : (t : ℕ) → gather-around-lts.Need-shared-slice-read-operator (gather-around-calls t) (gather-around-at t) gather-around.Post
 gather-around-shared-slice-read-operator t c =
@@ -566,12 +512,6 @@ gather-around-emit-row-requires t c κs =
     let i = content-inside standard _ _ (q .there) in
     (omega arith, around-operands q res (single-of standard _ _ (q .there) res b) _ (part-words (a .marks .now) (c .before .before .before .before .before .before .before .before .before .before .before .pre .1 .1 .1 .room)))
 
-gather-around-enum-told : (t : ℕ) → gather-around-lts.Need-enum-told (gather-around-calls t) (gather-around-at t) gather-around.Post
-gather-around-enum-told t c = search needs
-
-gather-around-enum-known-next : (t : ℕ) → gather-around-lts.Need-enum-known-next (gather-around-calls t) (gather-around-at t) gather-around.Post
-gather-around-enum-known-next t c = search needs
-
 gather-around-settle-requires : (t : ℕ) → gather-around-lts.Need-settle-requires (gather-around-calls t) (gather-around-at t) gather-around.Post
 gather-around-settle-requires t c κs =
     let a = c .before .before .before .before .before .before .before .before .before .before .before .before .before .before .before .before .before .before .before .before .before .args in
@@ -584,9 +524,6 @@ gather-around-settle-requires t c κs =
     let has = sym (found .0) ∙ c .before .before .before .before .before .before .before .before .before .before .before .before .if1 .taken in
     let g = c .before .before .before .before .before .before .before .before .before .emit-row .ensures (around-operands q res one _ (part-words (a .marks .now) (m .room))) in
     ((around-newest q res one has _ _ g (c .before .before .before .next .given .1) (c .before .before .before .before .before .before .before .before .before .emit-row .kept .1 .1 .1 .1 .1 .1 .0), source-marked q m _), q .fits, q .small)
-
-gather-around-same-length : (t : ℕ) → gather-around-lts.Need-same-length (gather-around-calls t) (gather-around-at t) gather-around.Post
-gather-around-same-length t c = c .before .before .before .before .before .before .emit-row .kept .1 .1 .1 .1 .1 .1 .0 ∙ simp length-set
 
 gather-around-same-length-2 : (t : ℕ) → gather-around-lts.Need-same-length-2 (gather-around-calls t) (gather-around-at t) gather-around.Post
 gather-around-same-length-2 t c = part-long (c .before .before .before .before .before .before .before .before .before .before .before .before .before .before .before .before .before .before .args .marks .now) (c .before .before .before .before .before .before .emit-row .last .1 .1 .1 .1 .1 .1 .1 .1 .1 .0) (c .before .before .before .before .before .before .before .before .before .before .before .before .before .before .before .before .before .before .pre .1 .1 .1 .room) (c .before .before .before .before .before .before .emit-row .kept .1 .1 .1 .1 .1 .1 .1 .1 .1 .0)
@@ -602,9 +539,6 @@ gather-around-returns t c =
     let has = sym (found .0) ∙ c .before .before .before .before .before .before .before .before .before .if1 .taken in
     let g = c .before .before .before .before .before .before .emit-row .ensures (around-operands q res one _ (part-words (a .marks .now) (m .room))) in
     around-wide q res one has _ _ g (c .enum-told .given .1)
-
-gather-around-same-length-3 : (t : ℕ) → gather-around-lts.Need-same-length-3 (gather-around-calls t) (gather-around-at t) gather-around.Post
-gather-around-same-length-3 t c = c .before .before .before .before .before .before .before .before .before .before .before .before .emit-row .kept .1 .1 .1 .1 .1 .1 .0 ∙ simp length-set
 
 gather-around-same-length-4 : (t : ℕ) → gather-around-lts.Need-same-length-4 (gather-around-calls t) (gather-around-at t) gather-around.Post
 gather-around-same-length-4 t c = c .before .before .settle .kept .1 .1 .1 .1 .1 .1 .1 .0 ∙ part-long (c .before .before .before .before .before .before .before .before .before .before .before .before .before .before .before .before .before .before .before .before .before .before .before .before .args .marks .now) (c .before .before .before .before .before .before .before .before .before .before .before .before .emit-row .last .1 .1 .1 .1 .1 .1 .1 .1 .1 .0) (c .before .before .before .before .before .before .before .before .before .before .before .before .before .before .before .before .before .before .before .before .before .before .before .before .pre .1 .1 .1 .room) (c .before .before .before .before .before .before .before .before .before .before .before .before .emit-row .kept .1 .1 .1 .1 .1 .1 .1 .1 .1 .0)
@@ -636,12 +570,6 @@ gather-around-returns-3 t c =
 gather-around-gather-empty-requires : (t : ℕ) → gather-around-lts.Need-gather-empty-requires (gather-around-calls t) (gather-around-at t) gather-around.Post
 gather-around-gather-empty-requires t c κs = (source-room (c .before .before .before .before .before .before .before .before .before .before .before .before .pre .1 .1 .0), c .before .before .before .before .before .before .before .before .before .before .before .before .pre .1 .1 .1)
 
-gather-around-same-length-5 : (t : ℕ) → gather-around-lts.Need-same-length-5 (gather-around-calls t) (gather-around-at t) gather-around.Post
-gather-around-same-length-5 t c = c .before .before .before .before .gather-empty .kept .0
-
-gather-around-same-length-6 : (t : ℕ) → gather-around-lts.Need-same-length-6 (gather-around-calls t) (gather-around-at t) gather-around.Post
-gather-around-same-length-6 t c = c .before .before .before .before .gather-empty .kept .1 .1 .1 .1 .1 .1 .0
-
 gather-around-returns-4 : (t : ℕ) → gather-around-lts.Need-returns-4 (gather-around-calls t) (gather-around-at t) gather-around.Post
 gather-around-returns-4 t c =
     let a = c .before .before .before .before .before .before .before .before .before .before .before .before .before .before .before .before .before .args in
@@ -657,9 +585,6 @@ gather-compound-shared-slice-read-wide : (t : ℕ) → gather-compound-lts.Need-
 gather-compound-shared-slice-read-wide t c =
     let q = c .before .before .before .before .before .before .before .before .pre .1 .1 .0 in
     content-inside standard _ _ (q .there) .0
-
-gather-compound-wide-requires : (t : ℕ) → gather-compound-lts.Need-wide-requires (gather-compound-calls t) (gather-compound-at t) gather-compound.Post
-gather-compound-wide-requires t c κs = search needs
 
 gather-compound-add-gather-row : (t : ℕ) → gather-compound-lts.Need-add-gather-row (gather-compound-calls t) (gather-compound-at t) gather-compound.Post
 gather-compound-add-gather-row t c =
@@ -680,9 +605,6 @@ gather-compound-shared-slice-read-wide-2 t c =
     let b = sym (c .before .before .wide .ensures .0) ∙ c .before .if1 .taken in
     count-there standard _ _ (q .there) (omega arith) (omega arith)
 
-gather-compound-wide-requires-2 : (t : ℕ) → gather-compound-lts.Need-wide-requires-2 (gather-compound-calls t) (gather-compound-at t) gather-compound.Post
-gather-compound-wide-requires-2 t c κs = search needs
-
 gather-compound-gather-row-requires : (t : ℕ) → gather-compound-lts.Need-gather-row-requires (gather-compound-calls t) (gather-compound-at t) gather-compound.Post
 gather-compound-gather-row-requires t c κs =
     let a = c .before .before .before .before .before .before .before .before .before .before .before .before .before .before .before .args in
@@ -692,15 +614,6 @@ gather-compound-gather-row-requires t c κs =
     let b = sym (c .before .before .before .before .before .before .wide .ensures .0) ∙ c .before .before .before .before .before .if1 .taken in
     let i = count-there standard _ _ (q .there) (omega arith) (omega arith) in
     (omega arith, (choice-sources q res (choices-of q b (c .before .before .before .wide2 .ensures .0)), c .before .before .before .before .before .before .before .before .before .before .before .before .before .before .before .pre .1 .1 .1))
-
-gather-compound-same-length : (t : ℕ) → gather-compound-lts.Need-same-length (gather-compound-calls t) (gather-compound-at t) gather-compound.Post
-gather-compound-same-length t c = c .before .before .before .before .before .before .gather-row .kept .1 .1 .1 .1 .1 .1 .0
-
-gather-compound-same-length-2 : (t : ℕ) → gather-compound-lts.Need-same-length-2 (gather-compound-calls t) (gather-compound-at t) gather-compound.Post
-gather-compound-same-length-2 t c = c .before .before .before .before .before .before .gather-row .kept .1 .1 .1 .1 .1 .1 .1 .1 .1 .1 .1 .0
-
-gather-compound-same-length-3 : (t : ℕ) → gather-compound-lts.Need-same-length-3 (gather-compound-calls t) (gather-compound-at t) gather-compound.Post
-gather-compound-same-length-3 t c = c .before .before .before .before .before .before .gather-row .kept .1 .1 .1 .1 .1 .1 .1 .1 .1 .1 .1 .1 .0
 
 gather-compound-returns : (t : ℕ) → gather-compound-lts.Need-returns (gather-compound-calls t) (gather-compound-at t) gather-compound.Post
 gather-compound-returns t c =
@@ -717,12 +630,6 @@ gather-compound-gather-one-requires t c κs =
     let w = c .before .before .before .wide .ensures .0 in
     (omega arith, (c .before .before .before .before .before .before .before .before .before .before .before .before .pre .1 .0, (λ z. c .before .before .if1 .left (w ∙ z)), (c .before .before .before .before .before .before .before .before .before .before .before .before .pre .1 .1 .0, c .before .before .before .before .before .before .before .before .before .before .before .before .pre .1 .1 .1 .marked)))
 
-gather-compound-same-length-4 : (t : ℕ) → gather-compound-lts.Need-same-length-4 (gather-compound-calls t) (gather-compound-at t) gather-compound.Post
-gather-compound-same-length-4 t c = c .before .before .before .before .gather-one .kept .1 .1 .1 .1 .1 .0
-
-gather-compound-same-length-5 : (t : ℕ) → gather-compound-lts.Need-same-length-5 (gather-compound-calls t) (gather-compound-at t) gather-compound.Post
-gather-compound-same-length-5 t c = c .before .before .before .before .gather-one .kept .1 .1 .1 .1 .1 .1 .1 .1 .1 .1 .0
-
 gather-compound-returns-2 : (t : ℕ) → gather-compound-lts.Need-returns-2 (gather-compound-calls t) (gather-compound-at t) gather-compound.Post
 gather-compound-returns-2 t c =
     let low = c .before .before .before .before .before .before .before .before .before .before .before .before .before .before .before .before .before .pre .1 .0 in
@@ -732,22 +639,10 @@ gather-compound-returns-2 t c =
 gather-one-shared-slice-read-wide : (t : ℕ) → gather-one-lts.Need-shared-slice-read-wide (gather-one-calls t) (gather-one-at t) gather-one.Post
 gather-one-shared-slice-read-wide t c = content-inside standard _ _ (c .before .before .before .before .before .before .before .pre .1 .2 .0 .there) .0
 
-gather-one-wide-requires : (t : ℕ) → gather-one-lts.Need-wide-requires (gather-one-calls t) (gather-one-at t) gather-one.Post
-gather-one-wide-requires t c κs = search needs
-
 gather-one-gather-sequence-requires : (t : ℕ) → gather-one-lts.Need-gather-sequence-requires (gather-one-calls t) (gather-one-at t) gather-one.Post
 gather-one-gather-sequence-requires t c κs =
     let m = c .before .before .before .before .before .before .before .before .before .before .before .pre .0 in
     (omega arith, (sym (c .before .before .before .wide .ensures .0) ∙ c .before .before .if1 .taken, c .before .before .before .before .before .before .before .before .before .before .before .pre .1 .2))
-
-gather-one-same-length : (t : ℕ) → gather-one-lts.Need-same-length (gather-one-calls t) (gather-one-at t) gather-one.Post
-gather-one-same-length t c = c .before .before .before .before .gather-sequence .kept .1 .1 .1 .1 .1 .0
-
-gather-one-same-length-2 : (t : ℕ) → gather-one-lts.Need-same-length-2 (gather-one-calls t) (gather-one-at t) gather-one.Post
-gather-one-same-length-2 t c = c .before .before .before .before .gather-sequence .kept .1 .1 .1 .1 .1 .1 .1 .1 .1 .1 .0
-
-gather-one-returns : (t : ℕ) → gather-one-lts.Need-returns (gather-one-calls t) (gather-one-at t) gather-one.Post
-gather-one-returns t c = c .before .before .before .before .gather-sequence .ensures
 
 gather-one-gather-around-requires : (t : ℕ) → gather-one-lts.Need-gather-around-requires (gather-one-calls t) (gather-one-at t) gather-one.Post
 gather-one-gather-around-requires t c κs =
@@ -758,18 +653,6 @@ gather-one-gather-around-requires t c κs =
     let w = c .before .before .before .wide .ensures .0 in
     (omega arith, (omega arith, c .before .before .before .before .before .before .before .before .before .before .before .pre .1 .2))
 
-gather-one-same-length-3 : (t : ℕ) → gather-one-lts.Need-same-length-3 (gather-one-calls t) (gather-one-at t) gather-one.Post
-gather-one-same-length-3 t c = c .before .before .before .before .gather-around .kept .1 .1 .1 .1 .1 .0
-
-gather-one-same-length-4 : (t : ℕ) → gather-one-lts.Need-same-length-4 (gather-one-calls t) (gather-one-at t) gather-one.Post
-gather-one-same-length-4 t c = c .before .before .before .before .gather-around .kept .1 .1 .1 .1 .1 .1 .1 .1 .1 .1 .0
-
-gather-one-returns-2 : (t : ℕ) → gather-one-lts.Need-returns-2 (gather-one-calls t) (gather-one-at t) gather-one.Post
-gather-one-returns-2 t c = c .before .before .before .before .gather-around .ensures
-
-gather-row-returns : (t : ℕ) → gather-row-lts.Need-returns (gather-row-calls t) (gather-row-at t) gather-row.Post
-gather-row-returns t c = λ q s. no-sources q _ (c .if1 .taken) s
-
 gather-row-gather-requires : (t : ℕ) → gather-row-lts.Need-gather-requires (gather-row-calls t) (gather-row-at t) gather-row.Post
 gather-row-gather-requires t c κs =
     let a = c .before .before .before .before .before .before .before .before .before .before .before .args in
@@ -778,12 +661,6 @@ gather-row-gather-requires t c κs =
     let m = c .before .before .before .before .before .before .before .before .before .before .before .pre .0 in
     let q = c .before .before .before .before .before .before .before .before .before .before .before .pre .1 .0 in
     (omega arith, (first-source q res some, c .before .before .before .before .before .before .before .before .before .before .before .pre .1 .1))
-
-gather-row-enum-told : (t : ℕ) → gather-row-lts.Need-enum-told (gather-row-calls t) (gather-row-at t) gather-row.Post
-gather-row-enum-told t c = search needs
-
-gather-row-enum-known-next : (t : ℕ) → gather-row-lts.Need-enum-known-next (gather-row-calls t) (gather-row-at t) gather-row.Post
-gather-row-enum-known-next t c = search needs
 
 gather-row-sub-gather-row : (t : ℕ) → gather-row-lts.Need-sub-gather-row (gather-row-calls t) (gather-row-at t) gather-row.Post
 gather-row-sub-gather-row t c =
@@ -804,15 +681,6 @@ gather-row-gather-row-requires t c κs =
     let others = other-sources q res some _ _ g e l _ (c .before .before .before .before .before .before .before .before .before .before .before .before .gather .kept .1 .1 .1 .1 .1 .1 .1 .1 .1 .1 .1 .0) in
     let i = others .there .inside in
     (omega arith, (others, g .noted e))
-
-gather-row-same-length : (t : ℕ) → gather-row-lts.Need-same-length (gather-row-calls t) (gather-row-at t) gather-row.Post
-gather-row-same-length t c = c .before .before .before .before .before .before .before .before .gather .kept .1 .1 .1 .1 .1 .0
-
-gather-row-same-length-2 : (t : ℕ) → gather-row-lts.Need-same-length-2 (gather-row-calls t) (gather-row-at t) gather-row.Post
-gather-row-same-length-2 t c = c .before .before .before .before .before .before .before .before .gather .kept .1 .1 .1 .1 .1 .1 .1 .1 .1 .1 .0
-
-gather-row-same-length-3 : (t : ℕ) → gather-row-lts.Need-same-length-3 (gather-row-calls t) (gather-row-at t) gather-row.Post
-gather-row-same-length-3 t c = c .before .before .before .before .before .before .before .before .gather .kept .1 .1 .1 .1 .1 .1 .1 .1 .1 .1 .1 .0
 
 gather-row-returns-2 : (t : ℕ) → gather-row-lts.Need-returns-2 (gather-row-calls t) (gather-row-at t) gather-row.Post
 gather-row-returns-2 t c =
@@ -854,9 +722,6 @@ gather-sequence-shared-slice-read-wide t c =
     let b = c .before .before .before .before .before .before .before .pre .1 .0 in
     let i = count-there standard _ _ (q .there) (omega arith) (omega arith) in
     omega arith
-
-gather-sequence-wide-requires : (t : ℕ) → gather-sequence-lts.Need-wide-requires (gather-sequence-calls t) (gather-sequence-at t) gather-sequence.Post
-gather-sequence-wide-requires t c κs = search needs
 
 gather-sequence-add-row-has : (t : ℕ) → gather-sequence-lts.Need-add-row-has (gather-sequence-calls t) (gather-sequence-at t) gather-sequence.Post
 gather-sequence-add-row-has t c =
@@ -959,12 +824,6 @@ gather-sequence-emit-row-requires t c κs =
     let i = count-there standard _ _ (q .there) (omega arith) (omega arith) in
     (omega arith, sequence-operands q res (operands-of q b n) n _ (part-words (a .marks .now) (c .before .before .before .before .before .before .before .before .before .before .before .before .before .pre .1 .1 .1 .room)))
 
-gather-sequence-enum-told : (t : ℕ) → gather-sequence-lts.Need-enum-told (gather-sequence-calls t) (gather-sequence-at t) gather-sequence.Post
-gather-sequence-enum-told t c = search needs
-
-gather-sequence-enum-known-next : (t : ℕ) → gather-sequence-lts.Need-enum-known-next (gather-sequence-calls t) (gather-sequence-at t) gather-sequence.Post
-gather-sequence-enum-known-next t c = search needs
-
 gather-sequence-settle-requires : (t : ℕ) → gather-sequence-lts.Need-settle-requires (gather-sequence-calls t) (gather-sequence-at t) gather-sequence.Post
 gather-sequence-settle-requires t c κs =
     let a = c .before .before .before .before .before .before .before .before .before .before .before .before .before .before .before .before .before .before .before .before .before .before .before .args in
@@ -978,9 +837,6 @@ gather-sequence-settle-requires t c κs =
     let has = sym (found .0) ∙ c .before .before .before .before .before .before .before .before .before .before .before .before .before .if1 .taken in
     let g = c .before .before .before .before .before .before .before .before .before .emit-row .ensures (sequence-operands q res cs n _ (part-words (a .marks .now) (m .room))) in
     ((sequence-newest q res cs n has _ _ g (c .before .before .before .next .given .1) (c .before .before .before .before .before .before .before .before .before .emit-row .kept .1 .1 .1 .1 .1 .1 .0), source-marked q m _), q .fits, q .small)
-
-gather-sequence-same-length : (t : ℕ) → gather-sequence-lts.Need-same-length (gather-sequence-calls t) (gather-sequence-at t) gather-sequence.Post
-gather-sequence-same-length t c = c .before .before .before .before .before .before .emit-row .kept .1 .1 .1 .1 .1 .1 .0 ∙ simp length-set
 
 gather-sequence-same-length-2 : (t : ℕ) → gather-sequence-lts.Need-same-length-2 (gather-sequence-calls t) (gather-sequence-at t) gather-sequence.Post
 gather-sequence-same-length-2 t c = part-long (c .before .before .before .before .before .before .before .before .before .before .before .before .before .before .before .before .before .before .before .before .args .marks .now) (c .before .before .before .before .before .before .emit-row .last .1 .1 .1 .1 .1 .1 .1 .1 .1 .0) (c .before .before .before .before .before .before .before .before .before .before .before .before .before .before .before .before .before .before .before .before .pre .1 .1 .1 .room) (c .before .before .before .before .before .before .emit-row .kept .1 .1 .1 .1 .1 .1 .1 .1 .1 .0)
@@ -997,9 +853,6 @@ gather-sequence-returns t c =
     let has = sym (found .0) ∙ c .before .before .before .before .before .before .before .before .before .before .if1 .taken in
     let g = c .before .before .before .before .before .before .emit-row .ensures (sequence-operands q res cs n _ (part-words (a .marks .now) (m .room))) in
     sequence-wide q res cs n has _ _ g (c .enum-told .given .1)
-
-gather-sequence-same-length-3 : (t : ℕ) → gather-sequence-lts.Need-same-length-3 (gather-sequence-calls t) (gather-sequence-at t) gather-sequence.Post
-gather-sequence-same-length-3 t c = c .before .before .before .before .before .before .before .before .before .before .before .before .emit-row .kept .1 .1 .1 .1 .1 .1 .0 ∙ simp length-set
 
 gather-sequence-same-length-4 : (t : ℕ) → gather-sequence-lts.Need-same-length-4 (gather-sequence-calls t) (gather-sequence-at t) gather-sequence.Post
 gather-sequence-same-length-4 t c = c .before .before .settle .kept .1 .1 .1 .1 .1 .1 .1 .0 ∙ part-long (c .before .before .before .before .before .before .before .before .before .before .before .before .before .before .before .before .before .before .before .before .before .before .before .before .before .before .args .marks .now) (c .before .before .before .before .before .before .before .before .before .before .before .before .emit-row .last .1 .1 .1 .1 .1 .1 .1 .1 .1 .0) (c .before .before .before .before .before .before .before .before .before .before .before .before .before .before .before .before .before .before .before .before .before .before .before .before .before .before .pre .1 .1 .1 .room) (c .before .before .before .before .before .before .before .before .before .before .before .before .emit-row .kept .1 .1 .1 .1 .1 .1 .1 .1 .1 .0)
@@ -1044,23 +897,23 @@ pub +emit-row+gather+gather-around+gather-compound+gather-one+gather-row+gather-
     (λ t. emit-row-lts.spec (emit-row-calls t)
     (emit-row-at t)
     emit-row.Post
-    (emit-row-returns t)
+    (λ c. λ q. no-operands q _ (c .if1 .taken))
     (emit-row-add-gather t)
     (emit-row-add-gather-2 t)
     (emit-row-add-gather-3 t)
-    (emit-row-slice-aggregate-gather t)
+    (λ c. refl)
     (emit-row-gather-requires t)
-    (emit-row-enum-told t)
-    (emit-row-enum-known-next t)
+    (λ c. search needs)
+    (λ c. search needs)
     (emit-row-finish-requires t)
     (emit-row-add-if2 t)
     (emit-row-same-length t)
-    (emit-row-same-length-2 t)
+    (λ c. c .before .before .before .before .before .before .before .before .before .before .before .before .before .gather .kept .1 .1 .1 .1 .1 .1 .1 .1 .1 .1 .1 .0)
     (emit-row-returns-2 t)
     (emit-row-sub-emit-row t)
     (emit-row-emit-row-requires t)
-    (emit-row-same-length-3 t)
-    (emit-row-same-length-4 t)
+    (λ c. c .before .before .before .before .before .before .before .gather .kept .1 .1 .1 .1 .1 .0)
+    (λ c. c .before .before .before .before .before .before .before .gather .kept .1 .1 .1 .1 .1 .1 .1 .1 .1 .1 .1 .0)
     (emit-row-returns-3 t)
     (emit-row-same-length-5 t)
     (emit-row-same-length-6 t)
@@ -1069,28 +922,28 @@ pub +emit-row+gather+gather-around+gather-compound+gather-one+gather-row+gather-
     (gather-at t)
     gather.Post
     (gather-shared-slice-read-wide t)
-    (gather-wide-requires t)
+    (λ c κs. search needs)
     (gather-add-t18 t)
     (gather-add-gather-empty t)
     (gather-gather-empty-requires t)
     (gather-add-wide t)
     (gather-shared-slice-read-wide-2 t)
-    (gather-wide-requires-2 t)
+    (λ c κs. search needs)
     (gather-add-gather-type t)
     (gather-gather-type-requires t)
     (gather-gather-compound-requires t)
     (gather-returns t)
-    (gather-same-length t)
-    (gather-same-length-2 t)
+    (λ c. c .before .before .before .before .gather-empty .kept .0)
+    (λ c. c .before .before .before .before .gather-empty .kept .1 .1 .1 .1 .1 .1 .0)
     (gather-returns-2 t)
-    (gather-same-length-3 t)
-    (gather-same-length-4 t)
-    (gather-same-length-5 t)
+    (λ c. c .before .before .before .before .before .before .gather-type .kept .1 .1 .1 .0)
+    (λ c. c .before .before .before .before .before .before .gather-type .kept .1 .1 .1 .1 .1 .1 .1 .1 .1 .0)
+    (λ c. c .before .before .before .before .before .before .gather-type .kept .1 .1 .1 .1 .1 .1 .1 .1 .1 .1 .0)
     (gather-returns-3 t)
-    (gather-same-length-6 t)
-    (gather-same-length-7 t)
-    (gather-same-length-8 t)
-    (gather-returns-4 t))
+    (λ c. c .before .before .before .before .before .before .gather-compound .kept .1 .1 .1 .1 .1 .0)
+    (λ c. c .before .before .before .before .before .before .gather-compound .kept .1 .1 .1 .1 .1 .1 .1 .1 .1 .1 .0)
+    (λ c. c .before .before .before .before .before .before .gather-compound .kept .1 .1 .1 .1 .1 .1 .1 .1 .1 .1 .1 .0)
+    (λ c. c .before .before .before .before .before .before .gather-compound .ensures))
     (λ t. gather-around-lts.spec (gather-around-calls t)
     (gather-around-at t)
     gather-around.Post
@@ -1104,63 +957,63 @@ pub +emit-row+gather+gather-around+gather-compound+gather-one+gather-row+gather-
     (gather-around-part-emit-row-start t)
     (gather-around-part-emit-row-end t)
     (gather-around-emit-row-requires t)
-    (gather-around-enum-told t)
-    (gather-around-enum-known-next t)
+    (λ c. search needs)
+    (λ c. search needs)
     (gather-around-settle-requires t)
-    (gather-around-same-length t)
+    (λ c. c .before .before .before .before .before .before .emit-row .kept .1 .1 .1 .1 .1 .1 .0 ∙ simp length-set)
     (gather-around-same-length-2 t)
     (gather-around-returns t)
-    (gather-around-same-length-3 t)
+    (λ c. c .before .before .before .before .before .before .before .before .before .before .before .before .emit-row .kept .1 .1 .1 .1 .1 .1 .0 ∙ simp length-set)
     (gather-around-same-length-4 t)
     (gather-around-returns-2 t)
     (gather-around-returns-3 t)
     (gather-around-gather-empty-requires t)
-    (gather-around-same-length-5 t)
-    (gather-around-same-length-6 t)
+    (λ c. c .before .before .before .before .gather-empty .kept .0)
+    (λ c. c .before .before .before .before .gather-empty .kept .1 .1 .1 .1 .1 .1 .0)
     (gather-around-returns-4 t))
     (λ t. gather-compound-lts.spec (gather-compound-calls t)
     (gather-compound-at t)
     gather-compound.Post
     (gather-compound-shared-slice-read-wide t)
-    (gather-compound-wide-requires t)
+    (λ c κs. search needs)
     (gather-compound-add-gather-row t)
     (gather-compound-add-wide t)
     (gather-compound-shared-slice-read-wide-2 t)
-    (gather-compound-wide-requires-2 t)
+    (λ c κs. search needs)
     (gather-compound-gather-row-requires t)
-    (gather-compound-same-length t)
-    (gather-compound-same-length-2 t)
-    (gather-compound-same-length-3 t)
+    (λ c. c .before .before .before .before .before .before .gather-row .kept .1 .1 .1 .1 .1 .1 .0)
+    (λ c. c .before .before .before .before .before .before .gather-row .kept .1 .1 .1 .1 .1 .1 .1 .1 .1 .1 .1 .0)
+    (λ c. c .before .before .before .before .before .before .gather-row .kept .1 .1 .1 .1 .1 .1 .1 .1 .1 .1 .1 .1 .0)
     (gather-compound-returns t)
     (gather-compound-gather-one-requires t)
-    (gather-compound-same-length-4 t)
-    (gather-compound-same-length-5 t)
+    (λ c. c .before .before .before .before .gather-one .kept .1 .1 .1 .1 .1 .0)
+    (λ c. c .before .before .before .before .gather-one .kept .1 .1 .1 .1 .1 .1 .1 .1 .1 .1 .0)
     (gather-compound-returns-2 t))
     (λ t. gather-one-lts.spec (gather-one-calls t)
     (gather-one-at t)
     gather-one.Post
     (gather-one-shared-slice-read-wide t)
-    (gather-one-wide-requires t)
+    (λ c κs. search needs)
     (gather-one-gather-sequence-requires t)
-    (gather-one-same-length t)
-    (gather-one-same-length-2 t)
-    (gather-one-returns t)
+    (λ c. c .before .before .before .before .gather-sequence .kept .1 .1 .1 .1 .1 .0)
+    (λ c. c .before .before .before .before .gather-sequence .kept .1 .1 .1 .1 .1 .1 .1 .1 .1 .1 .0)
+    (λ c. c .before .before .before .before .gather-sequence .ensures)
     (gather-one-gather-around-requires t)
-    (gather-one-same-length-3 t)
-    (gather-one-same-length-4 t)
-    (gather-one-returns-2 t))
+    (λ c. c .before .before .before .before .gather-around .kept .1 .1 .1 .1 .1 .0)
+    (λ c. c .before .before .before .before .gather-around .kept .1 .1 .1 .1 .1 .1 .1 .1 .1 .1 .0)
+    (λ c. c .before .before .before .before .gather-around .ensures))
     (λ t. gather-row-lts.spec (gather-row-calls t)
     (gather-row-at t)
     gather-row.Post
-    (gather-row-returns t)
+    (λ c. λ q s. no-sources q _ (c .if1 .taken) s)
     (gather-row-gather-requires t)
-    (gather-row-enum-told t)
-    (gather-row-enum-known-next t)
+    (λ c. search needs)
+    (λ c. search needs)
     (gather-row-sub-gather-row t)
     (gather-row-gather-row-requires t)
-    (gather-row-same-length t)
-    (gather-row-same-length-2 t)
-    (gather-row-same-length-3 t)
+    (λ c. c .before .before .before .before .before .before .before .before .gather .kept .1 .1 .1 .1 .1 .0)
+    (λ c. c .before .before .before .before .before .before .before .before .gather .kept .1 .1 .1 .1 .1 .1 .1 .1 .1 .1 .0)
+    (λ c. c .before .before .before .before .before .before .before .before .gather .kept .1 .1 .1 .1 .1 .1 .1 .1 .1 .1 .1 .0)
     (gather-row-returns-2 t)
     (gather-row-same-length-4 t)
     (gather-row-same-length-5 t)
@@ -1171,7 +1024,7 @@ pub +emit-row+gather+gather-around+gather-compound+gather-one+gather-row+gather-
     gather-sequence.Post
     (gather-sequence-add-wide t)
     (gather-sequence-shared-slice-read-wide t)
-    (gather-sequence-wide-requires t)
+    (λ c κs. search needs)
     (gather-sequence-add-row-has t)
     (gather-sequence-row-has-requires t)
     (gather-sequence-slice-write-draft t)
@@ -1185,13 +1038,13 @@ pub +emit-row+gather+gather-around+gather-compound+gather-one+gather-row+gather-
     (gather-sequence-part-emit-row-start t)
     (gather-sequence-part-emit-row-end t)
     (gather-sequence-emit-row-requires t)
-    (gather-sequence-enum-told t)
-    (gather-sequence-enum-known-next t)
+    (λ c. search needs)
+    (λ c. search needs)
     (gather-sequence-settle-requires t)
-    (gather-sequence-same-length t)
+    (λ c. c .before .before .before .before .before .before .emit-row .kept .1 .1 .1 .1 .1 .1 .0 ∙ simp length-set)
     (gather-sequence-same-length-2 t)
     (gather-sequence-returns t)
-    (gather-sequence-same-length-3 t)
+    (λ c. c .before .before .before .before .before .before .before .before .before .before .before .before .emit-row .kept .1 .1 .1 .1 .1 .1 .0 ∙ simp length-set)
     (gather-sequence-same-length-4 t)
     (gather-sequence-returns-2 t)
     (gather-sequence-returns-3 t)
