@@ -8,9 +8,9 @@ use mathlib.Core.Bool.{true, false}
 use mathlib.Core.List.{List, [], _∷_, _++_, map}
 use mathlib.Core.Option.{some as just}
 use mathlib.Core.Path.{_≡_, refl, sym, _∙_, ap, subst}
-use lib.ListN.{length, getD, getElem?, take, set, length-set}
+use lib.ListN.{length, getD, getElem?, take, set, replicate, length-set}
 use lib.Seq.{take-set-le, getD-set-same, getD-take}
-use Rattle.grammar.specs.Lists.{any, joinedOf}
+use Rattle.grammar.specs.Lists.{joinedOf}
 use Rattle.grammar.specs.Limits.{standard}
 use Rattle.grammar.specs.Content.{
   Content,
@@ -30,7 +30,7 @@ use Rattle.grammar.specs.Content.{
   operands,
   choiceOf,
 }
-use Rattle.grammar.specs.ReadContent.{operators, sameContent}
+use Rattle.grammar.specs.ReadContent.{operators}
 use Rattle.theory.specs.Alternatives.{alts, altsOfEach, written, hasAlts, allHaveAlts, someLeft, gathered}
 use Rattle.theory.proofs.emission.AlternativeLaws.{sequence-has, sequence-has-not}
 use Rattle.theory.proofs.emission.GatheringLaws.{gathered-nothing, gather-more, written-gathered}
@@ -51,8 +51,9 @@ use Rattle.emitting.proofs.FinishLaws.{
 }
 use Rattle.reader.proofs.ContentAtLaws.{FirstThere, first-of, others-from, none-there}
 use Rattle.union.specs.Walks.{listOfType}
-use Rattle.emitting.specs.Drafts.{Row, Kept, Newest, Unfit, TooWide, OperandsAdded, Gathers, Finished}
-use Rattle.emitting.specs.Emitting.{RoomForMore, Source, Sources, TypesKept, GathersTypes, Operands, Laid, Emits}
+use Rattle.emitting.specs.Drafts.{Row, Kept, Newest, Unfit, TooWide, OperandsAdded, Gathers, GathersWith, Finished}
+use Rattle.emitting.specs.Marks.{Marked}
+use Rattle.emitting.specs.Emitting.{RoomForMore, Source, Sources, TypesKept, Noted, Operands, Laid, Emits}
 use Rattle.emitting.proofs.WideLaws.{
   one-long,
   wide-choice,
@@ -62,8 +63,10 @@ use Rattle.emitting.proofs.WideLaws.{
   wide-sequence,
   wide-single,
 }
-use Rattle.emitting.proofs.GatherLaws.{newest-of, keeps-before, gathers-from, gathers-as, nothing-added, first-wide, then-others, told-large, told-upto, large-told}
-use Rattle.emitting.proofs.TypesKeptLaws.{types-same, types-plain, no-upto, gathers-types-as}
+use Rattle.emitting.proofs.MarkLaws.{marked-none, marked-front}
+use Rattle.emitting.proofs.KeptLaws.{row-count}
+use Rattle.emitting.proofs.GatherLaws.{newest-of, keeps-before, first-wide, then-others, told-large, told-upto, with-as, with-from, with-none, with-large}
+use Rattle.emitting.proofs.TypesKeptLaws.{no-types, types-plain}
 use Rattle.emitting.proofs.SourceLaws.{
   first-deep,
   each-first,
@@ -77,36 +80,39 @@ use Rattle.emitting.proofs.SourceLaws.{
 }
 
 -- A row gathered.
-module _ {s : List ℕ} {at n : ℕ} {types from results d : List ℕ} {base count end limit : ℕ}
-    (q : Sources s at n types from results d base count end limit) (res : ℕ → List ℕ) where
+module _ {s : List ℕ} {at n : ℕ} {types from results d : List ℕ} {base count end limit words : ℕ}
+    (q : Sources s at n types from results d base count end limit words) (res : ℕ → List ℕ) where
   abbrev rowGives : List Content
   rowGives = joinedOf (λ xs. xs) (altsOfEach res (q .there .contents))
 
-  pub no-sources : n ≡ 0 → {kept : List ℕ} → TypesKept kept (q .kept .list)
-      → GathersTypes d d base end limit (q .there .next) kept (gathered (q .kept .list) rowGives) (gathering.Upto at count end)
-  unfolding any
-  no-sources z {kept} y =
+  pub no-sources : n ≡ 0 → {Holds : List Content → Type 0} → Holds (q .kept .list)
+      → GathersWith Holds d d base end limit (q .there .next) (gathered (q .kept .list) rowGives) (gathering.Upto at count end)
+  no-sources z y =
       let e = none-there standard s at n (q .there) z in
-      let nothing = each-none res (q .there .contents) (e .0) in
-      record {
-        gathers = nothing-added d base count end limit at (q .there .next) (q .kept) rowGives (e .1) (q .fits) nothing;
-        types =
-            λ u. types-same y rowGives (λ t. ap (any (sameContent (type t))) nothing);
-      }
+      with-none (q .kept) rowGives (e .1) (q .fits) (each-none res (q .there .contents) (e .0)) y
 
   module _ (some : n ≡ 0 → ⊥) where
     abbrev first : FirstThere standard s at n (q .there)
     first = first-of standard s at n (q .there) some
 
-    pub first-room : limit + 1026 * nesting (first .first .content) ≤ length d
+    pub first-room : (limit + 1026 * nesting (first .first .content) ≤ length d) × (255 * nesting (first .first .content) ≤ words)
     first-room =
         let f = first-deep (q .there .contents) (first .first .content) (first .others .contents) (first .both) in
         let r = q .room in
-        omega arith
+        let w = q .deep in
+        (omega arith, omega arith)
 
-    abbrev pub first-source : Source s at types from results d base count end limit
+    abbrev pub first-source : Source s at types from results d base count end limit words
     first-source =
-        record { there = first .first; maps = q .maps; kept = q .kept; fits = q .fits; small = q .small; room = first-room }
+        record {
+          there = first .first;
+          maps = q .maps;
+          kept = q .kept;
+          fits = q .fits;
+          small = q .small;
+          room = first-room .0;
+          deep = first-room .1;
+        }
 
     abbrev firstGives : List Content
     firstGives = alts res (first .first .content)
@@ -120,48 +126,46 @@ module _ {s : List ℕ} {at n : ℕ} {types from results d : List ℕ} {base cou
     both-gathered : gathered (gathered (q .kept .list) firstGives) othersGive ≡ gathered (q .kept .list) rowGives
     both-gathered = gather-more (q .kept .list) firstGives othersGive ∙ ap (gathered (q .kept .list)) (sym both-give)
 
-    module _ (d' : List ℕ) (r : Gathering) {kept : List ℕ}
-        (g : GathersTypes d d' base end limit (first .first .next) kept (gathered (q .kept .list) firstGives) r) where
+    module _ (d' : List ℕ) (r : Gathering) {Holds : List Content → Type 0}
+        (g : GathersWith Holds d d' base end limit (first .first .next) (gathered (q .kept .list) firstGives) r) where
       pub row-wide : r ≡ gathering.TooLarge
-          → GathersTypes d d' base end limit (q .there .next) kept (gathered (q .kept .list) rowGives) gathering.TooLarge
+          → GathersWith Holds d d' base end limit (q .there .next) (gathered (q .kept .list) rowGives) gathering.TooLarge
       row-wide e =
-          record {
-            gathers =
-                large-told d d' base end limit (q .there .next) (gathered (q .kept .list) rowGives)
-                (first-wide (limit - base) (q .kept .list) firstGives othersGive rowGives both-give
-                (told-large d d' base end limit (first .first .next) (gathered (q .kept .list) firstGives) r e (g .gathers)));
-            types = λ u. no-upto u;
-          }
+          with-large (gathered (q .kept .list) rowGives)
+          (first-wide (limit - base) (q .kept .list) firstGives othersGive rowGives both-give
+          (told-large d d' base end limit (first .first .next) (gathered (q .kept .list) firstGives) r e (g .gathers)))
 
       module _ {next more last : ℕ} (e : r ≡ gathering.Upto next more last) (l : length d' ≡ length d) where
         pub told : (next ≡ first .first .next) × OperandsAdded d d' base end (gathered (q .kept .list) firstGives) limit more last
         told = told-upto d d' base end limit (first .first .next) (gathered (q .kept .list) firstGives) r next more last e (g .gathers)
 
-        pub others-room : limit + 1026 * deepest (first .others .contents) ≤ length d'
+        pub others-room : (limit + 1026 * deepest (first .others .contents) ≤ length d') × (255 * deepest (first .others .contents) ≤ words)
         others-room =
             let f = first-deep (q .there .contents) (first .first .content) (first .others .contents) (first .both) in
             let r = q .room in
-            omega arith
+            let w = q .deep in
+            (omega arith, omega arith)
 
-        abbrev pub other-sources : Sources s next (n - 1) types from results d' base more last limit
-        other-sources =
+        abbrev pub other-sources : (words' : ℕ) → words' ≡ words → Sources s next (n - 1) types from results d' base more last limit words'
+        other-sources words' w =
             record {
               there = others-from standard s at n (q .there) first next (told .0);
               maps = q .maps;
               kept = record { list = gathered (q .kept .list) firstGives; row = told .1 .row };
               fits = told .1 .fits;
               small = q .small;
-              room = others-room;
+              room = others-room .0;
+              deep = subst (λ (k : ℕ). 255 * deepest (first .others .contents) ≤ k) (sym w) (others-room .1);
             }
 
         pub goes-on : at < next
         goes-on = subst (λ (k : ℕ). at < k) (sym (told .0)) (first .forward)
 
-        pub row-then : (d'' : List ℕ) (o : Gathering) {kept' : List ℕ}
-            → GathersTypes d' d'' base last limit (first .others .next) kept'
+        pub row-then : (d'' : List ℕ) (o : Gathering) {Holds' : List Content → Type 0}
+            → GathersWith Holds' d' d'' base last limit (first .others .next)
             (gathered (gathered (q .kept .list) firstGives) othersGive) o
-            → GathersTypes d d'' base end limit (q .there .next) kept' (gathered (q .kept .list) rowGives) o
-        row-then d'' o {kept'} f =
+            → GathersWith Holds' d d'' base end limit (q .there .next) (gathered (q .kept .list) rowGives) o
+        row-then d'' o {Holds'} f =
             record {
               gathers =
                   subst (λ (k : ℕ). Gathers d d'' base end limit k (gathered (q .kept .list) rowGives) o) (first .ends)
@@ -169,7 +173,7 @@ module _ {s : List ℕ} {at n : ℕ} {types from results d : List ℕ} {base cou
                   (told .1 .grows)
                   (told .1 .keeps)
                   (f .gathers));
-              types = λ u. subst (TypesKept kept') both-gathered (f .types u);
+              noted = λ u. subst Holds' both-gathered (f .noted u);
             }
 
 -- what an answer says, once it is known which it is
@@ -231,9 +235,20 @@ emits-from d d' d'' start place n next cs (emitted.Upto m end) e g = (
   record { stand = g .1 .stand; forward = g .1 .forward; fits = g .1 .fits; keeps = g .1 .keeps ∙ e },
 )
 
+nests : (c : Content) → 1 ≤ nesting c
+unfolding nesting
+nests none = omega arith
+nests empty = omega arith
+nests (type k) = omega arith
+nests (sequence cs) = omega arith
+nests (choice cs) = omega arith
+nests (anyNumber c) = omega arith
+nests (oneOrMore c) = omega arith
+nests (optional c) = omega arith
+
 -- A row written.
-module _ {s : List ℕ} {at n : ℕ} {types from results d : List ℕ} {start place : ℕ}
-    (q : Operands s at n types from results d start place) (res : ℕ → List ℕ) where
+module _ {s : List ℕ} {at n : ℕ} {types from results d : List ℕ} {start place words : ℕ}
+    (q : Operands s at n types from results d start place words) (res : ℕ → List ℕ) where
   abbrev rowWritten : Contents
   rowWritten = eachWritten res (q .there .contents)
 
@@ -273,13 +288,19 @@ module _ {s : List ℕ} {at n : ℕ} {types from results d : List ℕ} {start pl
         let r = q .room in
         omega arith
 
+    pub words' : 255 * nesting (first' .first .content) ≤ words
+    words' =
+        let f = deep' in
+        let w = q .deep in
+        omega arith
+
     pub fits' : place + 2 ≤ start + 1026
     fits' = let f = q .fits in omega arith
 
     pub small' : start + 1026 ≤ place + 2 + 1024
     small' = let f = q .forward in omega arith
 
-    abbrev pub first-operand : Source s at types from results d (place + 2) 0 (place + 2) (start + 1026)
+    abbrev pub first-operand : Source s at types from results d (place + 2) 0 (place + 2) (start + 1026) words
     first-operand =
         record {
           there = first' .first;
@@ -288,7 +309,15 @@ module _ {s : List ℕ} {at n : ℕ} {types from results d : List ℕ} {start pl
           fits = fits';
           small = small';
           room = room';
+          deep = words';
         }
+
+    -- nothing is noted yet
+    pub operand-noted : (marks : List ℕ) → length marks ≡ words → Noted (replicate 8 0) marks []
+    operand-noted marks e =
+        let n = nests (first' .first .content) in
+        let w = words' in
+        record { types = no-types; marked = marked-none marks (omega arith) }
 
     abbrev firstAlts : List Content
     firstAlts = alts res (first' .first .content)
@@ -346,21 +375,25 @@ module _ {s : List ℕ} {at n : ℕ} {types from results d : List ℕ} {start pl
               let f = q .forward in
               omega arith
 
-          pub room'' : start + 1026 + 1026 * deepest (first' .others .contents) ≤ length d''
+          pub room'' : (start + 1026 + 1026 * deepest (first' .others .contents) ≤ length d'')
+              × (255 * deepest (first' .others .contents) ≤ words)
           room'' =
               let f = deep' in
               let r = q .room in
-              omega arith
+              let w = q .deep in
+              (omega arith, omega arith)
 
           module _ (fits : close ≤ start + 1024) where
-            abbrev pub other-operands : Operands s next (n - 1) types from results d'' start close
-            other-operands =
+            abbrev pub other-operands : (more-words : ℕ) → more-words ≡ words
+                → Operands s next (n - 1) types from results d'' start close more-words
+            other-operands more-words w =
                 record {
                   there = others-from standard s at n (q .there) first' next (told' .0);
                   maps = q .maps;
                   forward = start'';
                   fits = fits;
-                  room = room'';
+                  room = room'' .0;
+                  deep = subst (λ (k : ℕ). 255 * deepest (first' .others .contents) ≤ k) (sym w) (room'' .1);
                 }
 
             pub row-on : (d''' : List ℕ) (o : Emitted)
@@ -396,8 +429,8 @@ byte-kept : (d d' : List ℕ) (i n : ℕ) → i < n → take n d' ≡ take n d �
 byte-kept d d' i n h e = sym (getD-take n d' i 0 h) ∙ ap (λ (l : List ℕ). getD l i 0) e ∙ getD-take n d i 0 h
 
 -- A sequence, its bytes written before a row.
-module _ {s : List ℕ} {at n : ℕ} {types from results d : List ℕ} {base count end limit : ℕ}
-    (q : Source s at types from results d base count end limit) (res : ℕ → List ℕ)
+module _ {s : List ℕ} {at n : ℕ} {types from results d : List ℕ} {base count end limit words : ℕ}
+    (q : Source s at types from results d base count end limit words) (res : ℕ → List ℕ)
     (cs : CountedThere standard s at n (q .there) sequence) (counts : n ≡ getD s (at + 1) 0) where
   abbrev row : Contents
   row = cs .operands .contents
@@ -414,10 +447,13 @@ module _ {s : List ℕ} {at n : ℕ} {types from results d : List ℕ} {base cou
       omega arith
 
   pub sequence-blank : (next : ℕ) → next ≡ cs .operands .next → allHaveAlts (someLeft res) row ≡ false
-      → Gathers d d base end limit (q .there .next) (gathered (q .kept .list) (alts res (q .there .content))) (gathering.Upto next count end)
-  sequence-blank next e h =
-      nothing-added d base count end limit next (q .there .next) (q .kept) (alts res (q .there .content)) (e ∙ cs .ends) (q .fits)
+      → {Holds : List Content → Type 0} → Holds (q .kept .list)
+      → GathersWith Holds d d base end limit (q .there .next) (gathered (q .kept .list) (alts res (q .there .content)))
+      (gathering.Upto next count end)
+  sequence-blank next e h y =
+      with-none (q .kept) (alts res (q .there .content)) (e ∙ cs .ends) (q .fits)
       (ap (alts res) (sym (cs .is)) ∙ sequence-has-not res row h)
+      y
 
   -- the two bytes before the operands
   abbrev d₁ : List ℕ
@@ -434,9 +470,22 @@ module _ {s : List ℕ} {at n : ℕ} {types from results d : List ℕ} {base cou
       let f = q .fits in
       omega arith
 
-  abbrev pub sequence-operands : Operands s (at + 2) n types from results d₁ end (end + 2)
-  sequence-operands =
-      record { there = cs .operands; maps = q .maps; forward = omega arith; fits = omega arith; room = sequence-room }
+  pub sequence-words : (less : ℕ) → less ≡ words - 255 → 255 * deepest row ≤ less
+  sequence-words less e =
+      let m = sequence-deep in
+      let w = q .deep in
+      omega arith
+
+  abbrev pub sequence-operands : (less : ℕ) → less ≡ words - 255 → Operands s (at + 2) n types from results d₁ end (end + 2) less
+  sequence-operands less e =
+      record {
+        there = cs .operands;
+        maps = q .maps;
+        forward = omega arith;
+        fits = omega arith;
+        room = sequence-room;
+        deep = sequence-words less e;
+      }
 
   abbrev whole : Content
   whole = sequence (eachWritten res row)
@@ -446,12 +495,13 @@ module _ {s : List ℕ} {at n : ℕ} {types from results d : List ℕ} {base cou
     gives = sym (sequence-has res row has) ∙ ap (alts res) (cs .is)
 
     module _ (d₂ : List ℕ) (r : Emitted) (g : Emits d₁ d₂ end (end + 2) n (cs .operands .next) (eachWritten res row) r) where
-      pub sequence-wide : r ≡ emitted.TooLarge
-          → Gathers d d₂ base end limit (q .there .next) (gathered (q .kept .list) (alts res (q .there .content))) gathering.TooLarge
+      pub sequence-wide : r ≡ emitted.TooLarge → {Holds : List Content → Type 0}
+          → GathersWith Holds d d₂ base end limit (q .there .next) (gathered (q .kept .list) (alts res (q .there .content)))
+          gathering.TooLarge
       sequence-wide e =
           let h = emits-large d₁ d₂ end (end + 2) n (cs .operands .next) (eachWritten res row) r e g in
           let z = q .small in
-          large-told d d₂ base end limit (q .there .next) (gathered (q .kept .list) (alts res (q .there .content)))
+          with-large (gathered (q .kept .list) (alts res (q .there .content)))
           (subst (λ (l : List Content). TooWide (limit - base) (gathered (q .kept .list) l)) gives
           (wide-sequence (limit - base) (end + 1024 - (end + 2)) (q .kept .list) (eachWritten res row) (omega arith) h))
 
@@ -488,17 +538,16 @@ module _ {s : List ℕ} {at n : ℕ} {types from results d : List ℕ} {base cou
         sequence-newest =
             newest-of d d₂ base count end fresh whole sequence-keeps sequence-long (q .kept) sequence-stands
 
-        pub sequence-settled : (o : Gathering) → Gathers d₂ d₂ base end limit next (gathered (q .kept .list) (whole ∷ [])) o
-            → Gathers d d₂ base end limit (q .there .next) (gathered (q .kept .list) (alts res (q .there .content))) o
+        pub sequence-settled : (o : Gathering) {Holds : List Content → Type 0}
+            → GathersWith Holds d₂ d₂ base end limit next (gathered (q .kept .list) (whole ∷ [])) o
+            → GathersWith Holds d d₂ base end limit (q .there .next) (gathered (q .kept .list) (alts res (q .there .content))) o
         sequence-settled o f =
-            gathers-as d d₂ base end limit next (q .there .next) (q .kept .list) (whole ∷ []) (alts res (q .there .content)) o
-            (laid .0 ∙ cs .ends)
-            gives
-            (gathers-from d d₂ d₂ base end limit next (gathered (q .kept .list) (whole ∷ [])) o sequence-keeps f)
+            with-as (q .kept .list) (whole ∷ []) (alts res (q .there .content)) (laid .0 ∙ cs .ends) gives
+            (with-from (gathered (q .kept .list) (whole ∷ [])) sequence-keeps f)
 
 -- An operator of one operand, its byte written before the operand.
-module _ {s : List ℕ} {at : ℕ} {types from results d : List ℕ} {base count end limit : ℕ}
-    (q : Source s at types from results d base count end limit) (res : ℕ → List ℕ)
+module _ {s : List ℕ} {at : ℕ} {types from results d : List ℕ} {base count end limit words : ℕ}
+    (q : Source s at types from results d base count end limit words) (res : ℕ → List ℕ)
     (one : SingleThere standard s at (q .there) res) where
   abbrev inner : Content
   inner = one .operand .content
@@ -514,17 +563,20 @@ module _ {s : List ℕ} {at : ℕ} {types from results d : List ℕ} {base count
       omega arith
 
   pub around-blank : (next : ℕ) → next ≡ one .operand .next → getD s at 0 ≡ 6 → hasAlts (someLeft res) inner ≡ false
-      → Gathers d d base end limit (q .there .next) (gathered (q .kept .list) (alts res (q .there .content))) (gathering.Upto next count end)
-  around-blank next e six h =
-      nothing-added d base count end limit next (q .there .next) (q .kept) (alts res (q .there .content)) (e ∙ one .ends) (q .fits)
+      → {Holds : List Content → Type 0} → Holds (q .kept .list)
+      → GathersWith Holds d d base end limit (q .there .next) (gathered (q .kept .list) (alts res (q .there .content)))
+      (gathering.Upto next count end)
+  around-blank next e six h y =
+      with-none (q .kept) (alts res (q .there .content)) (e ∙ one .ends) (q .fits)
       (ap (alts res) (sym (one .is)) ∙ one .blank inner six h)
+      y
 
   pub around-empty : (next : ℕ) (d' : List ℕ) (o : Gathering) → next ≡ one .operand .next → (getD s at 0 ≡ 6 → ⊥)
-      → hasAlts (someLeft res) inner ≡ false
-      → Gathers d d' base end limit next (gathered (q .kept .list) (empty ∷ [])) o
-      → Gathers d d' base end limit (q .there .next) (gathered (q .kept .list) (alts res (q .there .content))) o
+      → hasAlts (someLeft res) inner ≡ false → {Holds : List Content → Type 0}
+      → GathersWith Holds d d' base end limit next (gathered (q .kept .list) (empty ∷ [])) o
+      → GathersWith Holds d d' base end limit (q .there .next) (gathered (q .kept .list) (alts res (q .there .content))) o
   around-empty next d' o e six h g =
-      gathers-as d d' base end limit next (q .there .next) (q .kept .list) (empty ∷ []) (alts res (q .there .content)) o (e ∙ one .ends)
+      with-as (q .kept .list) (empty ∷ []) (alts res (q .there .content)) (e ∙ one .ends)
       (sym (one .spare inner six h) ∙ ap (alts res) (one .is))
       g
 
@@ -544,14 +596,22 @@ module _ {s : List ℕ} {at : ℕ} {types from results d : List ℕ} {base count
       let f = q .fits in
       omega arith
 
-  abbrev pub around-operands : Operands s (at + 1) 1 types from results e₁ end (end + 1)
-  around-operands =
+  pub around-words : (less : ℕ) → less ≡ words - 255 → 255 * deepest (inner ∷ᶜ []ᶜ) ≤ less
+  unfolding deepest
+  around-words less e =
+      let m = around-deep in
+      let w = q .deep in
+      omega arith
+
+  abbrev pub around-operands : (less : ℕ) → less ≡ words - 255 → Operands s (at + 1) 1 types from results e₁ end (end + 1) less
+  around-operands less e =
       record {
         there = one-there standard s (at + 1) (one .operand);
         maps = q .maps;
         forward = omega arith;
         fits = omega arith;
         room = around-operand-room;
+        deep = around-words less e;
       }
 
   abbrev wrapped : Content
@@ -566,12 +626,13 @@ module _ {s : List ℕ} {at : ℕ} {types from results d : List ℕ} {base count
     gives' = sym (one .some inner has) ∙ ap (alts res) (one .is)
 
     module _ (e₂ : List ℕ) (r : Emitted) (g : Emits e₁ e₂ end (end + 1) 1 (one .operand .next) (eachWritten res (inner ∷ᶜ []ᶜ)) r) where
-      pub around-wide : r ≡ emitted.TooLarge
-          → Gathers d e₂ base end limit (q .there .next) (gathered (q .kept .list) (alts res (q .there .content))) gathering.TooLarge
+      pub around-wide : r ≡ emitted.TooLarge → {Holds : List Content → Type 0}
+          → GathersWith Holds d e₂ base end limit (q .there .next) (gathered (q .kept .list) (alts res (q .there .content)))
+          gathering.TooLarge
       around-wide e =
           let h = emits-large e₁ e₂ end (end + 1) 1 (one .operand .next) (eachWritten res (inner ∷ᶜ []ᶜ)) r e g in
           let z = q .small in
-          large-told d e₂ base end limit (q .there .next) (gathered (q .kept .list) (alts res (q .there .content)))
+          with-large (gathered (q .kept .list) (alts res (q .there .content)))
           (subst (λ (l : List Content). TooWide (limit - base) (gathered (q .kept .list) l)) gives'
           (wide-single (limit - base) (end + 1024 - (end + 1)) (q .kept .list) (one .operator) (written (alts res inner))
           (one .around)
@@ -609,28 +670,16 @@ module _ {s : List ℕ} {at : ℕ} {types from results d : List ℕ} {base count
         abbrev pub around-newest : Newest e₂ base count end fresh
         around-newest = newest-of d e₂ base count end fresh wrapped around-keeps around-long (q .kept) around-stands
 
-        pub around-settled : (o : Gathering) → Gathers e₂ e₂ base end limit next (gathered (q .kept .list) (wrapped ∷ [])) o
-            → Gathers d e₂ base end limit (q .there .next) (gathered (q .kept .list) (alts res (q .there .content))) o
+        pub around-settled : (o : Gathering) {Holds : List Content → Type 0}
+            → GathersWith Holds e₂ e₂ base end limit next (gathered (q .kept .list) (wrapped ∷ [])) o
+            → GathersWith Holds d e₂ base end limit (q .there .next) (gathered (q .kept .list) (alts res (q .there .content))) o
         around-settled o f =
-            gathers-as d e₂ base end limit next (q .there .next) (q .kept .list) (wrapped ∷ []) (alts res (q .there .content)) o
-            (laid' .0 ∙ one .ends)
-            gives'
-            (gathers-from d e₂ e₂ base end limit next (gathered (q .kept .list) (wrapped ∷ [])) o around-keeps f)
+            with-as (q .kept .list) (wrapped ∷ []) (alts res (q .there .content)) (laid' .0 ∙ one .ends) gives'
+            (with-from (gathered (q .kept .list) (wrapped ∷ [])) around-keeps f)
 
 -- The other operators.
-nests : (c : Content) → 1 ≤ nesting c
-unfolding nesting
-nests none = omega arith
-nests empty = omega arith
-nests (type k) = omega arith
-nests (sequence cs) = omega arith
-nests (choice cs) = omega arith
-nests (anyNumber c) = omega arith
-nests (oneOrMore c) = omega arith
-nests (optional c) = omega arith
-
-module _ {s : List ℕ} {at : ℕ} {types from results d : List ℕ} {base count end limit : ℕ}
-    (q : Source s at types from results d base count end limit) where
+module _ {s : List ℕ} {at : ℕ} {types from results d : List ℕ} {base count end limit words : ℕ}
+    (q : Source s at types from results d base count end limit words) where
   pub source-spare : limit + 1026 ≤ length d
   source-spare =
       let n = nests (q .there .content) in
@@ -638,46 +687,60 @@ module _ {s : List ℕ} {at : ℕ} {types from results d : List ℕ} {base count
       omega arith
 
   abbrev pub source-room : RoomForMore d base count end limit
-  source-room = record { kept = q .kept; fits = q .fits; room = source-spare }
+  source-room = record { kept = q .kept; fits = q .fits; small = q .small; room = source-spare }
+
+  -- the marks of the operands, after the rows within are written
+  pub source-marked : {marks : List ℕ} → Marked marks (q .kept .list) → (part : List ℕ) → Marked (take 255 marks ++ part) (q .kept .list)
+  source-marked {marks} m part =
+      let c = row-count d base count end (q .kept .list) (q .kept .row) in
+      let f = q .kept .row .few in
+      marked-front marks (q .kept .list) m part (omega arith)
 
   module _ (res : ℕ → List ℕ) where
     abbrev sourceGives : List Content
     sourceGives = alts res (q .there .content)
 
     -- neither a type nor a choice
-    pub plain-gives : (getD s at 0 ≡ 2 → ⊥) → (getD s at 0 ≡ 4 → ⊥) → {kept d' : List ℕ} {o : Gathering} → TypesKept kept (q .kept .list)
-        → Gathers d d' base end limit (q .there .next) (gathered (q .kept .list) sourceGives) o
-        → GathersTypes d d' base end limit (q .there .next) kept (gathered (q .kept .list) sourceGives) o
+    pub plain-gives : (getD s at 0 ≡ 2 → ⊥) → (getD s at 0 ≡ 4 → ⊥) → {kept marks d' : List ℕ} {o : Gathering}
+        → TypesKept kept (q .kept .list)
+        → GathersWith (Marked marks) d d' base end limit (q .there .next) (gathered (q .kept .list) sourceGives) o
+        → GathersWith (Noted kept marks) d d' base end limit (q .there .next) (gathered (q .kept .list) sourceGives) o
     plain-gives h k y g =
-        record { gathers = g; types = λ u. types-plain res s at (q .there .next) (q .there .content) (q .there .stands) h k y }
+        record {
+          gathers = g .gathers;
+          noted =
+              λ u.
+              record {
+                types = types-plain res s at (q .there .next) (q .there .content) (q .there .stands) h k y;
+                marked = g .noted u;
+              };
+        }
 
-    pub none-gives : getD s at 0 ≡ 0
-        → Gathers d d base end limit (q .there .next) (gathered (q .kept .list) sourceGives) (gathering.Upto (at + 1) count end)
+    pub none-gives : getD s at 0 ≡ 0 → {Holds : List Content → Type 0} → Holds (q .kept .list)
+        → GathersWith Holds d d base end limit (q .there .next) (gathered (q .kept .list) sourceGives) (gathering.Upto (at + 1) count end)
     unfolding alts
-    none-gives e =
+    none-gives e y =
         let w = alone-was s at (q .there .content) (q .there .next) (q .there .stands) none (ap (getElem? operators) e ∙ operator-none) in
-        nothing-added d base count end limit (at + 1) (q .there .next) (q .kept) sourceGives (w .1) (q .fits)
-        (ap (alts res) (sym (w .0)))
+        with-none (q .kept) sourceGives (w .1) (q .fits) (ap (alts res) (sym (w .0))) y
 
-    pub empty-gives : getD s at 0 ≡ 1 → (d' : List ℕ) (o : Gathering)
-        → Gathers d d' base end limit (at + 1) (gathered (q .kept .list) (empty ∷ [])) o
-        → Gathers d d' base end limit (q .there .next) (gathered (q .kept .list) sourceGives) o
+    pub empty-gives : getD s at 0 ≡ 1 → (d' : List ℕ) (o : Gathering) {Holds : List Content → Type 0}
+        → GathersWith Holds d d' base end limit (at + 1) (gathered (q .kept .list) (empty ∷ [])) o
+        → GathersWith Holds d d' base end limit (q .there .next) (gathered (q .kept .list) sourceGives) o
     unfolding alts
     empty-gives e d' o g =
         let w = alone-was s at (q .there .content) (q .there .next) (q .there .stands) empty (ap (getElem? operators) e ∙ operator-empty) in
-        gathers-as d d' base end limit (at + 1) (q .there .next) (q .kept .list) (empty ∷ []) sourceGives o (w .1)
-        (ap (alts res) (w .0))
-        g
+        with-as (q .kept .list) (empty ∷ []) sourceGives (w .1) (ap (alts res) (w .0)) g
 
     module _ {n : ℕ} (cs : CountedThere standard s at n (q .there) choice) where
-      pub choice-room : limit + 1026 * deepest (cs .operands .contents) ≤ length d
+      pub choice-room : (limit + 1026 * deepest (cs .operands .contents) ≤ length d) × (255 * deepest (cs .operands .contents) ≤ words)
       unfolding nesting
       choice-room =
           let m : suc (deepest (cs .operands .contents)) ≡ nesting (q .there .content) = ap nesting (cs .is) in
           let r = q .room in
-          omega arith
+          let w = q .deep in
+          (omega arith, omega arith)
 
-      abbrev pub choice-sources : Sources s (at + 2) n types from results d base count end limit
+      abbrev pub choice-sources : Sources s (at + 2) n types from results d base count end limit words
       choice-sources =
           record {
             there = cs .operands;
@@ -685,26 +748,27 @@ module _ {s : List ℕ} {at : ℕ} {types from results d : List ℕ} {base count
             kept = q .kept;
             fits = q .fits;
             small = q .small;
-            room = choice-room;
+            room = choice-room .0;
+            deep = choice-room .1;
           }
 
-      pub choice-gives : (d' : List ℕ) (o : Gathering) {kept : List ℕ}
-          → GathersTypes d d' base end limit (cs .operands .next) kept
+      pub choice-gives : (d' : List ℕ) (o : Gathering) {Holds : List Content → Type 0}
+          → GathersWith Holds d d' base end limit (cs .operands .next)
           (gathered (q .kept .list) (joinedOf (λ xs. xs) (altsOfEach res (cs .operands .contents)))) o
-          → GathersTypes d d' base end limit (q .there .next) kept (gathered (q .kept .list) sourceGives) o
+          → GathersWith Holds d d' base end limit (q .there .next) (gathered (q .kept .list) sourceGives) o
       unfolding alts
       choice-gives d' o g =
-          gathers-types-as (q .kept .list) (joinedOf (λ xs. xs) (altsOfEach res (cs .operands .contents))) sourceGives (cs .ends)
+          with-as (q .kept .list) (joinedOf (λ xs. xs) (altsOfEach res (cs .operands .contents))) sourceGives (cs .ends)
           (ap (alts res) (cs .is))
           g
 
-  pub type-gives : getD s at 0 ≡ 2 → (k : ℕ) → k ≡ getD s (at + 1) 0 → (d' : List ℕ) (o : Gathering) {kept : List ℕ}
-      → GathersTypes d d' base end limit (at + 2) kept (gathered (q .kept .list) (map type (listOfType from results k))) o
-      → GathersTypes d d' base end limit (q .there .next) kept
+  pub type-gives : getD s at 0 ≡ 2 → (k : ℕ) → k ≡ getD s (at + 1) 0 → (d' : List ℕ) (o : Gathering) {Holds : List Content → Type 0}
+      → GathersWith Holds d d' base end limit (at + 2) (gathered (q .kept .list) (map type (listOfType from results k))) o
+      → GathersWith Holds d d' base end limit (q .there .next)
       (gathered (q .kept .list) (alts (listOfType from results) (q .there .content))) o
   unfolding alts
   type-gives e k is d' o g =
       let w = numbered-was s at (q .there .content) (q .there .next) (q .there .stands) type (ap (getElem? operators) e ∙ operator-type) in
-      gathers-types-as (q .kept .list) (map type (listOfType from results k)) (alts (listOfType from results) (q .there .content)) (w .1)
+      with-as (q .kept .list) (map type (listOfType from results k)) (alts (listOfType from results) (q .there .content)) (w .1)
       (ap (alts (listOfType from results)) (ap type is ∙ w .0))
       g

@@ -2,6 +2,7 @@
 --   kept-row  operands stand where their bytes are kept; newest-of : and one more expression after them
 --   gathers-from, gathers-then : a gathering from a draft that keeps the operands' bytes; one gathering after another
 --   nothing-new, nothing-added : alternatives that are all there; no alternatives
+--   with-as, with-from, with-none, with-large : answers with what is noted of the operands
 --   types-of, types-first : the result types of a source type; of some result types the first and the others
 use Prim.Native.Nat.{ℕ, suc, _+_, _-_, _≤_, _<_}
 use native.Mathlib.Omega.{arith}
@@ -19,8 +20,9 @@ use Rattle.reader.proofs.ExprLaws.{exprs-kept}
 use Rattle.union.specs.Walks.{listOfType}
 use Rattle.emitting.specs.declared.drafts.Gathering.{Gathering}
 use Rattle.emitting.specs.declared.drafts.Gathering.the-variants.{TooLarge, Upto}
-use Rattle.emitting.specs.Drafts.{Row, Kept, Newest, TooWide, OperandsAdded, Gathers}
+use Rattle.emitting.specs.Drafts.{Row, Kept, Newest, TooWide, OperandsAdded, Gathers, GathersWith}
 use Rattle.emitting.proofs.WideLaws.{wide-gathered}
+use Rattle.emitting.proofs.MarkLaws.{no-upto}
 
 pub kept-row : (d d' : List ℕ) (base count end : ℕ) (ds : List Content) → take end d' ≡ take end d → length d' ≡ length d
     → Row d base count ds end → Row d' base count ds end
@@ -152,3 +154,31 @@ pub large-told : (d d' : List ℕ) (base old limit next : ℕ) (ds : List Conten
     → Gathers d d' base old limit next ds TooLarge
 unfolding Gathers
 large-told d d' base old limit next ds h = h
+
+-- the same answers with what is noted of the operands
+module _ {Holds : List Content → Type 0} where
+  pub with-as : {d d' : List ℕ} {base old limit n next : ℕ} {r : Gathering} (ds xs ys : List Content) → n ≡ next → xs ≡ ys
+      → GathersWith Holds d d' base old limit n (gathered ds xs) r → GathersWith Holds d d' base old limit next (gathered ds ys) r
+  with-as {d} {d'} {base} {old} {limit} {n} {next} {r} ds xs ys e f g =
+      record {
+        gathers = gathers-as d d' base old limit n next ds xs ys r e f (g .gathers);
+        noted = λ u. subst (λ (l : List Content). Holds (gathered ds l)) f (g .noted u);
+      }
+
+  pub with-from : {d d' d'' : List ℕ} {base old limit next : ℕ} {r : Gathering} (ds : List Content) → take old d' ≡ take old d
+      → GathersWith Holds d' d'' base old limit next ds r → GathersWith Holds d d'' base old limit next ds r
+  with-from {d} {d'} {d''} {base} {old} {limit} {next} {r} ds e g =
+      record { gathers = gathers-from d d' d'' base old limit next ds r e (g .gathers); noted = g .noted }
+
+  pub with-none : {d : List ℕ} {base count end limit n next : ℕ} (k : Kept d base count end) (xs : List Content) → n ≡ next
+      → end ≤ limit → xs ≡ [] → Holds (k .list) → GathersWith Holds d d base end limit next (gathered (k .list) xs) (Upto n count end)
+  with-none {d} {base} {count} {end} {limit} {n} {next} k xs e h none y =
+      record {
+        gathers = nothing-added d base count end limit n next k xs e h none;
+        noted = λ u. subst Holds (sym (ap (gathered (k .list)) none ∙ gather-nothing (k .list) (k .row .apart))) y;
+      }
+
+  pub with-large : {d d' : List ℕ} {base old limit next : ℕ} (ds : List Content) → TooWide (limit - base) ds
+      → GathersWith Holds d d' base old limit next ds TooLarge
+  with-large {d} {d'} {base} {old} {limit} {next} ds h =
+      record { gathers = large-told d d' base old limit next ds h; noted = λ u. no-upto u }

@@ -1,15 +1,14 @@
 -- One more expression after the operands kept so far:
 --   same-there : byte for byte the same at two places, as far as the one reaches, is the same content at both
---   old-row, more-row : after the question, the operands without it or with it; too-long, too-many : or they do not fit
---   among-first : of some operands the first and the others, with the question whether an equal one is among them
-use Prim.Native.Nat.{ℕ, zero, suc, _+_, _-_, _≤_, _<_}
+--   old-row, more-row, more-marked : after the question, the operands without it or with it; too-long, too-many : or they do not fit
+use Prim.Native.Nat.{ℕ, _+_, _-_, _*_, _≤_, _<_}
 use native.Mathlib.Omega.{arith}
-use mathlib.Core.Bool.{Bool, true, false, _||_}
+use mathlib.Core.Bool.{Bool, true, false}
 use mathlib.Core.List.{List, [], _∷_, _++_}
 use mathlib.Core.Logic.{_↔_}
 use mathlib.Core.Option.{some as just}
-use mathlib.Core.Path.{_≡_, refl, sym, _∙_, ap, subst}
-use lib.ListN.{length, take, drop, take-append-drop}
+use mathlib.Core.Path.{_≡_, refl, sym, _∙_, ap, ap₂, subst}
+use lib.ListN.{length, take, drop, set, take-append-drop}
 use Rattle.grammar.specs.Lists.{any}
 use Rattle.grammar.specs.Content.{Content, operands}
 use Rattle.grammar.specs.ReadContent.{contentBytes, operandBytes, sameContent}
@@ -19,12 +18,14 @@ use Rattle.theory.proofs.contents.ContentBytes.{same-content}
 use Rattle.theory.proofs.emission.GatheringLaws.{gathered-so, gather-old, gather-new}
 use Rattle.theory.proofs.bytes.SampleWithin.{operands-count}
 use Rattle.reader.specs.ExprAt.{_upTo_, exprAt, exprsAt}
-use Rattle.reader.proofs.ExprLaws.{same-placed, expr-written, expr-of, expr-bytes, expr-forward, exprs-forward, exprs-written}
+use Rattle.reader.proofs.ExprLaws.{same-placed, expr-written, expr-of, expr-bytes, expr-forward, exprs-written}
 use Rattle.emitting.specs.Drafts.{Row, long, TooWide, unfit, many, OperandsAdded, Newest}
-use Rattle.emitting.proofs.RowLaws.{exprs-uncons, exprs-one-more}
+use Rattle.emitting.specs.Marks.{fingerprint, mark, Marked}
+use Rattle.emitting.proofs.RowLaws.{exprs-one-more}
+use Rattle.emitting.proofs.MarkLaws.{marked-more}
 
 module _ (s : List ℕ) (i middle end fresh : ℕ) (x y : Content) (e : exprAt s end ≡ just (x upTo fresh)) (f : exprAt s i ≡ just (y upTo middle)) where
-  equal-bytes : take (fresh - end) (drop i s) ≡ take (fresh - end) (drop end s) → x ≡ y
+  pub equal-bytes : take (fresh - end) (drop i s) ≡ take (fresh - end) (drop end s) → x ≡ y
   equal-bytes b =
       let n = fresh - end in
       let d : drop i s ≡ contentBytes x ++ drop n (drop i s) =
@@ -47,55 +48,6 @@ module _ (s : List ℕ) (i middle end fresh : ℕ) (x y : Content) (e : exprAt s
   same-there r t =
       same-test r (sameContent x y)
       ((λ h. same-content x y .1 (equal-bytes (t .0 h))), (λ h. t .1 (equal-contents (same-content x y .0 h))))
-
--- the operands from a place on are those among which an equal one is still to be found
-pub record StillAmong (s : List ℕ) (i left end : ℕ) (x : Content) (all : List Content) : Type 0 where
-  pub others : List Content
-  pub stand : exprsAt s i left ≡ just (operands others upTo end)
-  pub same : any (sameContent x) all ≡ any (sameContent x) others
-
-pub record FirstAmong (s : List ℕ) (i left end : ℕ) (x : Content) (all : List Content) : Type 0 where
-  pub first : Content
-  pub middle : ℕ
-  pub first-at : exprAt s i ≡ just (first upTo middle)
-  pub others : List Content
-  pub others-at : exprsAt s middle (left - 1) ≡ just (operands others upTo end)
-  pub same : any (sameContent x) all ≡ (sameContent x first || any (sameContent x) others)
-
-pub among-first : (s : List ℕ) (i left end : ℕ) (x : Content) (all : List Content) → 0 < left → StillAmong s i left end x all
-    → FirstAmong s i left end x all
-unfolding any
-among-first s i zero end x all h a = absurd (omega arith)
-among-first s i (suc n) end x all h a =
-    let q = exprs-uncons s i n (a .others) end (a .stand) in
-    let k : suc n - 1 ≡ n = omega arith in
-    record {
-      first = q .first;
-      middle = q .middle;
-      first-at = q .first-at;
-      others = q .others;
-      others-at = ap (exprsAt s (q .middle)) k ∙ q .others-at;
-      same = a .same ∙ ap (any (sameContent x)) (q .both);
-    }
-
-pub first-ends : (s : List ℕ) (i left end : ℕ) (x : Content) (all : List Content) (f : FirstAmong s i left end x all)
-    → (i < f .middle) × (f .middle ≤ end)
-first-ends s i left end x all f =
-    let g = expr-forward s i (f .first) (f .middle) (f .first-at) in
-    let h = exprs-forward s (f .middle) (left - 1) (operands (f .others)) end (omega arith) (f .others-at) in
-    omega arith
-
-is-other : (a b : Bool) → a ≡ false → (a || b) ≡ b
-is-other a b e = ap (λ (x : Bool). x || b) e
-
-pub others-among : (s : List ℕ) (i left end : ℕ) (x : Content) (all : List Content) (f : FirstAmong s i left end x all) (m : ℕ)
-    → m ≡ f .middle → sameContent x (f .first) ≡ false → StillAmong s m (left - 1) end x all
-others-among s i left end x all f m e t =
-    record {
-      others = f .others;
-      stand = ap (λ (k : ℕ). exprsAt s k (left - 1)) e ∙ f .others-at;
-      same = f .same ∙ is-other (sameContent x (f .first)) (any (sameContent x) (f .others)) t;
-    }
 
 -- how many operands there are, and their bytes
 pub row-count : (d : List ℕ) (base count end : ℕ) (ds : List Content) → Row d base count ds end
@@ -152,6 +104,16 @@ module _ (d : List ℕ) (base count end fresh limit : ℕ) (q : Newest d base co
         let r = q .kept .row in
         let w = exprs-written d base (count + 1) (operands (gathered ds (x ∷ []))) fresh (omega arith) more-stand in
         (w .0 ∙ operands-count (gathered ds (x ∷ [])), w .1 .next-is)
+
+    pub more-marked : {marks : List ℕ} {print : ℕ} → Marked marks ds → count < 255 → print ≡ fingerprint (take (fresh - end) (drop end d))
+        → Marked (set marks count (print * 65536 + (end - base))) (gathered ds (x ∷ []))
+    unfolding mark
+    more-marked {marks} {print} m h p =
+        let r = row-count d base count end ds (q .kept .row) in
+        let z : end - base ≡ length (operandBytes (operands ds)) = omega arith in
+        subst (Marked (set marks count (print * 65536 + (end - base)))) is-more
+        (marked-more marks ds m count (print * 65536 + (end - base)) x (r .0) h
+        (ap₂ (λ (f before : ℕ). f * 65536 + before) (p ∙ ap fingerprint (expr-bytes d end x fresh (q .stands))) z))
 
     pub too-long : limit < fresh → TooWide (limit - base) (gathered ds (x ∷ []))
     too-long h =

@@ -1,5 +1,7 @@
 pub mod RowLaws
+pub mod MarkLaws
 pub mod KeptLaws
+pub mod AmongLaws
 pub mod FinishLaws
 pub mod WideLaws
 pub mod GatherLaws

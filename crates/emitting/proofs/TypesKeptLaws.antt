@@ -2,7 +2,6 @@
 --   no-types, types-put          none at first; one more, once it is gathered
 --   types-same, types-plain      alternatives that are no types do not change it; so with a content that is neither a type nor a choice
 --   TypesSoFar, types-start, types-next, types-wide, types-all   the result types of a part gathered one by one
---   gathers-types-as             an answer in other words; no-upto : too large is no list of operands
 use Prim.Native.Nat.{ℕ, _+_, _-_, _≤_, _<_}
 use native.Mathlib.Omega.{arith}
 use mathlib.Core.Bool.{Bool, true, false, _||_, or-comm}
@@ -40,9 +39,9 @@ use Rattle.reader.specs.ExprAt.{_upTo_, exprAt}
 use Rattle.reader.proofs.ExprLaws.{expr-bytes, expr-forward}
 use Rattle.emitting.specs.declared.drafts.Gathering.{Gathering}
 use Rattle.emitting.specs.declared.drafts.Gathering.the-variants.{TooLarge, Upto}
-use Rattle.emitting.specs.Drafts.{Row, OperandsAdded, Gathers}
-use Rattle.emitting.specs.Emitting.{RoomForMore, TypesKept, GathersTypes}
-use Rattle.emitting.proofs.GatherLaws.{gathers-as, gathers-then, told-large, told-upto, large-told, first-wide, typesFrom, types-first}
+use Rattle.emitting.specs.Drafts.{Row, OperandsAdded, Gathers, GathersWith}
+use Rattle.emitting.specs.Emitting.{RoomForMore, TypesKept, Noted}
+use Rattle.emitting.proofs.GatherLaws.{gathers-then, told-large, told-upto, first-wide, with-as, with-large, typesFrom, types-first}
 
 -- an equal one is among what is gathered just where it was there or was given
 among-gathered : (x : Content) (ds xs : List Content)
@@ -145,42 +144,35 @@ module _ (results : ℕ → List ℕ) where
       let b = first-byte s at next c e in
       types-same y (alts results c) (plain-alts c (λ z. h (sym b ∙ z)) (λ z. k (sym b ∙ z)))
 
-pub no-upto : {n count end : ℕ} {A : Type 0} → TooLarge ≡ Upto n count end → A
-no-upto e = let z : _≡_ {A = ℕ} 0 1 = cc e in absurd (omega arith)
-
-pub gathers-types-as : {d d' : List ℕ} {base old limit n next : ℕ} {kept : List ℕ} {r : Gathering} (ds xs ys : List Content)
-    → n ≡ next → xs ≡ ys
-    → GathersTypes d d' base old limit n kept (gathered ds xs) r
-    → GathersTypes d d' base old limit next kept (gathered ds ys) r
-gathers-types-as {d} {d'} {base} {old} {limit} {n} {next} {kept} {r} ds xs ys e f g =
-    record {
-      gathers = gathers-as d d' base old limit n next ds xs ys r e f (g .gathers);
-      types = λ u. subst (λ (l : List Content). TypesKept kept (gathered ds l)) f (g .types u);
-    }
-
 -- The result types of a part, gathered one by one.
 module _ (results : List ℕ) (first stop base limit : ℕ) (ds : List Content) (d₀ : List ℕ) (end : ℕ) where
-  pub record TypesSoFar (d kept : List ℕ) (total last i : ℕ) : Type 0 where
+  pub record TypesSoFar (d kept marks : List ℕ) (total last i : ℕ) : Type 0 where
     pub list : List Content
     pub rest : list ++ typesFrom results i stop ≡ typesFrom results first stop
     pub added : OperandsAdded d₀ d base end (gathered ds list) limit total last
-    pub types : TypesKept kept (gathered ds list)
+    pub noted : Noted kept marks (gathered ds list)
 
-  module _ {d kept : List ℕ} {total last i : ℕ} (s : TypesSoFar d kept total last i) where
-    abbrev pub room-for : limit + 1026 ≤ length d → RoomForMore d base total last limit
-    room-for room = record { kept = record { list = gathered ds (s .list); row = s .added .row }; fits = s .added .fits; room = room }
+  module _ {d kept marks : List ℕ} {total last i : ℕ} (s : TypesSoFar d kept marks total last i) where
+    abbrev pub room-for : limit ≤ base + 1024 → limit + 1026 ≤ length d → RoomForMore d base total last limit
+    room-for small room =
+        record {
+          kept = record { list = gathered ds (s .list); row = s .added .row };
+          fits = s .added .fits;
+          small = small;
+          room = room;
+        }
 
     pub types-all : (next : ℕ) → typesFrom results i stop ≡ []
-        → GathersTypes d₀ d base end limit next kept (gathered ds (typesFrom results first stop)) (Upto next total last)
+        → GathersWith (Noted kept marks) d₀ d base end limit next (gathered ds (typesFrom results first stop)) (Upto next total last)
     unfolding Gathers
     types-all next e =
         let whole : s .list ≡ typesFrom results first stop =
         sym (append-nil (s .list)) ∙ ap (λ (l : List Content). s .list ++ l) (sym e) ∙ s .rest in
-        gathers-types-as ds (s .list) (typesFrom results first stop) refl whole
-        (record { gathers = (refl, s .added); types = λ u. s .types })
+        with-as ds (s .list) (typesFrom results first stop) refl whole
+        (record { gathers = (refl, s .added); noted = λ u. s .noted })
 
-    module _ (h : i < stop) (k : i < length results) (next : ℕ) (d' kept' : List ℕ) (r : Gathering)
-        (g : GathersTypes d d' base last limit next kept' (gathered (gathered ds (s .list)) (type (getD results i 0) ∷ [])) r) where
+    module _ (h : i < stop) (k : i < length results) (next : ℕ) (d' kept' marks' : List ℕ) (r : Gathering)
+        (g : GathersWith (Noted kept' marks') d d' base last limit next (gathered (gathered ds (s .list)) (type (getD results i 0) ∷ [])) r) where
       abbrev one : List Content
       one = type (getD results i 0) ∷ []
 
@@ -199,28 +191,24 @@ module _ (results : List ℕ) (first stop base limit : ℕ) (ds : List Content) 
           (subst (λ (l : List Content). Gathers d d' base last limit next l r) (gather-more ds (s .list) one) (g .gathers))
 
       pub types-wide : r ≡ TooLarge
-          → GathersTypes d₀ d' base end limit next kept' (gathered ds (typesFrom results first stop)) TooLarge
+          → GathersWith (Noted kept' marks') d₀ d' base end limit next (gathered ds (typesFrom results first stop)) TooLarge
       types-wide e =
-          record {
-            gathers =
-                large-told d₀ d' base end limit next (gathered ds (typesFrom results first stop))
-                (first-wide (limit - base) ds more (typesFrom results (i + 1) stop) (typesFrom results first stop) (sym more-rest)
-                (told-large d₀ d' base end limit next (gathered ds more) r e more-gathers));
-            types = λ u. no-upto u;
-          }
+          with-large (gathered ds (typesFrom results first stop))
+          (first-wide (limit - base) ds more (typesFrom results (i + 1) stop) (typesFrom results first stop) (sym more-rest)
+          (told-large d₀ d' base end limit next (gathered ds more) r e more-gathers))
 
-      pub types-next : {n count fresh : ℕ} → r ≡ Upto n count fresh → TypesSoFar d' kept' count fresh (i + 1)
+      pub types-next : {n count fresh : ℕ} → r ≡ Upto n count fresh → TypesSoFar d' kept' marks' count fresh (i + 1)
       types-next {n} {count} {fresh} e =
           record {
             list = more;
             rest = more-rest;
             added = told-upto d₀ d' base end limit next (gathered ds more) r n count fresh e more-gathers .1;
-            types = subst (TypesKept kept') (gather-more ds (s .list) one) (g .types e);
+            noted = subst (Noted kept' marks') (gather-more ds (s .list) one) (g .noted e);
           }
 
-pub types-start : (results : List ℕ) (first stop limit : ℕ) {d kept : List ℕ} {base count end : ℕ} (q : RoomForMore d base count end limit)
-    → TypesKept kept (q .kept .list) → TypesSoFar results first stop base limit (q .kept .list) d end d kept count end first
-types-start results first stop limit {d} {kept} {base} {count} {end} q s =
+pub types-start : (results : List ℕ) (first stop limit : ℕ) {d kept marks : List ℕ} {base count end : ℕ} (q : RoomForMore d base count end limit)
+    → Noted kept marks (q .kept .list) → TypesSoFar results first stop base limit (q .kept .list) d end d kept marks count end first
+types-start results first stop limit {d} {kept} {marks} {base} {count} {end} q s =
     let same = sym (gather-nothing (q .kept .list) (q .kept .row .apart)) in
     record {
       list = [];
@@ -232,5 +220,5 @@ types-start results first stop limit {d} {kept} {base} {count} {end} q s =
             grows = omega arith;
             keeps = refl;
           };
-      types = subst (TypesKept kept) same s;
+      noted = subst (Noted kept marks) same s;
     }

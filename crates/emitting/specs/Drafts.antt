@@ -1,6 +1,6 @@
 -- The draft in which a content is made. What stands in it is said by reading it back with `exprAt` and `exprsAt`; the records that
 -- hold a content or a list are what a caller has to show once, and an answer is stated for each such record.
-use Prim.Native.Nat.{ℕ, _+_, _-_, _≤_, _<_}
+use Prim.Native.Nat.{ℕ, _-_, _≤_, _<_}
 use mathlib.Core.List.{List}
 use mathlib.Core.Option.{some as just}
 use mathlib.Core.Path.{_≡_}
@@ -13,22 +13,9 @@ use Rattle.reader.specs.ExprAt.{_upTo_, exprAt, exprsAt}
 use Rattle.emitting.specs.declared.drafts.Gathering.{Gathering}
 use Rattle.emitting.specs.declared.drafts.Gathering.the-variants.{TooLarge, Upto}
 
--- an expression stands at a place
-pub record ExpressionAt (s : List ℕ) (at : ℕ) : Type 0 where
-  pub content : Content
-  pub next : ℕ
-  pub stands : exprAt s at ≡ just (content upTo next)
-
--- some expressions that end at a place
-pub record ExpressionsUpTo (s : List ℕ) (at n next : ℕ) : Type 0 where
-  pub contents : Contents
-  pub stand : exprsAt s at n ≡ just (contents upTo next)
-
--- What the first bytes of an expression say: its operands stand after them. There is at least one such byte.
-pub record Headed (s : List ℕ) (at width count next : ℕ) : Type 0 where
-  pub operands : ExpressionsUpTo s (at + width) count next
-  pub some : 1 ≤ width
-  pub inside : at + width ≤ length s
+-- How long a draft is: a content, and two bytes before its operands, for each level that contents nest and one more.
+abbrev pub draftLength : ℕ
+draftLength = 33858
 
 -- from base, so many operands stand up to here, and they are these; no two are equal
 pub record Row (draft : List ℕ) (base count : ℕ) (ds : List Content) (end : ℕ) : Type 0 where
@@ -70,6 +57,12 @@ pub record OperandsAdded (before after : List ℕ) (base old : ℕ) (ds : List C
 unfoldable pub Gathers : List ℕ → List ℕ → ℕ → ℕ → ℕ → ℕ → List Content → Gathering → Type 0
 Gathers before after base old limit next ds TooLarge = TooWide (limit - base) ds
 Gathers before after base old limit next ds (Upto n count end) = (n ≡ next) × OperandsAdded before after base old ds limit count end
+
+-- the same, and where the operands fit, what is noted of them
+pub record GathersWith (Holds : List Content → Type 0) (before after : List ℕ) (base old limit next : ℕ) (ds : List Content)
+    (r : Gathering) : Type 0 where
+  pub gathers : Gathers before after base old limit next ds r
+  pub noted : {n count end : ℕ} → r ≡ Upto n count end → Holds ds
 
 -- one finished content stands at a place, and the bytes before it are kept
 pub record Finished (before after : List ℕ) (start : ℕ) (c : Content) (end : ℕ) : Type 0 where

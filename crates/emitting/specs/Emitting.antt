@@ -13,9 +13,8 @@ use Rattle.sets.specs.Sets.{member}
 use Rattle.reader.specs.ExprAt.{_upTo_, exprsAt}
 use Rattle.reader.specs.ContentAt.{ContentAt, ContentsAt}
 use Rattle.union.specs.Walks.{listOfType}
-use Rattle.emitting.specs.Drafts.{Kept, Unfit, Gathers}
-use Rattle.emitting.specs.declared.drafts.Gathering.{Gathering}
-use Rattle.emitting.specs.declared.drafts.Gathering.the-variants as gathering
+use Rattle.emitting.specs.Drafts.{Kept, Unfit}
+use Rattle.emitting.specs.Marks.{Marked}
 use Rattle.emitting.specs.declared.emitter.Emitted.{Emitted}
 use Rattle.emitting.specs.declared.emitter.Emitted.the-variants.{TooLarge, Upto}
 
@@ -28,45 +27,48 @@ pub record Maps (types from results : List ℕ) : Type 0 where
 pub record RoomForMore (draft : List ℕ) (base count end limit : ℕ) : Type 0 where
   pub kept : Kept draft base count end
   pub fits : end ≤ limit
+  pub small : limit ≤ base + 1024
   pub room : limit + 1026 ≤ length draft
 
 -- A source content, the operands kept so far, and room for what it gives. A draft that is so long for the source's nesting is
--- never too short.
-pub record Source (content : List ℕ) (at : ℕ) (types from results draft : List ℕ) (base count end limit : ℕ) : Type 0 where
+-- never too short, and so many words hold the marks of every row in it.
+pub record Source (content : List ℕ) (at : ℕ) (types from results draft : List ℕ) (base count end limit words : ℕ) : Type 0 where
   pub there : ContentAt standard content at
   pub maps : Maps types from results
   pub kept : Kept draft base count end
   pub fits : end ≤ limit
   pub small : limit ≤ base + 1024
   pub room : limit + 1026 * nesting (there .content) ≤ length draft
+  pub deep : 255 * nesting (there .content) ≤ words
 
 -- the same of so many source contents, one after the other
-pub record Sources (content : List ℕ) (at n : ℕ) (types from results draft : List ℕ) (base count end limit : ℕ) : Type 0 where
+pub record Sources (content : List ℕ) (at n : ℕ) (types from results draft : List ℕ) (base count end limit words : ℕ) : Type 0 where
   pub there : ContentsAt standard content at n
   pub maps : Maps types from results
   pub kept : Kept draft base count end
   pub fits : end ≤ limit
   pub small : limit ≤ base + 1024
   pub room : limit + 1026 * deepest (there .contents) ≤ length draft
+  pub deep : 255 * deepest (there .contents) ≤ words
 
 -- the set of the result types that are among the operands kept; eight words have a bit for every byte
 pub record TypesKept (kept : List ℕ) (ds : List Content) : Type 0 where
   pub words : 8 ≤ length kept
   pub there : (t : ℕ) → t < 256 → member kept 0 t ≡ any (sameContent (type t)) ds
 
--- the answer of a gathering; where the operands fit, with the set of the result types among them
-pub record GathersTypes (before after : List ℕ) (base old limit next : ℕ) (kept : List ℕ) (ds : List Content)
-    (r : Gathering) : Type 0 where
-  pub gathers : Gathers before after base old limit next ds r
-  pub types : {n count end : ℕ} → r ≡ gathering.Upto n count end → TypesKept kept ds
+-- what is noted of the operands kept: the set of the result types among them, and their marks
+pub record Noted (kept marks : List ℕ) (ds : List Content) : Type 0 where
+  pub types : TypesKept kept ds
+  pub marked : Marked marks ds
 
 -- source contents that are to be written as operands from a place on, of an expression whose bytes begin at `start`
-pub record Operands (content : List ℕ) (at n : ℕ) (types from results draft : List ℕ) (start place : ℕ) : Type 0 where
+pub record Operands (content : List ℕ) (at n : ℕ) (types from results draft : List ℕ) (start place words : ℕ) : Type 0 where
   pub there : ContentsAt standard content at n
   pub maps : Maps types from results
   pub forward : start < place
   pub fits : place ≤ start + 1024
   pub room : start + 1026 + 1026 * deepest (there .contents) ≤ length draft
+  pub deep : 255 * deepest (there .contents) ≤ words
 
 -- these operands stand in the draft from a place on, within the limit, and the bytes before it are kept
 pub record Laid (before after : List ℕ) (start place n : ℕ) (cs : Contents) (end : ℕ) : Type 0 where

@@ -1,3 +1,4 @@
 pub mod Drafts
+pub mod Marks
 pub mod Emitting
 pub mod Completing

@@ -1,7 +1,8 @@
 // The draft in which a content is made: a list of operands that stand in it one after the other, no two byte-equal.
 use crate::limits::OPERANDS;
+use crate::limits::PRINTED;
 use reader::numbers::wide;
-ghost use Prim.Native.Nat.{_+_, _-_, _≤_};
+ghost use Prim.Native.Nat.{_+_, _-_, _/_, _%_, _≤_};
 ghost use mathlib.Core.Bool.{true, false};
 ghost use mathlib.Core.List.{[], _∷_};
 ghost use mathlib.Core.Logic.{_↔_};
@@ -12,7 +13,8 @@ ghost use Rattle.grammar.specs.Lists.{any};
 ghost use Rattle.grammar.specs.Content.{choiceOf};
 ghost use Rattle.grammar.specs.ReadContent.{sameContent};
 ghost use Rattle.theory.specs.Alternatives.{gathered};
-ghost use Rattle.emitting.specs.Drafts.{ExpressionAt, Headed, Kept, Newest, Gathers, Finished};
+ghost use Rattle.emitting.specs.Drafts.{Kept, Newest, Finished, GathersWith};
+ghost use Rattle.emitting.specs.Marks.{folded, fingerprint, Marked};
 
 // The operands after gathering, and where the source goes on; or they do not fit.
 pub enum Gathering {
@@ -22,12 +24,6 @@ pub enum Gathering {
         count: usize,
         end: usize,
     },
-}
-
-// The first bytes of an expression, and how many operands stand after them.
-pub struct Head {
-    pub width: usize,
-    pub operands: usize,
 }
 
 // The same bytes at two places.
@@ -45,64 +41,71 @@ fn same_bytes(draft: &[u8], a: usize, b: usize, n: usize) -> bool
     true
 }
 
-fn opening(draft: &[u8], at: usize) -> Head
-    requires { ⌜ ExpressionAt (now draft) at ⌝ }
-    ensures { λ r. ⌜ ((q : ExpressionAt (now (draft .entry)) at) → Headed (now (draft .entry)) at (r .width) (r .operands) (q .next)) ⌝ }
+// Bytes folded into a number below 65536.
+fn fold_bytes(draft: &[u8], from: usize, to: usize) -> usize
+    requires { ⌜ (from ≤ to) × (to ≤ length (now draft)) ⌝ }
+    ensures { λ r. ⌜ r ≡ folded 0 (take (to - from) (drop from (now (draft .entry)))) ⌝ }
 {
-    let operator = wide(draft[at]);
-    match operator {
-        0..=1 => Head {
-            width: 1,
-            operands: 0,
-        },
-        2 => Head {
-            width: 2,
-            operands: 0,
-        },
-        3..=4 => Head {
-            width: 2,
-            operands: wide(draft[at + 1]),
-        },
-        _ => Head {
-            width: 1,
-            operands: 1,
-        },
+    let mut print = 0usize;
+    let mut i = from;
+    while i < to {
+        print = (print * 31 + wide(draft[i])) % 65536;
+        i += 1;
     }
+    print
 }
 
-// The place after an expression.
-fn after(draft: &[u8], at: usize) -> usize
-    requires { ⌜ ExpressionAt (now draft) at ⌝ }
-    ensures { λ r. ⌜ ((q : ExpressionAt (now (draft .entry)) at) → r ≡ q .next) ⌝ }
+// The fingerprint of an expression.
+fn print_of(draft: &[u8], from: usize, to: usize) -> usize
+    requires { ⌜ (from ≤ to) × (to ≤ length (now draft)) ⌝ }
+    ensures { λ r. ⌜ r ≡ fingerprint (take (to - from) (drop from (now (draft .entry)))) ⌝ }
 {
-    let mut left = 1usize;
-    let mut i = at;
-    while 0 < left {
-        let first = opening(draft, i);
-        left = left - 1 + first.operands;
-        i += first.width;
+    if to - from < PRINTED {
+        return fold_bytes(draft, from, to);
     }
-    i
+    fold_bytes(draft, from, from + PRINTED)
 }
 
-// Whether the expression after the operands is one of them.
-fn is_there(draft: &[u8], base: usize, count: usize, end: usize, fresh: usize) -> bool
-    requires { ⌜ Newest (now draft) base count end fresh ⌝ }
-    ensures { λ r. ⌜ ((q : Newest (now (draft .entry)) base count end fresh) → r ≡ any (sameContent (q .newest)) (q .kept .list)) ⌝ }
+// Whether the operand of a mark is the expression after the operands, by their fingerprints and then by their bytes.
+fn is_same(draft: &[u8], base: usize, mark: u32, end: usize, fresh: usize, print: usize) -> bool
+    requires { ⌜ (base + mark % 65536 ≤ end) × (end ≤ fresh) × (fresh ≤ length (now draft)) ⌝ }
+    ensures { λ r. ⌜ (r ≡ true) ↔ ((mark / 65536 ≡ print)
+        × (take (fresh - end) (drop (base + mark % 65536) (now (draft .entry)))
+        ≡ take (fresh - end) (drop end (now (draft .entry))))) ⌝ }
 {
-    let mut left = count;
-    let mut i = base;
-    while 0 < left {
-        if same_bytes(draft, i, end, fresh - end) {
+    let word = mark as usize;
+    if word / 65536 != print {
+        return false;
+    }
+    same_bytes(draft, base + word % 65536, end, fresh - end)
+}
+
+// Whether the expression after the operands, of this fingerprint, is one of them.
+fn is_there(
+    draft: &[u8],
+    base: usize,
+    count: usize,
+    end: usize,
+    fresh: usize,
+    print: usize,
+    marks: &[u32],
+) -> bool
+    requires { ⌜ ((q : Newest (now draft) base count end fresh) × Marked (now marks) (q .kept .list)) × (end ≤ base + 1024)
+        × (print ≡ fingerprint (take (fresh - end) (drop end (now draft)))) ⌝ }
+    ensures { λ r. ⌜ ((q : Newest (now (draft .entry)) base count end fresh) → Marked (now (marks .entry)) (q .kept .list)
+        → r ≡ any (sameContent (q .newest)) (q .kept .list)) ⌝ }
+{
+    let mut k = 0usize;
+    while k < count {
+        if is_same(draft, base, marks[k], end, fresh, print) {
             return true;
         }
-        i = after(draft, i);
-        left -= 1;
+        k += 1;
     }
     false
 }
 
-// Keeps the expression after the operands, which is not one of them, as one more operand.
+// Keeps the expression after the operands, which is not one of them, as one more operand, with its mark.
 pub fn keep(
     draft: &[u8],
     base: usize,
@@ -111,11 +114,16 @@ pub fn keep(
     fresh: usize,
     limit: usize,
     next: usize,
+    print: usize,
+    marks: &mut [u32],
 ) -> Gathering
-    requires { ⌜ ((q : Newest (now draft) base count end fresh) × (any (sameContent (q .newest)) (q .kept .list) ≡ false))
-        × (end ≤ limit) ⌝ }
+    requires { ⌜ ((q : Newest (now draft) base count end fresh) × (any (sameContent (q .newest)) (q .kept .list) ≡ false)
+        × Marked (now marks) (q .kept .list)) × (end ≤ limit) × (limit ≤ base + 1024)
+        × (print ≡ fingerprint (take (fresh - end) (drop end (now draft)))) ⌝ }
     ensures { λ r. ⌜ ((q : Newest (now (draft .entry)) base count end fresh) → any (sameContent (q .newest)) (q .kept .list) ≡ false
-        → Gathers (now (draft .entry)) (now (draft .entry)) base end limit next (gathered (q .kept .list) (q .newest ∷ [])) r) ⌝ }
+        → Marked (now (marks .entry)) (q .kept .list)
+        → GathersWith (Marked (now (marks .exit))) (now (draft .entry)) (now (draft .entry)) base end limit next
+        (gathered (q .kept .list) (q .newest ∷ [])) r) ⌝ }
 {
     if limit < fresh {
         return Gathering::TooLarge;
@@ -123,6 +131,7 @@ pub fn keep(
     if OPERANDS <= count {
         return Gathering::TooLarge;
     }
+    marks[count] = (print * 65536 + (end - base)) as u32;
     Gathering::Upto {
         next,
         count: count + 1,
@@ -139,15 +148,19 @@ pub fn settle(
     fresh: usize,
     limit: usize,
     next: usize,
+    marks: &mut [u32],
 ) -> Gathering
-    requires { ⌜ Newest (now draft) base count end fresh × (end ≤ limit) ⌝ }
-    ensures { λ r. ⌜ ((q : Newest (now (draft .entry)) base count end fresh)
-        → Gathers (now (draft .entry)) (now (draft .entry)) base end limit next (gathered (q .kept .list) (q .newest ∷ [])) r) ⌝ }
+    requires { ⌜ ((q : Newest (now draft) base count end fresh) × Marked (now marks) (q .kept .list)) × (end ≤ limit)
+        × (limit ≤ base + 1024) ⌝ }
+    ensures { λ r. ⌜ ((q : Newest (now (draft .entry)) base count end fresh) → Marked (now (marks .entry)) (q .kept .list)
+        → GathersWith (Marked (now (marks .exit))) (now (draft .entry)) (now (draft .entry)) base end limit next
+        (gathered (q .kept .list) (q .newest ∷ [])) r) ⌝ }
 {
-    if is_there(draft, base, count, end, fresh) {
+    let print = print_of(draft, end, fresh);
+    if is_there(draft, base, count, end, fresh, print, marks) {
         return Gathering::Upto { next, count, end };
     }
-    keep(draft, base, count, end, fresh, limit, next)
+    keep(draft, base, count, end, fresh, limit, next, print, marks)
 }
 
 // The bytes up to `end`, from two places after `start` on, moved down to `start`.

@@ -1,11 +1,13 @@
 // From a source content to the tidied content of the result. The alternatives that the source content gives are gathered in the
 // draft, each once; their choice is the content. `types` is the set of the source types that have result types, and `from` and
-// `results` give the result types of each.
+// `results` give the result types of each. `marks` has the marks of the operands, and after those of a row there is room for the
+// marks of the rows within.
 use crate::drafts::Gathering;
 use crate::drafts::finish;
 use crate::drafts::keep;
 use crate::drafts::settle;
 use crate::limits::HEADED;
+use crate::limits::OPERANDS;
 use reader::limits::CONTENT;
 use reader::numbers::wide;
 use sets::words::has;
@@ -15,13 +17,14 @@ use union::productive::row_has;
 ghost use Prim.Native.Nat.{_+_, _-_, _≤_, _<_};
 ghost use mathlib.Core.List.{[], _∷_, map};
 ghost use mathlib.Core.Path.{_≡_};
-ghost use lib.ListN.{take, drop, getD};
+ghost use lib.ListN.{length, take, drop, getD};
 ghost use Rattle.grammar.specs.Lists.{joinedOf};
 ghost use Rattle.grammar.specs.Content.{empty, type, operands};
 ghost use Rattle.theory.specs.Alternatives.{alts, altsOfEach, written, gathered};
 ghost use Rattle.union.specs.Walks.{listOfType};
-ghost use Rattle.emitting.specs.Drafts.{Gathers};
-ghost use Rattle.emitting.specs.Emitting.{RoomForMore, Source, Sources, TypesKept, GathersTypes, Operands, Emits};
+ghost use Rattle.emitting.specs.Drafts.{GathersWith};
+ghost use Rattle.emitting.specs.Marks.{Marked};
+ghost use Rattle.emitting.specs.Emitting.{RoomForMore, Source, Sources, Noted, Operands, Emits};
 
 // Where the operands of an expression end in the draft, and where the source goes on; or they do not fit.
 pub enum Emitted {
@@ -47,16 +50,19 @@ fn gather_empty(
     end: usize,
     limit: usize,
     next: usize,
+    marks: &mut [u32],
 ) -> Gathering
-    requires { ⌜ RoomForMore (now draft) base count end limit ⌝ }
-    ensures { λ r. ⌜ ((q : RoomForMore (now (draft .entry)) base count end limit)
-        → Gathers (now (draft .entry)) (now (draft .exit)) base end limit next (gathered (q .kept .list) (empty ∷ [])) r) ⌝ }
+    requires { ⌜ ((q : RoomForMore (now draft) base count end limit) × Marked (now marks) (q .kept .list)) ⌝ }
+    ensures { λ r. ⌜ ((q : RoomForMore (now (draft .entry)) base count end limit) → Marked (now (marks .entry)) (q .kept .list)
+        → GathersWith (Marked (now (marks .exit))) (now (draft .entry)) (now (draft .exit)) base end limit next
+        (gathered (q .kept .list) (empty ∷ [])) r) ⌝ }
 {
     draft[end] = 1;
-    settle(draft, base, count, end, end + 1, limit, next)
+    settle(draft, base, count, end, end + 1, limit, next, marks)
 }
 
-// A result type as an alternative. `kept` is the set of the result types that are among the operands.
+// A result type as an alternative. `kept` is the set of the result types that are among the operands. Its two bytes, 2 and its number,
+// fold into 2 * 31 and its number: its fingerprint.
 fn gather_result(
     result: u8,
     draft: &mut [u8],
@@ -66,10 +72,12 @@ fn gather_result(
     limit: usize,
     next: usize,
     kept: &mut [u32],
+    marks: &mut [u32],
 ) -> Gathering
-    requires { ⌜ ((q : RoomForMore (now draft) base count end limit) × TypesKept (now kept) (q .kept .list)) ⌝ }
-    ensures { λ r. ⌜ ((q : RoomForMore (now (draft .entry)) base count end limit) → TypesKept (now (kept .entry)) (q .kept .list)
-        → GathersTypes (now (draft .entry)) (now (draft .exit)) base end limit next (now (kept .exit))
+    requires { ⌜ ((q : RoomForMore (now draft) base count end limit) × Noted (now kept) (now marks) (q .kept .list)) ⌝ }
+    ensures { λ r. ⌜ ((q : RoomForMore (now (draft .entry)) base count end limit)
+        → Noted (now (kept .entry)) (now (marks .entry)) (q .kept .list)
+        → GathersWith (Noted (now (kept .exit)) (now (marks .exit))) (now (draft .entry)) (now (draft .exit)) base end limit next
         (gathered (q .kept .list) (type result ∷ [])) r) ⌝ }
 {
     let number = wide(result);
@@ -79,7 +87,17 @@ fn gather_result(
     put(kept, 0, number);
     draft[end] = 2;
     draft[end + 1] = result;
-    keep(draft, base, count, end, end + 2, limit, next)
+    keep(
+        draft,
+        base,
+        count,
+        end,
+        end + 2,
+        limit,
+        next,
+        62 + number,
+        marks,
+    )
 }
 
 // The result types from `first` up to `stop` as alternatives.
@@ -94,24 +112,32 @@ fn gather_types(
     limit: usize,
     next: usize,
     kept: &mut [u32],
+    marks: &mut [u32],
 ) -> Gathering
-    requires { ⌜ ((q : RoomForMore (now draft) base count end limit) × TypesKept (now kept) (q .kept .list)) ⌝ }
-    ensures { λ r. ⌜ ((q : RoomForMore (now (draft .entry)) base count end limit) → TypesKept (now (kept .entry)) (q .kept .list)
-        → GathersTypes (now (draft .entry)) (now (draft .exit)) base end limit next (now (kept .exit))
+    requires { ⌜ ((q : RoomForMore (now draft) base count end limit) × Noted (now kept) (now marks) (q .kept .list)) ⌝ }
+    ensures { λ r. ⌜ ((q : RoomForMore (now (draft .entry)) base count end limit)
+        → Noted (now (kept .entry)) (now (marks .entry)) (q .kept .list)
+        → GathersWith (Noted (now (kept .exit)) (now (marks .exit))) (now (draft .entry)) (now (draft .exit)) base end limit next
         (gathered (q .kept .list) (map type (take (stop - first) (drop first (now (results .entry)))))) r) ⌝ }
 {
-    let mut total = count;
-    let mut last = end;
+    let mut count = count;
+    let mut end = end;
     let mut i = first;
     while i < stop {
         if results.len() <= i {
-            return Gathering::Upto {
-                next,
-                count: total,
-                end: last,
-            };
+            return Gathering::Upto { next, count, end };
         }
-        match gather_result(results[i], draft, base, total, last, limit, next, kept) {
+        match gather_result(
+            results[i],
+            draft,
+            base,
+            count,
+            end,
+            limit,
+            next,
+            kept,
+            marks,
+        ) {
             Gathering::TooLarge => {
                 return Gathering::TooLarge;
             }
@@ -120,17 +146,13 @@ fn gather_types(
                 count: more,
                 end: fresh,
             } => {
-                total = more;
-                last = fresh;
+                count = more;
+                end = fresh;
             }
         }
         i += 1;
     }
-    Gathering::Upto {
-        next,
-        count: total,
-        end: last,
-    }
+    Gathering::Upto { next, count, end }
 }
 
 // The result types of a source type as alternatives.
@@ -145,10 +167,12 @@ fn gather_type(
     limit: usize,
     next: usize,
     kept: &mut [u32],
+    marks: &mut [u32],
 ) -> Gathering
-    requires { ⌜ (k < 64) × ((q : RoomForMore (now draft) base count end limit) × TypesKept (now kept) (q .kept .list)) ⌝ }
-    ensures { λ r. ⌜ ((q : RoomForMore (now (draft .entry)) base count end limit) → TypesKept (now (kept .entry)) (q .kept .list)
-        → GathersTypes (now (draft .entry)) (now (draft .exit)) base end limit next (now (kept .exit))
+    requires { ⌜ (k < 64) × ((q : RoomForMore (now draft) base count end limit) × Noted (now kept) (now marks) (q .kept .list)) ⌝ }
+    ensures { λ r. ⌜ ((q : RoomForMore (now (draft .entry)) base count end limit)
+        → Noted (now (kept .entry)) (now (marks .entry)) (q .kept .list)
+        → GathersWith (Noted (now (kept .exit)) (now (marks .exit))) (now (draft .entry)) (now (draft .exit)) base end limit next
         (gathered (q .kept .list) (map type (listOfType (now (from .entry)) (now (results .entry)) k))) r) ⌝ }
 {
     let first = byte_or_zero(from, k);
@@ -164,6 +188,7 @@ fn gather_type(
         limit,
         next,
         kept,
+        marks,
     )
 }
 
@@ -179,12 +204,15 @@ fn gather_sequence(
     count: usize,
     end: usize,
     limit: usize,
+    marks: &mut [u32],
 ) -> Gathering
     requires { ⌜ (getD (now content) at 0 ≡ 3)
-        × Source (now content) at (now types) (now from) (now results) (now draft) base count end limit ⌝ }
+        × ((q : Source (now content) at (now types) (now from) (now results) (now draft) base count end limit (length (now marks)))
+        × Marked (now marks) (q .kept .list)) ⌝ }
     ensures { λ r. ⌜ ((q : Source (now (content .entry)) at (now (types .entry)) (now (from .entry)) (now (results .entry))
-        (now (draft .entry)) base count end limit)
-        → Gathers (now (draft .entry)) (now (draft .exit)) base end limit (q .there .next)
+        (now (draft .entry)) base count end limit (length (now (marks .entry))))
+        → Marked (now (marks .entry)) (q .kept .list)
+        → GathersWith (Marked (now (marks .exit))) (now (draft .entry)) (now (draft .exit)) base end limit (q .there .next)
         (gathered (q .kept .list) (alts (listOfType (now (from .entry)) (now (results .entry))) (q .there .content))) r) ⌝ }
 {
     let n = wide(content[at + 1]);
@@ -202,6 +230,7 @@ fn gather_sequence(
             draft,
             end,
             end + 2,
+            &mut marks[OPERANDS..],
         ) {
             Emitted::TooLarge => Gathering::TooLarge,
             Emitted::Upto { next, end: fresh } => settle(
@@ -212,6 +241,7 @@ fn gather_sequence(
                 fresh,
                 limit,
                 next,
+                marks,
             ),
         };
     }
@@ -234,12 +264,15 @@ fn gather_around(
     count: usize,
     end: usize,
     limit: usize,
+    marks: &mut [u32],
 ) -> Gathering
     requires { ⌜ (5 ≤ getD (now content) at 0)
-        × Source (now content) at (now types) (now from) (now results) (now draft) base count end limit ⌝ }
+        × ((q : Source (now content) at (now types) (now from) (now results) (now draft) base count end limit (length (now marks)))
+        × Marked (now marks) (q .kept .list)) ⌝ }
     ensures { λ r. ⌜ ((q : Source (now (content .entry)) at (now (types .entry)) (now (from .entry)) (now (results .entry))
-        (now (draft .entry)) base count end limit)
-        → Gathers (now (draft .entry)) (now (draft .exit)) base end limit (q .there .next)
+        (now (draft .entry)) base count end limit (length (now (marks .entry))))
+        → Marked (now (marks .entry)) (q .kept .list)
+        → GathersWith (Marked (now (marks .exit))) (now (draft .entry)) (now (draft .exit)) base end limit (q .there .next)
         (gathered (q .kept .list) (alts (listOfType (now (from .entry)) (now (results .entry))) (q .there .content))) r) ⌝ }
 {
     let operator = content[at];
@@ -256,6 +289,7 @@ fn gather_around(
             draft,
             end,
             end + 1,
+            &mut marks[OPERANDS..],
         ) {
             Emitted::TooLarge => Gathering::TooLarge,
             Emitted::Upto { next, end: fresh } => settle(
@@ -266,6 +300,7 @@ fn gather_around(
                 fresh,
                 limit,
                 next,
+                marks,
             ),
         };
     }
@@ -276,7 +311,60 @@ fn gather_around(
             end,
         };
     }
-    gather_empty(draft, base, count, end, limit, asked.next)
+    gather_empty(draft, base, count, end, limit, asked.next, marks)
+}
+
+// The alternatives that a sequence or an operator of one operand gives.
+fn gather_one(
+    content: &[u8],
+    at: usize,
+    types: &[u32],
+    from: &[u8],
+    results: &[u8],
+    draft: &mut [u8],
+    base: usize,
+    count: usize,
+    end: usize,
+    limit: usize,
+    marks: &mut [u32],
+) -> Gathering
+    requires { ⌜ (3 ≤ getD (now content) at 0) × (getD (now content) at 0 ≡ 4 → ⊥)
+        × ((q : Source (now content) at (now types) (now from) (now results) (now draft) base count end limit (length (now marks)))
+        × Marked (now marks) (q .kept .list)) ⌝ }
+    ensures { λ r. ⌜ ((q : Source (now (content .entry)) at (now (types .entry)) (now (from .entry)) (now (results .entry))
+        (now (draft .entry)) base count end limit (length (now (marks .entry))))
+        → Marked (now (marks .entry)) (q .kept .list)
+        → GathersWith (Marked (now (marks .exit))) (now (draft .entry)) (now (draft .exit)) base end limit (q .there .next)
+        (gathered (q .kept .list) (alts (listOfType (now (from .entry)) (now (results .entry))) (q .there .content))) r) ⌝ }
+{
+    if wide(content[at]) == 3 {
+        return gather_sequence(
+            content,
+            at,
+            types,
+            from,
+            results,
+            draft,
+            base,
+            count,
+            end,
+            limit,
+            marks,
+        );
+    }
+    gather_around(
+        content,
+        at,
+        types,
+        from,
+        results,
+        draft,
+        base,
+        count,
+        end,
+        limit,
+        marks,
+    )
 }
 
 // The alternatives that a content with operands gives: a sequence, a choice, or an operator of one operand.
@@ -292,31 +380,20 @@ fn gather_compound(
     end: usize,
     limit: usize,
     kept: &mut [u32],
+    marks: &mut [u32],
 ) -> Gathering
     requires { ⌜ (3 ≤ getD (now content) at 0)
-        × ((q : Source (now content) at (now types) (now from) (now results) (now draft) base count end limit)
-        × TypesKept (now kept) (q .kept .list)) ⌝ }
+        × ((q : Source (now content) at (now types) (now from) (now results) (now draft) base count end limit (length (now marks)))
+        × Noted (now kept) (now marks) (q .kept .list)) ⌝ }
     ensures { λ r. ⌜ ((q : Source (now (content .entry)) at (now (types .entry)) (now (from .entry)) (now (results .entry))
-        (now (draft .entry)) base count end limit)
-        → TypesKept (now (kept .entry)) (q .kept .list)
-        → GathersTypes (now (draft .entry)) (now (draft .exit)) base end limit (q .there .next)
-        (now (kept .exit))
+        (now (draft .entry)) base count end limit (length (now (marks .entry))))
+        → Noted (now (kept .entry)) (now (marks .entry)) (q .kept .list)
+        → GathersWith (Noted (now (kept .exit)) (now (marks .exit))) (now (draft .entry)) (now (draft .exit)) base end limit
+        (q .there .next)
         (gathered (q .kept .list) (alts (listOfType (now (from .entry)) (now (results .entry))) (q .there .content))) r) ⌝ }
 {
-    match wide(content[at]) {
-        3 => gather_sequence(
-            content,
-            at,
-            types,
-            from,
-            results,
-            draft,
-            base,
-            count,
-            end,
-            limit,
-        ),
-        4 => gather_row(
+    if wide(content[at]) == 4 {
+        return gather_row(
             content,
             at + 2,
             wide(content[at + 1]),
@@ -329,20 +406,22 @@ fn gather_compound(
             end,
             limit,
             kept,
-        ),
-        _ => gather_around(
-            content,
-            at,
-            types,
-            from,
-            results,
-            draft,
-            base,
-            count,
-            end,
-            limit,
-        ),
+            marks,
+        );
     }
+    gather_one(
+        content,
+        at,
+        types,
+        from,
+        results,
+        draft,
+        base,
+        count,
+        end,
+        limit,
+        marks,
+    )
 }
 
 // Adds to the operands in the draft the alternatives that the source content at a place gives. `kept` is the set of the result types
@@ -359,14 +438,15 @@ pub fn gather(
     end: usize,
     limit: usize,
     kept: &mut [u32],
+    marks: &mut [u32],
 ) -> Gathering
-    requires { ⌜ ((q : Source (now content) at (now types) (now from) (now results) (now draft) base count end limit)
-        × TypesKept (now kept) (q .kept .list)) ⌝ }
+    requires { ⌜ ((q : Source (now content) at (now types) (now from) (now results) (now draft) base count end limit (length (now marks)))
+        × Noted (now kept) (now marks) (q .kept .list)) ⌝ }
     ensures { λ r. ⌜ ((q : Source (now (content .entry)) at (now (types .entry)) (now (from .entry)) (now (results .entry))
-        (now (draft .entry)) base count end limit)
-        → TypesKept (now (kept .entry)) (q .kept .list)
-        → GathersTypes (now (draft .entry)) (now (draft .exit)) base end limit (q .there .next)
-        (now (kept .exit))
+        (now (draft .entry)) base count end limit (length (now (marks .entry))))
+        → Noted (now (kept .entry)) (now (marks .entry)) (q .kept .list)
+        → GathersWith (Noted (now (kept .exit)) (now (marks .exit))) (now (draft .entry)) (now (draft .exit)) base end limit
+        (q .there .next)
         (gathered (q .kept .list) (alts (listOfType (now (from .entry)) (now (results .entry))) (q .there .content))) r) ⌝ }
 {
     let operator = wide(content[at]);
@@ -376,7 +456,7 @@ pub fn gather(
             count,
             end,
         },
-        1 => gather_empty(draft, base, count, end, limit, at + 1),
+        1 => gather_empty(draft, base, count, end, limit, at + 1, marks),
         2 => {
             let k = wide(content[at + 1]);
             gather_type(
@@ -390,6 +470,7 @@ pub fn gather(
                 limit,
                 at + 2,
                 kept,
+                marks,
             )
         }
         _ => gather_compound(
@@ -404,6 +485,7 @@ pub fn gather(
             end,
             limit,
             kept,
+            marks,
         ),
     }
 }
@@ -422,14 +504,16 @@ pub fn gather_row(
     end: usize,
     limit: usize,
     kept: &mut [u32],
+    marks: &mut [u32],
 ) -> Gathering
-    requires { ⌜ ((q : Sources (now content) at n (now types) (now from) (now results) (now draft) base count end limit)
-        × TypesKept (now kept) (q .kept .list)) ⌝ }
+    requires { ⌜ ((q : Sources (now content) at n (now types) (now from) (now results) (now draft) base count end limit
+        (length (now marks)))
+        × Noted (now kept) (now marks) (q .kept .list)) ⌝ }
     ensures { λ r. ⌜ ((q : Sources (now (content .entry)) at n (now (types .entry)) (now (from .entry)) (now (results .entry))
-        (now (draft .entry)) base count end limit)
-        → TypesKept (now (kept .entry)) (q .kept .list)
-        → GathersTypes (now (draft .entry)) (now (draft .exit)) base end limit (q .there .next)
-        (now (kept .exit))
+        (now (draft .entry)) base count end limit (length (now (marks .entry))))
+        → Noted (now (kept .entry)) (now (marks .entry)) (q .kept .list)
+        → GathersWith (Noted (now (kept .exit)) (now (marks .exit))) (now (draft .entry)) (now (draft .exit)) base end limit
+        (q .there .next)
         (gathered (q .kept .list)
         (joinedOf (λ xs. xs) (altsOfEach (listOfType (now (from .entry)) (now (results .entry))) (q .there .contents)))) r) ⌝ }
 {
@@ -452,6 +536,7 @@ pub fn gather_row(
         end,
         limit,
         kept,
+        marks,
     ) {
         Gathering::TooLarge => Gathering::TooLarge,
         Gathering::Upto { next, count, end } => gather_row(
@@ -467,6 +552,7 @@ pub fn gather_row(
             end,
             limit,
             kept,
+            marks,
         ),
     }
 }
@@ -482,18 +568,17 @@ fn emit_row(
     draft: &mut [u8],
     start: usize,
     place: usize,
+    marks: &mut [u32],
 ) -> Emitted
-    requires { ⌜ Operands (now content) at n (now types) (now from) (now results) (now draft) start place ⌝ }
+    requires { ⌜ Operands (now content) at n (now types) (now from) (now results) (now draft) start place (length (now marks)) ⌝ }
     ensures { λ r. ⌜ ((q : Operands (now (content .entry)) at n (now (types .entry)) (now (from .entry)) (now (results .entry))
-        (now (draft .entry)) start place)
+        (now (draft .entry)) start place (length (now (marks .entry))))
         → Emits (now (draft .entry)) (now (draft .exit)) start place n (q .there .next)
         (operands (map written (altsOfEach (listOfType (now (from .entry)) (now (results .entry))) (q .there .contents)))) r) ⌝ }
 {
     if n == 0 {
-        return Emitted::Upto {
-            next: at,
-            end: place,
-        };
+        let next = at;
+        return Emitted::Upto { next, end: place };
     }
     let mut kept = [0u32; 8];
     match gather(
@@ -508,6 +593,7 @@ fn emit_row(
         place + 2,
         start + HEADED,
         &mut kept,
+        marks,
     ) {
         Gathering::TooLarge => Emitted::TooLarge,
         Gathering::Upto { next, count, end } => {
@@ -525,6 +611,7 @@ fn emit_row(
                 draft,
                 start,
                 last,
+                marks,
             )
         }
     }

@@ -28,43 +28,44 @@ use Rattle.emitting.specs.declared.drafts.Gathering.{Gathering}
 use Rattle.emitting.specs.declared.drafts.Gathering.the-variants.{TooLarge, Upto}
 use Rattle.emitting.specs.declared.completing.ContentMade.{ContentMade}
 use Rattle.emitting.specs.declared.completing.ContentMade.the-variants as made
-use Rattle.emitting.specs.Drafts.{Row, Kept, TooWide}
-use Rattle.emitting.specs.Emitting.{TypesKept}
+use Rattle.emitting.specs.Drafts.{draftLength, Row, Kept, TooWide}
+use Rattle.emitting.specs.Marks.{marksLength}
+use Rattle.emitting.specs.Emitting.{Noted}
 use Rattle.emitting.specs.Completing.{Made}
 use Rattle.emitting.proofs.WideLaws.{wide-gathered, too-large}
-use Rattle.emitting.proofs.TypesKeptLaws.{no-upto}
+use Rattle.emitting.proofs.MarkLaws.{no-upto}
 use Rattle.merging.specs.Merging.{Ready, GathersInContent, GathersKept}
 
 -- what is asked for, and what is not
-pub given-on : (draft set : List ℕ) (ds xs : List Content) (r : Gathering) (on : Bool) → on ≡ true → GathersKept draft set (gathered ds xs) r
-    → GathersKept draft set (gathered ds (onlyIf on xs)) r
+pub given-on : (draft set marks : List ℕ) (ds xs : List Content) (r : Gathering) (on : Bool) → on ≡ true → GathersKept draft set marks (gathered ds xs) r
+    → GathersKept draft set marks (gathered ds (onlyIf on xs)) r
 unfolding onlyIf
-given-on draft set ds xs r on e g = subst (λ (b : Bool). GathersKept draft set (gathered ds (onlyIf b xs)) r) (sym e) g
+given-on draft set marks ds xs r on e g = subst (λ (b : Bool). GathersKept draft set marks (gathered ds (onlyIf b xs)) r) (sym e) g
 
-pub given-off : (draft set : List ℕ) (count end : ℕ) (xs : List Content) (on : Bool) → on ≡ false → (k : Ready draft set count end)
-    → GathersKept draft set (gathered (k .kept .list) (onlyIf on xs)) (Upto 0 count end)
+pub given-off : (draft set marks : List ℕ) (count end : ℕ) (xs : List Content) (on : Bool) → on ≡ false → (k : Ready draft set marks count end)
+    → GathersKept draft set marks (gathered (k .kept .list) (onlyIf on xs)) (Upto 0 count end)
 unfolding onlyIf GathersInContent
-given-off draft set count end xs on e k =
+given-off draft set marks count end xs on e k =
     let ds = k .kept .list in
     let same : ds ≡ gathered ds (onlyIf on xs) =
     sym (ap (λ (b : Bool). gathered ds (onlyIf b xs)) e ∙ gather-nothing ds (k .kept .row .apart)) in
     record {
       gathers = (subst (λ (l : List Content). Row draft 2 count l end) same (k .kept .row), k .fits);
-      types = λ u. subst (TypesKept set) same (k .types);
+      noted = λ u. subst (Noted set marks) same (k .noted);
     }
 
-pub given-as : (draft set : List ℕ) (ds xs : List Content) (r : Gathering) (on on′ : Bool) → on ≡ on′
-    → GathersKept draft set (gathered ds (onlyIf on xs)) r → GathersKept draft set (gathered ds (onlyIf on′ xs)) r
-given-as draft set ds xs r on on′ e g = subst (λ (b : Bool). GathersKept draft set (gathered ds (onlyIf b xs)) r) e g
+pub given-as : (draft set marks : List ℕ) (ds xs : List Content) (r : Gathering) (on on′ : Bool) → on ≡ on′
+    → GathersKept draft set marks (gathered ds (onlyIf on xs)) r → GathersKept draft set marks (gathered ds (onlyIf on′ xs)) r
+given-as draft set marks ds xs r on on′ e g = subst (λ (b : Bool). GathersKept draft set marks (gathered ds (onlyIf b xs)) r) e g
 
 -- Operands stand in the draft that were kept before or that the numbers below i give.
 module _ (give : ℕ → List Content) (n : ℕ) where
   abbrev pub restFrom : ℕ → List Content
   restFrom i = joinedOf give (numbersFrom i (n - i))
 
-  pub record MergedSoFar (ds : List Content) (draft set : List ℕ) (count end i : ℕ) : Type 0 where
+  pub record MergedSoFar (ds : List Content) (draft set marks : List ℕ) (count end i : ℕ) : Type 0 where
     pub list : List Content
-    pub types : TypesKept set (gathered ds list)
+    pub noted : Noted set marks (gathered ds list)
     pub row : Row draft 2 count (gathered ds list) end
     pub fits : end ≤ 1026
     pub rest : list ++ restFrom i ≡ joinedOf give (numbersBelow n)
@@ -81,25 +82,32 @@ module _ (give : ℕ → List Content) (n : ℕ) where
   unfolding joinedOf numbersFrom
   rest-none = let z : n - n ≡ 0 = omega arith in ap (λ (m : ℕ). joinedOf give (numbersFrom n m)) z
 
-  pub so-far-none : {draft set : List ℕ} {count end : ℕ} (k : Ready draft set count end) → MergedSoFar (k .kept .list) draft set count end 0
+  pub so-far-none : {draft set marks : List ℕ} {count end : ℕ} (k : Ready draft set marks count end) → MergedSoFar (k .kept .list) draft set marks count end 0
   unfolding numbersBelow
-  so-far-none {draft} {set} {count} {end} k =
+  so-far-none {draft} {set} {marks} {count} {end} k =
       let same = sym (gather-nothing (k .kept .list) (k .kept .row .apart)) in
       record {
         list = [];
-        types = subst (TypesKept set) same (k .types);
+        noted = subst (Noted set marks) same (k .noted);
         row = subst (λ (l : List Content). Row draft 2 count l end) same (k .kept .row);
         fits = k .fits;
         rest = let z : n - 0 ≡ n = omega arith in ap (λ (m : ℕ). joinedOf give (numbersFrom 0 m)) z;
       }
 
-  module _ {ds : List Content} {draft set : List ℕ} {count end i : ℕ} (s : MergedSoFar ds draft set count end i) where
+  module _ {ds : List Content} {draft set marks : List ℕ} {count end i : ℕ} (s : MergedSoFar ds draft set marks count end i) where
     -- ready for the next number
-    abbrev pub ready-for : 33858 ≤ length draft → Ready draft set count end
-    ready-for room =
-        record { kept = record { list = gathered ds (s .list); row = s .row }; types = s .types; fits = s .fits; room = room }
+    abbrev pub ready-for : draftLength ≤ length draft → marksLength ≤ length marks → Ready draft set marks count end
+    ready-for room deep =
+        record {
+          kept = record { list = gathered ds (s .list); row = s .row };
+          noted = s .noted;
+          fits = s .fits;
+          room = room;
+          deep = deep;
+        }
 
-    module _ (h : i < n) (after set′ : List ℕ) (r : Gathering) (g : GathersKept after set′ (gathered (gathered ds (s .list)) (give i)) r) where
+    module _ (h : i < n) (after set′ marks′ : List ℕ) (r : Gathering)
+        (g : GathersKept after set′ marks′ (gathered (gathered ds (s .list)) (give i)) r) where
       abbrev next-list : List Content
       next-list = s .list ++ give i
 
@@ -112,38 +120,38 @@ module _ (give : ℕ → List Content) (n : ℕ) where
           ∙ ap (λ (l : List Content). s .list ++ l) (sym (rest-next i h))
           ∙ s .rest
 
-      pub so-far-wide : r ≡ TooLarge → (last set″ : List ℕ) (all : List Content) → joinedOf give (numbersBelow n) ≡ all
-          → GathersKept last set″ (gathered ds all) TooLarge
+      pub so-far-wide : r ≡ TooLarge → (last set″ marks″ : List ℕ) (all : List Content) → joinedOf give (numbersBelow n) ≡ all
+          → GathersKept last set″ marks″ (gathered ds all) TooLarge
       unfolding GathersInContent
-      so-far-wide e last set″ all whole =
+      so-far-wide e last set″ marks″ all whole =
           record {
             gathers =
                 subst (λ (l : List Content). TooWide 1024 (gathered ds l)) (next-rest ∙ whole)
                 (wide-gathered 1024 ds next-list (restFrom (i + 1))
                 (subst (λ (x : Gathering). GathersInContent after (gathered ds next-list) x) e next-gathers));
-            types = λ u. no-upto u;
+            noted = λ u. no-upto u;
           }
 
-      pub so-far-next : {m c stop : ℕ} → r ≡ Upto m c stop → MergedSoFar ds after set′ c stop (i + 1)
+      pub so-far-next : {m c stop : ℕ} → r ≡ Upto m c stop → MergedSoFar ds after set′ marks′ c stop (i + 1)
       unfolding GathersInContent
       so-far-next {m} {c} {stop} e =
           let t : Row after 2 c (gathered ds next-list) stop × (stop ≤ 1026) =
           subst (λ (x : Gathering). GathersInContent after (gathered ds next-list) x) e next-gathers in
           record {
             list = next-list;
-            types = subst (TypesKept set′) (gather-more ds (s .list) (give i)) (g .types e);
+            noted = subst (Noted set′ marks′) (gather-more ds (s .list) (give i)) (g .noted e);
             row = t .0;
             fits = t .1;
             rest = next-rest;
           }
 
     pub so-far-all : i ≡ n → (all : List Content) → joinedOf give (numbersBelow n) ≡ all
-        → GathersKept draft set (gathered ds all) (Upto 0 count end)
+        → GathersKept draft set marks (gathered ds all) (Upto 0 count end)
     unfolding GathersInContent
     so-far-all e all whole =
-        subst (λ (l : List Content). GathersKept draft set (gathered ds l) (Upto 0 count end))
+        subst (λ (l : List Content). GathersKept draft set marks (gathered ds l) (Upto 0 count end))
         (sym (append-nil (s .list)) ∙ ap (λ (l : List Content). s .list ++ l) (sym (ap restFrom e ∙ rest-none)) ∙ s .rest ∙ whole)
-        (record { gathers = (s .row, s .fits); types = λ u. s .types })
+        (record { gathers = (s .row, s .fits); noted = λ u. s .noted })
 
 -- what some elements give, by all of them
 joined-kept : {A B : Type 0} (f : A → List B) (test : A → Bool) (xs : List A)

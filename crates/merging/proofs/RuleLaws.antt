@@ -28,8 +28,8 @@ use Rattle.union.specs.PairNumbers.{ruleNumbered}
 use Rattle.union.proofs.ViewLaws.{content-is, seen}
 use Rattle.emitting.specs.declared.drafts.Gathering.{Gathering}
 use Rattle.emitting.specs.declared.drafts.Gathering.the-variants.{TooLarge, Upto}
-use Rattle.emitting.specs.Drafts.{Gathers}
-use Rattle.emitting.specs.Emitting.{Maps, Source, GathersTypes}
+use Rattle.emitting.specs.Drafts.{Gathers, GathersWith}
+use Rattle.emitting.specs.Emitting.{Maps, Source, Noted}
 use Rattle.merging.specs.Merging.{Merging, Ready, GathersInContent, GathersKept}
 use Rattle.merging.proofs.AgreeLaws.{alts-agree, nesting-renamed}
 
@@ -63,9 +63,9 @@ unfolding Gathers GathersInContent
 gathers-in d d' old next ds TooLarge g = g
 gathers-in d d' old next ds (Upto m count end) g = (g .1 .row, g .1 .fits)
 
-pub gathers-kept : (d d' : List ℕ) (old next : ℕ) (set : List ℕ) (ds : List Content) (r : Gathering)
-    → GathersTypes d d' 2 old 1026 next set ds r → GathersKept d' set ds r
-gathers-kept d d' old next set ds r g = record { gathers = gathers-in d d' old next ds r (g .gathers); types = g .types }
+pub gathers-kept : (d d' : List ℕ) (old next : ℕ) (set marks : List ℕ) (ds : List Content) (r : Gathering)
+    → GathersWith (Noted set marks) d d' 2 old 1026 next ds r → GathersKept d' set marks ds r
+gathers-kept d d' old next set marks ds r g = record { gathers = gathers-in d d' old next ds r (g .gathers); noted = g .noted }
 
 module _ {old add : List ℕ} {v : United} {types : Set4} {results : TypeLists} (q : Merging old add v types results) where
   pub maps-old : Maps (types .words) (results .old .from) (results .old .numbers)
@@ -99,14 +99,14 @@ module _ {old add : List ℕ} {v : United} {types : Set4} {results : TypeLists} 
     rule-content : contentOfRule (q .table) i ≡ rule .content
     rule-content = content-is (q .table) i rule (seen (q .views) i h .1)
 
-    module _ {draft set : List ℕ} {count end : ℕ} (k : Ready draft set count end) where
+    module _ {draft set marks : List ℕ} {count end : ℕ} (k : Ready draft set marks count end) where
       -- a rule of the old table
       module _ (is-old : i < v .«old_rules») where
         pub old-part : SourceContent old (fromIn v i) (toIn v i) (rule .content)
         old-part = seen (q .views) i h .2 .in-old is-old
 
         abbrev pub old-source : Source (take (toIn v i - fromIn v i) (drop (fromIn v i) old)) 0 (types .words) (results .old .from) (results .old .numbers)
-            draft 2 count end 1026
+            draft 2 count end 1026 (length marks)
         old-source =
             record {
               there = record { content = rule .content; next = toIn v i - fromIn v i; stands = old-part .stands; proper = old-part .proper };
@@ -115,15 +115,16 @@ module _ {old add : List ℕ} {v : United} {types : Set4} {results : TypeLists} 
               fits = k .fits;
               small = omega arith;
               room = let d = deep in let r = k .room in omega arith;
+              deep = let d = deep in let w = k .deep in omega arith;
             }
 
-        pub old-gives : (after set′ : List ℕ) (r : Gathering)
-            → GathersKept after set′
+        pub old-gives : (after set′ marks′ : List ℕ) (r : Gathering)
+            → GathersKept after set′ marks′
             (gathered (k .kept .list) (alts (listOfType (results .old .from) (results .old .numbers)) (rule .content))) r
-            → GathersKept after set′ (gathered (k .kept .list) (alts (q .of) (contentOfRule (q .table) i))) r
+            → GathersKept after set′ marks′ (gathered (k .kept .list) (alts (q .of) (contentOfRule (q .table) i))) r
         unfolding standard
-        old-gives after set′ r g =
-            subst (λ (l : List Content). GathersKept after set′ (gathered (k .kept .list) l) r)
+        old-gives after set′ marks′ r g =
+            subst (λ (l : List Content). GathersKept after set′ marks′ (gathered (k .kept .list) l) r)
             (alts-agree standard (listOfType (results .old .from) (results .old .numbers)) (q .of) (q .lists .old) (rule .content) (old-part .proper)
             ∙ ap (alts (q .of)) (sym rule-content))
             g
@@ -138,7 +139,7 @@ module _ {old add : List ℕ} {v : United} {types : Set4} {results : TypeLists} 
             subst (λ (d : ℕ). d ≤ 32) (ap nesting (added-part .same) ∙ nesting-renamed (shifted standard) (added-part .source)) deep
 
         abbrev pub added-source : Source (take (toIn v i - fromIn v i) (drop (fromIn v i) add)) 0 (take (4 - 2) (drop 2 (types .words)))
-            (results .addition .from) (results .addition .numbers) draft 2 count end 1026
+            (results .addition .from) (results .addition .numbers) draft 2 count end 1026 (length marks)
         added-source =
             record {
               there =
@@ -153,15 +154,16 @@ module _ {old add : List ℕ} {v : United} {types : Set4} {results : TypeLists} 
               fits = k .fits;
               small = omega arith;
               room = let d = source-deep in let r = k .room in omega arith;
+              deep = let d = source-deep in let w = k .deep in omega arith;
             }
 
-        pub added-gives : (after set′ : List ℕ) (r : Gathering)
-            → GathersKept after set′
+        pub added-gives : (after set′ marks′ : List ℕ) (r : Gathering)
+            → GathersKept after set′ marks′
             (gathered (k .kept .list) (alts (listOfType (results .addition .from) (results .addition .numbers)) (added-part .source))) r
-            → GathersKept after set′ (gathered (k .kept .list) (alts (q .of) (contentOfRule (q .table) i))) r
+            → GathersKept after set′ marks′ (gathered (k .kept .list) (alts (q .of) (contentOfRule (q .table) i))) r
         unfolding standard
-        added-gives after set′ r g =
-            subst (λ (l : List Content). GathersKept after set′ (gathered (k .kept .list) l) r)
+        added-gives after set′ marks′ r g =
+            subst (λ (l : List Content). GathersKept after set′ marks′ (gathered (k .kept .list) l) r)
             (alts-agree standard (listOfType (results .addition .from) (results .addition .numbers)) (λ j. q .of (shifted standard j)) (q .lists .added)
             (added-part .source)
             (added-part .stands .proper)

@@ -14,8 +14,9 @@ use Rattle.union.specs.View.{Views}
 use Rattle.union.specs.TypeLists.{ListsOf}
 use Rattle.emitting.specs.declared.drafts.Gathering.{Gathering}
 use Rattle.emitting.specs.declared.drafts.Gathering.the-variants.{TooLarge, Upto}
-use Rattle.emitting.specs.Drafts.{Row, Kept, TooWide}
-use Rattle.emitting.specs.Emitting.{TypesKept}
+use Rattle.emitting.specs.Drafts.{draftLength, Row, Kept, TooWide}
+use Rattle.emitting.specs.Marks.{marksLength}
+use Rattle.emitting.specs.Emitting.{Noted}
 
 -- its contents nest no deeper than those of a table that was read
 abbrev pub Shallow : Table → Type 0
@@ -31,20 +32,21 @@ pub record Merging (old add : List ℕ) (v : United) (types : Set4) (results : T
   pub words : length (types .words) ≡ 4
   pub typed : (k : ℕ) → k < 128 → member (types .words) 0 k ≡ someLeft of k
 
--- some operands stand in the draft from the third byte on, the set has the result types among them, and there is room for what any
--- content gives
-pub record Ready (draft set : List ℕ) (count end : ℕ) : Type 0 where
+-- some operands stand in the draft from the third byte on, the set has the result types among them, they are marked, and there is
+-- room for what any content gives
+pub record Ready (draft set marks : List ℕ) (count end : ℕ) : Type 0 where
   pub kept : Kept draft 2 count end
-  pub types : TypesKept set (kept .list)
+  pub noted : Noted set marks (kept .list)
   pub fits : end ≤ 1026
-  pub room : 33858 ≤ length draft
+  pub room : draftLength ≤ length draft
+  pub deep : marksLength ≤ length marks
 
 -- these operands stand there; or they are too large for a content
 unfoldable pub GathersInContent : List ℕ → List Content → Gathering → Type 0
 GathersInContent draft ds TooLarge = TooWide 1024 ds
 GathersInContent draft ds (Upto next count end) = Row draft 2 count ds end × (end ≤ 1026)
 
--- and the set has the result types among them
-pub record GathersKept (draft set : List ℕ) (ds : List Content) (r : Gathering) : Type 0 where
+-- and the set has the result types among them, and they are marked
+pub record GathersKept (draft set marks : List ℕ) (ds : List Content) (r : Gathering) : Type 0 where
   pub gathers : GathersInContent draft ds r
-  pub types : {next count end : ℕ} → r ≡ Upto next count end → TypesKept set ds
+  pub noted : {next count end : ℕ} → r ≡ Upto next count end → Noted set marks ds

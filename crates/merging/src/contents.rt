@@ -1,11 +1,12 @@
 // The content of a set of pairs of a union: what the contents of all their rules give, pair by pair and rule by rule, as one content.
-// `results` has the result types of each type of the union, `types` is the set of the types that have some, and `kept` that of the
-// result types that are among the operands.
+// `results` has the result types of each type of the union, `types` is the set of the types that have some, `kept` that of the
+// result types that are among the operands, and `marks` has the operands' marks.
 use emitting::completing::ContentMade;
 use emitting::completing::complete;
 use emitting::drafts::Gathering;
 use emitting::emitter::gather;
 use emitting::limits::HEADED;
+use emitting::limits::MARKS;
 use sets::four::Set4;
 use union::lists::Lists;
 use union::lists::TypeLists;
@@ -20,7 +21,8 @@ ghost use Rattle.sets.specs.Sets.{member};
 ghost use Rattle.union.specs.PairNumbers.{contentsOfPair, contentsIn};
 ghost use Rattle.union.specs.Walks.{listOfType};
 ghost use Rattle.union.specs.Rounds.{contentOfRule};
-ghost use Rattle.emitting.specs.Emitting.{Source, TypesKept};
+ghost use Rattle.emitting.specs.Drafts.{draftLength};
+ghost use Rattle.emitting.specs.Emitting.{Source, Noted};
 ghost use Rattle.emitting.specs.Completing.{Made};
 ghost use Rattle.merging.specs.Merging.{Merging, Ready, GathersInContent, GathersKept};
 
@@ -33,13 +35,14 @@ fn gather_content(
     count: usize,
     end: usize,
     kept: &mut [u32],
+    marks: &mut [u32],
 ) -> Gathering
-    requires { ⌜ ((q : Source (now content) 0 (now types) (lists .from) (lists .numbers) (now draft) 2 count end 1026)
-        × TypesKept (now kept) (q .kept .list)) ⌝ }
+    requires { ⌜ ((q : Source (now content) 0 (now types) (lists .from) (lists .numbers) (now draft) 2 count end 1026
+        (length (now marks))) × Noted (now kept) (now marks) (q .kept .list)) ⌝ }
     ensures { λ r. ⌜ ((q : Source (now (content .entry)) 0 (now (types .entry)) (lists .from) (lists .numbers)
-        (now (draft .entry)) 2 count end 1026)
-        → TypesKept (now (kept .entry)) (q .kept .list)
-        → GathersKept (now (draft .exit)) (now (kept .exit))
+        (now (draft .entry)) 2 count end 1026 (length (now (marks .entry))))
+        → Noted (now (kept .entry)) (now (marks .entry)) (q .kept .list)
+        → GathersKept (now (draft .exit)) (now (kept .exit)) (now (marks .exit))
         (gathered (q .kept .list) (alts (listOfType (lists .from) (lists .numbers)) (q .there .content))) r) ⌝ }
 {
     let from = lists.from;
@@ -56,6 +59,7 @@ fn gather_content(
         end,
         HEADED,
         kept,
+        marks,
     )
 }
 
@@ -71,11 +75,12 @@ fn gather_rule(
     count: usize,
     end: usize,
     kept: &mut [u32],
+    marks: &mut [u32],
 ) -> Gathering
-    requires { ⌜ Merging (now old) (now add) v types results × (i < v .rules) × Ready (now draft) (now kept) count end ⌝ }
+    requires { ⌜ Merging (now old) (now add) v types results × (i < v .rules) × Ready (now draft) (now kept) (now marks) count end ⌝ }
     ensures { λ r. ⌜ ((q : Merging (now (old .entry)) (now (add .entry)) v types results)
-        (k : Ready (now (draft .entry)) (now (kept .entry)) count end)
-        → GathersKept (now (draft .exit)) (now (kept .exit))
+        (k : Ready (now (draft .entry)) (now (kept .entry)) (now (marks .entry)) count end)
+        → GathersKept (now (draft .exit)) (now (kept .exit)) (now (marks .exit))
         (gathered (k .kept .list) (alts (q .of) (contentOfRule (q .table) i))) r) ⌝ }
 {
     let content_from = v.content_from;
@@ -85,10 +90,28 @@ fn gather_rule(
     let words = types.words;
     if i < v.old_rules {
         let lists = results.old;
-        return gather_content(&old[from..to], &words, lists, draft, count, end, kept);
+        return gather_content(
+            &old[from..to],
+            &words,
+            lists,
+            draft,
+            count,
+            end,
+            kept,
+            marks,
+        );
     }
     let lists = results.addition;
-    gather_content(&add[from..to], &words[2..4], lists, draft, count, end, kept)
+    gather_content(
+        &add[from..to],
+        &words[2..4],
+        lists,
+        draft,
+        count,
+        end,
+        kept,
+        marks,
+    )
 }
 
 // The same if the rule is asked for.
@@ -104,15 +127,28 @@ fn gather_rule_if(
     count: usize,
     end: usize,
     kept: &mut [u32],
+    marks: &mut [u32],
 ) -> Gathering
-    requires { ⌜ Merging (now old) (now add) v types results × (i < v .rules) × Ready (now draft) (now kept) count end ⌝ }
+    requires { ⌜ Merging (now old) (now add) v types results × (i < v .rules) × Ready (now draft) (now kept) (now marks) count end ⌝ }
     ensures { λ r. ⌜ ((q : Merging (now (old .entry)) (now (add .entry)) v types results)
-        (k : Ready (now (draft .entry)) (now (kept .entry)) count end)
-        → GathersKept (now (draft .exit)) (now (kept .exit))
+        (k : Ready (now (draft .entry)) (now (kept .entry)) (now (marks .entry)) count end)
+        → GathersKept (now (draft .exit)) (now (kept .exit)) (now (marks .exit))
         (gathered (k .kept .list) (onlyIf on (alts (q .of) (contentOfRule (q .table) i)))) r) ⌝ }
 {
     if on {
-        return gather_rule(old, add, v, i, types, results, draft, count, end, kept);
+        return gather_rule(
+            old,
+            add,
+            v,
+            i,
+            types,
+            results,
+            draft,
+            count,
+            end,
+            kept,
+            marks,
+        );
     }
     Gathering::Upto {
         next: 0,
@@ -133,17 +169,18 @@ fn gather_pair(
     count: usize,
     end: usize,
     kept: &mut [u32],
+    marks: &mut [u32],
 ) -> Gathering
-    requires { ⌜ Merging (now old) (now add) v types results × Ready (now draft) (now kept) count end ⌝ }
+    requires { ⌜ Merging (now old) (now add) v types results × Ready (now draft) (now kept) (now marks) count end ⌝ }
     ensures { λ r. ⌜ ((q : Merging (now (old .entry)) (now (add .entry)) v types results)
-        (k : Ready (now (draft .entry)) (now (kept .entry)) count end)
-        → GathersKept (now (draft .exit)) (now (kept .exit))
+        (k : Ready (now (draft .entry)) (now (kept .entry)) (now (marks .entry)) count end)
+        → GathersKept (now (draft .exit)) (now (kept .exit)) (now (marks .exit))
         (gathered (k .kept .list) (joinedOf (alts (q .of)) (contentsOfPair (q .table) p))) r) ⌝ }
 {
     let firsts = v.firsts;
     let rules = v.rules;
-    let mut total = count;
-    let mut last = end;
+    let mut count = count;
+    let mut end = end;
     let mut i: usize = 0;
     while i < rules {
         let first = firsts[i];
@@ -156,9 +193,10 @@ fn gather_pair(
             types,
             results,
             draft,
-            total,
-            last,
+            count,
+            end,
             kept,
+            marks,
         ) {
             Gathering::TooLarge => {
                 return Gathering::TooLarge;
@@ -168,17 +206,14 @@ fn gather_pair(
                 count: more,
                 end: fresh,
             } => {
-                total = more;
-                last = fresh;
+                count = more;
+                end = fresh;
             }
         }
         i += 1;
     }
-    Gathering::Upto {
-        next: 0,
-        count: total,
-        end: last,
-    }
+    let next = 0;
+    Gathering::Upto { next, count, end }
 }
 
 // The same if the pair is asked for.
@@ -194,15 +229,28 @@ fn gather_pair_if(
     count: usize,
     end: usize,
     kept: &mut [u32],
+    marks: &mut [u32],
 ) -> Gathering
-    requires { ⌜ Merging (now old) (now add) v types results × Ready (now draft) (now kept) count end ⌝ }
+    requires { ⌜ Merging (now old) (now add) v types results × Ready (now draft) (now kept) (now marks) count end ⌝ }
     ensures { λ r. ⌜ ((q : Merging (now (old .entry)) (now (add .entry)) v types results)
-        (k : Ready (now (draft .entry)) (now (kept .entry)) count end)
-        → GathersKept (now (draft .exit)) (now (kept .exit))
+        (k : Ready (now (draft .entry)) (now (kept .entry)) (now (marks .entry)) count end)
+        → GathersKept (now (draft .exit)) (now (kept .exit)) (now (marks .exit))
         (gathered (k .kept .list) (onlyIf on (joinedOf (alts (q .of)) (contentsOfPair (q .table) p)))) r) ⌝ }
 {
     if on {
-        return gather_pair(old, add, v, p, types, results, draft, count, end, kept);
+        return gather_pair(
+            old,
+            add,
+            v,
+            p,
+            types,
+            results,
+            draft,
+            count,
+            end,
+            kept,
+            marks,
+        );
     }
     Gathering::Upto {
         next: 0,
@@ -221,15 +269,16 @@ fn gather_set(
     results: TypeLists,
     draft: &mut [u8],
 ) -> Gathering
-    requires { ⌜ Merging (now old) (now add) v types results × (33858 ≤ length (now draft)) ⌝ }
+    requires { ⌜ Merging (now old) (now add) v types results × (draftLength ≤ length (now draft)) ⌝ }
     ensures { λ r. ⌜ ((q : Merging (now (old .entry)) (now (add .entry)) v types results)
         → GathersInContent (now (draft .exit))
         (gathered [] (joinedOf (alts (q .of)) (contentsIn (q .table) (member (set .words) 0)))) r) ⌝ }
 {
     let rules = v.rules;
     let mut kept = [0u32; 8];
-    let mut total = 0usize;
-    let mut last = 2usize;
+    let mut marks = [0u32; MARKS];
+    let mut count = 0usize;
+    let mut end = 2usize;
     let mut p: usize = 0;
     while p < rules {
         match gather_pair_if(
@@ -241,9 +290,10 @@ fn gather_set(
             types,
             results,
             draft,
-            total,
-            last,
+            count,
+            end,
             &mut kept,
+            &mut marks,
         ) {
             Gathering::TooLarge => {
                 return Gathering::TooLarge;
@@ -253,17 +303,14 @@ fn gather_set(
                 count: more,
                 end: fresh,
             } => {
-                total = more;
-                last = fresh;
+                count = more;
+                end = fresh;
             }
         }
         p += 1;
     }
-    Gathering::Upto {
-        next: 0,
-        count: total,
-        end: last,
-    }
+    let next = 0;
+    Gathering::Upto { next, count, end }
 }
 
 // Makes the content of a set of pairs at the front of the draft.
@@ -276,7 +323,7 @@ pub fn content_of_set(
     results: TypeLists,
     draft: &mut [u8],
 ) -> ContentMade
-    requires { ⌜ Merging (now old) (now add) v types results × (33858 ≤ length (now draft)) ⌝ }
+    requires { ⌜ Merging (now old) (now add) v types results × (draftLength ≤ length (now draft)) ⌝ }
     ensures { λ r. ⌜ ((q : Merging (now (old .entry)) (now (add .entry)) v types results)
         → Regular (written (joinedOf (alts (q .of)) (contentsIn (q .table) (member (set .words) 0))))
         → Made (now (draft .exit)) (written (joinedOf (alts (q .of)) (contentsIn (q .table) (member (set .words) 0)))) r) ⌝ }

@@ -8,12 +8,13 @@ use union::lists::TypeLists;
 use union::united::Union;
 use union::united::United;
 use writer::writing::Drafted;
-ghost use Prim.Native.Nat.{_≤_};
+ghost use Prim.Native.Nat.{_+_, _≤_};
 ghost use lib.ListN.{length};
 ghost use Rattle.grammar.specs.Lists.{keep, numbersBelow};
 ghost use Rattle.grammar.specs.WriteTable.{tableBytes};
 ghost use Rattle.sets.specs.Sets.{setAt};
 ghost use Rattle.union.specs.Places.{startTypesAt};
+ghost use Rattle.emitting.specs.Drafts.{draftLength};
 ghost use Rattle.forms.specs.SetForms.{tableBySets, pairsWithin};
 ghost use Rattle.sampling.specs.SampleTable.{TablePut};
 ghost use Rattle.results.specs.Results.{RulesWith, ResultFrom, ruleFrom, bodyBytes};
@@ -33,7 +34,7 @@ fn put_body(
     count: usize,
     kind: Kind,
 ) -> Drafted
-    requires { ⌜ (at ≤ 32768) × (32768 ≤ length (now draft)) × (33860 ≤ length (now scratch))
+    requires { ⌜ (at ≤ 32768) × (32768 ≤ length (now draft)) × (2 + draftLength ≤ length (now scratch))
         × RulesWith (now old) (now add) v labels lists (now words) count (kindOf kind) ⌝ }
     ensures { λ r. ⌜ ((q : RulesWith (now (old .entry)) (now (add .entry)) v labels lists (now (words .entry)) count (kindOf kind))
         → TablePut (now (draft .entry)) at (ruleFrom (q .rules)) count
@@ -69,7 +70,7 @@ pub fn put_result(
     count: usize,
     kind: Kind,
 ) -> Drafted
-    requires { ⌜ (32768 ≤ length (now draft)) × (33860 ≤ length (now scratch))
+    requires { ⌜ (32768 ≤ length (now draft)) × (2 + draftLength ≤ length (now scratch))
         × ResultFrom (now old) (now add) union lists (now words) count (kindOf kind) ⌝ }
     ensures { λ r. ⌜ ((q : ResultFrom (now (old .entry)) (now (add .entry)) union lists (now (words .entry)) count (kindOf kind))
         → TablePut (now (draft .entry)) 0 (ruleFrom (q .rules)) count

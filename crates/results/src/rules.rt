@@ -2,6 +2,7 @@
 use crate::labels_used::label_place;
 use crate::widen::Kind;
 use emitting::completing::ContentMade;
+use emitting::limits::DRAFT;
 use forms::label_sets::label_numbers;
 use forms::label_sets::set_label;
 use forms::set_numbers::result_lists;
@@ -18,7 +19,7 @@ use union::places::USED;
 use union::united::United;
 use writer::writing::Drafted;
 use writer::writing::put_field;
-ghost use Prim.Native.Nat.{_*_, _≤_, _<_};
+ghost use Prim.Native.Nat.{_+_, _*_, _≤_, _<_};
 ghost use mathlib.Core.Path.{_≡_};
 ghost use lib.ListN.{length};
 ghost use Rattle.grammar.specs.Lists.{isIn};
@@ -28,11 +29,15 @@ ghost use Rattle.sets.specs.Sets.{member, wordsAt};
 ghost use Rattle.union.specs.View.{Views};
 ghost use Rattle.union.specs.TypeLists.{ListsOf};
 ghost use Rattle.union.specs.PairNumbers.{fruitfulOf, isLeft};
+ghost use Rattle.emitting.specs.Drafts.{draftLength};
 ghost use Rattle.emitting.specs.Completing.{Made};
 ghost use Rattle.sampling.specs.SampleTable.{RulePuts, RulesPut, TablePut, restBytes};
 ghost use Rattle.forms.specs.SetForms.{pairsWithin};
 ghost use Rattle.results.specs.Results.{RulesFrom, RulesWith, ruleFrom};
 ghost use Rattle.results.specs.Widened.{kindOf};
+
+// The scratch bytes in which a rule is made: its type, its label, and the draft of its content.
+pub const SCRATCH: usize = 2 + DRAFT;
 
 // The pairs that form the sets named in the content of a set.
 fn pairs_within(
@@ -70,7 +75,7 @@ fn set_content(
     i: usize,
     set: Set4,
 ) -> ContentMade
-    requires { ⌜ (33858 ≤ length (now scratch)) × (i < count) × (set .words ≡ wordsAt (now words) (4 * i) 4)
+    requires { ⌜ (draftLength ≤ length (now scratch)) × (i < count) × (set .words ≡ wordsAt (now words) (4 * i) 4)
         × RulesFrom (now old) (now add) v labels lists (now words) count (kindOf kind) ⌝ }
     ensures { λ r. ⌜ ((q : RulesFrom (now (old .entry)) (now (add .entry)) v labels lists (now (words .entry)) count (kindOf kind))
         → Made (now (scratch .exit)) (ruleFrom q i .content) r) ⌝ }
@@ -98,7 +103,7 @@ fn put_rule(
     kind: Kind,
     i: usize,
 ) -> Drafted
-    requires { ⌜ (at ≤ 32768) × (32768 ≤ length (now draft)) × (33860 ≤ length (now scratch)) × (i < count)
+    requires { ⌜ (at ≤ 32768) × (32768 ≤ length (now draft)) × (2 + draftLength ≤ length (now scratch)) × (i < count)
         × RulesWith (now old) (now add) v labels lists (now words) count (kindOf kind) ⌝ }
     ensures { λ r. ⌜ ((q : RulesWith (now (old .entry)) (now (add .entry)) v labels lists (now (words .entry)) count (kindOf kind))
         → RulePuts (now (draft .entry)) at (ruleFrom (q .rules) i) (now (draft .exit)) r) ⌝ }
@@ -143,7 +148,7 @@ fn put_rules(
     count: usize,
     kind: Kind,
 ) -> Drafted
-    requires { ⌜ (at ≤ 32768) × (32768 ≤ length (now draft)) × (33860 ≤ length (now scratch))
+    requires { ⌜ (at ≤ 32768) × (32768 ≤ length (now draft)) × (2 + draftLength ≤ length (now scratch))
         × RulesWith (now old) (now add) v labels lists (now words) count (kindOf kind) ⌝ }
     ensures { λ r. ⌜ ((q : RulesWith (now (old .entry)) (now (add .entry)) v labels lists (now (words .entry)) count (kindOf kind))
         → RulesPut (now (draft .entry)) at (ruleFrom (q .rules)) count (now (draft .exit)) r) ⌝ }
@@ -191,7 +196,7 @@ pub fn put_rest(
     count: usize,
     kind: Kind,
 ) -> Drafted
-    requires { ⌜ (at ≤ 32768) × (32768 ≤ length (now draft)) × (33860 ≤ length (now scratch))
+    requires { ⌜ (at ≤ 32768) × (32768 ≤ length (now draft)) × (2 + draftLength ≤ length (now scratch))
         × RulesWith (now old) (now add) v labels lists (now words) count (kindOf kind) ⌝ }
     ensures { λ r. ⌜ ((q : RulesWith (now (old .entry)) (now (add .entry)) v labels lists (now (words .entry)) count (kindOf kind))
         → TablePut (now (draft .entry)) at (ruleFrom (q .rules)) count (restBytes (ruleFrom (q .rules)) count) (now (draft .exit)) r) ⌝ }

@@ -1,6 +1,7 @@
 // Widening a table that was read by another, to either kind: the union, its fruitful pairs, those that are left, the sets that are the
 // types of the result, and the result in a draft.
 use crate::result::put_result;
+use crate::rules::SCRATCH;
 use crate::start_types::first_numbers;
 use crate::start_types::start_numbers;
 use forms::label_sets::label_numbers;
@@ -88,7 +89,7 @@ fn widen_local(
         Counted::Count(count) => {
             let numbers = label_numbers(v, labels, left, words, count);
             start_numbers(v, numbers, words);
-            let mut scratch = [0u8; 33860];
+            let mut scratch = [0u8; SCRATCH];
             told(put_result(
                 draft,
                 &mut scratch,
@@ -126,7 +127,7 @@ fn widen_from_starts(
         Counted::TooMany => Made::TooLarge,
         Counted::Count(count) => {
             first_numbers(first, words);
-            let mut scratch = [0u8; 33860];
+            let mut scratch = [0u8; SCRATCH];
             told(put_result(
                 draft,
                 &mut scratch,

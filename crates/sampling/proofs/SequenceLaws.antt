@@ -20,12 +20,14 @@ use Rattle.reader.specs.ExprAt.{_upTo_}
 use Rattle.reader.proofs.ExprLaws.{expr-of, exprs-none, exprs-kept}
 use Rattle.emitting.specs.declared.drafts.Gathering.{Gathering}
 use Rattle.emitting.specs.declared.drafts.Gathering.the-variants.{TooLarge, Upto}
-use Rattle.emitting.specs.Drafts.{Row, Kept, Newest, TooWide, Gathers}
+use Rattle.emitting.specs.Drafts.{Row, Kept, Newest, TooWide, Gathers, GathersWith}
+use Rattle.emitting.specs.Marks.{Marked}
 use Rattle.writer.specs.Writing.{Put}
+use Rattle.emitting.proofs.MarkLaws.{marked-none}
 use Rattle.emitting.proofs.WideLaws.{wide-gathered}
 use Rattle.sampling.proofs.NumberingLaws.{numbers-split}
 use Rattle.writer.proofs.PutLaws.{put-length, put-kept, put-there}
-use Rattle.sampling.specs.SampleContents.{operandsEnd, sequenceIn, sequencesAmong, GathersInRule}
+use Rattle.sampling.specs.SampleContents.{operandsEnd, sequenceIn, sequencesAmong, GathersInRule, GathersMarked}
 
 module _ (parents types : List ℕ) (n k : ℕ) where
   abbrev among : List ℕ → List Content
@@ -67,11 +69,14 @@ module _ (parents types : List ℕ) (n k : ℕ) where
 
   -- a node of another type
   pub row-other : (d : List ℕ) (count end i : ℕ) → (getD types i 0 ≡ k → ⊥) → end ≤ operandsEnd → (q : Kept d 4 count end)
-      → GathersInRule d (gathered (q .list) (among (i ∷ []))) (Upto 0 count end)
-  row-other d count end i e h q =
+      → {marks : List ℕ} → Marked marks (q .list) → GathersMarked d marks (gathered (q .list) (among (i ∷ []))) (Upto 0 count end)
+  row-other d count end i e h q {marks} m =
       let same : q .list ≡ gathered (q .list) (among (i ∷ [])) =
       sym (ap (gathered (q .list)) (among-other i e) ∙ gather-nothing (q .list) (q .row .apart)) in
-      (subst (λ (l : List Content). Row d 4 count l end) same (q .row), h)
+      record {
+        gathers = (subst (λ (l : List Content). Row d 4 count l end) same (q .row), h);
+        marked = λ u. subst (Marked marks) same m;
+      }
 
   -- a node of the type: its sequence stands after the operands
   module _ (i : ℕ) {before after : List ℕ} {end fresh : ℕ} (p : Put before end (contentBytes (sequenceIn parents types n i)) after fresh) where
@@ -98,30 +103,42 @@ module _ (parents types : List ℕ) (n k : ℕ) where
               ∙ ap (λ (m : ℕ). just (sequenceIn parents types n i upTo m)) (sym (p .next-is));
         }
 
-    pub row-own : {count : ℕ} (q : Kept before 4 count end) (r : Gathering) → getD types i 0 ≡ k
-        → Gathers after after 4 end operandsEnd 0 (gathered (q .list) (sequenceIn parents types n i ∷ [])) r
-        → GathersInRule after (gathered (q .list) (among (i ∷ []))) r
+    pub row-own : {count : ℕ} (q : Kept before 4 count end) (r : Gathering) → getD types i 0 ≡ k → {marks : List ℕ}
+        → GathersWith (Marked marks) after after 4 end operandsEnd 0 (gathered (q .list) (sequenceIn parents types n i ∷ [])) r
+        → GathersMarked after marks (gathered (q .list) (among (i ∷ []))) r
     unfolding Gathers
-    row-own q r e g =
-        subst (λ (l : List Content). GathersInRule after (gathered (q .list) l) r) (sym (among-own i e))
-        (gathers-in after after end (gathered (q .list) (sequenceIn parents types n i ∷ [])) r g)
+    row-own q r e {marks} g =
+        subst (λ (l : List Content). GathersMarked after marks (gathered (q .list) l) r) (sym (among-own i e))
+        (record {
+          gathers = gathers-in after after end (gathered (q .list) (sequenceIn parents types n i ∷ [])) r (g .gathers);
+          marked = g .noted;
+        })
       where
         gathers-in : (d d' : List ℕ) (old : ℕ) (ds : List Content) (r : Gathering) → Gathers d d' 4 old operandsEnd 0 ds r → GathersInRule d' ds r
         gathers-in d d' old ds TooLarge g = g
         gathers-in d d' old ds (Upto m count end) g = (g .1 .row, g .1 .fits)
 
   -- after one node
-  module _ (after : List ℕ) (i : ℕ) (r : Gathering) {d : List ℕ} {count end : ℕ} (row : Row d 4 count (gathered [] (among (numbersBelow i))) end)
-      (g : (q : Kept d 4 count end) → GathersInRule after (gathered (q .list) (among (i ∷ []))) r) where
-    so-far : GathersInRule after (gathered [] (among (numbersBelow (i + 1)))) r
-    so-far =
-        subst (λ (l : List Content). GathersInRule after l r) (among-next i) (g (record { list = gathered [] (among (numbersBelow i)); row = row }))
+  module _ (after marks : List ℕ) (i : ℕ) (r : Gathering)
+      (g : GathersMarked after marks (gathered (gathered [] (among (numbersBelow i))) (among (i ∷ []))) r) where
+    so-far : GathersMarked after marks (gathered [] (among (numbersBelow (i + 1)))) r
+    so-far = subst (λ (l : List Content). GathersMarked after marks l r) (among-next i) g
 
     pub gather-stop : r ≡ TooLarge → i < n → TooWide 1024 (gathered [] (among (numbersBelow n)))
-    gather-stop e h = among-wide i n h (subst (λ (x : Gathering). GathersInRule after (gathered [] (among (numbersBelow (i + 1)))) x) e so-far)
+    gather-stop e h =
+        among-wide i n h (subst (λ (x : Gathering). GathersInRule after (gathered [] (among (numbersBelow (i + 1)))) x) e (so-far .gathers))
 
-    pub gather-next : {m c stop : ℕ} → r ≡ Upto m c stop → Row after 4 c (gathered [] (among (numbersBelow (i + 1)))) stop × (stop ≤ operandsEnd)
-    gather-next e = subst (λ (x : Gathering). GathersInRule after (gathered [] (among (numbersBelow (i + 1)))) x) e so-far
+    pub gather-next : {m c stop : ℕ} → r ≡ Upto m c stop
+        → (Row after 4 c (gathered [] (among (numbersBelow (i + 1)))) stop × (stop ≤ operandsEnd))
+        × Marked marks (gathered [] (among (numbersBelow (i + 1))))
+    gather-next e = (
+      subst (λ (x : Gathering). GathersInRule after (gathered [] (among (numbersBelow (i + 1)))) x) e (so-far .gathers),
+      so-far .marked e,
+    )
+
+  pub among-marked : (marks : List ℕ) → 255 ≤ length marks → Marked marks (gathered [] (among (numbersBelow 0)))
+  unfolding gathered distinct keep numbersBelow
+  among-marked marks h = marked-none marks h
 
 -- what a gathering's answer says
 pub upto-row : (d : List ℕ) (ds : List Content) (r : Gathering) {m c e : ℕ} → GathersInRule d ds r → r ≡ Upto m c e → Row d 4 c ds e × (e ≤ operandsEnd)

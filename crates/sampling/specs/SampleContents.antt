@@ -11,6 +11,7 @@ use Rattle.grammar.specs.Sample.{sequenceOf}
 use Rattle.emitting.specs.declared.drafts.Gathering.{Gathering}
 use Rattle.emitting.specs.declared.drafts.Gathering.the-variants.{TooLarge, Upto}
 use Rattle.emitting.specs.Drafts.{Row, TooWide}
+use Rattle.emitting.specs.Marks.{Marked}
 
 -- A content is made in scratch bytes: where its operands end at most, where it ends, and how many bytes are lent.
 abbrev pub operandsEnd : ℕ
@@ -58,3 +59,8 @@ sequencesAmong parents types n k nodes = map (sequenceIn parents types n) (keep 
 abbrev pub GathersInRule : List ℕ → List Content → Gathering → Type 0
 GathersInRule draft ds TooLarge = TooWide 1024 ds
 GathersInRule draft ds (Upto next count end) = Row draft 4 count ds end × (end ≤ operandsEnd)
+
+-- and they are marked
+pub record GathersMarked (draft marks : List ℕ) (ds : List Content) (r : Gathering) : Type 0 where
+  pub gathers : GathersInRule draft ds r
+  pub marked : {next count end : ℕ} → r ≡ Upto next count end → Marked marks ds

@@ -5,6 +5,7 @@ use crate::sequences::put_sequence;
 use emitting::drafts::Gathering;
 use emitting::drafts::finish;
 use emitting::drafts::settle;
+use emitting::limits::OPERANDS;
 use writer::writing::Drafted;
 ghost use Prim.Native.Nat.{ℕ, _≤_, _<_};
 ghost use mathlib.Core.List.{[], _∷_};
@@ -12,8 +13,9 @@ ghost use lib.ListN.{length, getD};
 ghost use Rattle.grammar.specs.Lists.{numbersBelow};
 ghost use Rattle.theory.specs.Alternatives.{gathered};
 ghost use Rattle.emitting.specs.Drafts.{Kept};
+ghost use Rattle.emitting.specs.Marks.{Marked};
 ghost use Rattle.sampling.specs.SampleTable.{contentIn, ContentMade, NodesHeld};
-ghost use Rattle.sampling.specs.SampleContents.{Kids, sequencesAmong, GathersInRule, operandsEnd, scratchBytes};
+ghost use Rattle.sampling.specs.SampleContents.{Kids, sequencesAmong, GathersInRule, GathersMarked, operandsEnd, scratchBytes};
 
 // Gathers the child sequence of a node, if it is of the type `k`, among those that stand in the draft.
 fn one_more(
@@ -26,11 +28,12 @@ fn one_more(
     i: usize,
     count: usize,
     end: usize,
+    marks: &mut [u32],
 ) -> Gathering
-    requires { ⌜ Kids (now parents) (now types) nodes i kids × Kept (now scratch) 4 count end × (end ≤ operandsEnd)
-        × (scratchBytes ≤ length (now scratch)) ⌝ }
-    ensures { λ r. ⌜ ((q : Kept (now (scratch .entry)) 4 count end)
-        → GathersInRule (now (scratch .exit))
+    requires { ⌜ Kids (now parents) (now types) nodes i kids × ((q : Kept (now scratch) 4 count end) × Marked (now marks) (q .list))
+        × (end ≤ operandsEnd) × (scratchBytes ≤ length (now scratch)) ⌝ }
+    ensures { λ r. ⌜ ((q : Kept (now (scratch .entry)) 4 count end) → Marked (now (marks .entry)) (q .list)
+        → GathersMarked (now (scratch .exit)) (now (marks .exit))
         (gathered (q .list) (sequencesAmong (now (parents .entry)) (now (types .entry)) nodes k (i ∷ []))) r) ⌝ }
 {
     if types[i] != k {
@@ -41,7 +44,7 @@ fn one_more(
         };
     }
     let fresh = put_sequence(scratch, end, parents, types, nodes, i, kids);
-    settle(scratch, 4, count, end, fresh, OPERANDS_END, 0)
+    settle(scratch, 4, count, end, fresh, OPERANDS_END, 0, marks)
 }
 
 // Gathers the child sequences of the nodes of a type.
@@ -58,12 +61,24 @@ fn gather(
     ensures { λ r. ⌜ GathersInRule (now (scratch .exit))
         (gathered [] (sequencesAmong (now (parents .entry)) (now (types .entry)) nodes k (numbersBelow nodes))) r ⌝ }
 {
+    let mut marks = [0u32; OPERANDS];
     let mut count: usize = 0;
     let mut end: usize = 4;
     let mut i: usize = 0;
     while i < nodes {
         let kids = children[i] as usize;
-        match one_more(scratch, parents, types, nodes, kids, k, i, count, end) {
+        match one_more(
+            scratch,
+            parents,
+            types,
+            nodes,
+            kids,
+            k,
+            i,
+            count,
+            end,
+            &mut marks,
+        ) {
             Gathering::TooLarge => {
                 return Gathering::TooLarge;
             }

@@ -1,92 +1,89 @@
--- `is_there` meets its contract. The loop's invariant: an equal one is among all operands just where it is among those from here on.
-use Prim.Native.Nat.{ℕ, _-_, _≤_}
+-- `is_there` meets its contract. The loop's invariant: an equal one is among all operands just where it is among those from the
+-- next mark on.
+use Prim.Native.Nat.{ℕ, _-_, _≤_, _<_}
 use native.Mathlib.Omega.{arith}
-use mathlib.Core.Bool.{Bool, true, false, _||_}
 use mathlib.Core.List.{List}
-use mathlib.Core.Path.{_≡_, refl, sym, _∙_, ap}
-use Rattle.grammar.specs.Lists.{any}
-use Rattle.grammar.specs.Content.{Content}
-use Rattle.grammar.specs.ReadContent.{sameContent}
-use Rattle.reader.specs.ExprAt.{exprsAt}
-use Rattle.reader.proofs.ExprLaws.{expr-forward}
-use Rattle.emitting.specs.Drafts.{ExpressionAt, Newest}
-use Rattle.emitting.proofs.RowLaws.{exprs-none-left}
-use Rattle.emitting.proofs.KeptLaws.{same-there, StillAmong, FirstAmong, among-first, first-ends, others-among}
+use mathlib.Core.Path.{_≡_, sym, _∙_, ap}
+use lib.ListN.{take, drop}
+use Rattle.grammar.specs.ReadContent.{contentBytes}
+use Rattle.reader.proofs.ExprLaws.{expr-bytes, expr-forward}
+use Rattle.emitting.specs.Drafts.{Newest}
+use Rattle.emitting.specs.Marks.{fingerprint, Marked}
+use Rattle.emitting.proofs.MarkLaws.{mark-before}
+use Rattle.emitting.proofs.AmongLaws.{StillAmong, FirstAmong, among-all, among-first, among-none, same-marked}
 use Rattle.emitting.proofs.drafts.is_there.Statement.{statement}
 use Rattle.emitting.proofs.drafts.is_there.Tie as tie
 
 abbrev Inv-loop : tie.InvT-loop
-Inv-loop draft base count end fresh left₀ i₀ left i =
-    (i ≤ end) × ((q : Newest draft base count end fresh) → StillAmong draft i left end (q .newest) (q .kept .list))
+Inv-loop draft base count end fresh print marks k₀ k =
+    (k ≤ count)
+    × ((q : Newest draft base count end fresh) → Marked marks (q .kept .list)
+    → StillAmong draft marks base k (count - k) end (q .newest) (q .kept .list))
 
 abbrev μ-loop : tie.MeasureT-loop
-μ-loop draft base count end fresh left₀ i₀ left i = left
-
-abbrev stands : {s : List ℕ} {i left end : ℕ} {x : Content} {all : List Content} → FirstAmong s i left end x all → ExpressionAt s i
-stands f = record { content = f .first; next = f .middle; stands = f .first-at }
+μ-loop draft base count end fresh print marks k₀ k = count - k
 
 loop-holds : tie.Need-loop-holds Inv-loop μ-loop
-loop-holds c = (
-  c .before .pre .kept .row .forward,
-  λ q. record { others = q .kept .list; stand = q .kept .row .stand; same = refl },
-)
+loop-holds c = (omega arith, λ q m. among-all (q .kept .row) m)
 
-sub-same-bytes : tie.Need-sub-same-bytes Inv-loop μ-loop
-sub-same-bytes c =
-    let q = c .before .before .before .pre in
-    let f = expr-forward _ _ (q .newest) _ (q .stands) in
+abbrev first : {d marks : List ℕ} {base count end fresh k : ℕ} (q : Newest d base count end fresh) → k < count
+    → StillAmong d marks base k (count - k) end (q .newest) (q .kept .list)
+    → FirstAmong d marks base k (count - k) end (q .newest) (q .kept .list)
+first {d} {marks} {base} {count} {end} {k = k} q h a =
+    among-first d marks base k (count - k) end (q .newest) (q .kept .list) (omega arith) (q .kept .row .inside) a
+
+mul-is-same : tie.Need-mul-is-same Inv-loop μ-loop
+mul-is-same c = let few = c .before .before .before .before .pre .0 .0 .kept .row .few in omega arith
+
+shared-slice-read-is-same : tie.Need-shared-slice-read-is-same Inv-loop μ-loop
+shared-slice-read-is-same c =
+    let q = c .before .before .before .before .before .pre .0 .0 in
+    let few = q .kept .row .few in
+    let room = c .before .before .before .before .before .pre .0 .1 .room in
     omega arith
 
-same-bytes-requires : tie.Need-same-bytes-requires Inv-loop μ-loop
-same-bytes-requires c κs =
-    let q = c .before .before .before .pre in
-    let f = expr-forward _ _ (q .newest) _ (q .stands) in
-    (omega arith, omega arith)
+is-same-requires : tie.Need-is-same-requires Inv-loop μ-loop
+is-same-requires c κs =
+    let p = c .before .before .before .before .before .pre in
+    let q = p .0 .0 in
+    let f = first q (c .before .loop-test .taken) (c .before .before .loop .inv .1 q (p .0 .1)) in
+    let i = f .inside in
+    let at = mark-before _ (f .before) _ (f .mark-is) (omega arith) in
+    let e = expr-forward _ _ (q .newest) _ (q .stands) in
+    (omega arith, omega arith, omega arith)
 
-is-same : (a b : Bool) → a ≡ true → true ≡ (a || b)
-is-same a b e = ap (λ (x : Bool). true || b) e ∙ sym (ap (λ (x : Bool). x || b) e)
+-- what is asked of an operand is answered for the operand
+asked : {d : List ℕ} {base count end fresh print : ℕ} (q : Newest d base count end fresh)
+    → print ≡ fingerprint (take (fresh - end) (drop end d)) → print ≡ fingerprint (contentBytes (q .newest))
+asked {d} {end = end} {fresh = fresh} q p = p ∙ ap fingerprint (expr-bytes d end (q .newest) fresh (q .stands))
 
 returns : tie.Need-returns Inv-loop μ-loop
 returns c =
-    λ q.
-    let f = among-first _ _ _ _ (q .newest) _ (c .before .before .loop-test .taken) (c .before .before .before .loop .inv .1 q) in
-    let t = same-there _ _ (f .middle) _ _ (q .newest) (f .first) (q .stands) (f .first-at) _ (c .before .same-bytes .ensures) in
-    is-same _ _ (sym t ∙ c .if1 .taken) ∙ sym (f .same)
+    let p = c .before .before .before .before .before .before .before .pre in
+    λ q m.
+    let f = first q (c .before .before .before .loop-test .taken) (c .before .before .before .before .loop .inv .1 q m) in
+    f .here
+    (sym (same-marked _ _ _ _ _ _ _ _ (q .newest) _ _ (q .stands) (asked q (p .2)) (p .1) f (c .before .is-same .ensures)) ∙ c .if1 .taken)
 
-after-requires : tie.Need-after-requires Inv-loop μ-loop
-after-requires c κs =
-    let q = c .before .before .before .before .before .pre in
-    stands (among-first _ _ _ _ (q .newest) _ (c .before .before .loop-test .taken) (c .before .before .before .loop .inv .1 q))
-
-sub-left : tie.Need-sub-left Inv-loop μ-loop
-sub-left c = omega arith
+add-k : tie.Need-add-k Inv-loop μ-loop
+add-k c = omega arith
 
 loop-less : tie.Need-loop-less Inv-loop μ-loop
 loop-less c = omega arith
 
 loop-again : tie.Need-loop-again Inv-loop μ-loop
 loop-again c =
-    let q = c .before .before .before .before .before .before .pre in
-    let g = among-first _ _ _ _ (q .newest) _ (c .before .before .before .loop-test .taken) (c .before .before .before .before .loop .inv .1 q) in
-    let e = first-ends _ _ _ _ (q .newest) _ g in
-    let m = c .after .ensures (stands g) in (
+    let p = c .before .before .before .before .before .before .before .pre in (
       omega arith,
-      λ q.
-          let f = among-first _ _ _ _ (q .newest) _ (c .before .before .before .loop-test .taken) (c .before .before .before .before .loop .inv .1 q) in
-          let t = same-there _ _ (f .middle) _ _ (q .newest) (f .first) (q .stands) (f .first-at) _ (c .before .before .same-bytes .ensures) in
-          others-among _ _ _ _ (q .newest) _ f _ (c .after .ensures (stands f)) (sym t ∙ c .before .if1 .left),
+      λ q m.
+          let f = first q (c .before .before .before .loop-test .taken) (c .before .before .before .before .loop .inv .1 q m) in
+          f .later
+          (sym (same-marked _ _ _ _ _ _ _ _ (q .newest) _ _ (q .stands) (asked q (p .2)) (p .1) f (c .before .is-same .ensures)) ∙ c .if1 .left) _
+          (omega arith),
     )
 
-none-left : (s : List ℕ) (i left end : ℕ) (x : Content) (all : List Content) → left ≤ 0 → StillAmong s i left end x all
-    → false ≡ any (sameContent x) all
-unfolding any
-none-left s i left end x all h a =
-    let z : left ≡ 0 = omega arith in
-    let n = exprs-none-left s i (a .others) end (ap (exprsAt s i) (sym z) ∙ a .stand) .0 in
-    ap (any (sameContent x)) (sym n) ∙ sym (a .same)
-
 returns-2 : tie.Need-returns-2 Inv-loop μ-loop
-returns-2 c = λ q. none-left _ _ _ _ (q .newest) _ (c .loop-test .left) (c .before .loop .inv .1 q)
+returns-2 c = λ q m. among-none (omega arith) (c .before .loop .inv .1 q m)
 
 pub is-there-spec : {M : Type 1} → statement M
 is-there-spec =
@@ -95,11 +92,11 @@ is-there-spec =
     Inv-loop
     μ-loop
     loop-holds
-    sub-same-bytes
-    same-bytes-requires
+    mul-is-same
+    shared-slice-read-is-same
+    is-same-requires
     returns
-    after-requires
-    sub-left
+    add-k
     loop-less
     loop-again
     returns-2)

@@ -1,18 +1,19 @@
 -- `gather_empty` meets its contract: the byte after the operands is the empty content.
 use Prim.Native.Nat.{ℕ, _+_, _<_}
 use native.Mathlib.Omega.{arith}
-use mathlib.Core.List.{List}
+use mathlib.Core.List.{List, [], _∷_}
 use mathlib.Core.Option.{some as just}
 use mathlib.Core.Path.{_≡_}
 use lib.ListN.{length, take, set, length-set}
 use lib.Seq.{take-set-le, getD-set-same}
 use borrow.Author.Needs.{needs}
 use Rattle.grammar.specs.Content.{empty}
+use Rattle.theory.specs.Alternatives.{gathered}
 use Rattle.reader.specs.ExprAt.{_upTo_, exprAt}
 use Rattle.reader.proofs.ExprLaws.{operator-empty}
 use Rattle.emitting.specs.Drafts.{Kept, Newest}
 use Rattle.emitting.proofs.FinishLaws.{alone-stands}
-use Rattle.emitting.proofs.GatherLaws.{newest-of, gathers-from}
+use Rattle.emitting.proofs.GatherLaws.{newest-of, with-from}
 use Rattle.emitting.proofs.emitter.gather_empty.Statement.{statement}
 use Rattle.emitting.proofs.emitter.gather_empty.Tie as tie
 
@@ -36,21 +37,21 @@ module _ (d : List ℕ) (base count end : ℕ) (h : end < length d) where
 
 settle-requires : tie.Need-settle-requires
 settle-requires c κs =
-    let q = c .before .before .pre in
-    (newest _ _ _ _ (omega arith) (q .kept), q .fits)
+    let p = c .before .before .before .before .pre in
+    ((newest _ _ _ _ (omega arith) (p .0 .kept), p .1), p .0 .fits, p .0 .small)
 
 same-length : tie.Need-same-length
 same-length c = search needs
 
 returns : tie.Need-returns
 returns c =
-    let a = c .before .before .before .args in
-    let p = c .before .before .before .pre in
-    λ q.
+    let a = c .before .before .before .before .before .before .before .args in
+    let p = c .before .before .before .before .before .before .before .pre in
+    λ q m.
     let h : a .end < length (a .draft .now) = omega arith in
-    gathers-from _ _ _ _ _ _ _ _ _ (same-before (a .draft .now) (a .base) (a .count) (a .end) h)
-    (c .settle .ensures (newest (a .draft .now) (a .base) (a .count) (a .end) h (q .kept)))
+    with-from (gathered (q .kept .list) (empty ∷ [])) (same-before (a .draft .now) (a .base) (a .count) (a .end) h)
+    (c .before .before .settle .ensures (newest (a .draft .now) (a .base) (a .count) (a .end) h (q .kept)) m)
 
 pub gather-empty-spec : {M : Type 1} → statement M
 gather-empty-spec =
-    tie.close (tie.spec slice-write-draft add-settle settle-requires same-length returns)
+    tie.close (tie.spec slice-write-draft add-settle settle-requires same-length (λ c. search needs) returns)

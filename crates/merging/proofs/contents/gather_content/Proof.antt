@@ -5,9 +5,9 @@ use Rattle.merging.proofs.contents.gather_content.Statement.{statement}
 use Rattle.merging.proofs.contents.gather_content.Tie as tie
 
 returns : tie.Need-returns
-returns c = λ q s. gathers-kept _ _ _ _ _ _ _ (c .before .before .before .before .gather .ensures q s)
+returns c = λ q s. gathers-kept _ _ _ _ _ _ _ _ (c .before .before .before .before .before .before .gather .ensures q s)
 
 pub gather-content-spec : {M : Type 1} → statement M
 gather-content-spec =
     tie.close
-    (tie.spec (λ c. search needs) (λ c. search needs) (λ c κs. search needs) (λ c. search needs) (λ c. search needs) returns)
+    (tie.spec (λ c. search needs) (λ c. search needs) (λ c κs. search needs) (λ c. search needs) (λ c. search needs) (λ c. search needs) returns)

@@ -2,31 +2,40 @@
 use Prim.Native.Nat.{ℕ, _-_, _≤_}
 use native.Mathlib.Omega.{arith}
 use mathlib.Core.List.{[]}
-use mathlib.Core.Path.{_≡_, refl, subst}
+use mathlib.Core.Path.{_≡_, refl, sym, subst}
 use lib.ListN.{length}
 use borrow.Author.Needs.{needs}
 use Rattle.grammar.specs.Lists.{numbersBelow}
 use Rattle.theory.specs.Alternatives.{gathered}
 use Rattle.emitting.specs.Drafts.{Row}
+use Rattle.emitting.specs.Marks.{Marked}
 use Rattle.sampling.specs.SampleContents.{operandsEnd, sequencesAmong}
-use Rattle.sampling.proofs.SequenceLaws.{among-start, gather-stop, gather-next}
+use Rattle.sampling.proofs.SequenceLaws.{among-start, among-marked, gather-stop, gather-next}
 use Rattle.sampling.proofs.contents.gather.Statement.{statement}
 use Rattle.sampling.proofs.contents.gather.Tie as tie
 
 abbrev Inv-loop : tie.InvT-loop
-Inv-loop scratch₀ parents types children nodes k count₀ end₀ i₀ scratch count end i =
+Inv-loop scratch₀ parents types children nodes k marks₀ count₀ end₀ i₀ scratch marks count end i =
     Row scratch 4 count (gathered [] (sequencesAmong parents types nodes k (numbersBelow i))) end
     × (end ≤ operandsEnd)
     × (i ≤ nodes)
     × (length scratch ≡ length scratch₀)
+    × Marked marks (gathered [] (sequencesAmong parents types nodes k (numbersBelow i)))
+    × (length marks ≡ 255)
 
 abbrev μ-loop : tie.MeasureT-loop
-μ-loop scratch₀ parents types children nodes k count₀ end₀ i₀ scratch count end i = nodes - i
+μ-loop scratch₀ parents types children nodes k marks₀ count₀ end₀ i₀ scratch marks count end i = nodes - i
 
 loop-holds : tie.Need-loop-holds Inv-loop μ-loop
 loop-holds c =
-    let a = c .before .before .before .before .args in
-    (among-start (a .parents .now) (a .types .now) (a .nodes) (a .k) (a .scratch .now) (omega arith), omega arith, omega arith, refl)
+    let a = c .before .before .before .before .args in (
+      among-start (a .parents .now) (a .types .now) (a .nodes) (a .k) (a .scratch .now) (omega arith),
+      omega arith,
+      omega arith,
+      refl,
+      among-marked (a .parents .now) (a .types .now) (a .nodes) (a .k) _ (omega arith),
+      refl,
+    )
 
 mul-kids : tie.Need-mul-kids Inv-loop μ-loop
 mul-kids c = let h = c .before .before .before .before .before .before .pre .2 (c .before .loop .i) (c .loop-test .taken) .fits in omega arith
@@ -39,9 +48,9 @@ cast-kids c = omega (arith, c .shared-slice-known4 .given (c .before .before .lo
 
 one-more-requires : tie.Need-one-more-requires Inv-loop μ-loop
 one-more-requires c κs =
-    let l = c .before .before .before .loop .inv in
+    let l = c .before .before .before .before .loop .inv in
     let w = l .3 in
-    (c .before .before .before .before .before .before .before .before .pre .2 (c .before .before .before .loop .i) (c .before .before .loop-test .taken), record { list = _; row = l .0 }, l .1, omega arith)
+    (c .before .before .before .before .before .before .before .before .before .pre .2 (c .before .before .before .before .loop .i) (c .before .before .before .loop-test .taken), (record { list = _; row = l .0 }, l .4), l .1, omega arith)
 
 enum-told : tie.Need-enum-told Inv-loop μ-loop
 enum-told c = search needs
@@ -51,8 +60,9 @@ same-length c = search needs
 
 returns : tie.Need-returns Inv-loop μ-loop
 returns c =
-    let a = c .before .before .before .before .before .before .before .before .before .before .before .before .before .args in
-    gather-stop (a .parents .now) (a .types .now) (a .nodes) (a .k) (c .before .before .before .before .one-more .last .0) (c .before .before .before .before .before .before .before .before .loop .i) (c .before .before .before .before .one-more .result) (c .before .before .before .before .before .before .before .before .loop .inv .0) (c .before .before .before .before .one-more .ensures) (c .enum-told .given .1) (c .before .before .before .before .before .before .before .loop-test .taken)
+    let a = c .before .before .before .before .before .before .before .before .before .before .before .before .before .before .before .args in
+    gather-stop (a .parents .now) (a .types .now) (a .nodes) (a .k) (c .before .before .before .before .before .one-more .last .0) (c .before .before .before .before .before .one-more .last .1 .1 .1 .1 .1 .1 .1 .1 .1 .0) (c .before .before .before .before .before .before .before .before .before .before .loop .i) (c .before .before .before .before .before .one-more .result)
+    (c .before .before .before .before .before .one-more .ensures (record { list = _; row = c .before .before .before .before .before .before .before .before .before .before .loop .inv .0 }) (c .before .before .before .before .before .before .before .before .before .before .loop .inv .4)) (c .enum-told .given .1) (c .before .before .before .before .before .before .before .before .before .loop-test .taken)
 
 enum-known-next : tie.Need-enum-known-next Inv-loop μ-loop
 enum-known-next c = search needs
@@ -65,9 +75,10 @@ loop-less c = omega arith
 
 loop-again : tie.Need-loop-again Inv-loop μ-loop
 loop-again c =
-    let a = c .before .before .before .before .before .before .before .before .before .before .before .before .before .before .args in
-    let r = gather-next (a .parents .now) (a .types .now) (a .nodes) (a .k) (c .before .before .before .before .before .one-more .last .0) (c .before .before .before .before .before .before .before .before .before .loop .i) (c .before .before .before .before .before .one-more .result) (c .before .before .before .before .before .before .before .before .before .loop .inv .0) (c .before .before .before .before .before .one-more .ensures) (c .before .next .given .1) in
-    (r .0, r .1, omega arith, search needs)
+    let a = c .before .before .before .before .before .before .before .before .before .before .before .before .before .before .before .before .args in
+    let r = gather-next (a .parents .now) (a .types .now) (a .nodes) (a .k) (c .before .before .before .before .before .before .one-more .last .0) (c .before .before .before .before .before .before .one-more .last .1 .1 .1 .1 .1 .1 .1 .1 .1 .0) (c .before .before .before .before .before .before .before .before .before .before .before .loop .i) (c .before .before .before .before .before .before .one-more .result)
+    (c .before .before .before .before .before .before .one-more .ensures (record { list = _; row = c .before .before .before .before .before .before .before .before .before .before .before .loop .inv .0 }) (c .before .before .before .before .before .before .before .before .before .before .before .loop .inv .4)) (c .before .next .given .1) in
+    (r .0 .0, r .0 .1, omega arith, search needs, r .1, search needs)
 
 same-length-2 : tie.Need-same-length-2 Inv-loop μ-loop
 same-length-2 c = search needs
@@ -92,6 +103,7 @@ gather-spec =
     mul-kids
     shared-slice-read-kids
     cast-kids
+    (λ c. sym (c .before .before .before .before .loop .inv .5))
     one-more-requires
     enum-told
     same-length
