@@ -29,7 +29,7 @@ use mathlib.Core.Option.{none as nothing, some as just}
 use mathlib.Core.Path.{_≡_, refl, sym, _∙_, ap, ap₂}
 use lib.ListN.{length, length-append, getElem?, getD}
 use borrow.Author.Tests.{not-true}
-use Rattle.grammar.specs.Lists.{any, keep, distinct, allDistinct, place, isIn, numbersFrom, numbersBelow}
+use Rattle.grammar.specs.Lists.{anyPass, keep, distinct, allDistinct, place, isIn, numbersFrom, numbersBelow}
 use Rattle.theory.proofs.lists.BoolLaws.{and-left, and-right, same-test, false-of, not-both, or-false}
 use Rattle.theory.proofs.lists.ListLaws.{
   any-of,
@@ -104,33 +104,33 @@ module _ {A : Type 0} where
     unlike x y = not (same x y)
 
     abbrev newTo : List A → A → Bool
-    newTo xs y = not (any (same y) xs)
+    newTo xs y = not (anyPass (same y) xs)
 
     new-apart : (x : A) (xs : List A) (y : A) → newTo (x ∷ xs) y ≡ true → unlike x y ≡ true
-    unfolding any
+    unfolding anyPass
     new-apart x xs y e =
-        let f = or-false (same y x) (any (same y) xs) (not-true (any (same y) (x ∷ xs)) e) in
+        let f = or-false (same y x) (anyPass (same y) xs) (not-true (anyPass (same y) (x ∷ xs)) e) in
         ap not (false-of (same x y) (λ s. not-both (decides y x .1 (sym (decides x y .0 s))) (f .0)))
 
     new-later : (x : A) (xs : List A) (y : A) → newTo (x ∷ xs) y ≡ true → newTo xs y ≡ true
-    unfolding any
-    new-later x xs y e = ap not (or-false (same y x) (any (same y) xs) (not-true (any (same y) (x ∷ xs)) e) .1)
+    unfolding anyPass
+    new-later x xs y e = ap not (or-false (same y x) (anyPass (same y) xs) (not-true (anyPass (same y) (x ∷ xs)) e) .1)
 
     new-both : (x : A) (xs : List A) (y : A) → newTo xs y ≡ true → unlike x y ≡ newTo (x ∷ xs) y
-    unfolding any
+    unfolding anyPass
     new-both x xs y e =
         same-test (unlike x y) (newTo (x ∷ xs) y)
         (λ t. ap not (none t), λ t. new-apart x xs y t)
       where
-        none : unlike x y ≡ true → any (same y) (x ∷ xs) ≡ false
+        none : unlike x y ≡ true → anyPass (same y) (x ∷ xs) ≡ false
         none t =
             ap₂ _||_
             (false-of (same y x) (λ s. not-both (decides x y .1 (sym (decides y x .0 s))) (not-true (same x y) t)))
-            (not-true (any (same y) xs) e)
+            (not-true (anyPass (same y) xs) e)
 
     pub distinct-append : (xs ys : List A)
-        → distinct same (xs ++ ys) ≡ distinct same xs ++ keep (λ y. not (any (same y) xs)) (distinct same ys)
-    unfolding distinct any
+        → distinct same (xs ++ ys) ≡ distinct same xs ++ keep (λ y. not (anyPass (same y) xs)) (distinct same ys)
+    unfolding distinct anyPass
     distinct-append [] ys = sym (keep-all (newTo []) (distinct same ys) (λ y m. refl))
     distinct-append (x ∷ xs) ys =
         let new = keep (newTo xs) (distinct same ys) in
@@ -157,18 +157,18 @@ module _ {A : Type 0} where
   unfolding distinct allDistinct
   distinct-all same [] d = refl
   distinct-all same (x ∷ xs) d =
-      let new = not (any (same x) xs) in
+      let new = not (anyPass (same x) xs) in
       ap (λ (l : List A). x ∷ l)
       (ap (keep (λ y. not (same x y))) (distinct-all same xs (and-right new (allDistinct same xs) d))
       ∙ keep-all (λ y. not (same x y)) xs
       (λ y m.
       ap not
       (false-of (same x y)
-      (λ e. not-both (any-of (same x) m e) (not-true (any (same x) xs) (and-left new (allDistinct same xs) d))))))
+      (λ e. not-both (any-of (same x) m e) (not-true (anyPass (same x) xs) (and-left new (allDistinct same xs) d))))))
 
 module _ {A B : Type 0} where
-  pub any-map : (f : A → B) (test : B → Bool) (xs : List A) → any test (map f xs) ≡ any (λ x. test (f x)) xs
-  unfolding any
+  pub any-map : (f : A → B) (test : B → Bool) (xs : List A) → anyPass test (map f xs) ≡ anyPass (λ x. test (f x)) xs
+  unfolding anyPass
   any-map f test [] = refl
   any-map f test (x ∷ xs) = ap (λ (b : Bool). test (f x) || b) (any-map f test xs)
 

@@ -9,7 +9,7 @@ use mathlib.Core.Path.{_≡_, refl, sym, _∙_, ap, ap₂, subst, fun-ext}
 use lib.ListN.{length, length-map, getElem?}
 use lib.Dec.{eqb}
 use borrow.Author.Tests.{eqb-true, eq-eqb}
-use Rattle.grammar.specs.Lists.{any, keep, joinedOf, place, isIn, sameNumbers, numbersBelow}
+use Rattle.grammar.specs.Lists.{anyPass, keep, joinedOf, place, isIn, sameNumbers, numbersBelow}
 use Rattle.grammar.specs.Content.{Content}
 use Rattle.grammar.specs.Table.{Rule, Table}
 use Rattle.grammar.specs.ReadTable.{isEmpty}
@@ -19,7 +19,7 @@ use Rattle.grammar.specs.Reduce.{fruitful, withoutUnfruitful, withoutUnreached,
 use Rattle.grammar.specs.LocalForm.{labelOf, typeOfLabel, ruleOfLabel, localForm}
 use Rattle.grammar.specs.SingleTypeForm.{TypeSet}
 use Rattle.grammar.specs.Tidy.{tidy, tidyTable}
-use Rattle.theory.specs.Alternatives.{alts, written, resultsOf}
+use Rattle.theory.specs.Alternatives.{alts, oneContent, resultsOf}
 use Rattle.theory.proofs.lists.BoolLaws.{same-test}
 use Rattle.theory.proofs.lists.ListLaws.{
   any-found,
@@ -78,9 +78,9 @@ module _ (u : Table) where
   labels-used =
       ap (λ test. keep test (numbersBelow (length (u .labels))))
       (fun-ext (λ l.
-      same-test (any (λ (r : Rule). eqb (r .label) l) (reduced .rules)) (not (isEmpty (setOf l))) (there l, back l)))
+      same-test (anyPass (λ (r : Rule). eqb (r .label) l) (reduced .rules)) (not (isEmpty (setOf l))) (there l, back l)))
     where
-      there : (l : ℕ) → any (λ (r : Rule). eqb (r .label) l) (reduced .rules) ≡ true → not (isEmpty (setOf l)) ≡ true
+      there : (l : ℕ) → anyPass (λ (r : Rule). eqb (r .label) l) (reduced .rules) ≡ true → not (isEmpty (setOf l)) ≡ true
       there l e =
           let (r, m, t) = any-found (λ (r : Rule). eqb (r .label) l) (reduced .rules) e in
           let (q, h, f) = rule-left u r m in
@@ -92,7 +92,7 @@ module _ (u : Table) where
             label = ap (λ (s : Rule). s .label) f ∙ eqb-true (r .label) l t;
           }))
 
-      back : (l : ℕ) → not (isEmpty (setOf l)) ≡ true → any (λ (r : Rule). eqb (r .label) l) (reduced .rules) ≡ true
+      back : (l : ℕ) → not (isEmpty (setOf l)) ≡ true → anyPass (λ (r : Rule). eqb (r .label) l) (reduced .rules) ≡ true
       back l e =
           let (p, m) = some-mem (setOf l) e in
           let h = labelled-pair u (isLeft u) l p .0 m in
@@ -149,7 +149,7 @@ module _ (u : Table) where
         local-content u (fit .labelled) l
         ∙ ap₂
         (λ (target : ℕ → ℕ) (cs : List Content).
-        written (joinedOf (alts (resultsOf (pairsOf u) (fruitful (normalise u)) target)) cs))
+        oneContent (joinedOf (alts (resultsOf (pairsOf u) (fruitful (normalise u)) target)) cs))
         set-number
         (label-contents l)
 
@@ -192,6 +192,6 @@ module _ (u : Table) where
         ∙ ap₂
         (λ (target : ℕ → ℕ) (n : ℕ).
         tableBySets u (localSets u) (λ s. isLeft u)
-        (keep (λ t. any (λ p. eqb (target p) t) (withoutUnfruitful (normalise u) .starts)) (numbersBelow n)))
+        (keep (λ t. anyPass (λ p. eqb (target p) t) (withoutUnfruitful (normalise u) .starts)) (numbersBelow n)))
         set-number
         (sym (ap length local-sets ∙ length-map (usedLabels reduced) setOf))

@@ -16,7 +16,7 @@ use mathlib.Core.Path.{_≡_, refl, sym, _∙_, ap, subst}
 use lib.ListN.{length, getElem?, take, length-append}
 use lib.Dec.{ltb}
 use borrow.Author.Tests.{ltb-true, ltb-false}
-use Rattle.grammar.specs.Lists.{any, keep, distinct, place, isIn, sameNumbers, numbersBelow}
+use Rattle.grammar.specs.Lists.{anyPass, keep, distinct, place, isIn, sameNumbers, numbersBelow}
 use Rattle.grammar.specs.ReadTable.{isEmpty}
 use Rattle.grammar.specs.SingleTypeForm.{TypeSet}
 use Rattle.theory.proofs.lists.BoolLaws.{false-of}
@@ -148,8 +148,8 @@ module _ {words : List ℕ} {sets : List TypeSet} (held : SetsHeld words sets) (
 
     pub new-put : (r : ℕ) → r ≡ place sameNumbers s sets → count ≤ r → sets ++ (s ∷ []) ≡ distinct sameNumbers (sets ++ (s ∷ []))
     new-put r e h =
-        let none : any (sameNumbers s) sets ≡ false =
-        false-of (any (sameNumbers s) sets)
+        let none : anyPass (sameNumbers s) sets ≡ false =
+        false-of (anyPass (sameNumbers s) sets)
         (λ t. let f = place-found sameNumbers s sets t in let l = at-below sets (place sameNumbers s sets) (f .1) in omega arith) in
         sym (one-more-new sameNumbers (decided-sym sameNumbers numbers-decide) sets s none ∙ ap (λ (l : List TypeSet). l ++ (s ∷ [])) once)
 

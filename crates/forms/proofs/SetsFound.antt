@@ -27,7 +27,7 @@ use mathlib.Core.Path.{_≡_, refl, sym, _∙_, ap, ap₂, subst, fun-ext}
 use lib.ListN.{length, length-append, getElem?, getD}
 use lib.Dec.{eqb}
 use borrow.Author.Tests.{eqb-true, eq-eqb}
-use Rattle.grammar.specs.Lists.{any, keep, distinct, isIn, sameNumbers, numbersBelow}
+use Rattle.grammar.specs.Lists.{anyPass, keep, distinct, isIn, sameNumbers, numbersBelow}
 use Rattle.grammar.specs.Limits.{standard}
 use Rattle.grammar.specs.Table.{Table}
 use Rattle.grammar.specs.ReadTable.{isEmpty}
@@ -251,10 +251,10 @@ module _ (u : Table) where
 
     sets-added : (sets : List TypeSet) → distinct sameNumbers sets ≡ sets
         → distinct sameNumbers (sets ++ setsWithin u s)
-        ≡ sets ++ keep (λ t. not (any (sameNumbers t) sets)) (setsMet (reduce (normalise u)) s)
+        ≡ sets ++ keep (λ t. not (anyPass (sameNumbers t) sets)) (setsMet (reduce (normalise u)) s)
     sets-added sets once =
         distinct-append sameNumbers numbers-decide sets (setsWithin u s)
-        ∙ ap₂ _++_ once (ap (keep (λ t. not (any (sameNumbers t) sets))) sets-of-met)
+        ∙ ap₂ _++_ once (ap (keep (λ t. not (anyPass (sameNumbers t) sets))) sets-of-met)
 
   pub found-start : SetFound u 0 (labelSets u (isStart u))
   unfolding allSets standard labelSets

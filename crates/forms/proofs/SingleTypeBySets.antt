@@ -15,7 +15,7 @@ use Rattle.grammar.specs.Reduce.{fruitful, withoutUnfruitful, withoutUnreached,
 use Rattle.grammar.specs.LocalForm.{labelOf}
 use Rattle.grammar.specs.SingleTypeForm.{TypeSet, ofLabel, typesMet, contentOfSet, ruleOfSet, singleTypeForm}
 use Rattle.grammar.specs.Tidy.{tidy, tidyTable}
-use Rattle.theory.specs.Alternatives.{alts, written, resultsOf}
+use Rattle.theory.specs.Alternatives.{alts, oneContent, resultsOf}
 use Rattle.theory.proofs.lists.ListLaws.{at-mem, at-map, just-eq, in-mem, mem-in}
 use Rattle.theory.proofs.emission.EmittedRule.{set-content}
 use Rattle.theory.proofs.steps.SetsClosed.{OneLabelSet, sets-induct, set-met, start-set}
@@ -75,7 +75,7 @@ module _ (u : Table) (fit : UnionFit u) where
       set-content u (fit .labelled) sets s
       ∙ ap₂
       (λ (target : ℕ → ℕ) (cs : List Content).
-      written (joinedOf (alts (resultsOf (pairsOf u) (fruitful (normalise u)) target)) cs))
+      oneContent (joinedOf (alts (resultsOf (pairsOf u) (fruitful (normalise u)) target)) cs))
       (fun-ext (λ p.
       ap (λ (t : TypeSet). place sameNumbers t sets)
       (ap₂ (ofLabel reduced) (types-met u s left) (left-label u p)

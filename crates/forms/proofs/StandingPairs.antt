@@ -13,7 +13,7 @@ use mathlib.Core.Path.{_≡_, refl, sym, _∙_, ap, ap₂, subst, fun-ext}
 use lib.ListN.{length, getElem?, List·getD-eq-default}
 use lib.Dec.{eqb}
 use borrow.Author.Tests.{eqb-true, eq-eqb}
-use Rattle.grammar.specs.Lists.{any, keep, joinedOf, isIn, numbersBelow}
+use Rattle.grammar.specs.Lists.{anyPass, keep, joinedOf, isIn, numbersBelow}
 use Rattle.grammar.specs.Content.{Content}
 use Rattle.grammar.specs.Table.{Rule, Table}
 use Rattle.grammar.specs.KindTests.{samePair}
@@ -88,14 +88,14 @@ module _ (u : Table) where
 
   -- some rule has this pair, and it is fruitful
   isPair : ℕ → Bool
-  isPair p = isIn p (fruitful (normalise u)) && any (λ r. eqb (pairOf u r) p) (u .rules)
+  isPair p = isIn p (fruitful (normalise u)) && anyPass (λ r. eqb (pairOf u r) p) (u .rules)
 
   fruitful-pair : (k p : ℕ) → List·Memᴰ p (fruitfulOf u k) → isPair p ≡ true
   unfolding isPair
   fruitful-pair k p m =
       let (n, e) = kept (λ q. isIn q (fruitful (normalise u))) (pairsOf u k) m in
       let o = pairs-of u k p .0 n .of-pair in
-      and-intro (isIn p (fruitful (normalise u))) (any (λ r. eqb (pairOf u r) p) (u .rules)) e
+      and-intro (isIn p (fruitful (normalise u))) (anyPass (λ r. eqb (pairOf u r) p) (u .rules)) e
       (any-of (λ r. eqb (pairOf u r) p) (o .of-table) (eq-eqb _ p (o .numbered)))
 
   left-is-pair : (λ p. isLeft u p && isPair p) ≡ isLeft u
@@ -114,7 +114,7 @@ module _ (u : Table) where
   unfolding isPair
   left-pair p e =
       let t = and-right (isLeft u p) (isPair p) (ap (λ (f : ℕ → Bool). f p) left-is-pair ∙ e) in
-      let some = any (λ r. eqb (pairOf u r) p) (u .rules) in
+      let some = anyPass (λ r. eqb (pairOf u r) p) (u .rules) in
       let (r, m, q) = any-found (λ r. eqb (pairOf u r) p) (u .rules) (and-right (isIn p (fruitful (normalise u))) some t) in
       let same = eqb-true (pairOf u r) p q in
       let (below, first) = pair-at r m in

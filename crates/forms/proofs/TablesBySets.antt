@@ -8,7 +8,7 @@ use mathlib.Core.Option.{some as just}
 use mathlib.Core.Path.{_≡_, sym, _∙_, ap, ap₂, fun-ext}
 use lib.ListN.{length, length-map, getElem?, getD}
 use lib.Dec.{eqb}
-use Rattle.grammar.specs.Lists.{any, keep, place, numbersBelow}
+use Rattle.grammar.specs.Lists.{anyPass, keep, place, numbersBelow}
 use Rattle.grammar.specs.Content.{Content}
 use Rattle.grammar.specs.Names.{Name}
 use Rattle.grammar.specs.Table.{Rule, Table}
@@ -48,7 +48,7 @@ module _ (u : Table) (sets : List TypeSet) (pairs : TypeSet → ℕ → Bool) (f
       ap₂ (λ (test : ℕ → Bool) (ls : List Name). keep test (numbersBelow (length ls)))
       (fun-ext (λ l.
       sym (any-map (λ (r : Rule). r .label) (λ m. eqb m l) (form .rules))
-      ∙ ap (any (λ m. eqb m l)) rule-labels
+      ∙ ap (anyPass (λ m. eqb m l)) rule-labels
       ∙ any-map (setLabel u) (λ m. eqb m l) sets))
       (f .labels)
 

@@ -5,7 +5,7 @@ use mathlib.Core.Bool.{Bool, true, false, not, _&&_}
 use mathlib.Core.List.{List, [], map}
 use lib.ListN.{length, getD}
 use lib.Dec.{eqb}
-use Rattle.grammar.specs.Lists.{any, keep, place, joinedOf, isIn, sameNumbers, numbersBelow}
+use Rattle.grammar.specs.Lists.{anyPass, keep, place, joinedOf, isIn, sameNumbers, numbersBelow}
 use Rattle.grammar.specs.Limits.{standard}
 use Rattle.grammar.specs.Content.{Content}
 use Rattle.grammar.specs.Table.{Rule, Table}
@@ -14,7 +14,7 @@ use Rattle.grammar.specs.ReadTable.{isEmpty}
 use Rattle.grammar.specs.Normalise.{pairsOf, normalise}
 use Rattle.grammar.specs.Reduce.{fruitful, withoutUnfruitful, reduce}
 use Rattle.grammar.specs.SingleTypeForm.{TypeSet, allSets}
-use Rattle.theory.specs.Alternatives.{alts, written, resultsOf}
+use Rattle.theory.specs.Alternatives.{alts, oneContent, resultsOf}
 use Rattle.union.specs.PairNumbers.{ruleNumbered, isLeft, isStart, contentsIn, metIn}
 
 module _ (u : Table) where
@@ -42,14 +42,14 @@ module _ (u : Table) where
   setLabel s = ruleNumbered u (getD s 0 0) .label
 
   unfoldable pub labelsOf : List TypeSet → List ℕ
-  unfolding keep any setLabel numbersBelow
-  labelsOf sets = keep (λ l. any (λ s. eqb (setLabel s) l) sets) (numbersBelow (length (u .labels)))
+  unfolding keep anyPass setLabel numbersBelow
+  labelsOf sets = keep (λ l. anyPass (λ s. eqb (setLabel s) l) sets) (numbersBelow (length (u .labels)))
 
   -- the content of a set: what the contents of its pairs give, with the number of a set for each pair
   unfoldable pub contentBySet : List TypeSet → (pairs : ℕ → Bool) → TypeSet → Content
-  unfolding written joinedOf alts setNumber contentsIn isIn
+  unfolding oneContent joinedOf alts setNumber contentsIn isIn
   contentBySet sets pairs s =
-      written
+      oneContent
       (joinedOf (alts (resultsOf (pairsOf u) (fruitful (normalise u)) (setNumber sets pairs))) (contentsIn u (λ p. isIn p s)))
 
   unfoldable pub ruleBySet : List TypeSet → (TypeSet → ℕ → Bool) → ℕ → Rule
@@ -72,9 +72,9 @@ module _ (u : Table) where
   localSets = labelSets (isLeft u)
 
   unfoldable pub localStarts : List ℕ
-  unfolding keep any setNumber numbersBelow
+  unfolding keep anyPass setNumber numbersBelow
   localStarts =
-      keep (λ t. any (λ p. eqb (setNumber localSets (isLeft u) p) t) (withoutUnfruitful (normalise u) .starts))
+      keep (λ t. anyPass (λ p. eqb (setNumber localSets (isLeft u) p) t) (withoutUnfruitful (normalise u) .starts))
       (numbersBelow (length localSets))
 
   unfoldable pub localTable : Table

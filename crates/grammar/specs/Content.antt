@@ -92,9 +92,9 @@ unfoldable mutual
   deepest (c ∷ᶜ cs) = max (nesting c) (deepest cs)
 
 -- how many operands
-unfoldable pub count : Contents → ℕ
-count []ᶜ = zero
-count (c ∷ᶜ cs) = suc (count cs)
+unfoldable pub operandCount : Contents → ℕ
+operandCount []ᶜ = zero
+operandCount (c ∷ᶜ cs) = suc (operandCount cs)
 
 -- operands from a list
 unfoldable pub operands : List Content → Contents

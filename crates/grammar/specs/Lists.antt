@@ -6,14 +6,14 @@ use lib.Dec.{eqb}
 
 module _ {A : Type 0} where
   -- some element passes the test
-  unfoldable pub any : (A → Bool) → List A → Bool
-  any test [] = false
-  any test (x ∷ xs) = test x || any test xs
+  unfoldable pub anyPass : (A → Bool) → List A → Bool
+  anyPass test [] = false
+  anyPass test (x ∷ xs) = test x || anyPass test xs
 
   -- every element passes the test
-  unfoldable pub all : (A → Bool) → List A → Bool
-  all test [] = true
-  all test (x ∷ xs) = test x && all test xs
+  unfoldable pub allPass : (A → Bool) → List A → Bool
+  allPass test [] = true
+  allPass test (x ∷ xs) = test x && allPass test xs
 
   -- the elements that pass the test, in order
   unfoldable pub keep : (A → Bool) → List A → List A
@@ -28,9 +28,9 @@ module _ {A : Type 0} where
 
   -- no two elements are the same
   unfoldable pub allDistinct : (A → A → Bool) → List A → Bool
-  unfolding any
+  unfolding anyPass
   allDistinct same [] = true
-  allDistinct same (x ∷ xs) = not (any (same x) xs) && allDistinct same xs
+  allDistinct same (x ∷ xs) = not (anyPass (same x) xs) && allDistinct same xs
 
   -- the position of the first element that is the same; the length where there is none
   unfoldable pub place : (A → A → Bool) → A → List A → ℕ
@@ -45,8 +45,8 @@ module _ {A B : Type 0} where
 
 -- a number among numbers
 unfoldable pub isIn : ℕ → List ℕ → Bool
-unfolding any
-isIn n = any (eqb n)
+unfolding anyPass
+isIn n = anyPass (eqb n)
 
 -- equal lists of numbers
 unfoldable pub sameNumbers : List ℕ → List ℕ → Bool

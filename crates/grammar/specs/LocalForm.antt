@@ -3,7 +3,7 @@ use Prim.Native.Nat.{ℕ, zero}
 use mathlib.Core.List.{[], _∷_, map}
 use lib.ListN.{length}
 use lib.Dec.{eqb}
-use Rattle.grammar.specs.Lists.{any, keep, place, numbersBelow}
+use Rattle.grammar.specs.Lists.{anyPass, keep, place, numbersBelow}
 use Rattle.grammar.specs.Content.{type, choiceOf, replace}
 use Rattle.grammar.specs.Table.{Rule, Table}
 use Rattle.grammar.specs.UsedLabels.{usedLabels}
@@ -33,11 +33,11 @@ ruleOfLabel g l =
 
 -- Starts are replaced too, and ascend.
 unfoldable pub localForm : Table → Table
-unfolding keep any numbersBelow usedLabels typeOfLabel labelOf ruleOfLabel
+unfolding keep anyPass numbersBelow usedLabels typeOfLabel labelOf ruleOfLabel
 localForm g =
     record {
       labels = g .labels;
       starts =
-          keep (λ t. any (λ k. eqb (typeOfLabel g (labelOf g k)) t) (g .starts)) (numbersBelow (length (usedLabels g)));
+          keep (λ t. anyPass (λ k. eqb (typeOfLabel g (labelOf g k)) t) (g .starts)) (numbersBelow (length (usedLabels g)));
       rules = map (ruleOfLabel g) (usedLabels g);
     }

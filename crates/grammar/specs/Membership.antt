@@ -4,7 +4,7 @@ use mathlib.Core.Bool.{Bool, true, false, _&&_, _||_}
 use mathlib.Core.List.{List, [], _∷_, map}
 use mathlib.Core.Option.{none as nothing, some as just}
 use lib.ListN.{length, getElem?}
-use Rattle.grammar.specs.Lists.{any, keep, isIn}
+use Rattle.grammar.specs.Lists.{anyPass, keep, isIn}
 use Rattle.grammar.specs.Names.{Name, sameName}
 use Rattle.grammar.specs.Content.{
   Content,
@@ -97,5 +97,5 @@ unfoldable mutual
 
 -- a start type derives the root
 unfoldable pub letsIn : Table → Tree → Bool
-unfolding any isIn typesOf
-letsIn g d = let types : List ℕ = typesOf g d in any (λ k. isIn k types) (g .starts)
+unfolding anyPass isIn typesOf
+letsIn g d = let types : List ℕ = typesOf g d in anyPass (λ k. isIn k types) (g .starts)

@@ -5,7 +5,7 @@ use mathlib.Core.List.{List, [], _∷_, map}
 use mathlib.Core.Path.{_≡_}
 use lib.ListN.{getD}
 use lib.Dec.{eqb, leb}
-use Rattle.grammar.specs.Lists.{all, sameNumbers, numbersBelow}
+use Rattle.grammar.specs.Lists.{allPass, sameNumbers, numbersBelow}
 
 abbrev pub Name : Type 0
 Name = List ℕ
@@ -24,9 +24,9 @@ Classes = List ℕ
 
 -- the first byte is of class 2, and no byte is of class 0
 unfoldable pub isName : Classes → List ℕ → Bool
-unfolding all
+unfolding allPass
 isName classes [] = false
-isName classes (b ∷ bs) = eqb (getD classes b 0) 2 && all (λ c. leb 1 (getD classes c 0)) bs
+isName classes (b ∷ bs) = eqb (getD classes b 0) 2 && allPass (λ c. leb 1 (getD classes c 0)) bs
 
 unfoldable pub isLetter : ℕ → Bool
 isLetter b = (leb 0x41 b && leb b 0x5A) || (leb 0x61 b && leb b 0x7A)

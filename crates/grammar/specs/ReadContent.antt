@@ -20,7 +20,7 @@ use Rattle.grammar.specs.Content.{
   Contents,
   []ᶜ,
   _∷ᶜ_,
-  count,
+  operandCount,
   nesting,
 }
 use Rattle.grammar.specs.Outcome.{Outcome, given, refused, _>>=_, _>>_, turnBack}
@@ -29,14 +29,14 @@ use Rattle.grammar.specs.declared.Refusal.the-variants.{BadContent, Nest
 -- 00 none; 01 empty; 02 type, then its number; 03 sequence, 04 choice, each with a count byte, then the operands; 05 any number of;
 -- 06 one or more of; 07 optional.
 unfoldable mutual
-  unfolding count
+  unfolding operandCount
 
   pub contentBytes : Content → List ℕ
   contentBytes none = 0 ∷ []
   contentBytes empty = 1 ∷ []
   contentBytes (type k) = 2 ∷ k ∷ []
-  contentBytes (sequence cs) = 3 ∷ count cs ∷ operandBytes cs
-  contentBytes (choice cs) = 4 ∷ count cs ∷ operandBytes cs
+  contentBytes (sequence cs) = 3 ∷ operandCount cs ∷ operandBytes cs
+  contentBytes (choice cs) = 4 ∷ operandCount cs ∷ operandBytes cs
   contentBytes (anyNumber c) = 5 ∷ contentBytes c
   contentBytes (oneOrMore c) = 6 ∷ contentBytes c
   contentBytes (optional c) = 7 ∷ contentBytes c
@@ -104,14 +104,14 @@ expressionOf bytes = expressionWithin (length bytes) bytes
 
 -- counts of 2 or more within the limit, and types in range
 unfoldable mutual
-  unfolding count
+  unfolding operandCount
 
   pub isProper : Limits → Content → Bool
   isProper lim none = true
   isProper lim empty = true
   isProper lim (type k) = ltb k (lim .types)
-  isProper lim (sequence cs) = leb 2 (count cs) && leb (count cs) (lim .operands) && areProper lim cs
-  isProper lim (choice cs) = leb 2 (count cs) && leb (count cs) (lim .operands) && areProper lim cs
+  isProper lim (sequence cs) = leb 2 (operandCount cs) && leb (operandCount cs) (lim .operands) && areProper lim cs
+  isProper lim (choice cs) = leb 2 (operandCount cs) && leb (operandCount cs) (lim .operands) && areProper lim cs
   isProper lim (anyNumber c) = isProper lim c
   isProper lim (oneOrMore c) = isProper lim c
   isProper lim (optional c) = isProper lim c

@@ -4,7 +4,7 @@ use mathlib.Core.Bool.{Bool, true, false, _&&_, _||_, not}
 use mathlib.Core.List.{List, [], _∷_, _++_}
 use lib.ListN.{length}
 use lib.Dec.{eqb, leb, ltb}
-use Rattle.grammar.specs.Lists.{any, isIn}
+use Rattle.grammar.specs.Lists.{anyPass, isIn}
 use Rattle.grammar.specs.Limits.{Limits}
 use Rattle.grammar.specs.Names.{Name, sameName, Classes, isName}
 use Rattle.grammar.specs.Table.{Rule, Table, emptyTable}
@@ -50,11 +50,11 @@ withRule g r = record { labels = g .labels; starts = g .starts; rules = g .rules
 
 -- A label: a name of at least one byte. It comes before all starts and rules.
 unfoldable pub readLabel : Limits → Classes → Table → List ℕ → Outcome Table
-unfolding isName any sameName
+unfolding isName anyPass sameName
 readLabel lim classes g value = do
   turnBack (not (isEmpty (g .starts) && isEmpty (g .rules) && leb 1 (length value) && leb (length value) (lim .name))) BadField
   turnBack (not (isName classes value)) BadName
-  turnBack (any (sameName value) (g .labels)) Repeated
+  turnBack (anyPass (sameName value) (g .labels)) Repeated
   turnBack (leb (lim .labels) (length (g .labels))) TooMany
   given (withLabel g value)
 

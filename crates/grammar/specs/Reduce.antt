@@ -4,7 +4,7 @@ use mathlib.Core.Bool.{Bool, true, false, _&&_, _||_, not}
 use mathlib.Core.List.{List, [], _∷_, _++_, map}
 use lib.ListN.{length}
 use lib.Dec.{eqb}
-use Rattle.grammar.specs.Lists.{any, keep, distinct, joinedOf, isIn}
+use Rattle.grammar.specs.Lists.{anyPass, keep, distinct, joinedOf, isIn}
 use Rattle.grammar.specs.Content.{
   Content,
   none,
@@ -80,7 +80,7 @@ isNone (optional c) = false
 -- A sequence holding none is none; a choice drops it, and is none with nothing left; any number of none, and optional none, are
 -- empty; one or more of none is none. Innermost first.
 unfoldable mutual
-  unfolding any keep isNone operands choiceOf
+  unfolding anyPass keep isNone operands choiceOf
 
   pub simplify : Content → Content
   simplify none = none
@@ -88,7 +88,7 @@ unfoldable mutual
   simplify (type k) = type k
   simplify (sequence cs) =
       let ds : List Content = simplifyAll cs in
-      elim (any isNone ds) [ true ↦ none | false ↦ sequence (operands ds) ]
+      elim (anyPass isNone ds) [ true ↦ none | false ↦ sequence (operands ds) ]
   simplify (choice cs) = choiceOf (keep (λ c. not (isNone c)) (simplifyAll cs))
   simplify (anyNumber c) =
       let d : Content = simplify c in

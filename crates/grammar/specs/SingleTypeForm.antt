@@ -5,7 +5,7 @@ use mathlib.Core.List.{List, _++_, map}
 use mathlib.Core.Option.{none as nothing, some as just}
 use lib.ListN.{length, getElem?, getD}
 use lib.Dec.{eqb}
-use Rattle.grammar.specs.Lists.{any, keep, distinct, place, joinedOf, isIn, sameNumbers, numbersBelow}
+use Rattle.grammar.specs.Lists.{anyPass, keep, distinct, place, joinedOf, isIn, sameNumbers, numbersBelow}
 use Rattle.grammar.specs.Limits.{Limits}
 use Rattle.grammar.specs.Content.{Content, typesIn, type, choiceOf, replace}
 use Rattle.grammar.specs.Table.{Rule, Table}
@@ -43,12 +43,12 @@ setsMet g s = map (ofLabel g (typesMet g s)) (distinct eqb (map (labelOf g) (typ
 
 -- New sets are numbered as met, lowest set first: the sets from number `next` on are still to be looked into, at most `n` of them.
 unfoldable pub moreSets : Table → ℕ → ℕ → List TypeSet → List TypeSet
-unfolding keep any sameNumbers setsMet
+unfolding keep anyPass sameNumbers setsMet
 moreSets g zero next sets = sets
 moreSets g (suc n) next sets =
     elim (getElem? sets next) [
       | nothing ↦ sets
-      | just s ↦ moreSets g n (suc next) (sets ++ keep (λ t. not (any (sameNumbers t) sets)) (setsMet g s))
+      | just s ↦ moreSets g n (suc next) (sets ++ keep (λ t. not (anyPass (sameNumbers t) sets)) (setsMet g s))
     ]
 
 -- All sets. As many are looked into as there may be types, so these are all, or more than that.

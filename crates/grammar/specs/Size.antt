@@ -3,7 +3,7 @@ use Prim.Native.Nat.{ℕ, zero, max}
 use mathlib.Core.Bool.{Bool, _||_}
 use lib.ListN.{length}
 use lib.Dec.{ltb}
-use Rattle.grammar.specs.Lists.{any}
+use Rattle.grammar.specs.Lists.{anyPass}
 use Rattle.grammar.specs.Limits.{Limits}
 use Rattle.grammar.specs.Content.{
   Content,
@@ -18,7 +18,7 @@ use Rattle.grammar.specs.Content.{
   Contents,
   []ᶜ,
   _∷ᶜ_,
-  count,
+  operandCount,
   nesting,
 }
 use Rattle.grammar.specs.Table.{Rule, Table}
@@ -27,14 +27,14 @@ use Rattle.grammar.specs.WriteTable.{tableBytes}
 
 -- the operands of the widest choice
 unfoldable mutual
-  unfolding count
+  unfolding operandCount
 
   pub widestChoice : Content → ℕ
   widestChoice none = zero
   widestChoice empty = zero
   widestChoice (type k) = zero
   widestChoice (sequence cs) = widestOf cs
-  widestChoice (choice cs) = max (count cs) (widestOf cs)
+  widestChoice (choice cs) = max (operandCount cs) (widestOf cs)
   widestChoice (anyNumber c) = widestChoice c
   widestChoice (oneOrMore c) = widestChoice c
   widestChoice (optional c) = widestChoice c
@@ -51,8 +51,8 @@ contentTooLarge lim c =
 
 -- too many types, of which each has one rule; a content too large; or too many bytes in all
 unfoldable pub tooLarge : Limits → Table → Bool
-unfolding any contentTooLarge tableBytes
+unfolding anyPass contentTooLarge tableBytes
 tooLarge lim g =
     ltb (lim .types) (length (g .rules))
-    || any (λ (r : Rule). contentTooLarge lim (r .content)) (g .rules)
+    || anyPass (λ (r : Rule). contentTooLarge lim (r .content)) (g .rules)
     || ltb (lim .input) (length (tableBytes g))

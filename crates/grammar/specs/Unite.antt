@@ -3,7 +3,7 @@ use Prim.Native.Nat.{ℕ, _+_}
 use mathlib.Core.Bool.{not}
 use mathlib.Core.List.{List, [], _++_, map}
 use lib.ListN.{getD}
-use Rattle.grammar.specs.Lists.{any, keep, place}
+use Rattle.grammar.specs.Lists.{anyPass, keep, place}
 use Rattle.grammar.specs.Limits.{Limits}
 use Rattle.grammar.specs.Names.{Name, sameName}
 use Rattle.grammar.specs.Content.{type, replace}
@@ -11,8 +11,8 @@ use Rattle.grammar.specs.Table.{Rule, Table}
 
 -- Labels are the old ones, then the addition's new names.
 unfoldable pub unitedLabels : Table → Table → List Name
-unfolding keep any sameName
-unitedLabels old addition = old .labels ++ keep (λ n. not (any (sameName n) (old .labels))) (addition .labels)
+unfolding keep anyPass sameName
+unitedLabels old addition = old .labels ++ keep (λ n. not (anyPass (sameName n) (old .labels))) (addition .labels)
 
 -- The addition's types are made distinct from the old, which are below the limit.
 unfoldable pub shifted : Limits → ℕ → ℕ

@@ -3,12 +3,12 @@ use Prim.Native.Nat.{ℕ}
 use mathlib.Core.List.{List, [], map}
 use lib.ListN.{length, getD}
 use lib.Dec.{eqb}
-use Rattle.grammar.specs.Lists.{any, keep, place, numbersBelow}
+use Rattle.grammar.specs.Lists.{anyPass, keep, place, numbersBelow}
 use Rattle.grammar.specs.Table.{Rule, Table}
 
 unfoldable pub usedLabels : Table → List ℕ
-unfolding keep any numbersBelow
-usedLabels g = keep (λ l. any (λ (r : Rule). eqb (r .label) l) (g .rules)) (numbersBelow (length (g .labels)))
+unfolding keep anyPass numbersBelow
+usedLabels g = keep (λ l. anyPass (λ (r : Rule). eqb (r .label) l) (g .rules)) (numbersBelow (length (g .labels)))
 
 unfoldable pub withUsedLabels : Table → Table
 unfolding usedLabels place

@@ -15,7 +15,7 @@ use mathlib.Core.Path.{_≡_, sym, _∙_, ap, ap₂}
 use lib.Dec.{eqb, ltb}
 use lib.ListN.{length, getElem?}
 use borrow.Author.Tests.{eqb-true, eqb-false, eq-eqb, ne-eqb, ltb-true, ltb-false, not-true}
-use Rattle.grammar.specs.Lists.{all, allDistinct, isIn}
+use Rattle.grammar.specs.Lists.{allPass, allDistinct, isIn}
 use Rattle.grammar.specs.Content.{typesIn}
 use Rattle.grammar.specs.Table.{Rule, Table}
 use Rattle.grammar.specs.Kinds.{NoneCompete}
@@ -170,28 +170,28 @@ module _ {s : List ℕ} {index : TableIndex} {g : Table} (x : Indexes s index g)
 
   -- every content
   module _ (test : Rule → Bool) where
-    pub all-rules : ((i : ℕ) (r : Rule) → i < index .rules → getElem? (g .rules) i ≡ just r → test r ≡ true) → all test (g .rules) ≡ true
+    pub all-rules : ((i : ℕ) (r : Rule) → i < index .rules → getElem? (g .rules) i ≡ just r → test r ≡ true) → allPass test (g .rules) ≡ true
     all-rules h =
         all-of test (g .rules) (λ r m. let (i, at-i) = mem-at m in h i r (omega (arith, at-below (g .rules) i at-i, x .rules)) at-i)
 
-    pub one-rule : (i : ℕ) (r : Rule) → getElem? (g .rules) i ≡ just r → test r ≡ false → all test (g .rules) ≡ false
-    one-rule i r at-i e = false-of (all test (g .rules)) (λ t. not-both (all-at test t (at-mem (g .rules) i at-i)) e)
+    pub one-rule : (i : ℕ) (r : Rule) → getElem? (g .rules) i ≡ just r → test r ≡ false → allPass test (g .rules) ≡ false
+    one-rule i r at-i e = false-of (allPass test (g .rules)) (λ t. not-both (all-at test t (at-mem (g .rules) i at-i)) e)
 
 -- the three tests of a single-type table
 module _ (g : Table) (pairs : Bool) (p : pairs ≡ allDistinct samePair (g .rules)) where
   pub pairs-repeated : pairs ≡ false → isSingleType g ≡ false
   unfolding isSingleType
   pairs-repeated e =
-      ap (λ (b : Bool). (b && noneCompete g (g .starts)) && all (λ (r : Rule). noneCompete g (typesIn (r .content))) (g .rules)) (sym p ∙ e)
+      ap (λ (b : Bool). (b && noneCompete g (g .starts)) && allPass (λ (r : Rule). noneCompete g (typesIn (r .content))) (g .rules)) (sym p ∙ e)
 
   module _ (starts : Bool) (q : starts ≡ noneCompete g (g .starts)) where
     pub starts-compete : pairs ≡ true → starts ≡ false → isSingleType g ≡ false
     unfolding isSingleType
     starts-compete d e =
-        ap₂ (λ (a b : Bool). (a && b) && all (λ (r : Rule). noneCompete g (typesIn (r .content))) (g .rules)) (sym p ∙ d) (sym q ∙ e)
+        ap₂ (λ (a b : Bool). (a && b) && allPass (λ (r : Rule). noneCompete g (typesIn (r .content))) (g .rules)) (sym p ∙ d) (sym q ∙ e)
 
     pub then-contents : pairs ≡ true → starts ≡ true
-        → isSingleType g ≡ all (λ (r : Rule). noneCompete g (typesIn (r .content))) (g .rules)
+        → isSingleType g ≡ allPass (λ (r : Rule). noneCompete g (typesIn (r .content))) (g .rules)
     unfolding isSingleType
     then-contents d e =
-        ap₂ (λ (a b : Bool). (a && b) && all (λ (r : Rule). noneCompete g (typesIn (r .content))) (g .rules)) (sym p ∙ d) (sym q ∙ e)
+        ap₂ (λ (a b : Bool). (a && b) && allPass (λ (r : Rule). noneCompete g (typesIn (r .content))) (g .rules)) (sym p ∙ d) (sym q ∙ e)

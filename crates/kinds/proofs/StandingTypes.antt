@@ -15,7 +15,7 @@ use mathlib.Core.Path.{_≡_, refl, sym, _∙_, ap, subst}
 use lib.Dec.{eqb}
 use lib.ListN.{length, getD, drop, length-drop, drop-of-length-le}
 use lib.Seq.{drop-cons}
-use Rattle.grammar.specs.Content.{Content, none, empty, type, sequence, choice, anyNumber, oneOrMore, optional, Contents, []ᶜ, _∷ᶜ_, count, typesIn, typesInAll}
+use Rattle.grammar.specs.Content.{Content, none, empty, type, sequence, choice, anyNumber, oneOrMore, optional, Contents, []ᶜ, _∷ᶜ_, operandCount, typesIn, typesInAll}
 use Rattle.grammar.specs.Lists.{isIn}
 use Rattle.grammar.specs.ReadContent.{contentBytes, operandBytes}
 use Rattle.theory.proofs.lists.BoolLaws.{or-turn}
@@ -52,10 +52,10 @@ data After (b : ℕ) (bytes types : List ℕ) : Type 0 where
   a-count : (n : ℕ) (rest : List ℕ) → 2 < b → b < 5 → bytes ≡ n ∷ rest → Standing rest types → After b bytes types
   alone : ((b < 2) ⊎ (4 < b)) → Standing bytes types → After b bytes types
 
-after-count : (b : ℕ) (bytes : List ℕ) (ds cs : Contents) → 2 < b → b < 5 → bytes ≡ count ds ∷ (operandBytes ds ++ operandBytes cs)
+after-count : (b : ℕ) (bytes : List ℕ) (ds cs : Contents) → 2 < b → b < 5 → bytes ≡ operandCount ds ∷ (operandBytes ds ++ operandBytes cs)
     → After b bytes (typesInAll ds ++ typesInAll cs)
 after-count b bytes ds cs p q e =
-    a-count (count ds) (operandBytes ds ++ operandBytes cs) p q e
+    a-count (operandCount ds) (operandBytes ds ++ operandBytes cs) p q e
     (record { contents = followedBy ds cs; bytes-are = sym (both-bytes ds cs); types-are = sym (both-types ds cs) })
 
 after-of : (cs : Contents) (b : ℕ) (bytes : List ℕ) → b ∷ bytes ≡ operandBytes cs → After b bytes (typesInAll cs)

@@ -16,7 +16,7 @@ ghost use lib.ListN.{length, getElem?};
 ghost use Rattle.grammar.specs.Content.{Content, typesIn};
 ghost use Rattle.grammar.specs.ReadContent.{contentBytes};
 ghost use Rattle.grammar.specs.Table.{Rule, Table};
-ghost use Rattle.grammar.specs.Lists.{all, allDistinct};
+ghost use Rattle.grammar.specs.Lists.{allPass, allDistinct};
 ghost use Rattle.grammar.specs.KindTests.{samePair, noneCompete, isLocal, isSingleType};
 ghost use Rattle.reader.specs.TableIndex.{Indexes, TableIndexed};
 ghost use Rattle.kinds.specs.RulesAt.{anyBelow, sameLabelAt, samePairAt, rivals, rivalsAt, Holds, IsContent};
@@ -214,7 +214,7 @@ fn none_compete_in(table: &[u8], index: TableIndex, i: usize, words: &mut [u32])
 fn none_compete_in_any(table: &[u8], index: TableIndex, words: &mut [u32]) -> bool
     requires { ⌜ (TableIndexed (now table) index) × (8 ≤ length (now words)) ⌝ }
     ensures { λ r. ⌜ ((g : Table) → Indexes (now (table .entry)) index g
-        → r ≡ all (λ (rule : Rule). noneCompete g (typesIn (rule .content))) (g .rules)) ⌝ }
+        → r ≡ allPass (λ (rule : Rule). noneCompete g (typesIn (rule .content))) (g .rules)) ⌝ }
 {
     let rules = index.rules;
     let mut rule: usize = 0;

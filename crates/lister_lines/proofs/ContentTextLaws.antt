@@ -21,7 +21,7 @@ use Rattle.grammar.specs.Content.{
   Contents,
   []ᶜ,
   _∷ᶜ_,
-  count,
+  operandCount,
 }
 use Rattle.grammar.specs.ReadContent.{single, counted, operators, isProper}
 use Rattle.grammar.specs.Listing.{Text, typeText, contentText, separated, continued}
@@ -47,8 +47,8 @@ use Rattle.reader.proofs.ContentAtLaws.{FirstThere, content-inside}
 use Rattle.lister_lines.specs.Printing.{markOf, rowText}
 
 -- the first operand apart
-row-separated : (first mark : ℕ) (cs : Contents) → 2 ≤ count cs → first ∷ separated (mark ∷ []) cs ≡ rowText first mark cs
-unfolding contentText rowText count
+row-separated : (first mark : ℕ) (cs : Contents) → 2 ≤ operandCount cs → first ∷ separated (mark ∷ []) cs ≡ rowText first mark cs
+unfolding contentText rowText operandCount
 row-separated first mark []ᶜ h = absurd (omega arith)
 row-separated first mark (c ∷ᶜ cs) h = refl
 
@@ -88,7 +88,7 @@ module _ {s : List ℕ} {at : ℕ} (q : ContentAt standard s at) where
   module _ {n : ℕ} (o : ContentsAt standard s (at + 2) n) (counts : n ≡ getD s (at + 1) 0) where
     bracketed : (f : Contents → Content) (mark : ℕ) → getElem? operators b ≡ just (counted f)
         → ((cs : Contents) → contentText (f cs) ≡ (0x28 ∷ separated (mark ∷ []) cs) ++ (0x29 ∷ []))
-        → ((cs : Contents) → isProper standard (f cs) ≡ true → 2 ≤ count cs)
+        → ((cs : Contents) → isProper standard (f cs) ≡ true → 2 ≤ operandCount cs)
         → (contentText (q .content) ≡ rowText 0x28 mark (o .contents) ++ (0x29 ∷ [])) × (o .next ≡ q .next)
     bracketed f mark i text two =
         let w = counted-was s at (q .content) (q .next) (q .stands) f i in

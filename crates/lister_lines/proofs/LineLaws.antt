@@ -24,7 +24,7 @@ use Rattle.reader.specs.Held.{SomeHeld}
 use Rattle.reader.proofs.TableFoundLaws.{RuleFound, label-found-at, rule-found-at, content-in-part}
 use Rattle.union.specs.PairNumbers.{ruleNumbered}
 use Rattle.writer.specs.Writing.{Put}
-use Rattle.lister_lines.specs.declared.contents.Ends.{Ends}
+use Rattle.lister_lines.specs.declared.content_text.Ends.{Ends}
 use Rattle.lister_lines.specs.Printing.{Printable, Printed}
 use Rattle.lister_lines.proofs.DecimalLaws.{type-size}
 use Rattle.lister_lines.proofs.RoomLaws.{content-short}

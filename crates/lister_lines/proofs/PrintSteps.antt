@@ -12,7 +12,7 @@ use Rattle.reader.specs.ContentAt.{ContentAt, ContentsAt}
 use Rattle.reader.proofs.ContentAtLaws.{FirstThere, type-there, operands-there, operand-there, first-of, none-there}
 use Rattle.writer.specs.Writing.{Put}
 use Rattle.writer.proofs.PutLaws.{put-length, put-join, put-none}
-use Rattle.lister_lines.specs.declared.contents.Ends.{Ends}
+use Rattle.lister_lines.specs.declared.content_text.Ends.{Ends}
 use Rattle.lister_lines.specs.Printing.{markOf, rowText, Printable, RowPrintable, Printed}
 use Rattle.lister_lines.proofs.ContentTextLaws.{
   none-text,

@@ -12,7 +12,7 @@ use Rattle.reader.specs.declared.tables.TableIndex.{TableIndex}
 use Rattle.reader.specs.ContentAt.{ContentAt, ContentsAt}
 use Rattle.reader.specs.Held.{SomeHeld}
 use Rattle.writer.specs.Writing.{Put}
-use Rattle.lister_lines.specs.declared.contents.Ends.{Ends}
+use Rattle.lister_lines.specs.declared.content_text.Ends.{Ends}
 
 -- the mark of an operator: ',' and '|' between operands; '*', '+' and '?' after one
 unfoldable pub markOf : ℕ → ℕ

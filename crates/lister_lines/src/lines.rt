@@ -1,5 +1,5 @@
 // The lines of the lister: of a start, of a rule, of a whole table, and of a refusal.
-use crate::contents::put_content;
+use crate::content_text::put_content;
 use crate::pieces::put_byte;
 use crate::pieces::put_bytes;
 use crate::pieces::put_decimal;

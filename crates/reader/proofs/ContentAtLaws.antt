@@ -14,7 +14,7 @@ use mathlib.Core.Path.{_≡_, refl, sym, _∙_, ap, subst}
 use lib.Dec.{leb}
 use lib.ListN.{length, getD, getElem?}
 use Rattle.grammar.specs.Limits.{Limits}
-use Rattle.grammar.specs.Content.{Content, type, []ᶜ, _∷ᶜ_, count}
+use Rattle.grammar.specs.Content.{Content, type, []ᶜ, _∷ᶜ_, operandCount}
 use Rattle.grammar.specs.ReadContent.{operators, isProper, areProper}
 use Rattle.theory.proofs.lists.BoolLaws.{and-right}
 use Rattle.reader.specs.ExprAt.{Placed, _upTo_, placed, exprAt, exprsAt}
@@ -68,7 +68,7 @@ module _ (lim : Limits) (s : List ℕ) (at : ℕ) (there : ContentAt lim s at) w
         next = there .next;
         inside = omega arith;
         stand = was .1;
-        proper = and-right (leb 2 (count (was .0)) && leb (count (was .0)) (lim .operands)) (areProper lim (was .0)) p;
+        proper = and-right (leb 2 (operandCount (was .0)) && leb (operandCount (was .0)) (lim .operands)) (areProper lim (was .0)) p;
       }
 
   pub operand-there : 5 ≤ getD s at 0 → ContentAt lim s (at + 1)

@@ -30,7 +30,7 @@ use Rattle.grammar.specs.Content.{
   Contents,
   []ᶜ,
   _∷ᶜ_,
-  count,
+  operandCount,
 }
 use Rattle.grammar.specs.ReadContent.{contentBytes, operandBytes, alone, numbered, counted, single, operators, Parsed, found, expressionOf}
 use Rattle.theory.proofs.lists.BoolLaws.{passes-or-fails}
@@ -245,26 +245,26 @@ module _ (s : List ℕ) (at : ℕ) where
       ∙ ap (placed f) (sym (exprs-are k s (at + 2) (omega arith)))
 
   pub exprs-written : (n : ℕ) (cs : Contents) (next : ℕ) → at ≤ length s → exprsAt s at n ≡ just (cs upTo next)
-      → (n ≡ count cs) × Written s at (operandBytes cs) next
+      → (n ≡ operandCount cs) × Written s at (operandBytes cs) next
   exprs-written n cs next h e = go (operandsOf n (drop at s)) refl
     where
-      go : (p : Parsed Contents) → operandsOf n (drop at s) ≡ p → (n ≡ count cs) × Written s at (operandBytes cs) next
+      go : (p : Parsed Contents) → operandsOf n (drop at s) ≡ p → (n ≡ operandCount cs) × Written s at (operandBytes cs) next
       go nothing q = let z : _≡_ {A = ℕ} 0 1 = cc (exprs-are n s at h, ap (inFront (length s)) q) in absurd (omega arith)
       go (just p) q =
           let b = operands-were n (drop at s) (p .0) (p .1) q in
           let w = written s at (operandBytes (p .0)) (p .1) h (b .1) .0 in
           let same = same-placed (sym (exprs-are n s at h ∙ ap (inFront (length s)) q) ∙ e) in (
-            b .0 ∙ ap count (same .0),
+            b .0 ∙ ap operandCount (same .0),
             subst (λ (n : ℕ). Written s at (operandBytes cs) n) (same .1)
                 (subst (λ (ds : Contents). Written s at (operandBytes ds) (length s - length (p .1))) (same .0) w),
           )
 
   pub exprs-of : (cs : Contents) (rest : List ℕ) → at ≤ length s → drop at s ≡ operandBytes cs ++ rest
-      → exprsAt s at (count cs) ≡ just (cs upTo (at + length (operandBytes cs)))
+      → exprsAt s at (operandCount cs) ≡ just (cs upTo (at + length (operandBytes cs)))
   exprs-of cs rest h e =
       let w = written s at (operandBytes cs) rest h e .0 in
-      exprs-are (count cs) s at h
-      ∙ ap (inFront (length s)) (ap (operandsOf (count cs)) e ∙ operands-of cs rest)
+      exprs-are (operandCount cs) s at h
+      ∙ ap (inFront (length s)) (ap (operandsOf (operandCount cs)) e ∙ operands-of cs rest)
       ∙ ap (λ (n : ℕ). just (cs upTo n)) (w .next-is)
 
   pub exprs-forward : (n : ℕ) (cs : Contents) (next : ℕ) → at ≤ length s → exprsAt s at n ≡ just (cs upTo next)
@@ -442,7 +442,7 @@ module _ (s : List ℕ) (at : ℕ) where
   written-expr c next w = expr-of s at c (drop next s) (w .bytes-from) ∙ ap (λ (n : ℕ). just (c upTo n)) (sym (w .next-is))
 
   pub written-exprs : (cs : Contents) (next : ℕ) → Written s at (operandBytes cs) next
-      → exprsAt s at (count cs) ≡ just (cs upTo next)
+      → exprsAt s at (operandCount cs) ≡ just (cs upTo next)
   written-exprs cs next w =
       let n = w .next-is in
       let i = w .inside in

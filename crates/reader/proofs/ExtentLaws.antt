@@ -27,7 +27,7 @@ use Rattle.grammar.specs.Content.{
   Contents,
   []ᶜ,
   _∷ᶜ_,
-  count,
+  operandCount,
   nesting,
   deepest,
 }
@@ -38,9 +38,9 @@ use Rattle.grammar.specs.declared.Refusal.the-variants.{BadContent, NestedTooDe
 use Rattle.theory.proofs.lists.BoolLaws.{and-left, and-right, passes-or-fails}
 use Rattle.theory.proofs.contents.ContentBytes.{expression-was, content-has-bytes, unknown-operator}
 use Rattle.reader.specs.ExprAt.{Placed, _upTo_, placed, inFront, exprAt, exprsAt}
-use Rattle.reader.specs.declared.contents.ContentAnswer.the-variants.{Fine, Refused}
-use Rattle.reader.specs.declared.contents.Extent.{Extent}
-use Rattle.reader.specs.declared.contents.Extent.the-variants.{Nowhere, Upto}
+use Rattle.reader.specs.declared.expressions.ContentAnswer.the-variants.{Fine, Refused}
+use Rattle.reader.specs.declared.expressions.Extent.{Extent}
+use Rattle.reader.specs.declared.expressions.Extent.the-variants.{Nowhere, Upto}
 use Rattle.reader.specs.Extents.{
   extentBy,
   NestsBelow,
@@ -177,7 +177,7 @@ one-operand lim b l h = go (b - 5) refl
 pub record ExtentCounts (lim : Limits) (b : ℕ) : Type 0 where
   pub operator : Contents → Content
   pub numbered-so : getElem? operators b ≡ just (counted operator)
-  pub proper : (cs : Contents) → isProper lim (operator cs) ≡ (leb 2 (count cs) && leb (count cs) (lim .operands) && areProper lim cs)
+  pub proper : (cs : Contents) → isProper lim (operator cs) ≡ (leb 2 (operandCount cs) && leb (operandCount cs) (lim .operands) && areProper lim cs)
   pub nests : (cs : Contents) → nesting (operator cs) ≡ suc (deepest cs)
 
 pub counts : (lim : Limits) (b : ℕ) → 3 ≤ b → b ≤ 4 → ExtentCounts lim b
@@ -333,13 +333,13 @@ module _ (lim : Limits) (s : List ℕ) (at : ℕ) where
         (exprsAt s (at + 2) n)
         (λ cs next e. too-few cs (k .operator) (k .proper) (counted-so cs next e))
       where
-        counted-so : (cs : Contents) (next : ℕ) → exprsAt s (at + 2) (getD s (at + 1) 0) ≡ just (cs upTo next) → count cs < 2
+        counted-so : (cs : Contents) (next : ℕ) → exprsAt s (at + 2) (getD s (at + 1) 0) ≡ just (cs upTo next) → operandCount cs < 2
         counted-so cs next e = let c = exprs-written s (at + 2) (getD s (at + 1) 0) cs next (omega arith) e .0 in omega arith
 
         too-few : (cs : Contents) (f : Contents → Content)
-            → ((ds : Contents) → isProper lim (f ds) ≡ (leb 2 (count ds) && leb (count ds) (lim .operands) && areProper lim ds))
-            → count cs < 2 → isProper lim (f cs) ≡ false
-        too-few cs f so l = so cs ∙ ap (λ (b : Bool). b && leb (count cs) (lim .operands) && areProper lim cs) (lt-leb 2 (count cs) l)
+            → ((ds : Contents) → isProper lim (f ds) ≡ (leb 2 (operandCount ds) && leb (operandCount ds) (lim .operands) && areProper lim ds))
+            → operandCount cs < 2 → isProper lim (f cs) ≡ false
+        too-few cs f so l = so cs ∙ ap (λ (b : Bool). b && leb (operandCount cs) (lim .operands) && areProper lim cs) (lt-leb 2 (operandCount cs) l)
 
     pub proper-row : at + 1 < length s → 2 ≤ getD s (at + 1) 0 → getD s (at + 1) 0 ≤ lim .operands
         → properAt lim s at ≡ deeperOf (properRowAt lim s (at + 2) (getD s (at + 1) 0))
@@ -359,14 +359,14 @@ module _ (lim : Limits) (s : List ℕ) (at : ℕ) where
         (λ cs. k .nests cs ∙ sym (add-one (deepest cs)))
       where
         no-fault : (cs : Contents) (f : Contents → Content)
-            → ((ds : Contents) → isProper lim (f ds) ≡ (leb 2 (count ds) && leb (count ds) (lim .operands) && areProper lim ds))
-            → getD s (at + 1) 0 ≡ count cs → isProper lim (f cs) ≡ areProper lim cs
+            → ((ds : Contents) → isProper lim (f ds) ≡ (leb 2 (operandCount ds) && leb (operandCount ds) (lim .operands) && areProper lim ds))
+            → getD s (at + 1) 0 ≡ operandCount cs → isProper lim (f cs) ≡ areProper lim cs
         no-fault cs f so c =
             so cs
             ∙ ap₂
             (λ (b d : Bool). b && d && areProper lim cs)
-            (le-leb 2 (count cs) (omega arith))
-            (le-leb (count cs) (lim .operands) (omega arith))
+            (le-leb 2 (operandCount cs) (omega arith))
+            (le-leb (operandCount cs) (lim .operands) (omega arith))
 
   -- Operand by operand.
   pub row-none : properRowAt lim s at zero ≡ Upto at 0
@@ -532,19 +532,19 @@ unfolding isProper
 proper-number lim k e = ltb-true k (lim .types) e
 
 pub proper-sequence : (lim : Limits) (cs : Contents) → isProper lim (sequence cs) ≡ true
-    → (2 ≤ count cs) × (count cs ≤ lim .operands) × (areProper lim cs ≡ true)
+    → (2 ≤ operandCount cs) × (operandCount cs ≤ lim .operands) × (areProper lim cs ≡ true)
 unfolding isProper
 proper-sequence lim cs e =
-    let few = leb 2 (count cs) in
-    let many = leb (count cs) (lim .operands) in
+    let few = leb 2 (operandCount cs) in
+    let many = leb (operandCount cs) (lim .operands) in
     let counts-so = and-left (few && many) (areProper lim cs) e in (
-      leb-true 2 (count cs) (and-left few many counts-so),
-      leb-true (count cs) (lim .operands) (and-right few many counts-so),
+      leb-true 2 (operandCount cs) (and-left few many counts-so),
+      leb-true (operandCount cs) (lim .operands) (and-right few many counts-so),
       and-right (few && many) (areProper lim cs) e,
     )
 
 pub proper-choice : (lim : Limits) (cs : Contents) → isProper lim (choice cs) ≡ true
-    → (2 ≤ count cs) × (count cs ≤ lim .operands) × (areProper lim cs ≡ true)
+    → (2 ≤ operandCount cs) × (operandCount cs ≤ lim .operands) × (areProper lim cs ≡ true)
 unfolding isProper
 proper-choice lim cs e = proper-sequence lim cs e
 

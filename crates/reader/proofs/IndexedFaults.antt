@@ -18,7 +18,7 @@ use Rattle.grammar.specs.declared.Refusal.{Refusal}
 use Rattle.grammar.specs.declared.Refusal.the-variants.{BadField, Repeated, TooMany, OutOfRange}
 use Rattle.grammar.specs.declared.Reading.the-variants.{Readable, Refused as Unreadable}
 use Rattle.reader.specs.declared.tables.TableIndex.{TableIndex}
-use Rattle.reader.specs.declared.contents.ContentAnswer.the-variants.{Fine, Refused as Unfit}
+use Rattle.reader.specs.declared.expressions.ContentAnswer.the-variants.{Fine, Refused as Unfit}
 use Rattle.reader.specs.Extents.{contentAnswer}
 use Rattle.reader.specs.TableIndex.{part, Inside, Indexes}
 use Rattle.reader.proofs.AnswerLaws.{readable, unreadable}

@@ -9,7 +9,7 @@ use mathlib.Core.Path.{_≡_, refl, sym, _∙_, ap}
 use lib.Dec.{ltb}
 use lib.ListN.{length, getD, getElem?}
 use borrow.Author.Tests.{ltb-true, ltb-false}
-use Rattle.grammar.specs.Lists.{any, place}
+use Rattle.grammar.specs.Lists.{anyPass, place}
 use Rattle.grammar.specs.Names.{Name, sameName}
 use Rattle.grammar.specs.Table.{Table}
 use Rattle.theory.proofs.lists.BoolLaws.{false-of, not-both}
@@ -68,10 +68,10 @@ module _ {s from to : List ℕ} {count : ℕ} {list : List Name} (x : NamesAt s 
         ap (sameName name) (sym (x .name j z q .bytes-are)) ∙ before j (omega (arith, x .count))))
 
     -- a name is among the others if its place is below their number
-    pub found-among : (p : ℕ) → p ≡ place sameName name list → ltb p count ≡ any (sameName name) list
+    pub found-among : (p : ℕ) → p ≡ place sameName name list → ltb p count ≡ anyPass (sameName name) list
     found-among p e = go (ltb p count) refl
       where
-        go : (b : Bool) → ltb p count ≡ b → b ≡ any (sameName name) list
+        go : (b : Bool) → ltb p count ≡ b → b ≡ anyPass (sameName name) list
         go true t =
             let h = ltb-true p count t in
             let n = x .count in
@@ -93,13 +93,13 @@ module _ {s : List ℕ} {index : TableIndex} {g : Table} (x : Indexes s index g)
       }
 
   module _ (test : ℕ → Bool) where
-    pub start-passes : (i : ℕ) → i < index .starts → test (startType index i) ≡ true → any test (g .starts) ≡ true
+    pub start-passes : (i : ℕ) → i < index .starts → test (startType index i) ≡ true → anyPass test (g .starts) ≡ true
     start-passes i h e = any-of test (at-mem (g .starts) i (start-at x i h)) e
 
-    pub no-start-passes : ((i : ℕ) → i < index .starts → test (startType index i) ≡ false) → any test (g .starts) ≡ false
+    pub no-start-passes : ((i : ℕ) → i < index .starts → test (startType index i) ≡ false) → anyPass test (g .starts) ≡ false
     no-start-passes h =
         false-of
-        (any test (g .starts))
+        (anyPass test (g .starts))
         (λ e.
         let r = any-found test (g .starts) e in
         let p = mem-at (r .1) in

@@ -7,7 +7,7 @@ use mathlib.Core.Path.{_≡_, refl, _∙_, ap, ap₂}
 use lib.Dec.{eqb, leb}
 use lib.ListN.{length, getD, drop, drop-of-length-le}
 use borrow.Author.Tests.{eq-eqb, ne-eqb, le-leb, lt-leb}
-use Rattle.grammar.specs.Lists.{all, sameNumbers}
+use Rattle.grammar.specs.Lists.{allPass, sameNumbers}
 use Rattle.grammar.specs.Names.{Classes, isName, sameName}
 use Rattle.reader.proofs.FieldReading.{from-place}
 
@@ -20,13 +20,13 @@ module _ (classes : Classes) (s : List ℕ) where
   unfolding isName
   name-empty h = ap (isName classes) (drop-of-length-le s {i = 0} (omega arith))
 
-  pub name-first : 0 < length s → getD classes (getD s 0 0) 0 ≡ 2 → isName classes s ≡ all (later classes) (drop 1 s)
+  pub name-first : 0 < length s → getD classes (getD s 0 0) 0 ≡ 2 → isName classes s ≡ allPass (later classes) (drop 1 s)
   unfolding isName
   name-first h e = go s h e
     where
-      go : (l : List ℕ) → 0 < length l → getD classes (getD l 0 0) 0 ≡ 2 → isName classes l ≡ all (later classes) (drop 1 l)
+      go : (l : List ℕ) → 0 < length l → getD classes (getD l 0 0) 0 ≡ 2 → isName classes l ≡ allPass (later classes) (drop 1 l)
       go [] h e = absurd (omega arith)
-      go (b ∷ bs) h e = ap (λ (t : Bool). t && all (later classes) bs) (eq-eqb (getD classes b 0) 2 e)
+      go (b ∷ bs) h e = ap (λ (t : Bool). t && allPass (later classes) bs) (eq-eqb (getD classes b 0) 2 e)
 
   pub name-not-first : 0 < length s → (getD classes (getD s 0 0) 0 ≡ 2 → ⊥) → isName classes s ≡ false
   unfolding isName
@@ -34,25 +34,25 @@ module _ (classes : Classes) (s : List ℕ) where
     where
       go : (l : List ℕ) → 0 < length l → (getD classes (getD l 0 0) 0 ≡ 2 → ⊥) → isName classes l ≡ false
       go [] h e = refl
-      go (b ∷ bs) h e = ap (λ (t : Bool). t && all (later classes) bs) (ne-eqb (getD classes b 0) 2 e)
+      go (b ∷ bs) h e = ap (λ (t : Bool). t && allPass (later classes) bs) (ne-eqb (getD classes b 0) 2 e)
 
   module _ (i : ℕ) where
     pub later-next : i < length s → (getD classes (getD s i 0) 0 ≡ 0 → ⊥)
-        → all (later classes) (drop i s) ≡ all (later classes) (drop (i + 1) s)
-    unfolding all
+        → allPass (later classes) (drop i s) ≡ allPass (later classes) (drop (i + 1) s)
+    unfolding allPass
     later-next h e =
-        ap (all (later classes)) (from-place s i h)
-        ∙ ap (λ (t : Bool). t && all (later classes) (drop (i + 1) s)) (le-leb 1 (getD classes (getD s i 0) 0) (omega arith))
+        ap (allPass (later classes)) (from-place s i h)
+        ∙ ap (λ (t : Bool). t && allPass (later classes) (drop (i + 1) s)) (le-leb 1 (getD classes (getD s i 0) 0) (omega arith))
 
-    pub later-fails : i < length s → getD classes (getD s i 0) 0 ≡ 0 → all (later classes) (drop i s) ≡ false
-    unfolding all
+    pub later-fails : i < length s → getD classes (getD s i 0) 0 ≡ 0 → allPass (later classes) (drop i s) ≡ false
+    unfolding allPass
     later-fails h e =
-        ap (all (later classes)) (from-place s i h)
-        ∙ ap (λ (t : Bool). t && all (later classes) (drop (i + 1) s)) (lt-leb 1 (getD classes (getD s i 0) 0) (omega arith))
+        ap (allPass (later classes)) (from-place s i h)
+        ∙ ap (λ (t : Bool). t && allPass (later classes) (drop (i + 1) s)) (lt-leb 1 (getD classes (getD s i 0) 0) (omega arith))
 
-    pub later-end : length s ≤ i → all (later classes) (drop i s) ≡ true
-    unfolding all
-    later-end h = ap (all (later classes)) (drop-of-length-le s h)
+    pub later-end : length s ≤ i → allPass (later classes) (drop i s) ≡ true
+    unfolding allPass
+    later-end h = ap (allPass (later classes)) (drop-of-length-le s h)
 
 -- two names of one length
 unequal : (a b : List ℕ) → (length a ≡ length b → ⊥) → sameNumbers a b ≡ false

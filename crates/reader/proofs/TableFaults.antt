@@ -9,7 +9,7 @@ use lib.ListN.{length, getD, take, drop, length-drop}
 use lib.Dec.{leb}
 use lib.Seq.{slice, drop-cons, length-take-le}
 use borrow.Author.Tests.{leb-true, le-leb, lt-leb}
-use Rattle.grammar.specs.Lists.{any, isIn}
+use Rattle.grammar.specs.Lists.{anyPass, isIn}
 use Rattle.grammar.specs.Limits.{Limits}
 use Rattle.grammar.specs.Names.{sameName, Classes, isName}
 use Rattle.grammar.specs.Table.{Table}
@@ -93,11 +93,11 @@ module _ (lim : Limits) (classes : Classes) (g : Table) (value : List ℕ) where
     label-misnamed e = fine-field _ ∙ fault _ BadName _ (ap not e)
 
     module _ (named : isName classes value ≡ true) where
-      pub label-repeated : any (sameName value) (g .labels) ≡ true → readLabel lim classes g value ≡ refused Repeated
+      pub label-repeated : anyPass (sameName value) (g .labels) ≡ true → readLabel lim classes g value ≡ refused Repeated
       unfolding readLabel fits first long short
       label-repeated e = fine-field _ ∙ no-fault _ BadName _ (ap not named) ∙ fault _ Repeated _ e
 
-      module _ (new : any (sameName value) (g .labels) ≡ false) where
+      module _ (new : anyPass (sameName value) (g .labels) ≡ false) where
         pub label-too-many : lim .labels ≤ length (g .labels) → readLabel lim classes g value ≡ refused TooMany
         unfolding readLabel fits first long short
         label-too-many e =

@@ -12,10 +12,10 @@ use Rattle.grammar.specs.Content.{Content, nesting, deepest}
 use Rattle.grammar.specs.ReadContent.{isProper, areProper}
 use Rattle.grammar.specs.Outcome.{Outcome, refused, given}
 use Rattle.reader.specs.ExprAt.{Placed, exprAt, exprsAt}
-use Rattle.reader.specs.declared.contents.Extent.{Extent}
-use Rattle.reader.specs.declared.contents.Extent.the-variants.{Nowhere, Upto}
-use Rattle.reader.specs.declared.contents.ContentAnswer.{ContentAnswer}
-use Rattle.reader.specs.declared.contents.ContentAnswer.the-variants.{Fine, Refused}
+use Rattle.reader.specs.declared.expressions.Extent.{Extent}
+use Rattle.reader.specs.declared.expressions.Extent.the-variants.{Nowhere, Upto}
+use Rattle.reader.specs.declared.expressions.ContentAnswer.{ContentAnswer}
+use Rattle.reader.specs.declared.expressions.ContentAnswer.the-variants.{Fine, Refused}
 
 -- what stands there, where it is proper
 abbrev pub extentBy : {A : Type 0} → (A → Bool) → (A → ℕ) → Option (Placed A) → Extent

@@ -1,7 +1,7 @@
 // Labels of a table: names of 1 to 63 bytes, before all starts and rules.
 ghost use mathlib.Core.List.{List};
 ghost use mathlib.Core.Path.{_≡_};
-ghost use Rattle.grammar.specs.Lists.{any, place};
+ghost use Rattle.grammar.specs.Lists.{anyPass, place};
 ghost use Rattle.grammar.specs.Names.{Name, asciiClasses, sameName};
 ghost use Rattle.grammar.specs.Limits.{standard};
 ghost use Rattle.grammar.specs.Table.{Table};
@@ -38,7 +38,8 @@ pub fn name_place(name: &[u8], s: &[u8], from: &[usize], to: &[usize], count: us
 // An earlier label has this name.
 fn repeated_label(s: &[u8], from: usize, to: usize, index: TableIndex) -> bool
     requires { ⌜ ValueAt (now s) from to index ⌝ }
-    ensures { λ r. ⌜ ((g : Table) → Indexes (now (s .entry)) index g → r ≡ any (sameName (part (now (s .entry)) from to)) (g .labels)) ⌝ }
+    ensures { λ r. ⌜ ((g : Table) → Indexes (now (s .entry)) index g
+        → r ≡ anyPass (sameName (part (now (s .entry)) from to)) (g .labels)) ⌝ }
 {
     let label_from = index.label_from;
     let label_to = index.label_to;

@@ -1,7 +1,7 @@
 // File readers. Every byte string has the one answer that the written meaning gives it.
 pub mod calls;
-pub mod contents;
 pub mod documents;
+pub mod expressions;
 pub mod fields;
 pub mod label_places;
 pub mod labels;

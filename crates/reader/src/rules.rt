@@ -2,8 +2,8 @@
 ghost use Rattle.grammar.specs.Limits.{standard};
 ghost use Rattle.grammar.specs.ReadTable.{readRule};
 ghost use Rattle.reader.specs.TableIndex.{part, ValueAt, AnswersFor, ReadsFor};
-use crate::contents::ContentAnswer;
-use crate::contents::content_refusal;
+use crate::expressions::ContentAnswer;
+use crate::expressions::content_refusal;
 use crate::limits::CONTENT;
 use crate::limits::RULES;
 use crate::limits::TYPES;

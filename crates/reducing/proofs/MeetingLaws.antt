@@ -16,7 +16,7 @@ use borrow.Author.Tests.{eqb-true, eq-eqb, ltb-true}
 use Rattle.grammar.specs.Lists.{keep, distinct, joinedOf, isIn, numbersBelow}
 use Rattle.grammar.specs.Limits.{Limits, standard}
 use Rattle.grammar.specs.ReadContent.{isProper, areProper}
-use Rattle.grammar.specs.Content.{Content, none, empty, type, sequence, choice, anyNumber, oneOrMore, optional, Contents, []ᶜ, _∷ᶜ_, count}
+use Rattle.grammar.specs.Content.{Content, none, empty, type, sequence, choice, anyNumber, oneOrMore, optional, Contents, []ᶜ, _∷ᶜ_, operandCount}
 use Rattle.grammar.specs.Table.{Rule, Table}
 use Rattle.grammar.specs.KindTests.{samePair}
 use Rattle.grammar.specs.Unite.{shifted}
@@ -67,9 +67,9 @@ use Rattle.reducing.proofs.ListingLaws.{rule-at}
 
 -- lists that agree on the types of a proper content
 module _ (lim : Limits) (left right : ℕ → List ℕ) (same : (k : ℕ) → k < lim .types → left k ≡ right k) where
-  operands-proper : (cs : Contents) → (leb 2 (count cs) && leb (count cs) (lim .operands) && areProper lim cs) ≡ true
+  operands-proper : (cs : Contents) → (leb 2 (operandCount cs) && leb (operandCount cs) (lim .operands) && areProper lim cs) ≡ true
       → areProper lim cs ≡ true
-  operands-proper cs e = and-right (leb 2 (count cs) && leb (count cs) (lim .operands)) (areProper lim cs) e
+  operands-proper cs e = and-right (leb 2 (operandCount cs) && leb (operandCount cs) (lim .operands)) (areProper lim cs) e
 
   mutual
     unfolding hasAlts isProper someLeft

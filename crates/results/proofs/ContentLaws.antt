@@ -13,7 +13,7 @@ use Rattle.sets.specs.declared.four.Set4.{Set4}
 use Rattle.union.specs.declared.lists.TypeLists.{TypeLists}
 use Rattle.union.specs.declared.united.United.{United}
 use Rattle.union.specs.TypeLists.{ListsOf}
-use Rattle.merging.specs.Merging.{Merging}
+use Rattle.contents.specs.Joining.{Joining}
 use Rattle.forms.specs.SetForms.{setNumber}
 use Rattle.forms.specs.Worklist.{NumbersOf}
 use Rattle.results.specs.Results.{RulesFrom}
@@ -31,7 +31,7 @@ module _ {old add : List ℕ} {v : United} {labels : ℕ} {lists : TypeLists} {w
 
   abbrev pub merged : (within : ℕ → Bool) (types : Set4) (results : TypeLists) → ListsOf (resultsIn within) results → length (types .words) ≡ 4
       → ((of : ℕ → List ℕ) → ListsOf of results → (k : ℕ) → k < 128 → member (types .words) 0 k ≡ someLeft of k)
-      → Merging old add v types results
+      → Joining old add v types results
   merged within types results x l t =
       record {
         table = q .in-words .table;

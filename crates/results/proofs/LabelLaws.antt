@@ -12,7 +12,7 @@ use mathlib.Core.Path.{_≡_, refl, sym, _∙_, ap, subst, fun-ext}
 use lib.Dec.{eqb}
 use lib.ListN.{length, length-append, getD}
 use borrow.Author.Tests.{eqb-true, eq-eqb}
-use Rattle.grammar.specs.Lists.{any, keep, place, numbersBelow}
+use Rattle.grammar.specs.Lists.{anyPass, keep, place, numbersBelow}
 use Rattle.grammar.specs.Table.{Table}
 use Rattle.grammar.specs.SingleTypeForm.{TypeSet}
 use Rattle.theory.specs.Alternatives.{onlyIf}
@@ -45,9 +45,9 @@ use Rattle.forms.specs.SetForms.{setLabel}
 use Rattle.results.specs.Results.{isUsed}
 
 module _ (on : ℕ → Bool) where
-  not-before : (l : ℕ) → any (eqb l) (keep on (numbersBelow l)) ≡ false
+  not-before : (l : ℕ) → anyPass (eqb l) (keep on (numbersBelow l)) ≡ false
   not-before l =
-      false-of (any (eqb l) (keep on (numbersBelow l)))
+      false-of (anyPass (eqb l) (keep on (numbersBelow l)))
       (λ e.
       let (x, m, s) = any-found (eqb l) (keep on (numbersBelow l)) e in
       let h = numbers-below l x .0 (kept on (numbersBelow l) m .0) in

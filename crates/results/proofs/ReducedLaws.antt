@@ -30,7 +30,7 @@ use Rattle.union.specs.Rounds.{puts}
 use Rattle.union.specs.PairNumbers.{isStart, isLeft}
 use Rattle.writer.specs.declared.writing.Drafted.{Drafted}
 use Rattle.sampling.specs.SampleTable.{TablePut}
-use Rattle.merging.proofs.AgreeLaws.{union-shallow}
+use Rattle.contents.proofs.AgreeLaws.{union-shallow}
 use Rattle.forms.specs.declared.set_words.Counted.{Counted}
 use Rattle.forms.specs.declared.set_words.Counted.the-variants.{TooMany, Count}
 use Rattle.forms.specs.SetWords.{SetsHeld, SetsCounted}

@@ -31,9 +31,9 @@ use Rattle.union.specs.declared.labels.Names.{Names}
 use Rattle.union.specs.declared.united.Union.{Union}
 use Rattle.union.specs.UnitedLabels.{newNames}
 use Rattle.union.specs.View.{UnionSeen}
-use Rattle.emitting.specs.declared.completing.ContentMade.{ContentMade}
-use Rattle.emitting.specs.declared.completing.ContentMade.the-variants.{TooLarge, Upto}
-use Rattle.emitting.specs.Completing.{Stored, Made}
+use Rattle.contents.specs.declared.completing.ContentMade.{ContentMade}
+use Rattle.contents.specs.declared.completing.ContentMade.the-variants.{TooLarge, Upto}
+use Rattle.contents.specs.Completing.{Stored, Made}
 use Rattle.reducing.proofs.NumberLaws.{joined-only}
 use Rattle.sampling.specs.SampleTable.{rulesBytes}
 use Rattle.forms.specs.SetForms.{labelsOf, tableBySets, pairsWithin}

@@ -16,7 +16,7 @@ use Rattle.grammar.specs.ReadTable.{isEmpty}
 use Rattle.grammar.specs.Normalise.{pairsOf, normalise}
 use Rattle.grammar.specs.Reduce.{fruitful}
 use Rattle.grammar.specs.SingleTypeForm.{TypeSet}
-use Rattle.theory.specs.Alternatives.{alts, written, resultsOf}
+use Rattle.theory.specs.Alternatives.{alts, oneContent, resultsOf}
 use Rattle.theory.specs.Conditions.{Labelled}
 use Rattle.theory.proofs.lists.ListLaws.{any-of, at-mem, at-or-else}
 use Rattle.sets.specs.Sets.{member, wordsAt, OthersKept}
@@ -95,17 +95,17 @@ module _ {old add : List ℕ} {v : United} {words : List ℕ} {count : ℕ} (q :
 -- the content, the label and the rule of a set
 module _ (u : Table) (sets : List TypeSet) (kind : Kind) (i : ℕ) where
   pub content-is : (set within : ℕ → Bool) → set ≡ (λ p. isIn p (getD sets i [])) → within ≡ pairsWithin kind u (getD sets i [])
-      → written (joinedOf (alts (resultsOf (pairsOf u) (fruitful (normalise u)) (setNumber u sets within))) (contentsIn u set))
+      → oneContent (joinedOf (alts (resultsOf (pairsOf u) (fruitful (normalise u)) (setNumber u sets within))) (contentsIn u set))
       ≡ resultRule u sets kind i .content
   unfolding ruleBySet contentBySet
   content-is set within e f =
       ap
       (λ (w : ℕ → Bool).
-      written (joinedOf (alts (resultsOf (pairsOf u) (fruitful (normalise u)) (setNumber u sets w))) (contentsIn u set)))
+      oneContent (joinedOf (alts (resultsOf (pairsOf u) (fruitful (normalise u)) (setNumber u sets w))) (contentsIn u set)))
       f
       ∙ ap
       (λ (t : ℕ → Bool).
-      written
+      oneContent
       (joinedOf (alts (resultsOf (pairsOf u) (fruitful (normalise u)) (setNumber u sets (pairsWithin kind u (getD sets i [])))))
       (contentsIn u t)))
       e

@@ -10,7 +10,7 @@ use mathlib.Core.Path.{_≡_, refl, sym, _∙_, ap, fun-ext, subst}
 use lib.Dec.{eqb}
 use lib.ListN.{length, getD}
 use borrow.Author.Tests.{eqb-true, eq-eqb}
-use Rattle.grammar.specs.Lists.{any, keep, place, isIn, sameNumbers, numbersBelow}
+use Rattle.grammar.specs.Lists.{anyPass, keep, place, isIn, sameNumbers, numbersBelow}
 use Rattle.grammar.specs.Table.{Table}
 use Rattle.grammar.specs.Normalise.{normalise}
 use Rattle.grammar.specs.Reduce.{withoutUnfruitful}
@@ -45,19 +45,19 @@ module _ (u : Table) where
   unfolding localStarts
   local-starts key h =
       keep-on (puts (isStart u) key nothing (length (u .rules)))
-      (λ t. any (λ p. eqb (setNumber u (localSets u) (isLeft u) p) t) (withoutUnfruitful (normalise u) .starts))
+      (λ t. anyPass (λ p. eqb (setNumber u (localSets u) (isLeft u) p) t) (withoutUnfruitful (normalise u) .starts))
       (numbersBelow (length (localSets u)))
       (λ t m. same-test _ _ (has t, was t))
     where
       has : (t : ℕ) → puts (isStart u) key nothing (length (u .rules)) t ≡ true
-          → any (λ p. eqb (setNumber u (localSets u) (isLeft u) p) t) (withoutUnfruitful (normalise u) .starts) ≡ true
+          → anyPass (λ p. eqb (setNumber u (localSets u) (isLeft u) p) t) (withoutUnfruitful (normalise u) .starts) ≡ true
       has t e =
           let q = puts-any (isStart u) key (length (u .rules)) t e in
           any-of (λ p. eqb (setNumber u (localSets u) (isLeft u) p) t)
           (in-mem (q .0) (withoutUnfruitful (normalise u) .starts) (q .2))
           (eq-eqb _ _ (sym (h (q .0) (q .2)) ∙ q .3))
 
-      was : (t : ℕ) → any (λ p. eqb (setNumber u (localSets u) (isLeft u) p) t) (withoutUnfruitful (normalise u) .starts) ≡ true
+      was : (t : ℕ) → anyPass (λ p. eqb (setNumber u (localSets u) (isLeft u) p) t) (withoutUnfruitful (normalise u) .starts) ≡ true
           → puts (isStart u) key nothing (length (u .rules)) t ≡ true
       was t e =
           let q = any-found (λ p. eqb (setNumber u (localSets u) (isLeft u) p) t) (withoutUnfruitful (normalise u) .starts) e in

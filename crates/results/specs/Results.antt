@@ -6,7 +6,7 @@ use mathlib.Core.List.{List, [], _∷_, _++_, List·Memᴰ}
 use mathlib.Core.Path.{_≡_}
 use lib.Dec.{eqb}
 use lib.ListN.{length, getD}
-use Rattle.grammar.specs.Lists.{any, keep, joinedOf, numbersBelow}
+use Rattle.grammar.specs.Lists.{anyPass, keep, joinedOf, numbersBelow}
 use Rattle.grammar.specs.Names.{Name}
 use Rattle.grammar.specs.Table.{Rule, Table}
 use Rattle.grammar.specs.Fields.{fieldBytes}
@@ -24,7 +24,7 @@ use Rattle.union.specs.TypeLists.{ListsOf}
 use Rattle.union.specs.Places.{leftAt, usedAt}
 use Rattle.union.specs.PairNumbers.{fruitfulOf, isLeft}
 use Rattle.union.specs.UnitedLabels.{NamesHeld}
-use Rattle.merging.specs.Merging.{Shallow}
+use Rattle.contents.specs.Joining.{Shallow}
 use Rattle.forms.specs.SetForms.{setLabel, ruleBySet, pairsWithin}
 use Rattle.forms.specs.SetWords.{SetsHeld}
 use Rattle.sampling.specs.SampleTable.{restBytes}
@@ -35,7 +35,7 @@ resultRule u sets kind = ruleBySet u sets (pairsWithin kind u)
 
 -- some set has the label
 abbrev pub isUsed : Table → List TypeSet → ℕ → Bool
-isUsed u sets l = any (λ s. eqb (setLabel u s) l) sets
+isUsed u sets l = anyPass (λ s. eqb (setLabel u s) l) sets
 
 -- the labels of a union stand in the bytes of its two tables: the old names, then the addition's new ones
 pub record LabelsIn (old add : List ℕ) (olds news : Names) : Type 0 where

@@ -14,7 +14,7 @@ ghost use Rattle.grammar.specs.Lists.{keep, numbersBelow};
 ghost use Rattle.grammar.specs.WriteTable.{tableBytes};
 ghost use Rattle.sets.specs.Sets.{setAt};
 ghost use Rattle.union.specs.Places.{startTypesAt};
-ghost use Rattle.emitting.specs.Drafts.{draftLength};
+ghost use Rattle.contents.specs.Drafts.{draftLength};
 ghost use Rattle.forms.specs.SetForms.{tableBySets, pairsWithin};
 ghost use Rattle.sampling.specs.SampleTable.{TablePut};
 ghost use Rattle.results.specs.Results.{RulesWith, ResultFrom, ruleFrom, bodyBytes};

@@ -1,12 +1,12 @@
 // The rules of a result: one for each set of pairs, in the order of the sets.
 use crate::labels_used::label_place;
 use crate::widen::Kind;
-use emitting::completing::ContentMade;
-use emitting::limits::DRAFT;
+use contents::completing::ContentMade;
+use contents::joining::content_of_set;
+use contents::limits::DRAFT;
 use forms::label_sets::label_numbers;
 use forms::label_sets::set_label;
 use forms::set_numbers::result_lists;
-use merging::contents::content_of_set;
 use reader::tags::RULE_TAG;
 use reader::tags::TABLE_END_TAG;
 use reducing::meeting::met_set;
@@ -29,8 +29,8 @@ ghost use Rattle.sets.specs.Sets.{member, wordsAt};
 ghost use Rattle.union.specs.View.{Views};
 ghost use Rattle.union.specs.TypeLists.{ListsOf};
 ghost use Rattle.union.specs.PairNumbers.{fruitfulOf, isLeft};
-ghost use Rattle.emitting.specs.Drafts.{draftLength};
-ghost use Rattle.emitting.specs.Completing.{Made};
+ghost use Rattle.contents.specs.Drafts.{draftLength};
+ghost use Rattle.contents.specs.Completing.{Made};
 ghost use Rattle.sampling.specs.SampleTable.{RulePuts, RulesPut, TablePut, restBytes};
 ghost use Rattle.forms.specs.SetForms.{pairsWithin};
 ghost use Rattle.results.specs.Results.{RulesFrom, RulesWith, ruleFrom};

@@ -14,18 +14,18 @@ use Rattle.grammar.specs.Content.{Content, type, operands, choiceOf, nesting, d
 use Rattle.grammar.specs.ReadContent.{contentBytes, sameContent}
 use Rattle.grammar.specs.Size.{widestChoice, widestOf, contentTooLarge}
 use Rattle.grammar.specs.Sample.{sequenceOf}
-use Rattle.theory.specs.Alternatives.{gathered, written}
+use Rattle.theory.specs.Alternatives.{gathered, oneContent}
 use Rattle.theory.proofs.lists.BoolLaws.{or-left, or-none}
 use Rattle.theory.proofs.lists.ListLaws.{distinct-was}
 use Rattle.theory.proofs.emission.GatheringLaws.{written-gathered}
 use Rattle.theory.proofs.bytes.SampleWithin.{operands-count}
 use Rattle.reader.specs.ExprAt.{_upTo_, exprAt}
 use Rattle.reader.proofs.ExprLaws.{expr-written}
-use Rattle.emitting.specs.Drafts.{Row, TooWide}
+use Rattle.contents.specs.Drafts.{Row, TooWide}
 use Rattle.sampling.specs.SampleContents.{sequenceIn, sequencesAmong}
 use Rattle.sampling.specs.SampleTable.{contentIn}
-use Rattle.emitting.proofs.KeptLaws.{row-count}
-use Rattle.emitting.proofs.WideLaws.{too-large}
+use Rattle.contents.proofs.KeptLaws.{row-count}
+use Rattle.contents.proofs.WideLaws.{too-large}
 
 record Flat (c : Content) : Type 0 where
   shallow : nesting c ≤ 2
@@ -98,7 +98,7 @@ module _ (parents types : List ℕ) (n k : ℕ) where
   pub content-wide : TooWide 1024 (gathered [] among) → contentTooLarge standard (contentIn parents types n k) ≡ true
   content-wide w =
       subst (λ (x : Content). contentTooLarge standard x ≡ true) (written-gathered among)
-      (subst (λ (xs : List Content). contentTooLarge standard (written xs) ≡ true) (append-nil among) (too-large among [] w))
+      (subst (λ (xs : List Content). contentTooLarge standard (oneContent xs) ≡ true) (append-nil among) (too-large among [] w))
 
   pub content-length : (d : List ℕ) (stop : ℕ) → exprAt d 2 ≡ just (contentIn parents types n k upTo stop)
       → stop ≡ 2 + length (contentBytes (contentIn parents types n k))

@@ -13,7 +13,7 @@ use mathlib.Core.Logic.{_⊎_, inl, inr}
 use mathlib.Core.Path.{_≡_, refl, sym, _∙_, ap}
 use lib.ListN.{length, set, take}
 use lib.Seq.{length-take-le, take-suc-set, take-set-le}
-use Rattle.grammar.specs.Lists.{any, distinct, place, numbersFrom, numbersBelow}
+use Rattle.grammar.specs.Lists.{anyPass, distinct, place, numbersFrom, numbersBelow}
 use Rattle.theory.proofs.lists.ListLaws.{any-of, numbers-joined}
 use Rattle.theory.proofs.lists.PlaceLaws.{place-some, place-none, place-most, place-front, place-end, place-image}
 use Rattle.theory.proofs.lists.DistinctLaws.{distinct-grows, one-more-new, one-more-old, among-distinct}
@@ -21,7 +21,7 @@ use Rattle.theory.proofs.lists.DistinctLaws.{distinct-grows, one-more-new, one-
 module _ {A : Type 0} (same : A → A → Bool) (same-refl : (x : A) → same x x ≡ true)
     (same-sym : (x y : A) → same x y ≡ true → same y x ≡ true)
     (same-trans : (x y z : A) → same x y ≡ true → same y z ≡ true → same x z ≡ true) where
-  among : (x : A) (xs : List A) → any (same x) (distinct same xs) ≡ any (same x) xs
+  among : (x : A) (xs : List A) → anyPass (same x) (distinct same xs) ≡ anyPass (same x) xs
   among = among-distinct same same-sym same-trans same-refl
 
   pub number-new : (xs : List A) (y : A) → place same y (distinct same xs) ≡ length (distinct same xs)
@@ -40,9 +40,9 @@ module _ {A : Type 0} (same : A → A → Bool) (same-refl : (x : A) → same x 
       ∙ ap (place same y) e
       ∙ place-front same y (distinct same (xs ++ (y ∷ []))) more
       (among y (xs ++ (y ∷ [])) ∙ any-of (same y) (Memᴰ·append-right xs (List·Memᴰ·head refl)) (same-refl y))
-      ∙ go (any (same y) xs) refl
+      ∙ go (anyPass (same y) xs) refl
     where
-      go : (b : Bool) → any (same y) xs ≡ b → place same y (distinct same (xs ++ (y ∷ []))) ≡ place same y (distinct same xs)
+      go : (b : Bool) → anyPass (same y) xs ≡ b → place same y (distinct same (xs ++ (y ∷ []))) ≡ place same y (distinct same xs)
       go true f = ap (place same y) (one-more-old same same-sym xs y f)
       go false f = ap (place same y) (one-more-new same same-sym xs y f) ∙ place-end same y (same-refl y) (distinct same xs)
 

@@ -18,13 +18,13 @@ use Rattle.theory.proofs.lists.DistinctLaws.{keep-append}
 use Rattle.theory.proofs.emission.GatheringLaws.{gathered-so, gather-nothing, gather-more}
 use Rattle.reader.specs.ExprAt.{_upTo_}
 use Rattle.reader.proofs.ExprLaws.{expr-of, exprs-none, exprs-kept}
-use Rattle.emitting.specs.declared.drafts.Gathering.{Gathering}
-use Rattle.emitting.specs.declared.drafts.Gathering.the-variants.{TooLarge, Upto}
-use Rattle.emitting.specs.Drafts.{Row, Kept, Newest, TooWide, Gathers, GathersWith}
-use Rattle.emitting.specs.Marks.{Marked}
+use Rattle.contents.specs.declared.drafts.Gathering.{Gathering}
+use Rattle.contents.specs.declared.drafts.Gathering.the-variants.{TooLarge, Upto}
+use Rattle.contents.specs.Drafts.{Row, Kept, Newest, TooWide, Gathers, GathersWith}
+use Rattle.contents.specs.Marks.{Marked}
 use Rattle.writer.specs.Writing.{Put}
-use Rattle.emitting.proofs.MarkLaws.{marked-none}
-use Rattle.emitting.proofs.WideLaws.{wide-gathered}
+use Rattle.contents.proofs.MarkLaws.{marked-none}
+use Rattle.contents.proofs.WideLaws.{wide-gathered}
 use Rattle.sampling.proofs.NumberingLaws.{numbers-split}
 use Rattle.writer.proofs.PutLaws.{put-length, put-kept, put-there}
 use Rattle.sampling.specs.SampleContents.{operandsEnd, sequenceIn, sequencesAmong, GathersInRule, GathersMarked}

@@ -8,7 +8,7 @@ use mathlib.Core.List.{List·Memᴰ}
 use mathlib.Core.Path.{_≡_, ap}
 use lib.Dec.{ltb}
 use lib.ListN.{length}
-use Rattle.grammar.specs.Lists.{any}
+use Rattle.grammar.specs.Lists.{anyPass}
 use Rattle.grammar.specs.Limits.{standard}
 use Rattle.grammar.specs.Table.{Rule, Table}
 use Rattle.grammar.specs.Outcome.{given, refused, _>>_, turnBack}
@@ -40,23 +40,23 @@ module _ (g : Table) where
 
   pub types-over : 64 < length (g .rules) → tooLarge standard g ≡ true
   unfolding tooLarge standard
-  types-over h = or-left (many || any over (g .rules)) long (or-left many (any over (g .rules)) (lt-ltb 64 (length (g .rules)) h))
+  types-over h = or-left (many || anyPass over (g .rules)) long (or-left many (anyPass over (g .rules)) (lt-ltb 64 (length (g .rules)) h))
 
   pub content-over : {r : Rule} → List·Memᴰ r (g .rules) → contentTooLarge standard (r .content) ≡ true → tooLarge standard g ≡ true
   unfolding tooLarge standard
-  content-over m e = or-left (many || any over (g .rules)) long (or-right many (any over (g .rules)) (any-of over m e))
+  content-over m e = or-left (many || anyPass over (g .rules)) long (or-right many (anyPass over (g .rules)) (any-of over m e))
 
   pub bytes-over : 32768 < length (tableBytes g) → tooLarge standard g ≡ true
   unfolding tooLarge standard
-  bytes-over h = or-right (many || any over (g .rules)) long (lt-ltb 32768 (length (tableBytes g)) h)
+  bytes-over h = or-right (many || anyPass over (g .rules)) long (lt-ltb 32768 (length (tableBytes g)) h)
 
   pub all-fit : length (g .rules) ≤ 64 → ((r : Rule) → List·Memᴰ r (g .rules) → contentTooLarge standard (r .content) ≡ false)
       → length (tableBytes g) ≤ 32768 → tooLarge standard g ≡ false
   unfolding tooLarge standard
   all-fit a b c =
-      or-none (many || any over (g .rules)) long
-      (or-none many (any over (g .rules)) (le-ltb 64 (length (g .rules)) a)
-      (false-of (any over (g .rules))
+      or-none (many || anyPass over (g .rules)) long
+      (or-none many (anyPass over (g .rules)) (le-ltb 64 (length (g .rules)) a)
+      (false-of (anyPass over (g .rules))
       (λ o.
       let (x, m, w) = any-found over (g .rules) o in
       not-both w (b x m))))

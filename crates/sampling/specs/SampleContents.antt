@@ -8,10 +8,10 @@ use lib.ListN.{length, getD}
 use Rattle.grammar.specs.Lists.{keep, numbersFrom}
 use Rattle.grammar.specs.Content.{Content}
 use Rattle.grammar.specs.Sample.{sequenceOf}
-use Rattle.emitting.specs.declared.drafts.Gathering.{Gathering}
-use Rattle.emitting.specs.declared.drafts.Gathering.the-variants.{TooLarge, Upto}
-use Rattle.emitting.specs.Drafts.{Row, TooWide}
-use Rattle.emitting.specs.Marks.{Marked}
+use Rattle.contents.specs.declared.drafts.Gathering.{Gathering}
+use Rattle.contents.specs.declared.drafts.Gathering.the-variants.{TooLarge, Upto}
+use Rattle.contents.specs.Drafts.{Row, TooWide}
+use Rattle.contents.specs.Marks.{Marked}
 
 -- A content is made in scratch bytes: where its operands end at most, where it ends, and how many bytes are lent.
 abbrev pub operandsEnd : ℕ

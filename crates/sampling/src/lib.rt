@@ -9,7 +9,7 @@ mod parents;
 mod paths;
 
 // The bytes: child sequences, contents, rules, and all fields.
-mod contents;
+mod choices;
 mod fields;
 mod rules;
 mod sequences;

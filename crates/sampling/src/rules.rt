@@ -1,5 +1,5 @@
 // The rules of a sample, in the order of the types.
-use crate::contents::make_content;
+use crate::choices::make_content;
 use reader::tags::RULE_TAG;
 use writer::writing::Drafted;
 use writer::writing::put_field;

@@ -1,16 +1,16 @@
 -- What a content of a source table gives to a content of the result, read off the source content alone: no table between the two.
---   alts      the alternatives that it gives to a choice, each tidied, equal ones not yet dropped
---   written   the one content that some alternatives make
---   hasAlts   whether it has alternatives
---   pairsMet  the pairs that stand in it once it is in normal form and reduced, left to right
---   gathered  alternatives after some operands, equal ones once: `written xs` is the choice of what is gathered into an empty list
+--   alts        the alternatives that it gives to a choice, each tidied, equal ones not yet dropped
+--   oneContent  the one content that some alternatives make
+--   hasAlts     whether it has alternatives
+--   pairsMet    the pairs that stand in it once it is in normal form and reduced, left to right
+--   gathered    alternatives after some operands, equal ones once: `oneContent xs` is the choice of what is gathered into an empty list
 -- They are over what a source type gives: `results` its result types, `has` whether it has any, `left` its fruitful pairs.
 -- EmittedContent says that this is tidying after replacing after reducing after normalising; MetPairs says so of the pairs.
 use Prim.Native.Nat.{ℕ}
 use mathlib.Core.Bool.{Bool, true, false, not, _&&_, _||_}
 use mathlib.Core.List.{List, [], _∷_, _++_, map}
 use mathlib.Core.Path.{_≡_}
-use Rattle.grammar.specs.Lists.{any, keep, distinct, joinedOf, isIn}
+use Rattle.grammar.specs.Lists.{anyPass, keep, distinct, joinedOf, isIn}
 use Rattle.grammar.specs.Content.{
   Content,
   none,
@@ -31,20 +31,20 @@ use Rattle.grammar.specs.ReadContent.{sameContent}
 use Rattle.grammar.specs.ReadTable.{isEmpty}
 
 -- equal alternatives once; one stands alone, several are a choice
-unfoldable pub written : List Content → Content
+unfoldable pub oneContent : List Content → Content
 unfolding choiceOf distinct sameContent
-written xs = choiceOf (distinct sameContent xs)
+oneContent xs = choiceOf (distinct sameContent xs)
 
 -- an operator around one operand that has these alternatives; where it has none, others
 unfoldable pub around : (Content → Content) → List Content → List Content → List Content
-unfolding written
+unfolding oneContent
 around f others [] = others
-around f others (x ∷ xs) = f (written (x ∷ xs)) ∷ []
+around f others (x ∷ xs) = f (oneContent (x ∷ xs)) ∷ []
 
 -- a sequence of operands that have these alternatives; nothing where some operand has none
 unfoldable pub inSequence : List (List Content) → List Content
-unfolding any operands written
-inSequence xss = elim (any isEmpty xss) [ true ↦ [] | false ↦ sequence (operands (map written xss)) ∷ [] ]
+unfolding anyPass operands oneContent
+inSequence xss = elim (anyPass isEmpty xss) [ true ↦ [] | false ↦ sequence (operands (map oneContent xss)) ∷ [] ]
 
 unfoldable mutual
   unfolding around inSequence joinedOf
@@ -96,7 +96,7 @@ abbrev pub pairsLeft : (ℕ → List ℕ) → List ℕ → ℕ → List ℕ
 pairsLeft pairs known k = keep (λ p. isIn p known) (pairs k)
 
 abbrev pub hasLeft : (ℕ → List ℕ) → List ℕ → ℕ → Bool
-hasLeft pairs known k = any (λ p. isIn p known) (pairs k)
+hasLeft pairs known k = anyPass (λ p. isIn p known) (pairs k)
 
 abbrev pub resultsOf : (ℕ → List ℕ) → List ℕ → (ℕ → ℕ) → ℕ → List ℕ
 resultsOf pairs known target k = map target (pairsLeft pairs known k)

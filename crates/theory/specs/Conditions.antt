@@ -19,7 +19,7 @@ use Rattle.grammar.specs.Content.{
   Contents,
   []ᶜ,
   _∷ᶜ_,
-  count,
+  operandCount,
   typesIn,
 }
 use Rattle.grammar.specs.Table.{Rule, Table}
@@ -29,8 +29,8 @@ abbrev mutual
   Counted lim none = Unit {0}
   Counted lim empty = Unit {0}
   Counted lim (type k) = Unit {0}
-  Counted lim (sequence cs) = (2 ≤ count cs) × (count cs ≤ lim .operands) × AllCounted lim cs
-  Counted lim (choice cs) = (2 ≤ count cs) × AllCounted lim cs
+  Counted lim (sequence cs) = (2 ≤ operandCount cs) × (operandCount cs ≤ lim .operands) × AllCounted lim cs
+  Counted lim (choice cs) = (2 ≤ operandCount cs) × AllCounted lim cs
   Counted lim (anyNumber c) = Counted lim c
   Counted lim (oneOrMore c) = Counted lim c
   Counted lim (optional c) = Counted lim c

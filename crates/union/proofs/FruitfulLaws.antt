@@ -9,7 +9,7 @@ use mathlib.Core.List.{List, [], map, List·Memᴰ, List·Memᴰ·not-nil, Mem�
 use mathlib.Core.Logic.{⊎-elim}
 use mathlib.Core.Path.{_≡_, refl, sym, _∙_, ap, subst, fun-ext}
 use lib.ListN.{length}
-use Rattle.grammar.specs.Lists.{any, keep, isIn}
+use Rattle.grammar.specs.Lists.{anyPass, keep, isIn}
 use Rattle.grammar.specs.Content.{Content, none, empty, type, sequence, choice, anyNumber, oneOrMore, optional, Contents, []ᶜ, _∷ᶜ_}
 use Rattle.grammar.specs.Table.{Rule, Table}
 use Rattle.grammar.specs.KindTests.{samePair}
@@ -71,7 +71,7 @@ module _ (u : Table) where
     pub new : List·Memᴰ p known → ⊥
 
   abbrev pairHas : List ℕ → Rule → Bool
-  pairHas known s = any (hasAlts (hasLeft (pairsOf u) known)) (pairContents u s)
+  pairHas known s = anyPass (hasAlts (hasLeft (pairsOf u) known)) (pairContents u s)
 
   newly-was : (known : List ℕ) (p : ℕ) → List·Memᴰ p (newlyFruitful (normalise u) known) → Newly known p
   newly-was known p m =

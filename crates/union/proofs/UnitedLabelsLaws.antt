@@ -12,7 +12,7 @@ use lib.ListN.{length, getD, getElem?, set, take, length-append, length-set}
 use lib.Seq.{take-suc, take-all, getD-set-same, getD-set-other}
 use lib.Dec.{leb}
 use borrow.Author.Tests.{leb-true, leb-false}
-use Rattle.grammar.specs.Lists.{any, keep, place}
+use Rattle.grammar.specs.Lists.{anyPass, keep, place}
 use Rattle.grammar.specs.Names.{Name, sameName}
 use Rattle.theory.proofs.lists.ListLaws.{at-else, at-below, keep-yes, keep-no}
 use Rattle.theory.proofs.lists.PlaceLaws.{place-most, place-some, place-none, place-front}
@@ -90,9 +90,9 @@ module _ (old added : List Name) where
   unfolding newNames
   new-step i {n} e =
       let h = at-below added i e in
-      ap (λ (k : ℕ). keep (λ m. not (any (sameName m) old)) (take k added)) (add-one i)
-      ∙ ap (keep (λ m. not (any (sameName m) old))) (take-suc added i [] h ∙ ap (λ (m : Name). take i added ++ (m ∷ [])) (at-else added i [] e))
-      ∙ keep-append (λ m. not (any (sameName m) old)) (take i added) (n ∷ [])
+      ap (λ (k : ℕ). keep (λ m. not (anyPass (sameName m) old)) (take k added)) (add-one i)
+      ∙ ap (keep (λ m. not (anyPass (sameName m) old))) (take-suc added i [] h ∙ ap (λ (m : Name). take i added ++ (m ∷ [])) (at-else added i [] e))
+      ∙ keep-append (λ m. not (anyPass (sameName m) old)) (take i added) (n ∷ [])
 
   pub new-more : (i : ℕ) {n : Name} → getElem? added i ≡ just n → length old ≤ place sameName n old
       → newNames old (take (i + 1) added) ≡ newNames old (take i added) ++ (n ∷ [])
@@ -100,7 +100,7 @@ module _ (old added : List Name) where
   new-more i {n} e h =
       new-step i e
       ∙ ap (λ (l : List Name). newNames old (take i added) ++ l)
-      (keep-yes (λ m. not (any (sameName m) old)) n [] (ap not (place-none sameName n old h)))
+      (keep-yes (λ m. not (anyPass (sameName m) old)) n [] (ap not (place-none sameName n old h)))
 
   pub new-same : (i : ℕ) {n : Name} → getElem? added i ≡ just n → place sameName n old < length old
       → newNames old (take (i + 1) added) ≡ newNames old (take i added)
@@ -108,7 +108,7 @@ module _ (old added : List Name) where
   new-same i {n} e h =
       new-step i e
       ∙ ap (λ (l : List Name). newNames old (take i added) ++ l)
-      (keep-no (λ m. not (any (sameName m) old)) n [] (ap not (place-some sameName n old h)))
+      (keep-no (λ m. not (anyPass (sameName m) old)) n [] (ap not (place-some sameName n old h)))
       ∙ append-nil (newNames old (take i added))
 
   pub new-none : newNames old (take 0 added) ≡ []

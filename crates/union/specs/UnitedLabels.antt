@@ -4,7 +4,7 @@ use mathlib.Core.Bool.{Bool, true, false, not}
 use mathlib.Core.List.{List, _++_}
 use mathlib.Core.Path.{_≡_}
 use lib.ListN.{length, set}
-use Rattle.grammar.specs.Lists.{any, keep}
+use Rattle.grammar.specs.Lists.{anyPass, keep}
 use Rattle.grammar.specs.Names.{Name, sameName}
 use Rattle.reader.specs.NamePlaces.{NamesAt as AtPlaces}
 use Rattle.union.specs.declared.labels.Names.{Names}
@@ -29,8 +29,8 @@ namesIf false names from to = names
 
 -- the names that are not among the old, and the names of the union
 unfoldable pub newNames : (old added : List Name) → List Name
-unfolding keep any sameName
-newNames old added = keep (λ n. not (any (sameName n) old)) added
+unfolding keep anyPass sameName
+newNames old added = keep (λ n. not (anyPass (sameName n) old)) added
 
 abbrev pub unitedNames : (old added : List Name) → List Name
 unitedNames old added = old ++ newNames old added

@@ -15,7 +15,7 @@ use lib.ListN.{length, getD, set, getElem?, take, drop, replicate, length-replic
 use lib.Seq.{take-all, take-suc, take-set-lt, drop-set-lt, drop-set-add, getD-set-same, getD-set-other}
 use borrow.Author.Count.{below-more}
 use borrow.Author.Tests.{eqb-true, eq-eqb, ne-eqb}
-use Rattle.grammar.specs.Lists.{any, keep, isIn, allDistinct, place}
+use Rattle.grammar.specs.Lists.{anyPass, keep, isIn, allDistinct, place}
 use Rattle.grammar.specs.Limits.{standard}
 use Rattle.grammar.specs.Names.{Name, sameName, asciiClasses}
 use Rattle.grammar.specs.Table.{Rule, Table}
@@ -162,8 +162,8 @@ flags-more flags i flag right inside so e =
 holds-end : (ks : List ℕ) (k : ℕ) → holds (ks ++ (k ∷ [])) ≡ add k (holds ks)
 unfolding isIn
 holds-end ks k =
-    fun-ext (λ j. in-append j ks (k ∷ []) ∙ ap (λ (b : Bool). any (eqb j) ks || b) (or-false (eqb j k))
-    ∙ or-comm (any (eqb j) ks) (eqb j k))
+    fun-ext (λ j. in-append j ks (k ∷ []) ∙ ap (λ (b : Bool). anyPass (eqb j) ks || b) (or-false (eqb j k))
+    ∙ or-comm (anyPass (eqb j) ks) (eqb j k))
 
 module _ (g : Table) (n : Name) (tests : List (ℕ → Bool)) where
   pub types-none : holds (typesFor g n tests (take 0 (g .rules))) ≡ sets.nothing

@@ -18,7 +18,7 @@ ghost use Prim.Native.Nat.{_+_, _*_, _<_, _≤_};
 ghost use lib.ListN.{length};
 ghost use Rattle.grammar.specs.Limits.{standard};
 ghost use Rattle.grammar.specs.Names.{asciiClasses};
-ghost use Rattle.grammar.specs.Lists.{any};
+ghost use Rattle.grammar.specs.Lists.{anyPass};
 ghost use Rattle.grammar.specs.Membership.{letsIn};
 ghost use Rattle.grammar.specs.Outcome.{given};
 ghost use Rattle.grammar.specs.ReadDocument.{treeOf};
@@ -199,7 +199,7 @@ fn root_types(
 fn some_start(start_type: &[u8], starts: usize, words: &[u32], at: usize) -> bool
     requires { ⌜ (SomeStarts (now «start_type») starts) × (at + 4 ≤ length (now words)) ⌝ }
     ensures { λ r. ⌜ ((g : Table) → StartsAt (now («start_type» .entry)) starts g
-        → r ≡ any (setAt (now (words .entry)) at) (g .starts)) ⌝ }
+        → r ≡ anyPass (setAt (now (words .entry)) at) (g .starts)) ⌝ }
 {
     let mut start: usize = 0;
     while start < starts {

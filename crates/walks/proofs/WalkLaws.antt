@@ -14,21 +14,7 @@ use lib.Dec.{eqb}
 use lib.ListN.{length, getD, getElem?, replicate, length-append}
 use borrow.Author.Tests.{ne-eqb}
 use Rattle.grammar.specs.Limits.{Limits}
-use Rattle.grammar.specs.Content.{
-  Content,
-  none,
-  empty,
-  type,
-  sequence,
-  choice,
-  anyNumber,
-  oneOrMore,
-  optional,
-  Contents,
-  []ᶜ,
-  _∷ᶜ_,
-  count,
-}
+use Rattle.grammar.specs.Content.{Content, none, empty, type, sequence, choice, anyNumber, oneOrMore, optional, Contents, []ᶜ, _∷ᶜ_}
 use Rattle.grammar.specs.ReadContent.{contentBytes, operandBytes, operators}
 use Rattle.theory.specs.Marked.{nullable, run}
 use Rattle.theory.specs.MarkedWalk.{Walked, walk, walkInTurn, walkEach, walks, isMarked}

@@ -9,7 +9,7 @@ use mathlib.Core.List.{List, map, List·Memᴰ, List·Memᴰ·append-cases, Mem�
 use mathlib.Core.Logic.{_⊎_, inl, inr, ⊎-elim}
 use mathlib.Core.Path.{subst}
 use lib.Dec.{eqb}
-use Rattle.grammar.specs.Lists.{any, keep, distinct, place, isIn, sameNumbers}
+use Rattle.grammar.specs.Lists.{anyPass, keep, distinct, place, isIn, sameNumbers}
 use Rattle.grammar.specs.Limits.{Limits}
 use Rattle.grammar.specs.Names.{Name, sameName, Classes}
 use Rattle.grammar.specs.Content.{Content, type, choiceOf, replace}
@@ -105,7 +105,7 @@ module _ (lim : Limits) where
   union-name old addition n m =
       ⊎-elim
       inl
-      (λ o. inr (kept (λ x. not (any (sameName x) (old .labels))) (addition .labels) o .0))
+      (λ o. inr (kept (λ x. not (anyPass (sameName x) (old .labels))) (addition .labels) o .0))
       (List·Memᴰ·append-cases (old .labels) m)
 
   pub local-counted : (g : Table) → RulesCounted (g .rules) → RulesCounted (localForm g .rules)

@@ -8,7 +8,7 @@ use mathlib.Core.List.{List·Memᴰ, Memᴰ·of-map}
 use mathlib.Core.Path.{_≡_, sym, ap, subst}
 use lib.ListN.{length, length-append, length-map}
 use lib.Dec.{eqb}
-use Rattle.grammar.specs.Lists.{any, keep, allDistinct, numbersBelow}
+use Rattle.grammar.specs.Lists.{anyPass, keep, allDistinct, numbersBelow}
 use Rattle.grammar.specs.Limits.{Limits}
 use Rattle.grammar.specs.Names.{Name, Classes}
 use Rattle.grammar.specs.Content.{typesIn}
@@ -108,7 +108,7 @@ module _ (g : Table) (reduced : ReducedTable g) where
     local-numbered =
         let used = length (usedLabels g) in
         let rules = local-rules in
-        let isStart : ℕ → Bool = λ t. any (λ k. eqb (typeOfLabel g (labelOf g k)) t) (g .starts) in
+        let isStart : ℕ → Bool = λ t. anyPass (λ k. eqb (typeOfLabel g (labelOf g k)) t) (g .starts) in
         record {
           names = named;
           names-differ = local-form-names g (reduced .names);

@@ -11,7 +11,7 @@ use mathlib.Core.Path.{_≡_, subst}
 use lib.ListN.{length, length-map, getD}
 use lib.Dec.{eqb, ltb}
 use borrow.Author.Tests.{ltb-false}
-use Rattle.grammar.specs.Lists.{any, allDistinct}
+use Rattle.grammar.specs.Lists.{anyPass, allDistinct}
 use Rattle.grammar.specs.Limits.{Limits, standard, LimitsAgree}
 use Rattle.grammar.specs.Names.{Name, sameName, Classes}
 use Rattle.grammar.specs.Content.{Content, typesIn, nesting}
@@ -75,7 +75,7 @@ unfolding tooLarge
 table-small lim g e =
     let large : Rule → Bool = λ r. contentTooLarge lim (r .content) in
     let (p, s) = or-false _ (ltb (lim .input) (length (tableBytes g))) e in
-    let (f, c) = or-false (ltb (lim .types) (length (g .rules))) (any large (g .rules)) p in
+    let (f, c) = or-false (ltb (lim .types) (length (g .rules))) (anyPass large (g .rules)) p in
     record {
       few = ltb-false (lim .types) (length (g .rules)) f;
       contents = λ r m. false-of (contentTooLarge lim (r .content)) (λ t. not-both (any-of large m t) c);

@@ -11,7 +11,7 @@ use mathlib.Core.Path.{_≡_, refl, sym, _∙_, ap, subst}
 use lib.ListN.{length}
 use lib.Dec.{eqb, leb, ltb}
 use borrow.Author.Tests.{le-leb, lt-leb, le-ltb, leb-true, leb-false, ltb-false, not-false}
-use Rattle.grammar.specs.Lists.{any}
+use Rattle.grammar.specs.Lists.{anyPass}
 use Rattle.grammar.specs.Limits.{Limits}
 use Rattle.grammar.specs.Names.{Name, sameName, Classes, isName}
 use Rattle.grammar.specs.Content.{Content, nesting}
@@ -95,7 +95,7 @@ module _ (lim : Limits) where
     pub start : ℕ
     pub byte : value ≡ start ∷ []
     pub no-rules : g .rules ≡ []
-    pub new : any (eqb start) (g .starts) ≡ false
+    pub new : anyPass (eqb start) (g .starts) ≡ false
     pub room : length (g .starts) < lim .starts
     pub known : start < lim .types
     pub result : withStart g start ≡ more
@@ -188,7 +188,7 @@ module _ (lim : Limits) (classes : Classes) where
     pub no-starts : g .starts ≡ []
     pub no-rules : g .rules ≡ []
     pub name : NameWithin lim classes value
-    pub new : any (sameName value) (g .labels) ≡ false
+    pub new : anyPass (sameName value) (g .labels) ≡ false
     pub room : length (g .labels) < lim .labels
     pub result : withLabel g value ≡ more
 

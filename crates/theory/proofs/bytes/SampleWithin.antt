@@ -9,10 +9,10 @@ use mathlib.Core.Path.{_≡_, refl, sym, _∙_, ap, subst}
 use lib.ListN.{length, length-map, getD}
 use lib.Dec.{eqb}
 use borrow.Author.Tests.{eq-eqb}
-use Rattle.grammar.specs.Lists.{any, distinct, allDistinct, numbersBelow}
+use Rattle.grammar.specs.Lists.{anyPass, distinct, allDistinct, numbersBelow}
 use Rattle.grammar.specs.Limits.{Limits, LimitsAgree}
 use Rattle.grammar.specs.Names.{Name, sameName, SameName, Classes}
-use Rattle.grammar.specs.Content.{Content, type, typesIn, count, operands}
+use Rattle.grammar.specs.Content.{Content, type, typesIn, operandCount, operands}
 use Rattle.grammar.specs.Tree.{Tree, node}
 use Rattle.grammar.specs.Table.{Rule, Table}
 use Rattle.grammar.specs.Derivation.{Fits}
@@ -62,8 +62,8 @@ use Rattle.theory.proofs.bytes.DocumentWithin.{nodeAt, visit-node}
 use Rattle.theory.proofs.bytes.NumberedTable.{Numbered, table-small, numbered-within}
 
 -- the sequence of some types
-pub operands-count : (cs : List Content) → count (operands cs) ≡ length cs
-unfolding count operands
+pub operands-count : (cs : List Content) → operandCount (operands cs) ≡ length cs
+unfolding operandCount operands
 operands-count [] = refl
 operands-count (c ∷ cs) = ap suc (operands-count cs)
 
@@ -151,7 +151,7 @@ module _ (d : Tree) where
       Memᴰ·of-map (λ (v : Visit). v .name) (seen d) (distinct-was sameName (map (λ (v : Visit). v .name) (seen d)) m)
 
   -- Every label is the label of some rule, so there are no more labels than rules.
-  label-used : (l : ℕ) → l < length (sample d .labels) → any (λ (r : Rule). eqb (r .label) l) (sample d .rules) ≡ true
+  label-used : (l : ℕ) → l < length (sample d .labels) → anyPass (λ (r : Rule). eqb (r .label) l) (sample d .rules) ≡ true
   label-used l h =
       let (n, at) = below-at (sample d .labels) l h in
       let (v, m, e) = name-from n (at-mem (sample d .labels) l at) in
@@ -163,7 +163,7 @@ module _ (d : Tree) where
   all-used : usedLabels (sample d) ≡ numbersBelow (length (sample d .labels))
   unfolding usedLabels
   all-used =
-      keep-all (λ l. any (λ (r : Rule). eqb (r .label) l) (sample d .rules)) (numbersBelow (length (sample d .labels)))
+      keep-all (λ l. anyPass (λ (r : Rule). eqb (r .label) l) (sample d .rules)) (numbersBelow (length (sample d .labels)))
       (λ l m. label-used l (numbers-below (length (sample d .labels)) l .0 m))
 
   few-labels : length (sample d .labels) ≤ length (sample d .rules)

@@ -20,7 +20,7 @@ use mathlib.Core.Path.{_≡_, ap}
 use lib.ListN.{length, length-append, length-map, getD}
 use lib.Dec.{eqb, leb}
 use borrow.Author.Tests.{eqb-true, leb-true, ltb-true}
-use Rattle.grammar.specs.Lists.{all, joinedOf, numbersBelow}
+use Rattle.grammar.specs.Lists.{allPass, joinedOf, numbersBelow}
 use Rattle.grammar.specs.Limits.{Limits, standard}
 use Rattle.grammar.specs.Names.{Name, Classes, isName, classOf, asciiClasses}
 use Rattle.grammar.specs.Content.{
@@ -36,7 +36,7 @@ use Rattle.grammar.specs.Content.{
   Contents,
   []ᶜ,
   _∷ᶜ_,
-  count,
+  operandCount,
 }
 use Rattle.grammar.specs.Tree.{Tree}
 use Rattle.grammar.specs.Table.{Table}
@@ -125,7 +125,7 @@ name-small classes (b ∷ bs) l e = small-cons b bs first rest
     first : b < 256
     first =
         let q =
-        eqb-true (getD classes b 0) 2 (and-left (eqb (getD classes b 0) 2) (all (λ c. leb 1 (getD classes c 0)) bs) e) in
+        eqb-true (getD classes b 0) 2 (and-left (eqb (getD classes b 0) 2) (allPass (λ c. leb 1 (getD classes c 0)) bs) e) in
         let r = has-class classes b (omega arith) in
         omega arith
 
@@ -133,7 +133,7 @@ name-small classes (b ∷ bs) l e = small-cons b bs first rest
     rest c m =
         let q =
         all-at (λ c. leb 1 (getD classes c 0))
-        (and-right (eqb (getD classes b 0) 2) (all (λ c. leb 1 (getD classes c 0)) bs) e)
+        (and-right (eqb (getD classes b 0) 2) (allPass (λ c. leb 1 (getD classes c 0)) bs) e)
         m in
         let r = has-class classes c (leb-true 1 (getD classes c 0) q) in
         omega arith
@@ -153,11 +153,11 @@ module _ (lim : Limits) (classes : Classes) (agree : BytesAgree lim classes) whe
     content-small (sequence cs) e =
         let b = agree .operands in
         let (some, few, proper) = proper-operands lim cs .0 e in
-        small-cons 3 _ (omega arith) (small-cons (count cs) _ (omega arith) (operands-small cs proper))
+        small-cons 3 _ (omega arith) (small-cons (operandCount cs) _ (omega arith) (operands-small cs proper))
     content-small (choice cs) e =
         let b = agree .operands in
         let (some, few, proper) = proper-operands lim cs .0 e in
-        small-cons 4 _ (omega arith) (small-cons (count cs) _ (omega arith) (operands-small cs proper))
+        small-cons 4 _ (omega arith) (small-cons (operandCount cs) _ (omega arith) (operands-small cs proper))
     content-small (anyNumber c) e = small-cons 5 (contentBytes c) (omega arith) (content-small c e)
     content-small (oneOrMore c) e = small-cons 6 (contentBytes c) (omega arith) (content-small c e)
     content-small (optional c) e = small-cons 7 (contentBytes c) (omega arith) (content-small c e)

@@ -27,7 +27,7 @@ use Rattle.grammar.specs.Content.{
   Contents,
   []ᶜ,
   _∷ᶜ_,
-  count,
+  operandCount,
 }
 use Rattle.grammar.specs.ReadContent.{
   contentBytes,
@@ -51,7 +51,7 @@ use Rattle.theory.proofs.lists.ListLaws.{just-eq, same-numbers, same-nu
 abbrev Writes : ℕ → Operator → Type 0
 Writes b (alone c) = contentBytes c ≡ b ∷ []
 Writes b (numbered f) = (k : ℕ) → contentBytes (f k) ≡ b ∷ k ∷ []
-Writes b (counted f) = (cs : Contents) → contentBytes (f cs) ≡ b ∷ count cs ∷ operandBytes cs
+Writes b (counted f) = (cs : Contents) → contentBytes (f cs) ≡ b ∷ operandCount cs ∷ operandBytes cs
 Writes b (single f) = (c : Content) → contentBytes (f c) ≡ b ∷ contentBytes c
 
 operator-writes : (b : ℕ) (o : Operator) → getElem? operators b ≡ just o → Writes b o
@@ -125,7 +125,7 @@ ReadsOne one = (s : List ℕ) (c : Content) (rest : List ℕ) → one s ≡ just
 
 abbrev ReadsMany : (ℕ → List ℕ → Parsed Contents) → Type 0
 ReadsMany many =
-    (k : ℕ) (s : List ℕ) (cs : Contents) (rest : List ℕ) → many k s ≡ just (cs, rest) → (k ≡ count cs) × (s ≡ operandBytes cs ++ rest)
+    (k : ℕ) (s : List ℕ) (cs : Contents) (rest : List ℕ) → many k s ≡ just (cs, rest) → (k ≡ operandCount cs) × (s ≡ operandBytes cs ++ rest)
 
 -- what such readers find after an operator, and after a first expression, was written so too
 module _ (one : List ℕ → Parsed Content) (many : ℕ → List ℕ → Parsed Contents) (h : ReadsOne one) (hs : ReadsMany many) where
@@ -153,7 +153,7 @@ module _ (one : List ℕ → Parsed Content) (many : ℕ → List ℕ → Parsed
       rw (← (r .2), w) (ap (λ (l : List ℕ). b ∷ l) v)
 
   after-first : (k : ℕ) (s : List ℕ) (p : Parsed Content) → one s ≡ p
-      → (cs : Contents) (rest : List ℕ) → afterFirst many k p ≡ just (cs, rest) → (suc k ≡ count cs) × (s ≡ operandBytes cs ++ rest)
+      → (cs : Contents) (rest : List ℕ) → afterFirst many k p ≡ just (cs, rest) → (suc k ≡ operandCount cs) × (s ≡ operandBytes cs ++ rest)
   unfolding contentBytes
   after-first k s nothing e cs rest q = let z : _≡_ {A = ℕ} 0 1 = cc in absurd (omega arith)
   after-first k s (just p) e cs rest q =
@@ -384,7 +384,7 @@ unfolding expressionOf
 expression-was bytes c rest e = within-was (length bytes) bytes c rest e
 
 pub operands-were : (k : ℕ) (bytes : List ℕ) (cs : Contents) (rest : List ℕ) → operandsOf k bytes ≡ just (cs, rest)
-    → (k ≡ count cs) × (bytes ≡ operandBytes cs ++ rest)
+    → (k ≡ operandCount cs) × (bytes ≡ operandBytes cs ++ rest)
 unfolding operandsOf
 operands-were k bytes cs rest e = within-were (suc (length bytes)) k bytes cs rest e
 
@@ -412,16 +412,16 @@ mutual
   within-of (optional c) (suc n) rest h = ap (found optional) (within-of c n rest (omega arith))
 
   pub within-of-all : (cs : Contents) (n : ℕ) (rest : List ℕ) → length (operandBytes cs) < n
-      → operandsWithin n (count cs) (operandBytes cs ++ rest) ≡ just (cs, rest)
+      → operandsWithin n (operandCount cs) (operandBytes cs ++ rest) ≡ just (cs, rest)
   within-of-all []ᶜ zero rest h = absurd (omega arith)
   within-of-all []ᶜ (suc n) rest h = refl
   within-of-all (c ∷ᶜ cs) zero rest h = absurd (omega arith)
   within-of-all (c ∷ᶜ cs) (suc n) rest h =
       let l = length-append (contentBytes c) (operandBytes cs) in
       let one = content-has-bytes c in
-      ap (operandsWithin (suc n) (suc (count cs))) (append-assoc (contentBytes c) (operandBytes cs) rest)
-      ∙ within-next n (count cs) (contentBytes c ++ (operandBytes cs ++ rest))
-      ∙ ap (afterFirst (operandsWithin n) (count cs)) (within-of c n (operandBytes cs ++ rest) (omega arith))
+      ap (operandsWithin (suc n) (suc (operandCount cs))) (append-assoc (contentBytes c) (operandBytes cs) rest)
+      ∙ within-next n (operandCount cs) (contentBytes c ++ (operandBytes cs ++ rest))
+      ∙ ap (afterFirst (operandsWithin n) (operandCount cs)) (within-of c n (operandBytes cs ++ rest) (omega arith))
       ∙ ap (found (λ ds. c ∷ᶜ ds)) (within-of-all cs n rest (omega arith))
 
 pub expression-of : (c : Content) (rest : List ℕ) → expressionOf (contentBytes c ++ rest) ≡ just (c, rest)
@@ -430,7 +430,7 @@ expression-of c rest =
     let l = length-append (contentBytes c) rest in
     within-of c (length (contentBytes c ++ rest)) rest (omega arith)
 
-pub operands-of : (cs : Contents) (rest : List ℕ) → operandsOf (count cs) (operandBytes cs ++ rest) ≡ just (cs, rest)
+pub operands-of : (cs : Contents) (rest : List ℕ) → operandsOf (operandCount cs) (operandBytes cs ++ rest) ≡ just (cs, rest)
 unfolding operandsOf
 operands-of cs rest =
     let l = length-append (operandBytes cs) rest in

@@ -11,7 +11,7 @@ use mathlib.Core.Bool.{Bool, true, false, not}
 use mathlib.Core.List.{List, [], _∷_, List·Memᴰ, List·Memᴰ·head, List·Memᴰ·tail, Memᴰ·append-left, Memᴰ·append-right}
 use mathlib.Core.Path.{_≡_, refl, ap}
 use borrow.Author.Tests.{lt-ltb}
-use Rattle.grammar.specs.Lists.{any, keep, distinct, joinedOf, isIn}
+use Rattle.grammar.specs.Lists.{anyPass, keep, distinct, joinedOf, isIn}
 use Rattle.grammar.specs.Limits.{Limits}
 use Rattle.grammar.specs.Content.{
   Content,
@@ -28,7 +28,7 @@ use Rattle.grammar.specs.Content.{
   _∷ᶜ_,
   typesIn,
   typesInAll,
-  count,
+  operandCount,
   operands,
   choiceOf,
   replace,
@@ -109,14 +109,14 @@ module _ (lim : Limits) where
   listed-counted (c ∷ᶜ cs) h = each-cons (Counted lim) c (listOf cs) (h .0) (listed-counted cs (h .1))
 
   pub choice-counted : (cs : List Content) → EachCounted cs → Counted lim (choiceOf cs)
-  unfolding choiceOf operands count
+  unfolding choiceOf operands operandCount
   choice-counted [] h = tt
   choice-counted (c ∷ []) h = h c (List·Memᴰ·head refl)
   choice-counted (c ∷ d ∷ ds) h = (omega arith, operands-counted (c ∷ d ∷ ds) h)
 
   module _ (f : ℕ → Content) (each : (k : ℕ) → Counted lim (f k)) where
-    replace-count : (cs : Contents) → count (replaceAll cs f) ≡ count cs
-    unfolding count replaceAll
+    replace-count : (cs : Contents) → operandCount (replaceAll cs f) ≡ operandCount cs
+    unfolding operandCount replaceAll
     replace-count []ᶜ = refl
     replace-count (c ∷ᶜ cs) = ap suc (replace-count cs)
 
@@ -145,8 +145,8 @@ module _ (lim : Limits) where
       replace-all-counted (c ∷ᶜ cs) h = (replace-counted c (h .0), replace-all-counted cs (h .1))
 
   -- simplifying: a sequence keeps its count, or is none
-  simplify-count : (cs : Contents) → count (operands (simplifyAll cs)) ≡ count cs
-  unfolding count operands simplifyAll
+  simplify-count : (cs : Contents) → operandCount (operands (simplifyAll cs)) ≡ operandCount cs
+  unfolding operandCount operands simplifyAll
   simplify-count []ᶜ = refl
   simplify-count (c ∷ᶜ cs) = ap suc (simplify-count cs)
 
@@ -166,7 +166,7 @@ module _ (lim : Limits) where
         let few = h .0 in
         let many = h .1 in
         let all = operands-counted (simplifyAll cs) (λ c m. each-simplified-counted cs (h .2) c m) in
-        unless-counted (any isNone (simplifyAll cs)) none (sequence (operands (simplifyAll cs))) tt
+        unless-counted (anyPass isNone (simplifyAll cs)) none (sequence (operands (simplifyAll cs))) tt
         (omega arith, omega arith, all)
     simplify-counted (choice cs) h =
         choice-counted (keep (λ c. not (isNone c)) (simplifyAll cs))
@@ -193,8 +193,8 @@ module _ (lim : Limits) where
       fruitfulOnly k = elim (isIn k known) [ true ↦ type k | false ↦ none ]
 
   -- tidying: a sequence keeps its count
-  tidy-count : (cs : Contents) → count (operands (tidyAll cs)) ≡ count cs
-  unfolding count operands tidyAll
+  tidy-count : (cs : Contents) → operandCount (operands (tidyAll cs)) ≡ operandCount cs
+  unfolding operandCount operands tidyAll
   tidy-count []ᶜ = refl
   tidy-count (c ∷ᶜ cs) = ap suc (tidy-count cs)
 

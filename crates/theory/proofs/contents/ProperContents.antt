@@ -24,29 +24,29 @@ use Rattle.grammar.specs.Content.{
   _∷ᶜ_,
   typesIn,
   typesInAll,
-  count,
+  operandCount,
 }
 use Rattle.grammar.specs.ReadContent.{isProper, areProper}
 use Rattle.theory.proofs.lists.BoolLaws.{and-left, and-right, and-intro}
 
 pub proper-operands : (lim : Limits) (cs : Contents)
-    → ((leb 2 (count cs) && leb (count cs) (lim .operands) && areProper lim cs) ≡ true)
-    ↔ ((2 ≤ count cs) × (count cs ≤ lim .operands) × (areProper lim cs ≡ true))
+    → ((leb 2 (operandCount cs) && leb (operandCount cs) (lim .operands) && areProper lim cs) ≡ true)
+    ↔ ((2 ≤ operandCount cs) × (operandCount cs ≤ lim .operands) × (areProper lim cs ≡ true))
 proper-operands lim cs = (
   λ e.
       let n = and-left (some && few) (areProper lim cs) e in
-      (leb-true 2 (count cs) (and-left some few n), leb-true (count cs) (lim .operands) (and-right some few n), and-right (some && few) (areProper lim cs) e),
+      (leb-true 2 (operandCount cs) (and-left some few n), leb-true (operandCount cs) (lim .operands) (and-right some few n), and-right (some && few) (areProper lim cs) e),
   λ h.
       and-intro (some && few) (areProper lim cs)
-      (and-intro some few (le-leb 2 (count cs) (h .0)) (le-leb (count cs) (lim .operands) (h .1)))
+      (and-intro some few (le-leb 2 (operandCount cs) (h .0)) (le-leb (operandCount cs) (lim .operands) (h .1)))
       (h .2),
 )
   where
     some : Bool
-    some = leb 2 (count cs)
+    some = leb 2 (operandCount cs)
 
     few : Bool
-    few = leb (count cs) (lim .operands)
+    few = leb (operandCount cs) (lim .operands)
 
 mutual
   unfolding isProper areProper typesIn typesInAll

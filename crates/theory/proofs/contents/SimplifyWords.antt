@@ -28,7 +28,7 @@ use mathlib.Core.List.{
 use mathlib.Core.Logic.{_↔_, Iff·rfl, _⊎_, inl, inr, ⊎-elim}
 use mathlib.Core.Path.{_≡_, refl, ap, subst}
 use borrow.Author.Tests.{not-true}
-use Rattle.grammar.specs.Lists.{any, keep, isIn}
+use Rattle.grammar.specs.Lists.{anyPass, keep, isIn}
 use Rattle.grammar.specs.Reduce.{isNone, simplify, simplifyAll, prune}
 use Rattle.grammar.specs.Content.{
   Content,
@@ -77,17 +77,17 @@ is-none (optional c) e = absurd (false≢true e)
 no-word : (c : Content) (w : List ℕ) → isNone c ≡ true → Word c w → ⊥
 no-word c w e v = subst (λ (d : Content). Word d w) (is-none c e) v
 
-none-in-turn : (cs : List Content) (w : List ℕ) → any isNone cs ≡ true → InTurn (operands cs) w → ⊥
-unfolding any operands
+none-in-turn : (cs : List Content) (w : List ℕ) → anyPass isNone cs ≡ true → InTurn (operands cs) w → ⊥
+unfolding anyPass operands
 none-in-turn [] w e v = false≢true e
 none-in-turn (c ∷ cs) w e j =
     ⊎-elim
     (λ p. no-word c (j .front) p (j .front-in))
     (λ q. none-in-turn cs (j .back) q (j .back-in))
-    (or-cases (isNone c) (any isNone cs) e)
+    (or-cases (isNone c) (anyPass isNone cs) e)
 
 -- the operators, simplified, over operands that are simplified
-sequence-words : (cs : List Content) (b : Bool) → any isNone cs ≡ b
+sequence-words : (cs : List Content) (b : Bool) → anyPass isNone cs ≡ b
     → SameWords (Word (elim b [ true ↦ none | false ↦ sequence (operands cs) ])) (InTurn (operands cs))
 sequence-words cs true e w = (λ v. absurd v, λ v. none-in-turn cs w e v)
 sequence-words cs false e w = Iff·rfl
@@ -130,7 +130,7 @@ mutual
   simplify-words empty = λ w. Iff·rfl
   simplify-words (type k) = λ w. Iff·rfl
   simplify-words (sequence cs) =
-      same-trans (sequence-words (simplifyAll cs) (any isNone (simplifyAll cs)) refl) (λ w. simplify-in-turn cs w)
+      same-trans (sequence-words (simplifyAll cs) (anyPass isNone (simplifyAll cs)) refl) (λ w. simplify-in-turn cs w)
   simplify-words (choice cs) = same-trans (some-words (simplifyAll cs)) (λ w. simplify-of-one cs w)
   simplify-words (anyNumber c) =
       same-trans (any-number-words (simplify c) (isNone (simplify c)) refl) (same-repeated (λ w. simplify-words c w))
@@ -214,7 +214,7 @@ unfolding operands
 all-clean [] h = none-left
 all-clean (c ∷ cs) h = one-clean (h c (List·Memᴰ·head refl)) (all-clean cs (λ d m. h d (List·Memᴰ·tail m)))
 
-sequence-clean : (cs : List Content) → ((c : Content) → List·Memᴰ c cs → NoneOrClean c) → (b : Bool) → any isNone cs ≡ b
+sequence-clean : (cs : List Content) → ((c : Content) → List·Memᴰ c cs → NoneOrClean c) → (b : Bool) → anyPass isNone cs ≡ b
     → NoneOrClean (elim b [ true ↦ none | false ↦ sequence (operands cs) ])
 sequence-clean cs h true e = inl refl
 sequence-clean cs h false e =
@@ -251,7 +251,7 @@ mutual
   simplify-clean empty = inr clean-empty
   simplify-clean (type k) = inr clean-type
   simplify-clean (sequence cs) =
-      sequence-clean (simplifyAll cs) (λ c m. simplify-all-clean cs c m) (any isNone (simplifyAll cs)) refl
+      sequence-clean (simplifyAll cs) (λ c m. simplify-all-clean cs c m) (anyPass isNone (simplifyAll cs)) refl
   simplify-clean (choice cs) = some-clean (simplifyAll cs) (λ c m. simplify-all-clean cs c m)
   simplify-clean (anyNumber c) =
       single-clean (simplify c) (anyNumber (simplify c)) empty (inr clean-empty) clean-any-number (simplify-clean c)

@@ -9,7 +9,7 @@ use mathlib.Core.Bool.{Bool, true, false, not, _&&_, _||_, Bool·not-not, true�
 use mathlib.Core.List.{List, [], _∷_, _++_, map, List·Memᴰ, List·Memᴰ·cases-cons, List·Memᴰ·eq-of-singleton}
 use mathlib.Core.Logic.{⊎-elim}
 use mathlib.Core.Path.{_≡_, refl, sym, _∙_, ap, ap₂, subst, fun-ext}
-use Rattle.grammar.specs.Lists.{any, keep, joinedOf, isIn}
+use Rattle.grammar.specs.Lists.{anyPass, keep, joinedOf, isIn}
 use Rattle.grammar.specs.Content.{
   Content,
   none,
@@ -32,7 +32,7 @@ use Rattle.grammar.specs.ReadTable.{isEmpty}
 use Rattle.grammar.specs.Reduce.{hasWord, haveWords, oneHasWord, isNone}
 use Rattle.grammar.specs.Tidy.{alternatives}
 use Rattle.theory.specs.Alternatives.{
-  written,
+  oneContent,
   around,
   inSequence,
   alts,
@@ -69,19 +69,19 @@ unfolding around
 around-nothing f [] = refl
 around-nothing f (x ∷ xs) = refl
 
-pub sequence-none : (xss : List (List Content)) → any isEmpty xss ≡ true → inSequence xss ≡ []
+pub sequence-none : (xss : List (List Content)) → anyPass isEmpty xss ≡ true → inSequence xss ≡ []
 unfolding inSequence
 sequence-none xss e = rw (e, inSequence)
 
-pub sequence-some : (xss : List (List Content)) → any isEmpty xss ≡ false
-    → inSequence xss ≡ sequence (operands (map written xss)) ∷ []
+pub sequence-some : (xss : List (List Content)) → anyPass isEmpty xss ≡ false
+    → inSequence xss ≡ sequence (operands (map oneContent xss)) ∷ []
 unfolding inSequence
 sequence-some xss e = rw (e, inSequence)
 
-sequence-empty : (xss : List (List Content)) → isEmpty (inSequence xss) ≡ any isEmpty xss
-sequence-empty xss = go (any isEmpty xss) refl
+sequence-empty : (xss : List (List Content)) → isEmpty (inSequence xss) ≡ anyPass isEmpty xss
+sequence-empty xss = go (anyPass isEmpty xss) refl
   where
-    go : (b : Bool) → any isEmpty xss ≡ b → isEmpty (inSequence xss) ≡ b
+    go : (b : Bool) → anyPass isEmpty xss ≡ b → isEmpty (inSequence xss) ≡ b
     go true e = ap isEmpty (sequence-none xss e)
     go false e = ap isEmpty (sequence-some xss e)
 
@@ -115,7 +115,7 @@ module _ (results : ℕ → List ℕ) where
     alts-empty (oneOrMore c) = around-nothing oneOrMore (alts results c) ∙ alts-empty c
     alts-empty (optional c) = around-some optional empty [] (alts results c)
 
-    pub one-empty : (cs : Contents) → any isEmpty (altsOfEach results cs) ≡ not (allHaveAlts (someLeft results) cs)
+    pub one-empty : (cs : Contents) → anyPass isEmpty (altsOfEach results cs) ≡ not (allHaveAlts (someLeft results) cs)
     one-empty []ᶜ = refl
     one-empty (c ∷ᶜ cs) =
         ap₂ _||_ (alts-empty c) (one-empty cs)
@@ -129,16 +129,16 @@ module _ (results : ℕ → List ℕ) where
         ∙ ap₂ _&&_ (alts-empty c) (all-empty cs)
         ∙ sym (not-or (hasAlts (someLeft results) c) (oneHasAlts (someLeft results) cs))
 
-  pub all-alts-empty : (cs : List Content) → isEmpty (joinedOf (alts results) cs) ≡ not (any (hasAlts (someLeft results)) cs)
-  unfolding joinedOf any
+  pub all-alts-empty : (cs : List Content) → isEmpty (joinedOf (alts results) cs) ≡ not (anyPass (hasAlts (someLeft results)) cs)
+  unfolding joinedOf anyPass
   all-alts-empty [] = refl
   all-alts-empty (c ∷ cs) =
       append-empty (alts results c) (joinedOf (alts results) cs)
       ∙ ap₂ _&&_ (alts-empty c) (all-alts-empty cs)
-      ∙ sym (not-or (hasAlts (someLeft results) c) (any (hasAlts (someLeft results)) cs))
+      ∙ sym (not-or (hasAlts (someLeft results) c) (anyPass (hasAlts (someLeft results)) cs))
 
 -- what a walk writes once it has asked whether there are alternatives
-around-full : (f : Content → Content) (others xs : List Content) → isEmpty xs ≡ false → around f others xs ≡ f (written xs) ∷ []
+around-full : (f : Content → Content) (others xs : List Content) → isEmpty xs ≡ false → around f others xs ≡ f (oneContent xs) ∷ []
 unfolding around
 around-full f others [] e = absurd (true≢false e)
 around-full f others (x ∷ xs) e = refl
@@ -150,14 +150,14 @@ around-blank f others (x ∷ xs) e = absurd (false≢true e)
 
 module _ (results : ℕ → List ℕ) where
   module _ (f : Content → Content) (others : List Content) (c : Content) where
-    pub around-has : hasAlts (someLeft results) c ≡ true → around f others (alts results c) ≡ f (written (alts results c)) ∷ []
+    pub around-has : hasAlts (someLeft results) c ≡ true → around f others (alts results c) ≡ f (oneContent (alts results c)) ∷ []
     around-has e = around-full f others (alts results c) (alts-empty results c ∙ ap not e)
 
     pub around-has-not : hasAlts (someLeft results) c ≡ false → around f others (alts results c) ≡ others
     around-has-not e = around-blank f others (alts results c) (alts-empty results c ∙ ap not e)
 
   pub sequence-has : (cs : Contents) → allHaveAlts (someLeft results) cs ≡ true
-      → alts results (sequence cs) ≡ sequence (operands (map written (altsOfEach results cs))) ∷ []
+      → alts results (sequence cs) ≡ sequence (operands (map oneContent (altsOfEach results cs))) ∷ []
   unfolding alts
   sequence-has cs e = sequence-some (altsOfEach results cs) (one-empty results cs ∙ ap not e)
 
@@ -165,13 +165,13 @@ module _ (results : ℕ → List ℕ) where
   unfolding alts
   sequence-has-not cs e = sequence-none (altsOfEach results cs) (one-empty results cs ∙ ap not e)
 
-keep-some : {A : Type 0} (test : A → Bool) (xs : List A) → not (isEmpty (keep test xs)) ≡ any test xs
-unfolding keep any
+keep-some : {A : Type 0} (test : A → Bool) (xs : List A) → not (isEmpty (keep test xs)) ≡ anyPass test xs
+unfolding keep anyPass
 keep-some test [] = refl
 keep-some {A} test (x ∷ xs) = go (test x) (keep-some test xs)
   where
-    go : (b : Bool) → not (isEmpty (keep test xs)) ≡ any test xs
-        → not (isEmpty {A = A} (elim b as (λ y. List A) [ true ↦ x ∷ keep test xs | false ↦ keep test xs ])) ≡ (b || any test xs)
+    go : (b : Bool) → not (isEmpty (keep test xs)) ≡ anyPass test xs
+        → not (isEmpty {A = A} (elim b as (λ y. List A) [ true ↦ x ∷ keep test xs | false ↦ keep test xs ])) ≡ (b || anyPass test xs)
     go true ih = refl
     go false ih = ih
 
@@ -190,9 +190,9 @@ module _ (pairs : ℕ → List ℕ) (known : List ℕ) where
   productive target c = alts-empty (resultsOf pairs known target) c ∙ ap (λ has. not (hasAlts has c)) (some-results target)
 
   pub all-productive : (target : ℕ → ℕ) (cs : List Content)
-      → isEmpty (joinedOf (alts (resultsOf pairs known target)) cs) ≡ not (any (hasAlts (hasLeft pairs known)) cs)
+      → isEmpty (joinedOf (alts (resultsOf pairs known target)) cs) ≡ not (anyPass (hasAlts (hasLeft pairs known)) cs)
   all-productive target cs =
-      all-alts-empty (resultsOf pairs known target) cs ∙ ap (λ has. not (any (hasAlts has) cs)) (some-results target)
+      all-alts-empty (resultsOf pairs known target) cs ∙ ap (λ has. not (anyPass (hasAlts has) cs)) (some-results target)
 
 -- to have alternatives is to have a word of the types that give some
 module _ (known : List ℕ) where
@@ -271,14 +271,14 @@ plain-around : (f : Content → Content) → ((c : Content) → Plain (f c)) →
     → (xs : List Content) → AllPlain (around f others xs)
 unfolding around
 plain-around f p others q [] = q
-plain-around f p others q (x ∷ xs) = plain-one (p (written (x ∷ xs)))
+plain-around f p others q (x ∷ xs) = plain-one (p (oneContent (x ∷ xs)))
 
 plain-in-sequence : (xss : List (List Content)) → AllPlain (inSequence xss)
-plain-in-sequence xss = go (any isEmpty xss) refl
+plain-in-sequence xss = go (anyPass isEmpty xss) refl
   where
-    go : (b : Bool) → any isEmpty xss ≡ b → AllPlain (inSequence xss)
+    go : (b : Bool) → anyPass isEmpty xss ≡ b → AllPlain (inSequence xss)
     go true e = rw (sequence-none xss e) plain-nothing
-    go false e = rw (sequence-some xss e) (plain-one (plain-sequence (operands (map written xss))))
+    go false e = rw (sequence-some xss e) (plain-one (plain-sequence (operands (map oneContent xss))))
 
 module _ (results : ℕ → List ℕ) where
   mutual

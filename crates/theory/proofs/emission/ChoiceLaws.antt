@@ -20,7 +20,7 @@ use mathlib.Core.List.{
 }
 use mathlib.Core.Logic.{⊎-elim}
 use mathlib.Core.Path.{_≡_, refl, sym, _∙_, ap, ap₂, subst}
-use Rattle.grammar.specs.Lists.{any, keep, distinct, joinedOf}
+use Rattle.grammar.specs.Lists.{anyPass, keep, distinct, joinedOf}
 use Rattle.grammar.specs.Content.{
   Content,
   none,
@@ -42,7 +42,7 @@ use Rattle.grammar.specs.Content.{
 use Rattle.grammar.specs.ReadContent.{sameContent}
 use Rattle.grammar.specs.Reduce.{hasWord, oneHasWord, isNone, simplify, simplifyAll}
 use Rattle.grammar.specs.Tidy.{listOf, alternatives, tidy, tidyAll}
-use Rattle.theory.specs.Alternatives.{written}
+use Rattle.theory.specs.Alternatives.{oneContent}
 use Rattle.theory.proofs.lists.ListLaws.{keep-yes, keep-no, distinct-was}
 use Rattle.theory.proofs.contents.ContentBytes.{same-content}
 use Rattle.theory.proofs.lists.DistinctLaws.{distinct-again}
@@ -105,13 +105,13 @@ simplify-choice (x ∷ y ∷ ys) =
 
 -- having a word
 module _ (known : List ℕ) where
-  word-operands : (xs : List Content) → oneHasWord known (operands xs) ≡ any (hasWord known) xs
-  unfolding operands hasWord any
+  word-operands : (xs : List Content) → oneHasWord known (operands xs) ≡ anyPass (hasWord known) xs
+  unfolding operands hasWord anyPass
   word-operands [] = refl
   word-operands (x ∷ xs) = ap (λ (b : Bool). hasWord known x || b) (word-operands xs)
 
-  pub word-choice : (xs : List Content) → hasWord known (choiceOf xs) ≡ any (hasWord known) xs
-  unfolding choiceOf hasWord any
+  pub word-choice : (xs : List Content) → hasWord known (choiceOf xs) ≡ anyPass (hasWord known) xs
+  unfolding choiceOf hasWord anyPass
   word-choice [] = refl
   word-choice (x ∷ []) = sym (or-nothing (hasWord known x))
   word-choice (x ∷ y ∷ ys) = ap (λ (b : Bool). hasWord known x || (hasWord known y || b)) (word-operands ys)
@@ -166,18 +166,18 @@ mutual
       single-append (alternatives (tidy c)) (joinedOf alternatives (tidyAll cs)) (λ x m. tidied-single c x m)
       (λ x m. all-single cs x m)
 
-written-one : (x : Content) → alternatives x ≡ x ∷ [] → written (alternatives x) ≡ x
-unfolding written
+written-one : (x : Content) → alternatives x ≡ x ∷ [] → oneContent (alternatives x) ≡ x
+unfolding oneContent
 written-one x e = rw e refl
 
 written-again : (xs : List Content) → Single xs → distinct sameContent xs ≡ xs
-    → written (alternatives (choiceOf xs)) ≡ choiceOf xs
-unfolding written alternatives
+    → oneContent (alternatives (choiceOf xs)) ≡ choiceOf xs
+unfolding oneContent alternatives
 written-again [] p e = refl
-written-again (x ∷ xs) p e = ap written (alternatives-choice x xs p) ∙ ap choiceOf e
+written-again (x ∷ xs) p e = ap oneContent (alternatives-choice x xs p) ∙ ap choiceOf e
 
 -- a tidied content is made of its alternatives
-pub tidied-written : (c : Content) → written (alternatives (tidy c)) ≡ tidy c
+pub tidied-written : (c : Content) → oneContent (alternatives (tidy c)) ≡ tidy c
 unfolding tidy
 tidied-written none = written-one none refl
 tidied-written empty = written-one empty refl
@@ -195,8 +195,8 @@ unfolding operands tidy
 tidy-operands [] = refl
 tidy-operands (x ∷ xs) = ap (λ (l : List Content). tidy x ∷ l) (tidy-operands xs)
 
-pub tidy-choice : (xs : List Content) → tidy (choiceOf xs) ≡ written (joinedOf alternatives (map tidy xs))
-unfolding choiceOf tidy written joinedOf
+pub tidy-choice : (xs : List Content) → tidy (choiceOf xs) ≡ oneContent (joinedOf alternatives (map tidy xs))
+unfolding choiceOf tidy oneContent joinedOf
 tidy-choice [] = refl
-tidy-choice (x ∷ []) = sym (tidied-written x) ∙ ap written (sym (append-nil (alternatives (tidy x))))
-tidy-choice (x ∷ y ∷ ys) = ap (λ (l : List Content). written (joinedOf alternatives (tidy x ∷ tidy y ∷ l))) (tidy-operands ys)
+tidy-choice (x ∷ []) = sym (tidied-written x) ∙ ap oneContent (sym (append-nil (alternatives (tidy x))))
+tidy-choice (x ∷ y ∷ ys) = ap (λ (l : List Content). oneContent (joinedOf alternatives (tidy x ∷ tidy y ∷ l))) (tidy-operands ys)

@@ -5,7 +5,7 @@
 --   emitted-pair the source contents of one pair, joined by choice: the same of their joined alternatives
 --   emitted-rule a rule of the result, the choice of the contents of some pairs: the same of all their source contents in order,
 --                provided that each pair has alternatives (as a fruitful one does: among several a none would stay as an operand)
--- `written []` is none, so in the first two a content that reducing leaves as none comes out as none.
+-- `oneContent []` is none, so in the first two a content that reducing leaves as none comes out as none.
 use Prim.Native.Nat.{ℕ}
 use mathlib.Core.Bool.{Bool, true, false, not, _||_}
 use mathlib.Core.List.{
@@ -24,7 +24,7 @@ use mathlib.Core.List.{
 }
 use mathlib.Core.Path.{_≡_, refl, sym, _∙_, ap, ap₂, subst, subst₂}
 use borrow.Author.Tests.{not-true}
-use Rattle.grammar.specs.Lists.{any, keep, distinct, joinedOf, isIn}
+use Rattle.grammar.specs.Lists.{anyPass, keep, distinct, joinedOf, isIn}
 use Rattle.grammar.specs.Content.{
   Content,
   none,
@@ -48,7 +48,7 @@ use Rattle.grammar.specs.ReadTable.{isEmpty}
 use Rattle.grammar.specs.Reduce.{isNone, simplify, simplifyAll, prune}
 use Rattle.grammar.specs.Tidy.{alternatives, tidy, tidyAll}
 use Rattle.theory.specs.Alternatives.{
-  written,
+  oneContent,
   around,
   inSequence,
   alts,
@@ -85,8 +85,8 @@ use Rattle.theory.proofs.emission.ChoiceLaws.{
 }
 
 alternatives-written : (x : Content) (xs : List Content) → Single (x ∷ xs)
-    → alternatives (written (x ∷ xs)) ≡ distinct sameContent (x ∷ xs)
-unfolding written
+    → alternatives (oneContent (x ∷ xs)) ≡ distinct sameContent (x ∷ xs)
+unfolding oneContent
 alternatives-written x xs p =
     alternatives-choice x (keep (λ y. not (sameContent x y)) (distinct sameContent xs)) (single-distinct (x ∷ xs) p)
 
@@ -117,67 +117,67 @@ module _ (target : ℕ → ℕ) where
   -- a pruned content, and the alternatives that it gives
   pub record Gives (x : Content) (us : List Content) : Type 0 where
     pub none-if : isNone x ≡ isEmpty us
-    pub tidied : tidy (retyped target x) ≡ written us
+    pub tidied : tidy (retyped target x) ≡ oneContent us
     pub single : Single us
 
   abbrev GivesEach : List Content → List (List Content) → Type 0
   GivesEach xs uss = Forall₂ Gives xs uss
 
   gives-none : Gives none []
-  unfolding isNone replace tidy written
+  unfolding isNone replace tidy oneContent
   gives-none = record { none-if = refl; tidied = refl; single = λ x m. elim m [ ] }
 
   gives-empty : Gives empty (empty ∷ [])
-  unfolding isNone replace tidy written
+  unfolding isNone replace tidy oneContent
   gives-empty = record { none-if = refl; tidied = refl; single = single-one empty refl }
 
   gives-type : (p : ℕ) → Gives (type p) (type (target p) ∷ [])
-  unfolding isNone replace tidy written
+  unfolding isNone replace tidy oneContent
   gives-type p = record { none-if = refl; tidied = refl; single = single-one (type (target p)) refl }
 
   -- an operator around an operand; other where the operand is none
   gives-around : (f : Content → Content) → Wraps f → (other : Content) (others : List Content) → Gives other others
       → (x : Content) (us : List Content) → Gives x us → Gives (unless (isNone x) other (f x)) (around f others us)
-  unfolding around written
+  unfolding around oneContent
   gives-around f w other others q x [] g = subst (λ (b : Bool). Gives (unless b other (f x)) others) (sym (g .none-if)) q
   gives-around f w other others q x (u ∷ us) g =
-      subst (λ (b : Bool). Gives (unless b other (f x)) (f (written (u ∷ us)) ∷ [])) (sym (g .none-if))
+      subst (λ (b : Bool). Gives (unless b other (f x)) (f (oneContent (u ∷ us)) ∷ [])) (sym (g .none-if))
       (record {
         none-if = w .never-none x;
         tidied =
             ap tidy (w .replaced x (λ p. type (target p))) ∙ w .tidied (retyped target x) ∙ ap f (g .tidied);
-        single = single-one (f (written (u ∷ us))) (w .alone (written (u ∷ us)));
+        single = single-one (f (oneContent (u ∷ us))) (w .alone (oneContent (u ∷ us)));
       })
 
   -- a sequence; none where an operand is none
-  each-none : {xs : List Content} {uss : List (List Content)} → GivesEach xs uss → any isNone xs ≡ any isEmpty uss
-  unfolding any
+  each-none : {xs : List Content} {uss : List (List Content)} → GivesEach xs uss → anyPass isNone xs ≡ anyPass isEmpty uss
+  unfolding anyPass
   each-none Forall₂·nil = refl
   each-none (Forall₂·cons g gs) = ap₂ _||_ (g .none-if) (each-none gs)
 
   each-tidied : {xs : List Content} {uss : List (List Content)} → GivesEach xs uss
-      → tidyAll (replaceAll (operands xs) (λ p. type (target p))) ≡ map written uss
+      → tidyAll (replaceAll (operands xs) (λ p. type (target p))) ≡ map oneContent uss
   unfolding operands replace tidy
   each-tidied Forall₂·nil = refl
   each-tidied (Forall₂·cons g gs) = ap₂ _∷_ (g .tidied) (each-tidied gs)
 
   whole-sequence : (xs : List Content) (uss : List (List Content)) → GivesEach xs uss
-      → Gives (sequence (operands xs)) (sequence (operands (map written uss)) ∷ [])
-  unfolding isNone replace tidy written
+      → Gives (sequence (operands xs)) (sequence (operands (map oneContent uss)) ∷ [])
+  unfolding isNone replace tidy oneContent
   whole-sequence xs uss gs =
       record {
         none-if = refl;
         tidied = ap (λ (l : List Content). sequence (operands l)) (each-tidied gs);
-        single = single-one (sequence (operands (map written uss))) refl;
+        single = single-one (sequence (operands (map oneContent uss))) refl;
       }
 
   gives-sequence : (xs : List Content) (uss : List (List Content)) → GivesEach xs uss
-      → Gives (unless (any isNone xs) none (sequence (operands xs))) (inSequence uss)
+      → Gives (unless (anyPass isNone xs) none (sequence (operands xs))) (inSequence uss)
   gives-sequence xs uss gs =
       subst (λ (b : Bool). Gives (unless b none (sequence (operands xs))) (inSequence uss)) (sym (each-none gs))
-      (go (any isEmpty uss) refl)
+      (go (anyPass isEmpty uss) refl)
     where
-      go : (b : Bool) → any isEmpty uss ≡ b → Gives (unless b none (sequence (operands xs))) (inSequence uss)
+      go : (b : Bool) → anyPass isEmpty uss ≡ b → Gives (unless b none (sequence (operands xs))) (inSequence uss)
       go true e = rw (sequence-none uss e) gives-none
       go false e = rw (sequence-some uss e) (whole-sequence xs uss gs)
 
@@ -234,7 +234,7 @@ module _ (target : ℕ → ℕ) where
 
   gives-choice : (xs : List Content) (uss : List (List Content)) → GivesEach xs uss
       → Gives (choiceOf (keep notNone xs)) (joinedOf (λ us. us) uss)
-  unfolding gathered written
+  unfolding gathered oneContent
   gives-choice xs uss gs =
       record {
         none-if = none-of-kept (keep notNone xs) (λ y m. kept notNone xs m .1) ∙ each-empty gs;
@@ -347,7 +347,7 @@ module _ (pairs : ℕ → List ℕ) (known : List ℕ) (target : ℕ → ℕ) wh
     gives-each (c ∷ᶜ cs) = Forall₂·cons (gives c) (gives-each cs)
 
   -- where a sequence becomes none
-  pub some-none : (cs : Contents) → any isNone (prunedAll cs) ≡ not (allHaveAlts (hasLeft pairs known) cs)
+  pub some-none : (cs : Contents) → anyPass isNone (prunedAll cs) ≡ not (allHaveAlts (hasLeft pairs known) cs)
   some-none cs =
       each-none target (gives-each cs)
       ∙ one-empty results cs
@@ -357,7 +357,7 @@ module _ (pairs : ℕ → List ℕ) (known : List ℕ) (target : ℕ → ℕ) wh
   gives-content c = rw (pruned-marked pairs known c) (gives c)
 
   pub emitted : (c : Content)
-      → tidy (retyped target (prune known (inPairsOf pairs c))) ≡ written (alts (resultsOf pairs known target) c)
+      → tidy (retyped target (prune known (inPairsOf pairs c))) ≡ oneContent (alts (resultsOf pairs known target) c)
   emitted c = gives-content c .tidied
 
   -- the contents of one pair
@@ -379,12 +379,12 @@ module _ (pairs : ℕ → List ℕ) (known : List ℕ) (target : ℕ → ℕ) wh
 
   pub emitted-pair : (cs : List Content)
       → tidy (retyped target (prune known (choiceOf (map (inPairsOf pairs) cs))))
-      ≡ written (joinedOf (alts (resultsOf pairs known target)) cs)
+      ≡ oneContent (joinedOf (alts (resultsOf pairs known target)) cs)
   emitted-pair cs = gives-pair-content cs .tidied
 
   -- what is left of a pair's contents is none just where they have no alternatives
   pub pair-none : (cs : List Content)
-      → isNone (prune known (choiceOf (map (inPairsOf pairs) cs))) ≡ not (any (hasAlts (hasLeft pairs known)) cs)
+      → isNone (prune known (choiceOf (map (inPairsOf pairs) cs))) ≡ not (anyPass (hasAlts (hasLeft pairs known)) cs)
   pair-none cs = gives-pair-content cs .none-if ∙ all-productive pairs known target cs
 
   -- the contents of some pairs
@@ -396,7 +396,7 @@ module _ (pairs : ℕ → List ℕ) (known : List ℕ) (target : ℕ → ℕ) wh
     gives-pairs [] = Forall₂·nil
     gives-pairs (p ∷ ps) = Forall₂·cons (gives-pair-content (contents p)) (gives-pairs ps)
 
-    all-kept : (ps : List A) → ((p : A) → List·Memᴰ p ps → any (hasAlts (hasLeft pairs known)) (contents p) ≡ true)
+    all-kept : (ps : List A) → ((p : A) → List·Memᴰ p ps → anyPass (hasAlts (hasLeft pairs known)) (contents p) ≡ true)
         → keep notNone (map left ps) ≡ map left ps
     unfolding keep
     all-kept [] h = refl
@@ -405,13 +405,13 @@ module _ (pairs : ℕ → List ℕ) (known : List ℕ) (target : ℕ → ℕ) wh
         (ap not (pair-none (contents p)) ∙ ap (λ b. not (not b)) (h p (List·Memᴰ·head refl)))
         ∙ ap (λ (l : List Content). left p ∷ l) (all-kept ps (λ q m. h q (List·Memᴰ·tail m)))
 
-    pub emitted-rule : (ps : List A) → ((p : A) → List·Memᴰ p ps → any (hasAlts (hasLeft pairs known)) (contents p) ≡ true)
+    pub emitted-rule : (ps : List A) → ((p : A) → List·Memᴰ p ps → anyPass (hasAlts (hasLeft pairs known)) (contents p) ≡ true)
         → tidy (choiceOf (map (λ p. retyped target (prune known (choiceOf (map (inPairsOf pairs) (contents p))))) ps))
-        ≡ written (joinedOf (alts (resultsOf pairs known target)) (joinedOf contents ps))
+        ≡ oneContent (joinedOf (alts (resultsOf pairs known target)) (joinedOf contents ps))
     emitted-rule ps h =
         ap (λ (l : List Content). tidy (choiceOf l)) (sym (map-map (retyped target) left ps))
         ∙ ap tidy (sym (replace-choice (λ p. type (target p)) (map left ps)))
         ∙ ap (λ (l : List Content). tidy (retyped target (choiceOf l))) (sym (all-kept ps h))
         ∙ gives-choice target (map left ps) (map (λ p. joinedOf (alts results) (contents p)) ps) (gives-pairs ps) .tidied
-        ∙ ap written
+        ∙ ap oneContent
         (joined-map (λ us. us) (λ p. joinedOf (alts results) (contents p)) ps ∙ sym (joined-twice (alts results) contents ps))

@@ -12,7 +12,7 @@ use mathlib.Core.Bool.{Bool, true}
 use mathlib.Core.List.{List, map, map-map, List·Memᴰ, Memᴰ·map}
 use mathlib.Core.Path.{_≡_, refl, sym, _∙_, ap, fun-ext}
 use lib.Dec.{eqb}
-use Rattle.grammar.specs.Lists.{any, keep, distinct, place, joinedOf, isIn, sameNumbers}
+use Rattle.grammar.specs.Lists.{anyPass, keep, distinct, place, joinedOf, isIn, sameNumbers}
 use Rattle.grammar.specs.Content.{Content, typesIn, choiceOf}
 use Rattle.grammar.specs.Tree.{Tree}
 use Rattle.grammar.specs.Table.{Rule, Table}
@@ -35,7 +35,7 @@ use Rattle.grammar.specs.LocalForm.{labelOf, typeOfLabel, ruleOfLabel}
 use Rattle.grammar.specs.SingleTypeForm.{TypeSet, ofLabel, members, typesMet, contentOfSet}
 use Rattle.grammar.specs.Tidy.{tidy}
 use Rattle.theory.specs.Conditions.{Labelled}
-use Rattle.theory.specs.Alternatives.{written, alts, hasAlts, pairsMet, pairsLeft, hasLeft, resultsOf}
+use Rattle.theory.specs.Alternatives.{oneContent, alts, hasAlts, pairsMet, pairsLeft, hasLeft, resultsOf}
 use Rattle.theory.proofs.lists.ListLaws.{any-of, keep-mem, kept, keep-map, distinct-was, in-mem}
 use Rattle.theory.proofs.steps.Fruitful.{has-word, forest-fruitful, fruitful-is}
 use Rattle.theory.proofs.steps.NormaliseDocuments.{OfPair, same-pair, pair-words, pair-fits, normalise-labelled}
@@ -57,7 +57,7 @@ module _ (u : Table) where
   rule-content s = ap choiceOf (sym (map-map (inPairsOf (pairsOf u)) (λ (r : Rule). r .content) (keep (samePair s) (u .rules))))
 
   pub newly-fruitful : (known : List ℕ) → newlyFruitful (normalise u) known
-      ≡ notKnown known (map (pairOf u) (keep (λ s. any (hasAlts (hasLeft (pairsOf u) known)) (pairContents s)) firstRules))
+      ≡ notKnown known (map (pairOf u) (keep (λ s. anyPass (hasAlts (hasLeft (pairsOf u) known)) (pairContents s)) firstRules))
   unfolding newlyFruitful normalise ruleOfPair
   newly-fruitful known =
       ap (λ (rs : List Rule). notKnown known (map (λ (r : Rule). r .type) rs))
@@ -117,7 +117,7 @@ module _ (u : Table) where
   module _ (listed : Labelled u) where
     -- a fruitful pair has alternatives
     has-tree : (s : Rule) {p : ℕ} {t : Tree} → OfPair u p s → Derives (normalise u) p t
-        → any (hasAlts (hasLeft (pairsOf u) (fruitful (normalise u)))) (pairContents s) ≡ true
+        → anyPass (hasAlts (hasLeft (pairsOf u) (fruitful (normalise u)))) (pairContents s) ≡ true
     unfolding inPairs
     has-tree s o (derives {k = p} {n = n} {w = w} f all) =
         let known : List ℕ = fruitful (normalise u) in
@@ -129,7 +129,7 @@ module _ (u : Table) where
         (sym (word-met (pairsOf u) known c) ∙ e)
 
     pair-has : (s : Rule) → List·Memᴰ s fruitfulPairs
-        → any (hasAlts (hasLeft (pairsOf u) (fruitful (normalise u)))) (pairContents s) ≡ true
+        → anyPass (hasAlts (hasLeft (pairsOf u) (fruitful (normalise u)))) (pairContents s) ≡ true
     pair-has s m =
         let k = kept (λ r. isIn (pairOf u r) (fruitful (normalise u))) firstRules m in
         let n = in-mem (pairOf u s) (fruitful (normalise u)) (k .1) in
@@ -138,7 +138,7 @@ module _ (u : Table) where
 
     pub emitted-merge : (target : ℕ → ℕ) (test : Rule → Bool)
         → tidy (choiceOf (map (λ (r : Rule). retyped target (r .content)) (keep test (reduce (normalise u) .rules))))
-        ≡ written
+        ≡ oneContent
         (joinedOf (alts (resultsOf (pairsOf u) (fruitful (normalise u)) target))
         (joinedOf pairContents (keep (λ s. test (ruleLeft s)) pairsStanding)))
     emitted-merge target test =
@@ -157,7 +157,7 @@ module _ (u : Table) where
     -- the rule of a label in the local form
     pub local-content : (l : ℕ)
         → tidy (ruleOfLabel (reduce (normalise u)) l .content)
-        ≡ written
+        ≡ oneContent
         (joinedOf
         (alts
         (resultsOf (pairsOf u) (fruitful (normalise u))
@@ -169,7 +169,7 @@ module _ (u : Table) where
     -- the content of a set in the single-type form
     pub set-content : (sets : List TypeSet) (s : TypeSet)
         → tidy (contentOfSet (reduce (normalise u)) sets s)
-        ≡ written
+        ≡ oneContent
         (joinedOf
         (alts
         (resultsOf (pairsOf u) (fruitful (normalise u))

@@ -2,14 +2,14 @@
 --   gather-more : gathered (gathered ds xs) ys ≡ gathered ds (xs ++ ys)
 --   gather-old, gather-new : one alternative is dropped if an equal one is there, and stands at the end if not
 --   gather-grows : what is gathered only adds at the end
--- `written xs` is the choice of what is gathered into an empty list.
+-- `oneContent xs` is the choice of what is gathered into an empty list.
 use mathlib.Core.Bool.{true, false}
 use mathlib.Core.List.{List, [], _∷_, _++_, append-assoc, append-nil}
 use mathlib.Core.Path.{_≡_, refl, _∙_, ap}
-use Rattle.grammar.specs.Lists.{any, distinct}
+use Rattle.grammar.specs.Lists.{anyPass, distinct}
 use Rattle.grammar.specs.Content.{Content, choiceOf}
 use Rattle.grammar.specs.ReadContent.{sameContent}
-use Rattle.theory.specs.Alternatives.{written, gathered, Gathered}
+use Rattle.theory.specs.Alternatives.{oneContent, gathered, Gathered}
 use Rattle.theory.proofs.contents.ContentBytes.{same-content}
 use Rattle.theory.proofs.lists.ListLaws.{decided-sym}
 use Rattle.theory.proofs.lists.DistinctLaws.{distinct-left, distinct-again, distinct-grows, one-more-new, one-more-old}
@@ -22,8 +22,8 @@ pub gathered-so : (ds xs : List Content) → Gathered (gathered ds xs)
 unfolding gathered
 gathered-so ds xs = distinct-again sameContent same-content (ds ++ xs)
 
-pub written-gathered : (xs : List Content) → written xs ≡ choiceOf (gathered [] xs)
-unfolding written gathered
+pub written-gathered : (xs : List Content) → oneContent xs ≡ choiceOf (gathered [] xs)
+unfolding oneContent gathered
 written-gathered xs = refl
 
 pub gather-more : (ds xs ys : List Content) → gathered (gathered ds xs) ys ≡ gathered ds (xs ++ ys)
@@ -35,11 +35,11 @@ module _ (ds : List Content) (g : Gathered ds) where
   unfolding gathered
   gather-nothing = ap (distinct sameContent) (append-nil ds) ∙ g
 
-  pub gather-old : (x : Content) → any (sameContent x) ds ≡ true → gathered ds (x ∷ []) ≡ ds
+  pub gather-old : (x : Content) → anyPass (sameContent x) ds ≡ true → gathered ds (x ∷ []) ≡ ds
   unfolding gathered
   gather-old x e = one-more-old sameContent (decided-sym sameContent same-content) ds x e ∙ g
 
-  pub gather-new : (x : Content) → any (sameContent x) ds ≡ false → gathered ds (x ∷ []) ≡ ds ++ (x ∷ [])
+  pub gather-new : (x : Content) → anyPass (sameContent x) ds ≡ false → gathered ds (x ∷ []) ≡ ds ++ (x ∷ [])
   unfolding gathered
   gather-new x e = one-more-new sameContent (decided-sym sameContent same-content) ds x e ∙ ap (λ (l : List Content). l ++ (x ∷ [])) g
 

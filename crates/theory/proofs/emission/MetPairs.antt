@@ -8,7 +8,7 @@ use Prim.Native.Nat.{ℕ}
 use mathlib.Core.Bool.{Bool, true, false, not, _&&_, _||_, Bool·not-not}
 use mathlib.Core.List.{List, [], _∷_, _++_, map}
 use mathlib.Core.Path.{_≡_, refl, sym, _∙_, ap, ap₂, fun-ext}
-use Rattle.grammar.specs.Lists.{any, keep, joinedOf, isIn}
+use Rattle.grammar.specs.Lists.{anyPass, keep, joinedOf, isIn}
 use Rattle.grammar.specs.Content.{
   Content,
   none,
@@ -74,10 +74,10 @@ types-around f h other o x = go (isNone x) refl
     go false e = h x
 
 types-sequence : (xs : List Content)
-    → typesIn (unless (any isNone xs) none (sequence (operands xs)))
-    ≡ onlyIf (not (any isNone xs)) (joinedOf typesIn xs)
+    → typesIn (unless (anyPass isNone xs) none (sequence (operands xs)))
+    ≡ onlyIf (not (anyPass isNone xs)) (joinedOf typesIn xs)
 unfolding onlyIf typesIn
-types-sequence xs = go (any isNone xs)
+types-sequence xs = go (anyPass isNone xs)
   where
     go : (b : Bool) → typesIn (unless b none (sequence (operands xs))) ≡ onlyIf (not b) (joinedOf typesIn xs)
     go true = refl
@@ -115,7 +115,7 @@ module _ (pairs : ℕ → List ℕ) (known : List ℕ) where
       ∙ types-choice (map simplify (map (λ c. replace c mark) (map type ps)))
       ∙ each-pair ps
 
-  all-have : (cs : Contents) → not (any isNone (simplifyAll (replaceAll cs marked))) ≡ allHaveAlts (someLeft left) cs
+  all-have : (cs : Contents) → not (anyPass isNone (simplifyAll (replaceAll cs marked))) ≡ allHaveAlts (someLeft left) cs
   all-have cs =
       ap not (some-none pairs known (λ p. p) cs)
       ∙ Bool·not-not (allHaveAlts (hasLeft pairs known) cs)
@@ -164,8 +164,8 @@ module _ (pairs : ℕ → List ℕ) (known : List ℕ) where
       ap (λ f. joinedOf f ps) (fun-ext (λ p. met-in-pair (contents p))) ∙ sym (joined-twice (pairsMet left) contents ps)
 
   -- words of known pairs
-  word-of-types : (ps : List ℕ) → any (hasWord known) (map type ps) ≡ any (λ p. isIn p known) ps
-  unfolding any hasWord
+  word-of-types : (ps : List ℕ) → anyPass (hasWord known) (map type ps) ≡ anyPass (λ p. isIn p known) ps
+  unfolding anyPass hasWord
   word-of-types [] = refl
   word-of-types (p ∷ ps) = ap (λ (b : Bool). isIn p known || b) (word-of-types ps)
 
@@ -192,11 +192,11 @@ module _ (pairs : ℕ → List ℕ) (known : List ℕ) where
     one-word-met []ᶜ = refl
     one-word-met (c ∷ᶜ cs) = ap₂ _||_ (word-met c) (one-word-met cs)
 
-  each-word-met : (cs : List Content) → any (hasWord known) (map (inPairsOf pairs) cs) ≡ any (hasAlts (hasLeft pairs known)) cs
-  unfolding any
+  each-word-met : (cs : List Content) → anyPass (hasWord known) (map (inPairsOf pairs) cs) ≡ anyPass (hasAlts (hasLeft pairs known)) cs
+  unfolding anyPass
   each-word-met [] = refl
   each-word-met (c ∷ cs) = ap₂ _||_ (word-met c) (each-word-met cs)
 
   pub word-met-in-pair : (cs : List Content)
-      → hasWord known (choiceOf (map (inPairsOf pairs) cs)) ≡ any (hasAlts (hasLeft pairs known)) cs
+      → hasWord known (choiceOf (map (inPairsOf pairs) cs)) ≡ anyPass (hasAlts (hasLeft pairs known)) cs
   word-met-in-pair cs = word-choice known (map (inPairsOf pairs) cs) ∙ each-word-met cs

@@ -15,7 +15,7 @@ use mathlib.Core.Bool.{Bool, true, false, not, _&&_, _||_, and-comm, true≢fals
 use mathlib.Core.List.{List, [], _∷_, _++_, append-nil, List·Memᴰ, List·Memᴰ·head, List·Memᴰ·tail}
 use mathlib.Core.Logic.{_↔_}
 use mathlib.Core.Path.{_≡_, refl, sym, _∙_, ap}
-use Rattle.grammar.specs.Lists.{any, keep, distinct}
+use Rattle.grammar.specs.Lists.{anyPass, keep, distinct}
 use Rattle.theory.proofs.lists.BoolLaws.{and-right, and-intro, false-of, not-both, or-false, same-test}
 use Rattle.theory.proofs.lists.ListLaws.{
   keep-yes,
@@ -122,26 +122,26 @@ module _ {A : Type 0} where
 
     module _ (same-sym : (x y : A) → same x y ≡ true → same y x ≡ true) where
       -- an element at the end: new, or there before
-      pub one-more-new : (xs : List A) (y : A) → any (same y) xs ≡ false
+      pub one-more-new : (xs : List A) (y : A) → anyPass (same y) xs ≡ false
           → distinct same (xs ++ (y ∷ [])) ≡ distinct same xs ++ (y ∷ [])
-      unfolding distinct any
+      unfolding distinct anyPass
       one-more-new [] y e = refl
       one-more-new (x ∷ xs) y e =
-          let f = or-false (same y x) (any (same y) xs) e in
+          let f = or-false (same y x) (anyPass (same y) xs) e in
           ap (λ (l : List A). x ∷ l)
           (ap (keep (λ z. not (same x z))) (one-more-new xs y (f .1))
           ∙ kept-last x y (distinct same xs) (false-of (same x y) (λ s. not-both (same-sym x y s) (f .0))))
 
-      pub one-more-old : (xs : List A) (y : A) → any (same y) xs ≡ true → distinct same (xs ++ (y ∷ [])) ≡ distinct same xs
-      unfolding distinct any
+      pub one-more-old : (xs : List A) (y : A) → anyPass (same y) xs ≡ true → distinct same (xs ++ (y ∷ [])) ≡ distinct same xs
+      unfolding distinct anyPass
       one-more-old [] y e = absurd (true≢false (sym e))
-      one-more-old (x ∷ xs) y e = ap (λ (l : List A). x ∷ l) (go (any (same y) xs) refl (λ f. one-more-old xs y f))
+      one-more-old (x ∷ xs) y e = ap (λ (l : List A). x ∷ l) (go (anyPass (same y) xs) refl (λ f. one-more-old xs y f))
         where
-          is-first : (a : Bool) → any (same y) xs ≡ false → (a || any (same y) xs) ≡ true → a ≡ true
+          is-first : (a : Bool) → anyPass (same y) xs ≡ false → (a || anyPass (same y) xs) ≡ true → a ≡ true
           is-first true g h = refl
           is-first false g h = absurd (not-both h g)
 
-          go : (b : Bool) → any (same y) xs ≡ b → (any (same y) xs ≡ true → distinct same (xs ++ (y ∷ [])) ≡ distinct same xs)
+          go : (b : Bool) → anyPass (same y) xs ≡ b → (anyPass (same y) xs ≡ true → distinct same (xs ++ (y ∷ [])) ≡ distinct same xs)
               → keep (λ z. not (same x z)) (distinct same (xs ++ (y ∷ []))) ≡ keep (λ z. not (same x z)) (distinct same xs)
           go true f ih = ap (keep (λ z. not (same x z))) (ih f)
           go false f ih =
@@ -175,9 +175,9 @@ module _ {A : Type 0} where
             within y e = ap not (false-of (finer x y) (λ s. not-both e (ap not (f x y s))))
 
         pub among-distinct : ((x : A) → same x x ≡ true) → (x : A) (xs : List A)
-            → any (same x) (distinct same xs) ≡ any (same x) xs
+            → anyPass (same x) (distinct same xs) ≡ anyPass (same x) xs
         among-distinct same-refl x xs =
-            same-test (any (same x) (distinct same xs)) (any (same x) xs) (
+            same-test (anyPass (same x) (distinct same xs)) (anyPass (same x) xs) (
               λ e. let (y, m, s) = any-found (same x) (distinct same xs) e in any-of (same x) (distinct-was same xs m) s,
               λ e.
                   let (y, m, s) = any-found (same x) xs e in

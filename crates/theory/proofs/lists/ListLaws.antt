@@ -42,8 +42,8 @@ use lib.Seq.{getD-set-same, getD-set-other}
 use borrow.Author.Count.{below-more}
 use borrow.Author.Tests.{eqb-true, eqb-false, eq-eqb, not-true}
 use Rattle.grammar.specs.Lists.{
-  any,
-  all,
+  anyPass,
+  allPass,
   keep,
   distinct,
   allDistinct,
@@ -68,36 +68,36 @@ use Rattle.theory.proofs.lists.BoolLaws.{
 }
 
 module _ {A : Type 0} where
-  pub any-found : (test : A → Bool) (xs : List A) → any test xs ≡ true → (x : A) × List·Memᴰ x xs × (test x ≡ true)
-  unfolding any
+  pub any-found : (test : A → Bool) (xs : List A) → anyPass test xs ≡ true → (x : A) × List·Memᴰ x xs × (test x ≡ true)
+  unfolding anyPass
   any-found test [] e = absurd (false≢true e)
   any-found test (x ∷ xs) e =
       ⊎-elim
       (λ p. (x, List·Memᴰ·head refl, p))
       (λ q. let r = any-found test xs q in (r .0, List·Memᴰ·tail (r .1), r .2))
-      (or-cases (test x) (any test xs) e)
+      (or-cases (test x) (anyPass test xs) e)
 
-  pub any-of : (test : A → Bool) {x : A} {xs : List A} → List·Memᴰ x xs → test x ≡ true → any test xs ≡ true
-  unfolding any
-  any-of test (List·Memᴰ·head {x = y} {xs = ys} e) p = or-left (test y) (any test ys) (ap test (sym e) ∙ p)
-  any-of test (List·Memᴰ·tail {x = y} {xs = ys} m) p = or-right (test y) (any test ys) (any-of test m p)
+  pub any-of : (test : A → Bool) {x : A} {xs : List A} → List·Memᴰ x xs → test x ≡ true → anyPass test xs ≡ true
+  unfolding anyPass
+  any-of test (List·Memᴰ·head {x = y} {xs = ys} e) p = or-left (test y) (anyPass test ys) (ap test (sym e) ∙ p)
+  any-of test (List·Memᴰ·tail {x = y} {xs = ys} m) p = or-right (test y) (anyPass test ys) (any-of test m p)
 
-  pub any-append : (test : A → Bool) (xs ys : List A) → any test (xs ++ ys) ≡ (any test xs || any test ys)
-  unfolding any
+  pub any-append : (test : A → Bool) (xs ys : List A) → anyPass test (xs ++ ys) ≡ (anyPass test xs || anyPass test ys)
+  unfolding anyPass
   any-append test [] ys = refl
   any-append test (x ∷ xs) ys =
-      ap (λ (b : Bool). test x || b) (any-append test xs ys) ∙ sym (or-assoc (test x) (any test xs) (any test ys))
+      ap (λ (b : Bool). test x || b) (any-append test xs ys) ∙ sym (or-assoc (test x) (anyPass test xs) (anyPass test ys))
 
-  pub all-at : (test : A → Bool) {x : A} {xs : List A} → all test xs ≡ true → List·Memᴰ x xs → test x ≡ true
-  unfolding all
-  all-at test e (List·Memᴰ·head {x = y} {xs = ys} q) = ap test q ∙ and-left (test y) (all test ys) e
-  all-at test e (List·Memᴰ·tail {x = y} {xs = ys} m) = all-at test (and-right (test y) (all test ys) e) m
+  pub all-at : (test : A → Bool) {x : A} {xs : List A} → allPass test xs ≡ true → List·Memᴰ x xs → test x ≡ true
+  unfolding allPass
+  all-at test e (List·Memᴰ·head {x = y} {xs = ys} q) = ap test q ∙ and-left (test y) (allPass test ys) e
+  all-at test e (List·Memᴰ·tail {x = y} {xs = ys} m) = all-at test (and-right (test y) (allPass test ys) e) m
 
-  pub all-of : (test : A → Bool) (xs : List A) → ((x : A) → List·Memᴰ x xs → test x ≡ true) → all test xs ≡ true
-  unfolding all
+  pub all-of : (test : A → Bool) (xs : List A) → ((x : A) → List·Memᴰ x xs → test x ≡ true) → allPass test xs ≡ true
+  unfolding allPass
   all-of test [] h = refl
   all-of test (x ∷ xs) h =
-      and-intro (test x) (all test xs) (h x (List·Memᴰ·head refl)) (all-of test xs (λ y m. h y (List·Memᴰ·tail m)))
+      and-intro (test x) (allPass test xs) (h x (List·Memᴰ·head refl)) (all-of test xs (λ y m. h y (List·Memᴰ·tail m)))
 
   pub keep-yes : (test : A → Bool) (x : A) (xs : List A) → test x ≡ true → keep test (x ∷ xs) ≡ x ∷ keep test xs
   unfolding keep
@@ -239,8 +239,8 @@ module _ {A : Type 0} where
   pub just-eq : {x y : A} → _≡_ {A = Option A} (just x) (just y) → y ≡ x
   just-eq e = cc
 
-  first-differs : (same : A → A → Bool) (z : A) (zs : List A) {y : A} → not (any (same z) zs) ≡ true → List·Memᴰ y zs → same z y ≡ true → ⊥
-  first-differs same z zs n m e = not-both (any-of (same z) m e) (not-true (any (same z) zs) n)
+  first-differs : (same : A → A → Bool) (z : A) (zs : List A) {y : A} → not (anyPass (same z) zs) ≡ true → List·Memᴰ y zs → same z y ≡ true → ⊥
+  first-differs same z zs n m e = not-both (any-of (same z) m e) (not-true (anyPass (same z) zs) n)
 
   -- no two elements are the same, by positions
   module _ (same : A → A → Bool) (same-sym : (x y : A) → same x y ≡ true → same y x ≡ true) where
@@ -249,10 +249,10 @@ module _ {A : Type 0} where
     unfolding allDistinct
     differ-at [] i j x y d p q e = let z : _≡_ {A = ℕ} 0 1 = cc in omega arith
     differ-at (z ∷ zs) zero zero x y d p q e = refl
-    differ-at (z ∷ zs) zero (suc j) x y d p q e = absurd (first-differs same z zs (and-left (not (any (same z) zs)) (allDistinct same zs) d) (at-mem zs j q) (subst (λ w. same w y ≡ true) (just-eq p) e))
+    differ-at (z ∷ zs) zero (suc j) x y d p q e = absurd (first-differs same z zs (and-left (not (anyPass (same z) zs)) (allDistinct same zs) d) (at-mem zs j q) (subst (λ w. same w y ≡ true) (just-eq p) e))
     differ-at (z ∷ zs) (suc i) zero x y d p q e =
-        absurd (first-differs same z zs (and-left (not (any (same z) zs)) (allDistinct same zs) d) (at-mem zs i p) (subst (λ w. same w x ≡ true) (just-eq q) (same-sym x y e)))
-    differ-at (z ∷ zs) (suc i) (suc j) x y d p q e = ap suc (differ-at zs i j x y (and-right (not (any (same z) zs)) (allDistinct same zs) d) p q e)
+        absurd (first-differs same z zs (and-left (not (anyPass (same z) zs)) (allDistinct same zs) d) (at-mem zs i p) (subst (λ w. same w x ≡ true) (just-eq q) (same-sym x y e)))
+    differ-at (z ∷ zs) (suc i) (suc j) x y d p q e = ap suc (differ-at zs i j x y (and-right (not (anyPass (same z) zs)) (allDistinct same zs) d) p q e)
 
   -- and the other way round
   pub all-differ : (same : A → A → Bool) (xs : List A)
@@ -262,12 +262,12 @@ module _ {A : Type 0} where
   all-differ same [] h = refl
   all-differ same (z ∷ zs) h =
       and-intro
-      (not (any (same z) zs))
+      (not (anyPass (same z) zs))
       (allDistinct same zs)
-      (ap not (false-of (any (same z) zs) first))
+      (ap not (false-of (anyPass (same z) zs) first))
       (all-differ same zs (λ i j x y p q e. let r = h (suc i) (suc j) x y p q e in omega arith))
     where
-      first : any (same z) zs ≡ true → ⊥
+      first : anyPass (same z) zs ≡ true → ⊥
       first e =
           let r = any-found (same z) zs e in
           let i = mem-at (r .1) in
@@ -388,7 +388,7 @@ numbers-decide ms ns = (same-numbers ms ns, λ e. rw e (same-numbers-refl ns))
 
 -- where the test of one element decides its fact: some element has it, every element has it
 module _ {A : Type 0} {P : A → Type 0} (test : A → Bool) (xs : List A) (decides : (x : A) → (test x ≡ true) ↔ P x) where
-  pub any-decides : (any test xs ≡ true) ↔ ((x : A) × List·Memᴰ x xs × P x)
+  pub any-decides : (anyPass test xs ≡ true) ↔ ((x : A) × List·Memᴰ x xs × P x)
   any-decides = (
     λ e.
         let r = any-found test xs e in
@@ -396,7 +396,7 @@ module _ {A : Type 0} {P : A → Type 0} (test : A → Bool) (xs : List A) (deci
     λ r. any-of test (r .1) (decides (r .0) .1 (r .2)),
   )
 
-  pub all-decides : (all test xs ≡ true) ↔ ((x : A) → List·Memᴰ x xs → P x)
+  pub all-decides : (allPass test xs ≡ true) ↔ ((x : A) → List·Memᴰ x xs → P x)
   all-decides = (λ e x m. decides x .0 (all-at test e m), λ h. all-of test xs (λ x m. decides x .1 (h x m)))
 
 -- an element at the end of distinct ones
@@ -404,31 +404,31 @@ module _ {A : Type 0} (same : A → A → Bool) (same-sym : (x y : A) → same x
   apart : {x : A} {xs : List A} (y : A) (ys : List A) → List·Memᴰ x xs → allDistinct same (xs ++ y ∷ ys) ≡ true → same x y ≡ true → ⊥
   unfolding allDistinct
   apart y ys (List·Memᴰ·head {x = z} {xs = zs} q) d e =
-      let n = and-left (not (any (same z) (zs ++ y ∷ ys))) (allDistinct same (zs ++ y ∷ ys)) d in
+      let n = and-left (not (anyPass (same z) (zs ++ y ∷ ys))) (allDistinct same (zs ++ y ∷ ys)) d in
       not-both
       (any-of (same z) (Memᴰ·append-right zs (List·Memᴰ·head refl)) (ap (λ (w : A). same w y) (sym q) ∙ e))
-      (not-true (any (same z) (zs ++ y ∷ ys)) n)
+      (not-true (anyPass (same z) (zs ++ y ∷ ys)) n)
   apart y ys (List·Memᴰ·tail {x = z} {xs = zs} m) d e =
-      apart y ys m (and-right (not (any (same z) (zs ++ y ∷ ys))) (allDistinct same (zs ++ y ∷ ys)) d) e
+      apart y ys m (and-right (not (anyPass (same z) (zs ++ y ∷ ys))) (allDistinct same (zs ++ y ∷ ys)) d) e
 
-  pub distinct-new : (xs : List A) (y : A) (ys : List A) → allDistinct same (xs ++ y ∷ ys) ≡ true → any (same y) xs ≡ false
+  pub distinct-new : (xs : List A) (y : A) (ys : List A) → allDistinct same (xs ++ y ∷ ys) ≡ true → anyPass (same y) xs ≡ false
   distinct-new xs y ys d =
-      false-of (any (same y) xs) (λ e. let r = any-found (same y) xs e in apart y ys (r .1) d (same-sym y (r .0) (r .2)))
+      false-of (anyPass (same y) xs) (λ e. let r = any-found (same y) xs e in apart y ys (r .1) d (same-sym y (r .0) (r .2)))
 
-  pub distinct-end : (xs : List A) (y : A) → allDistinct same xs ≡ true → any (same y) xs ≡ false
+  pub distinct-end : (xs : List A) (y : A) → allDistinct same xs ≡ true → anyPass (same y) xs ≡ false
       → allDistinct same (xs ++ (y ∷ [])) ≡ true
   unfolding allDistinct
   distinct-end [] y d n = refl
   distinct-end (x ∷ xs) y d n =
-      let p = or-false (same y x) (any (same y) xs) n in
-      let older = not-true (any (same x) xs) (and-left (not (any (same x) xs)) (allDistinct same xs) d) in
+      let p = or-false (same y x) (anyPass (same y) xs) n in
+      let older = not-true (anyPass (same x) xs) (and-left (not (anyPass (same x) xs)) (allDistinct same xs) d) in
       and-intro
-      (not (any (same x) (xs ++ (y ∷ []))))
+      (not (anyPass (same x) (xs ++ (y ∷ []))))
       (allDistinct same (xs ++ (y ∷ [])))
-      (ap not (false-of (any (same x) (xs ++ (y ∷ []))) (λ e. unlike older (p .0) e)))
-      (distinct-end xs y (and-right (not (any (same x) xs)) (allDistinct same xs) d) (p .1))
+      (ap not (false-of (anyPass (same x) (xs ++ (y ∷ []))) (λ e. unlike older (p .0) e)))
+      (distinct-end xs y (and-right (not (anyPass (same x) xs)) (allDistinct same xs) d) (p .1))
     where
-      unlike : any (same x) xs ≡ false → same y x ≡ false → any (same x) (xs ++ (y ∷ [])) ≡ true → ⊥
+      unlike : anyPass (same x) xs ≡ false → same y x ≡ false → anyPass (same x) (xs ++ (y ∷ [])) ≡ true → ⊥
       unlike older newer e =
           let r = any-found (same x) (xs ++ (y ∷ [])) e in
           ⊎-elim
@@ -485,12 +485,12 @@ unfolding numbersFrom allDistinct
 from-differ from zero = refl
 from-differ from (suc n) =
     and-intro
-    (not (any (eqb from) (numbersFrom (suc from) n)))
+    (not (anyPass (eqb from) (numbersFrom (suc from) n)))
     (allDistinct eqb (numbersFrom (suc from) n))
-    (ap not (false-of (any (eqb from) (numbersFrom (suc from) n)) first))
+    (ap not (false-of (anyPass (eqb from) (numbersFrom (suc from) n)) first))
     (from-differ (suc from) n)
   where
-    first : any (eqb from) (numbersFrom (suc from) n) ≡ true → ⊥
+    first : anyPass (eqb from) (numbersFrom (suc from) n) ≡ true → ⊥
     first e =
         let r = any-found (eqb from) (numbersFrom (suc from) n) e in
         let same = eqb-true from (r .0) (r .2) in
@@ -513,9 +513,9 @@ module _ {A : Type 0} where
   keep-differ same test (x ∷ xs) d = go (passes-or-fails (test x)) (keep-differ same test xs (and-right new (allDistinct same xs) d))
     where
       new : Bool
-      new = not (any (same x) xs)
+      new = not (anyPass (same x) xs)
 
-      first : any (same x) (keep test xs) ≡ true → ⊥
+      first : anyPass (same x) (keep test xs) ≡ true → ⊥
       first e =
           let r = any-found (same x) (keep test xs) e in
           first-differs same x xs (and-left new (allDistinct same xs) d) (kept test xs (r .1) .0) (r .2)
@@ -524,7 +524,7 @@ module _ {A : Type 0} where
           → allDistinct same (keep test (x ∷ xs)) ≡ true
       go (inl e) ih =
           rw (keep-yes test x xs e)
-          (and-intro (not (any (same x) (keep test xs))) (allDistinct same (keep test xs)) (ap not (false-of (any (same x) (keep test xs)) first)) ih)
+          (and-intro (not (anyPass (same x) (keep test xs))) (allDistinct same (keep test xs)) (ap not (false-of (anyPass (same x) (keep test xs)) first)) ih)
       go (inr e) ih = rw (keep-no test x xs e) ih
 
   -- what one of two tests keeps is no more than both keep

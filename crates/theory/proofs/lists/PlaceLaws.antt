@@ -14,7 +14,7 @@ use mathlib.Core.Logic.{_↔_}
 use mathlib.Core.Option.{Option, some as just}
 use mathlib.Core.Path.{_≡_, refl, sym, _∙_, ap, subst}
 use lib.ListN.{length, getElem?}
-use Rattle.grammar.specs.Lists.{any, place}
+use Rattle.grammar.specs.Lists.{anyPass, place}
 use Rattle.theory.proofs.lists.BoolLaws.{or-false, same-test}
 use Rattle.theory.proofs.lists.ListLaws.{any-of, just-eq}
 
@@ -38,37 +38,37 @@ module _ {A : Type 0} where
         go true e h = rw (e, place) (omega arith)
         go false e h = rw (e, place) (omega arith)
 
-    pub place-some : (xs : List A) → place same x xs < length xs → any (same x) xs ≡ true
-    unfolding place any
+    pub place-some : (xs : List A) → place same x xs < length xs → anyPass (same x) xs ≡ true
+    unfolding place anyPass
     place-some [] h = absurd (omega arith)
     place-some (y ∷ ys) h = go (same x y) refl (place-some ys)
       where
-        go : (b : Bool) → same x y ≡ b → (place same x ys < length ys → any (same x) ys ≡ true) → any (same x) (y ∷ ys) ≡ true
-        go true e ih = rw (e, any)
-        go false e ih = let p = place-no y ys e in rw (e, any) (ih (omega arith))
+        go : (b : Bool) → same x y ≡ b → (place same x ys < length ys → anyPass (same x) ys ≡ true) → anyPass (same x) (y ∷ ys) ≡ true
+        go true e ih = rw (e, anyPass)
+        go false e ih = let p = place-no y ys e in rw (e, anyPass) (ih (omega arith))
 
-    pub place-none : (xs : List A) → length xs ≤ place same x xs → any (same x) xs ≡ false
-    unfolding place any
+    pub place-none : (xs : List A) → length xs ≤ place same x xs → anyPass (same x) xs ≡ false
+    unfolding place anyPass
     place-none [] h = refl
     place-none (y ∷ ys) h = go (same x y) refl (place-none ys)
       where
-        go : (b : Bool) → same x y ≡ b → (length ys ≤ place same x ys → any (same x) ys ≡ false) → any (same x) (y ∷ ys) ≡ false
+        go : (b : Bool) → same x y ≡ b → (length ys ≤ place same x ys → anyPass (same x) ys ≡ false) → anyPass (same x) (y ∷ ys) ≡ false
         go true e ih = let p = place-yes y ys e in absurd (omega arith)
-        go false e ih = let p = place-no y ys e in rw (e, any) (ih (omega arith))
+        go false e ih = let p = place-no y ys e in rw (e, anyPass) (ih (omega arith))
 
-    pub place-past : (xs : List A) → any (same x) xs ≡ false → place same x xs ≡ length xs
-    unfolding place any
+    pub place-past : (xs : List A) → anyPass (same x) xs ≡ false → place same x xs ≡ length xs
+    unfolding place anyPass
     place-past [] e = refl
     place-past (y ∷ ys) e =
-        let f = or-false (same x y) (any (same x) ys) e in
+        let f = or-false (same x y) (anyPass (same x) ys) e in
         rw (f .0, place) (ap suc (place-past ys (f .1)))
 
-    pub place-front : (xs ys : List A) → any (same x) xs ≡ true → place same x (xs ++ ys) ≡ place same x xs
-    unfolding place any
+    pub place-front : (xs ys : List A) → anyPass (same x) xs ≡ true → place same x (xs ++ ys) ≡ place same x xs
+    unfolding place anyPass
     place-front [] ys e = absurd (false≢true e)
     place-front (z ∷ zs) ys e = go (same x z) refl (place-front zs ys)
       where
-        go : (b : Bool) → same x z ≡ b → (any (same x) zs ≡ true → place same x (zs ++ ys) ≡ place same x zs)
+        go : (b : Bool) → same x z ≡ b → (anyPass (same x) zs ≡ true → place same x (zs ++ ys) ≡ place same x zs)
             → place same x (z ∷ zs ++ ys) ≡ place same x (z ∷ zs)
         go true q ih = rw (q, place)
         go false q ih = rw (q, place) (ap suc (ih (rw q at e)))
@@ -85,14 +85,14 @@ module _ {A : Type 0} where
         go false e ih = rw (e, place) (ap suc ih)
 
   -- the place of an element that is found
-  pub place-found : (same : A → A → Bool) (x : A) (xs : List A) → any (same x) xs ≡ true
+  pub place-found : (same : A → A → Bool) (x : A) (xs : List A) → anyPass (same x) xs ≡ true
       → (y : A) × (getElem? xs (place same x xs) ≡ just y) × (same x y ≡ true)
-  unfolding any place
+  unfolding anyPass place
   place-found same x [] e = absurd (false≢true e)
   place-found same x (y ∷ ys) e = go (same x y) refl (λ h. place-found same x ys h)
     where
       go : (b : Bool) → same x y ≡ b
-          → (any (same x) ys ≡ true → (z : A) × (getElem? ys (place same x ys) ≡ just z) × (same x z ≡ true))
+          → (anyPass (same x) ys ≡ true → (z : A) × (getElem? ys (place same x ys) ≡ just z) × (same x z ≡ true))
           → (z : A) × (getElem? (y ∷ ys) (place same x (y ∷ ys)) ≡ just z) × (same x z ≡ true)
       go true q ih = (y, rw (q, place), q)
       go false q ih =
@@ -121,7 +121,7 @@ module _ {A : Type 0} where
         go true q ih = rw (alike ∙ q, q, place)
         go false q ih = rw (alike ∙ q, q, place) (ap suc ih)
 
-    pub same-place : (x y : A) (xs : List A) → any (same x) xs ≡ true → any (same y) xs ≡ true → place same x xs ≡ place same y xs
+    pub same-place : (x y : A) (xs : List A) → anyPass (same x) xs ≡ true → anyPass (same y) xs ≡ true → place same x xs ≡ place same y xs
         → same x y ≡ true
     same-place x y xs p q e =
         let (u, at, xu) = place-found same x xs p in

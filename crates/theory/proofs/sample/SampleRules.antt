@@ -26,7 +26,7 @@ use mathlib.Core.List.{
 use mathlib.Core.Logic.{_↔_}
 use mathlib.Core.Path.{_≡_, refl, sym, _∙_, ap, subst}
 use lib.ListN.{length}
-use Rattle.grammar.specs.Lists.{any, keep, distinct, place}
+use Rattle.grammar.specs.Lists.{anyPass, keep, distinct, place}
 use Rattle.grammar.specs.Names.{Name, sameName, SameName}
 use Rattle.grammar.specs.Content.{Content, type, Word, InTurn, operands, choiceOf, typesIn, typesInAll}
 use Rattle.grammar.specs.ReadContent.{sameContent}
@@ -109,13 +109,13 @@ module _ (d : Tree) where
   abbrev pub childTypes : Visit → List ℕ
   childTypes v = map (λ n. pathType d (v .path ++ (n ∷ []))) (v .children)
 
-  pub path-found : (v : Visit) → List·Memᴰ v seen → any (samePath (v .path)) (pathsOf seen) ≡ true
+  pub path-found : (v : Visit) → List·Memᴰ v seen → anyPass (samePath (v .path)) (pathsOf seen) ≡ true
   unfolding pathsOf
   path-found v m =
       let (p, n, e) = distinct-has samePath path-refl path-trans (Memᴰ·map (λ (v : Visit). v .path) m) in
       any-of (samePath (v .path)) n (path-sym p (v .path) e)
 
-  name-found : (v : Visit) → List·Memᴰ v seen → any (sameName (v .name)) (namesOf seen) ≡ true
+  name-found : (v : Visit) → List·Memᴰ v seen → anyPass (sameName (v .name)) (namesOf seen) ≡ true
   unfolding namesOf
   name-found v m =
       let (p, n, e) = distinct-has sameName name-refl name-trans (Memᴰ·map (λ (v : Visit). v .name) m) in

@@ -12,7 +12,7 @@ use mathlib.Core.Path.{_≡_, refl, sym, _∙_, ap, subst}
 use lib.Dec.{eqb}
 use lib.ListN.{length, getElem?, getD}
 use borrow.Author.Tests.{eqb-true, eq-eqb}
-use Rattle.grammar.specs.Lists.{any, keep, numbersBelow}
+use Rattle.grammar.specs.Lists.{anyPass, keep, numbersBelow}
 use Rattle.grammar.specs.Names.{Name, SameName}
 use Rattle.grammar.specs.Content.{type, Word}
 use Rattle.grammar.specs.Table.{Rule, Table, Named, DistinctNames}
@@ -230,7 +230,7 @@ module _ (g : Table) (reduced : ReducedTable g) where
         type = merged g k;
         of-table =
             keep-mem
-            (λ t. any (λ j. eqb (merged g j) t) (g .starts))
+            (λ t. anyPass (λ j. eqb (merged g j) t) (g .starts))
             (numbers-below (length (usedLabels g)) (merged g k) .1 (at-below (usedLabels g) (merged g k) (merged-at h)))
             (any-of (λ j. eqb (merged g j) (merged g k)) m (eq-eqb (merged g k) (merged g k) refl));
         member = record { has-rule = h; of-label = refl };
@@ -239,7 +239,7 @@ module _ (g : Table) (reduced : ReducedTable g) where
   start-members : (i : ℕ) → List·Memᴰ i (localForm g .starts) → StartMember (tableAutomaton g) (localForm g) (Merges g) i
   unfolding localForm merged
   start-members i m =
-      let a = kept (λ t. any (λ j. eqb (merged g j) t) (g .starts)) (numbersBelow (length (usedLabels g))) m in
+      let a = kept (λ t. anyPass (λ j. eqb (merged g j) t) (g .starts)) (numbersBelow (length (usedLabels g))) m in
       let b = any-found (λ j. eqb (merged g j) i) (g .starts) (a .1) in
       let h = reduced .start-rules (b .0) (b .1) in
       record {

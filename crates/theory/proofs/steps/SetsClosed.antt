@@ -29,7 +29,7 @@ use mathlib.Core.Path.{_≡_, refl, sym, _∙_, ap, subst}
 use lib.Dec.{eqb}
 use lib.ListN.{length, getElem?}
 use borrow.Author.Tests.{eqb-true, eq-eqb, not-true}
-use Rattle.grammar.specs.Lists.{any, keep, distinct, isIn, sameNumbers, numbersBelow}
+use Rattle.grammar.specs.Lists.{anyPass, keep, distinct, isIn, sameNumbers, numbersBelow}
 use Rattle.grammar.specs.Limits.{Limits}
 use Rattle.grammar.specs.Content.{typesIn}
 use Rattle.grammar.specs.Table.{Rule, Table}
@@ -72,20 +72,20 @@ use Rattle.theory.proofs.lists.NoTwo.{no-two-append, no-two-keep, no-tw
 module _ (g : Table) where
   -- of the sets met in a set, those not yet found
   abbrev pub newSets : List TypeSet → TypeSet → List TypeSet
-  newSets sets s = keep (λ t. not (any (sameNumbers t) sets)) (setsMet g s)
+  newSets sets s = keep (λ t. not (anyPass (sameNumbers t) sets)) (setsMet g s)
 
   found-or-new : (sets : List TypeSet) (s : TypeSet) {t : TypeSet} → List·Memᴰ t (setsMet g s)
       → List·Memᴰ t sets ⊎ List·Memᴰ t (newSets sets s)
   found-or-new sets s {t} m =
       ⊎-elim
       (λ e. let r = any-found (sameNumbers t) sets e in inl (Memᴰ·cast (same-numbers t (r .0) (r .2)) (r .1)))
-      (λ e. inr (keep-mem (λ u. not (any (sameNumbers u) sets)) m (ap not e)))
-      (passes-or-fails (any (sameNumbers t) sets))
+      (λ e. inr (keep-mem (λ u. not (anyPass (sameNumbers u) sets)) m (ap not e)))
+      (passes-or-fails (anyPass (sameNumbers t) sets))
 
   new-not-found : (sets : List TypeSet) (s : TypeSet) {t : TypeSet} → List·Memᴰ t (newSets sets s) → List·Memᴰ t sets → ⊥
   new-not-found sets s {t} m n =
       not-both (any-of (sameNumbers t) n (same-numbers-refl t))
-      (not-true (any (sameNumbers t) sets) (kept (λ u. not (any (sameNumbers u) sets)) (setsMet g s) m .1))
+      (not-true (anyPass (sameNumbers t) sets) (kept (λ u. not (anyPass (sameNumbers u) sets)) (setsMet g s) m .1))
 
   pub more-end : (n next : ℕ) (sets : List TypeSet) → getElem? sets next ≡ nothing → moreSets g n next sets ≡ sets
   unfolding moreSets
@@ -336,7 +336,7 @@ module _ (lim : Limits) (g : Table) where
       step next sets s e h t m =
           ⊎-elim
           (λ p. h t p)
-          (λ p. more s t (h s (at-mem sets next e)) (kept (λ u. not (any (sameNumbers u) sets)) (setsMet g s) p .0))
+          (λ p. more s t (h s (at-mem sets next e)) (kept (λ u. not (anyPass (sameNumbers u) sets)) (setsMet g s) p .0))
           (List·Memᴰ·append-cases sets m)
 
   pub starts-first : (rest : List TypeSet) × (allSets lim g ≡ startSets g ++ rest)
@@ -390,7 +390,7 @@ module _ (lim : Limits) (g : Table) where
         step : Carried g (λ next. NoTwo (λ s t. s ≡ t))
         step next sets s e h =
             no-two-append (λ t u. t ≡ u) sets (newSets g sets s) h
-            (no-two-keep (λ t u. t ≡ u) (λ t. not (any (sameNumbers t) sets)) (setsMet g s) (met-distinct g reduced s))
+            (no-two-keep (λ t u. t ≡ u) (λ t. not (anyPass (sameNumbers t) sets)) (setsMet g s) (met-distinct g reduced s))
             (record {
               forth = λ t u m n e. new-not-found g sets s n (Memᴰ·cast (sym e) m);
               back = λ t u m n e. new-not-found g sets s n (Memᴰ·cast e m);

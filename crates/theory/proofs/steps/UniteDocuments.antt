@@ -25,7 +25,7 @@ use mathlib.Core.Option.{some}
 use mathlib.Core.Path.{_≡_, refl, sym, _∙_, ap, subst}
 use lib.ListN.{length, getElem?}
 use borrow.Author.Tests.{not-true}
-use Rattle.grammar.specs.Lists.{any, keep, place}
+use Rattle.grammar.specs.Lists.{anyPass, keep, place}
 use Rattle.grammar.specs.Limits.{Limits}
 use Rattle.grammar.specs.Names.{Name, sameName, SameName}
 use Rattle.grammar.specs.Content.{Word}
@@ -67,19 +67,19 @@ module _ (lim : Limits) (old addition : Table) where
   inUnited = added lim old addition
 
   abbrev isNew : Name → Bool
-  isNew n = not (any (sameName n) (old .labels))
+  isNew n = not (anyPass (sameName n) (old .labels))
 
   -- every name of the addition is among the united labels
-  added-name : (n : Name) → List·Memᴰ n (addition .labels) → any (sameName n) (unitedLabels old addition) ≡ true
+  added-name : (n : Name) → List·Memᴰ n (addition .labels) → anyPass (sameName n) (unitedLabels old addition) ≡ true
   unfolding unitedLabels
-  added-name n m = ⊎-elim found new (passes-or-fails (any (sameName n) (old .labels)))
+  added-name n m = ⊎-elim found new (passes-or-fails (anyPass (sameName n) (old .labels)))
     where
-      found : any (sameName n) (old .labels) ≡ true → any (sameName n) (old .labels ++ keep isNew (addition .labels)) ≡ true
+      found : anyPass (sameName n) (old .labels) ≡ true → anyPass (sameName n) (old .labels ++ keep isNew (addition .labels)) ≡ true
       found e =
           let (x, at, p) = any-found (sameName n) (old .labels) e in
           any-of (sameName n) (Memᴰ·append-left (keep isNew (addition .labels)) at) p
 
-      new : any (sameName n) (old .labels) ≡ false → any (sameName n) (old .labels ++ keep isNew (addition .labels)) ≡ true
+      new : anyPass (sameName n) (old .labels) ≡ false → anyPass (sameName n) (old .labels ++ keep isNew (addition .labels)) ≡ true
       new e = any-of (sameName n) (Memᴰ·append-right (old .labels) (keep-mem isNew m (ap not e))) (name-refl n)
 
   -- a label of old keeps its number and its name
@@ -326,4 +326,4 @@ module _ (lim : Limits) (old addition : Table) where
       differ : (m n : Name) → List·Memᴰ m (old .labels) → List·Memᴰ n (keep isNew (addition .labels)) → SameName n m → ⊥
       differ m n at new e =
           not-both (any-of (sameName n) at e)
-          (not-true (any (sameName n) (old .labels)) (kept isNew (addition .labels) new .1))
+          (not-true (anyPass (sameName n) (old .labels)) (kept isNew (addition .labels) new .1))

@@ -16,7 +16,7 @@ use mathlib.Core.Path.{_≡_, refl, sym, _∙_, subst}
 use lib.Dec.{eqb}
 use lib.ListN.{length, getElem?, getD, length-map}
 use borrow.Author.Tests.{eqb-true, eq-eqb}
-use Rattle.grammar.specs.Lists.{any, keep, allDistinct, numbersBelow}
+use Rattle.grammar.specs.Lists.{anyPass, keep, allDistinct, numbersBelow}
 use Rattle.grammar.specs.Names.{Name, SameName}
 use Rattle.grammar.specs.Tree.{Tree}
 use Rattle.grammar.specs.Table.{Rule, Table, DistinctNames}
@@ -66,7 +66,7 @@ module _ (g : Table) where
   unfolding usedLabels
   label-used labelled r m =
       keep-mem
-      (λ l. any (λ (s : Rule). eqb (s .label) l) (g .rules))
+      (λ l. anyPass (λ (s : Rule). eqb (s .label) l) (g .rules))
       (numbers-below (length (g .labels)) (r .label) .1 (labelled r m))
       (any-of (λ (s : Rule). eqb (s .label) (r .label)) m (eq-eqb (r .label) (r .label) refl))
 
@@ -136,8 +136,8 @@ at-most-one n (k ∷ l ∷ ns) d h =
 
 -- of different numbers at most as many are labels of rules as there are rules
 labels-of-rules : (ns : List ℕ) → allDistinct eqb ns ≡ true → (rs : List Rule)
-    → length (keep (λ l. any (λ (r : Rule). eqb (r .label) l) rs) ns) ≤ length rs
-unfolding any keep
+    → length (keep (λ l. anyPass (λ (r : Rule). eqb (r .label) l) rs) ns) ≤ length rs
+unfolding anyPass keep
 labels-of-rules ns d [] = none ns
   where
     none : (ns : List ℕ) → length (keep (λ (l : ℕ). false) ns) ≤ 0
@@ -149,7 +149,7 @@ labels-of-rules ns d (r ∷ rs) =
     (λ m p. eqb-true (r .label) m (kept (eqb (r .label)) ns p .1))
     in
     let rest = labels-of-rules ns d rs in
-    let both = keep-either (eqb (r .label)) (λ l. any (λ (s : Rule). eqb (s .label) l) rs) ns in
+    let both = keep-either (eqb (r .label)) (λ l. anyPass (λ (s : Rule). eqb (s .label) l) rs) ns in
     omega arith
 
 pub used-labels-count : (g : Table) → length (withUsedLabels g .labels) ≤ length (g .rules)

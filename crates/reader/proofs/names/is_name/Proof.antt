@@ -3,14 +3,14 @@ use Prim.Native.Nat.{_-_}
 use native.Mathlib.Omega.{arith}
 use mathlib.Core.Path.{_≡_, sym, _∙_}
 use lib.ListN.{length, drop}
-use Rattle.grammar.specs.Lists.{all}
+use Rattle.grammar.specs.Lists.{allPass}
 use Rattle.grammar.specs.Names.{isName}
 use Rattle.reader.proofs.NameReading.{later, name-empty, name-first, name-not-first, later-next, later-fails, later-end}
 use Rattle.reader.proofs.names.is_name.Statement.{statement}
 use Rattle.reader.proofs.names.is_name.Tie as tie
 
 abbrev Inv-loop : tie.InvT-loop
-Inv-loop classes s first i₀ i = isName classes s ≡ all (later classes) (drop i s)
+Inv-loop classes s first i₀ i = isName classes s ≡ allPass (later classes) (drop i s)
 
 abbrev μ-loop : tie.MeasureT-loop
 μ-loop classes s first i₀ i = length s - i

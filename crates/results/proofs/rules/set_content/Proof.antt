@@ -11,7 +11,7 @@ use Rattle.theory.specs.Conditions.{Regular}
 use Rattle.sets.specs.Sets.{member}
 use Rattle.sets.proofs.SetLaws.{length-words}
 use Rattle.union.proofs.ViewLaws.{views-sized}
-use Rattle.emitting.specs.Completing.{Made}
+use Rattle.contents.specs.Completing.{Made}
 use Rattle.forms.specs.SetForms.{pairsLabelled}
 use Rattle.results.specs.Widened.{kindOf}
 use Rattle.results.proofs.SetLaws.{labels-sized, set-held, set-four, content-is}

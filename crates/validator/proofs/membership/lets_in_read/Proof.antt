@@ -3,7 +3,7 @@ use Prim.Native.Nat.{ℕ}
 use mathlib.Core.Bool.{Bool}
 use mathlib.Core.Path.{_∙_, ap}
 use borrow.Author.Needs.{needs}
-use Rattle.grammar.specs.Lists.{any}
+use Rattle.grammar.specs.Lists.{anyPass}
 use Rattle.grammar.specs.Membership.{letsIn}
 use Rattle.validator.proofs.membership.lets_in_read.Statement.{statement}
 use Rattle.validator.proofs.membership.lets_in_read.Tie as tie
@@ -18,7 +18,7 @@ unfolding letsIn
 returns c =
     λ g known t e.
     c .some-start .ensures g (record { bytes = c .before .before .before .before .before .before .before .before .before .before .before .before .before .before .before .before .args .table .now; index = c .before .before .before .before .before .before .before .before .before .before .before .before .before .before .before .before .args .index; held = known })
-    ∙ ap (λ (has : ℕ → Bool). any has (g .starts)) (c .before .before .before .before .before .before .before .root-types .ensures .types g known t e)
+    ∙ ap (λ (has : ℕ → Bool). anyPass has (g .starts)) (c .before .before .before .before .before .before .before .root-types .ensures .types g known t e)
 
 pub lets-in-read-spec : {M : Type 1} → statement M
 lets-in-read-spec =

@@ -1,0 +1,14 @@
+pub mod RowLaws
+pub mod MarkLaws
+pub mod KeptLaws
+pub mod AmongLaws
+pub mod FinishLaws
+pub mod WideLaws
+pub mod GatherLaws
+pub mod TypesKeptLaws
+pub mod SourceLaws
+pub mod EmitLaws
+pub mod CompleteLaws
+pub mod AgreeLaws
+pub mod RuleLaws
+pub mod LoopLaws

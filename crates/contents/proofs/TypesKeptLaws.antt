@@ -1,0 +1,224 @@
+-- The set of the result types among the operands kept, along a gathering:
+--   no-types, types-put          none at first; one more, once it is gathered
+--   types-same, types-plain      alternatives that are no types do not change it; so with a content that is neither a type nor a choice
+--   TypesSoFar, types-start, types-next, types-wide, types-all   the result types of a part gathered one by one
+use Prim.Native.Nat.{ℕ, _+_, _-_, _≤_, _<_}
+use native.Mathlib.Omega.{arith}
+use mathlib.Core.Bool.{Bool, true, false, _||_, or-comm}
+use mathlib.Core.List.{List, [], _∷_, _++_, map, append-assoc, append-nil}
+use mathlib.Core.Option.{some as just}
+use mathlib.Core.Path.{_≡_, refl, sym, _∙_, ap, ap₂, subst}
+use lib.Dec.{eqb}
+use lib.ListN.{length, getD, drop, replicate}
+use lib.Seq.{getD-take, getD-drop}
+use borrow.Author.Tests.{eqb-true, eq-eqb}
+use Rattle.grammar.specs.Lists.{anyPass}
+use Rattle.grammar.specs.Content.{
+  Content,
+  none,
+  empty,
+  type,
+  sequence,
+  choice,
+  anyNumber,
+  oneOrMore,
+  optional,
+  operands,
+}
+use Rattle.grammar.specs.ReadContent.{contentBytes, sameContent}
+use Rattle.grammar.specs.ReadTable.{isEmpty}
+use Rattle.theory.specs.Alternatives.{alts, altsOfEach, oneContent, around, inSequence, gathered}
+use Rattle.theory.proofs.lists.BoolLaws.{same-test}
+use Rattle.theory.proofs.contents.ContentBytes.{same-content}
+use Rattle.theory.proofs.lists.ListLaws.{any-append, decided-sym, decided-trans}
+use Rattle.theory.proofs.lists.DistinctLaws.{among-distinct}
+use Rattle.theory.proofs.emission.GatheringLaws.{gather-nothing, gather-more}
+use Rattle.sets.specs.Sets.{member, putAt}
+use Rattle.sets.proofs.SetLaws.{length-put, member-put, member-zeros}
+use Rattle.reader.specs.ExprAt.{_upTo_, exprAt}
+use Rattle.reader.proofs.ExprLaws.{expr-bytes, expr-forward}
+use Rattle.contents.specs.declared.drafts.Gathering.{Gathering}
+use Rattle.contents.specs.declared.drafts.Gathering.the-variants.{TooLarge, Upto}
+use Rattle.contents.specs.Drafts.{Row, OperandsAdded, Gathers, GathersWith}
+use Rattle.contents.specs.Emitting.{RoomForMore, TypesKept, Noted}
+use Rattle.contents.proofs.GatherLaws.{gathers-then, told-large, told-upto, first-wide, with-as, with-large, typesFrom, types-first}
+
+-- an equal one is among what is gathered just where it was there or was given
+among-gathered : (x : Content) (ds xs : List Content)
+    → anyPass (sameContent x) (gathered ds xs) ≡ (anyPass (sameContent x) ds || anyPass (sameContent x) xs)
+unfolding gathered
+among-gathered x ds xs =
+    among-distinct sameContent (decided-sym sameContent same-content) (decided-trans sameContent same-content)
+    (λ y. same-content y y .1 refl)
+    x
+    (ds ++ xs)
+    ∙ any-append (sameContent x) ds xs
+
+same-type : (t k : ℕ) → sameContent (type t) (type k) ≡ eqb t k
+same-type t k =
+    same-test (sameContent (type t) (type k)) (eqb t k) (
+      λ e. eq-eqb t k (cc (same-content (type t) (type k) .0 e)),
+      λ e. same-content (type t) (type k) .1 (ap type (eqb-true t k e)),
+    )
+
+or-no : (a b : Bool) → b ≡ false → (a || b) ≡ a
+or-no true b e = refl
+or-no false b e = e
+
+-- no types among these
+abbrev Plain : List Content → Type 0
+Plain xs = (t : ℕ) → anyPass (sameContent (type t)) xs ≡ false
+
+pub no-types : TypesKept (replicate 8 0) []
+unfolding anyPass
+no-types = record { words = omega arith; there = λ t h. ap (λ p. p t) (member-zeros 8 0) }
+
+module _ {kept : List ℕ} {ds : List Content} (s : TypesKept kept ds) where
+  pub types-same : (xs : List Content) → Plain xs → TypesKept kept (gathered ds xs)
+  types-same xs plain =
+      record {
+        words = s .words;
+        there =
+            λ t h.
+            s .there t h
+            ∙ sym (or-no (anyPass (sameContent (type t)) ds) (anyPass (sameContent (type t)) xs) (plain t))
+            ∙ sym (among-gathered (type t) ds xs);
+      }
+
+  pub types-put : (k : ℕ) → k < 256 → {after : List ℕ} → after ≡ putAt kept 0 k → TypesKept after (gathered ds (type k ∷ []))
+  unfolding anyPass
+  types-put k h {after} put =
+      let l = ap length put ∙ length-put kept 0 k in
+      let w = s .words in
+      record {
+        words = omega arith;
+        there =
+            λ t m.
+            ap (λ (l : List ℕ). member l 0 t) put
+            ∙ ap (λ p. p t) (member-put kept 0 k (omega arith))
+            ∙ ap₂ (λ (a b : Bool). a || b) (sym (or-no (sameContent (type t) (type k)) false refl ∙ same-type t k)) (s .there t m)
+            ∙ or-comm (sameContent (type t) (type k) || false) (anyPass (sameContent (type t)) ds)
+            ∙ sym (among-gathered (type t) ds (type k ∷ []));
+      }
+
+-- what a content gives that is neither a type nor a choice
+module _ (results : ℕ → List ℕ) where
+  plain-around : (f : Content → Content) (others xs : List Content) → ((t : ℕ) (c : Content) → sameContent (type t) (f c) ≡ false)
+      → Plain others → Plain (around f others xs)
+  unfolding around anyPass
+  plain-around f others [] apart p t = p t
+  plain-around f others (x ∷ xs) apart p t = or-no (sameContent (type t) (f (oneContent (x ∷ xs)))) false refl ∙ apart t (oneContent (x ∷ xs))
+
+  plain-sequence : (xss : List (List Content)) → Plain (inSequence xss)
+  unfolding inSequence anyPass sameContent
+  plain-sequence xss t = go (anyPass isEmpty xss)
+    where
+      go : (b : Bool)
+          → anyPass (sameContent (type t)) (elim b as (λ x. List Content) [ true ↦ [] | false ↦ sequence (operands (map oneContent xss)) ∷ [] ]) ≡ false
+      go true = refl
+      go false = refl
+
+  plain-alts : (c : Content) → (getD (contentBytes c) 0 0 ≡ 2 → ⊥) → (getD (contentBytes c) 0 0 ≡ 4 → ⊥) → Plain (alts results c)
+  unfolding alts anyPass sameContent
+  plain-alts none h k t = refl
+  plain-alts empty h k t = refl
+  plain-alts (type n) h k t = absurd (h refl)
+  plain-alts (sequence cs) h k t = plain-sequence (altsOfEach results cs) t
+  plain-alts (choice cs) h k t = absurd (k refl)
+  plain-alts (anyNumber c) h k t = plain-around anyNumber (empty ∷ []) (alts results c) (λ u d. refl) (λ u. refl) t
+  plain-alts (oneOrMore c) h k t = plain-around oneOrMore [] (alts results c) (λ u d. refl) (λ u. refl) t
+  plain-alts (optional c) h k t = plain-around optional (empty ∷ []) (alts results c) (λ u d. refl) (λ u. refl) t
+
+  first-byte : (s : List ℕ) (at next : ℕ) (c : Content) → exprAt s at ≡ just (c upTo next) → getD (contentBytes c) 0 0 ≡ getD s at 0
+  first-byte s at next c e =
+      let f = expr-forward s at c next e in
+      let z : at + 0 ≡ at = omega arith in
+      ap (λ (l : List ℕ). getD l 0 0) (sym (expr-bytes s at c next e))
+      ∙ getD-take (next - at) (drop at s) 0 0 (omega arith)
+      ∙ getD-drop at s 0 0
+      ∙ ap (λ (i : ℕ). getD s i 0) z
+
+  pub types-plain : (s : List ℕ) (at next : ℕ) (c : Content) → exprAt s at ≡ just (c upTo next) → (getD s at 0 ≡ 2 → ⊥) → (getD s at 0 ≡ 4 → ⊥)
+      → {kept : List ℕ} {ds : List Content} → TypesKept kept ds → TypesKept kept (gathered ds (alts results c))
+  types-plain s at next c e h k {kept} {ds} y =
+      let b = first-byte s at next c e in
+      types-same y (alts results c) (plain-alts c (λ z. h (sym b ∙ z)) (λ z. k (sym b ∙ z)))
+
+-- The result types of a part, gathered one by one.
+module _ (results : List ℕ) (first stop base limit : ℕ) (ds : List Content) (d₀ : List ℕ) (end : ℕ) where
+  pub record TypesSoFar (d kept marks : List ℕ) (total last i : ℕ) : Type 0 where
+    pub list : List Content
+    pub rest : list ++ typesFrom results i stop ≡ typesFrom results first stop
+    pub added : OperandsAdded d₀ d base end (gathered ds list) limit total last
+    pub noted : Noted kept marks (gathered ds list)
+
+  module _ {d kept marks : List ℕ} {total last i : ℕ} (s : TypesSoFar d kept marks total last i) where
+    abbrev pub room-for : limit ≤ base + 1024 → limit + 1026 ≤ length d → RoomForMore d base total last limit
+    room-for small room =
+        record {
+          kept = record { list = gathered ds (s .list); row = s .added .row };
+          fits = s .added .fits;
+          small = small;
+          room = room;
+        }
+
+    pub types-all : (next : ℕ) → typesFrom results i stop ≡ []
+        → GathersWith (Noted kept marks) d₀ d base end limit next (gathered ds (typesFrom results first stop)) (Upto next total last)
+    unfolding Gathers
+    types-all next e =
+        let whole : s .list ≡ typesFrom results first stop =
+        sym (append-nil (s .list)) ∙ ap (λ (l : List Content). s .list ++ l) (sym e) ∙ s .rest in
+        with-as ds (s .list) (typesFrom results first stop) refl whole
+        (record { gathers = (refl, s .added); noted = λ u. s .noted })
+
+    module _ (h : i < stop) (k : i < length results) (next : ℕ) (d' kept' marks' : List ℕ) (r : Gathering)
+        (g : GathersWith (Noted kept' marks') d d' base last limit next (gathered (gathered ds (s .list)) (type (getD results i 0) ∷ [])) r) where
+      abbrev one : List Content
+      one = type (getD results i 0) ∷ []
+
+      abbrev more : List Content
+      more = s .list ++ one
+
+      more-rest : more ++ typesFrom results (i + 1) stop ≡ typesFrom results first stop
+      more-rest =
+          append-assoc (s .list) one (typesFrom results (i + 1) stop)
+          ∙ ap (λ (l : List Content). s .list ++ l) (sym (types-first results i stop h k))
+          ∙ s .rest
+
+      more-gathers : Gathers d₀ d' base end limit next (gathered ds more) r
+      more-gathers =
+          gathers-then d₀ d d' base end last limit next (gathered ds more) r (s .added .grows) (s .added .keeps)
+          (subst (λ (l : List Content). Gathers d d' base last limit next l r) (gather-more ds (s .list) one) (g .gathers))
+
+      pub types-wide : r ≡ TooLarge
+          → GathersWith (Noted kept' marks') d₀ d' base end limit next (gathered ds (typesFrom results first stop)) TooLarge
+      types-wide e =
+          with-large (gathered ds (typesFrom results first stop))
+          (first-wide (limit - base) ds more (typesFrom results (i + 1) stop) (typesFrom results first stop) (sym more-rest)
+          (told-large d₀ d' base end limit next (gathered ds more) r e more-gathers))
+
+      pub types-next : {n count fresh : ℕ} → r ≡ Upto n count fresh → TypesSoFar d' kept' marks' count fresh (i + 1)
+      types-next {n} {count} {fresh} e =
+          record {
+            list = more;
+            rest = more-rest;
+            added = told-upto d₀ d' base end limit next (gathered ds more) r n count fresh e more-gathers .1;
+            noted = subst (Noted kept' marks') (gather-more ds (s .list) one) (g .noted e);
+          }
+
+pub types-start : (results : List ℕ) (first stop limit : ℕ) {d kept marks : List ℕ} {base count end : ℕ} (q : RoomForMore d base count end limit)
+    → Noted kept marks (q .kept .list) → TypesSoFar results first stop base limit (q .kept .list) d end d kept marks count end first
+types-start results first stop limit {d} {kept} {marks} {base} {count} {end} q s =
+    let same = sym (gather-nothing (q .kept .list) (q .kept .row .apart)) in
+    record {
+      list = [];
+      rest = refl;
+      added =
+          record {
+            row = subst (λ (l : List Content). Row d base count l end) same (q .kept .row);
+            fits = q .fits;
+            grows = omega arith;
+            keeps = refl;
+          };
+      noted = subst (Noted kept marks) same s;
+    }

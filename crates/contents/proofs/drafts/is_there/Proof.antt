@@ -1,0 +1,102 @@
+-- `is_there` meets its contract. The loop's invariant: an equal one is among all operands just where it is among those from the
+-- next mark on.
+use Prim.Native.Nat.{ℕ, _-_, _≤_, _<_}
+use native.Mathlib.Omega.{arith}
+use mathlib.Core.List.{List}
+use mathlib.Core.Path.{_≡_, sym, _∙_, ap}
+use lib.ListN.{take, drop}
+use Rattle.grammar.specs.ReadContent.{contentBytes}
+use Rattle.reader.proofs.ExprLaws.{expr-bytes, expr-forward}
+use Rattle.contents.specs.Drafts.{Newest}
+use Rattle.contents.specs.Marks.{fingerprint, Marked}
+use Rattle.contents.proofs.MarkLaws.{mark-before}
+use Rattle.contents.proofs.AmongLaws.{StillAmong, FirstAmong, among-all, among-first, among-none, same-marked}
+use Rattle.contents.proofs.drafts.is_there.Statement.{statement}
+use Rattle.contents.proofs.drafts.is_there.Tie as tie
+
+abbrev Inv-loop : tie.InvT-loop
+Inv-loop draft base count end fresh print marks k₀ k =
+    (k ≤ count)
+    × ((q : Newest draft base count end fresh) → Marked marks (q .kept .list)
+    → StillAmong draft marks base k (count - k) end (q .newest) (q .kept .list))
+
+abbrev μ-loop : tie.MeasureT-loop
+μ-loop draft base count end fresh print marks k₀ k = count - k
+
+loop-holds : tie.Need-loop-holds Inv-loop μ-loop
+loop-holds c = (omega arith, λ q m. among-all (q .kept .row) m)
+
+abbrev first : {d marks : List ℕ} {base count end fresh k : ℕ} (q : Newest d base count end fresh) → k < count
+    → StillAmong d marks base k (count - k) end (q .newest) (q .kept .list)
+    → FirstAmong d marks base k (count - k) end (q .newest) (q .kept .list)
+first {d} {marks} {base} {count} {end} {k = k} q h a =
+    among-first d marks base k (count - k) end (q .newest) (q .kept .list) (omega arith) (q .kept .row .inside) a
+
+mul-is-same : tie.Need-mul-is-same Inv-loop μ-loop
+mul-is-same c = let few = c .before .before .before .before .pre .0 .0 .kept .row .few in omega arith
+
+shared-slice-read-is-same : tie.Need-shared-slice-read-is-same Inv-loop μ-loop
+shared-slice-read-is-same c =
+    let q = c .before .before .before .before .before .pre .0 .0 in
+    let few = q .kept .row .few in
+    let room = c .before .before .before .before .before .pre .0 .1 .room in
+    omega arith
+
+is-same-requires : tie.Need-is-same-requires Inv-loop μ-loop
+is-same-requires c κs =
+    let p = c .before .before .before .before .before .pre in
+    let q = p .0 .0 in
+    let f = first q (c .before .loop-test .taken) (c .before .before .loop .inv .1 q (p .0 .1)) in
+    let i = f .inside in
+    let at = mark-before _ (f .before) _ (f .mark-is) (omega arith) in
+    let e = expr-forward _ _ (q .newest) _ (q .stands) in
+    (omega arith, omega arith, omega arith)
+
+-- what is asked of an operand is answered for the operand
+asked : {d : List ℕ} {base count end fresh print : ℕ} (q : Newest d base count end fresh)
+    → print ≡ fingerprint (take (fresh - end) (drop end d)) → print ≡ fingerprint (contentBytes (q .newest))
+asked {d} {end = end} {fresh = fresh} q p = p ∙ ap fingerprint (expr-bytes d end (q .newest) fresh (q .stands))
+
+returns : tie.Need-returns Inv-loop μ-loop
+returns c =
+    let p = c .before .before .before .before .before .before .before .pre in
+    λ q m.
+    let f = first q (c .before .before .before .loop-test .taken) (c .before .before .before .before .loop .inv .1 q m) in
+    f .here
+    (sym (same-marked _ _ _ _ _ _ _ _ (q .newest) _ _ (q .stands) (asked q (p .2)) (p .1) f (c .before .is-same .ensures)) ∙ c .if1 .taken)
+
+add-k : tie.Need-add-k Inv-loop μ-loop
+add-k c = omega arith
+
+loop-less : tie.Need-loop-less Inv-loop μ-loop
+loop-less c = omega arith
+
+loop-again : tie.Need-loop-again Inv-loop μ-loop
+loop-again c =
+    let p = c .before .before .before .before .before .before .before .pre in (
+      omega arith,
+      λ q m.
+          let f = first q (c .before .before .before .loop-test .taken) (c .before .before .before .before .loop .inv .1 q m) in
+          f .later
+          (sym (same-marked _ _ _ _ _ _ _ _ (q .newest) _ _ (q .stands) (asked q (p .2)) (p .1) f (c .before .is-same .ensures)) ∙ c .if1 .left) _
+          (omega arith),
+    )
+
+returns-2 : tie.Need-returns-2 Inv-loop μ-loop
+returns-2 c = λ q m. among-none (omega arith) (c .before .loop .inv .1 q m)
+
+pub is-there-spec : {M : Type 1} → statement M
+is-there-spec =
+    tie.close
+    (tie.spec
+    Inv-loop
+    μ-loop
+    loop-holds
+    mul-is-same
+    shared-slice-read-is-same
+    is-same-requires
+    returns
+    add-k
+    loop-less
+    loop-again
+    returns-2)

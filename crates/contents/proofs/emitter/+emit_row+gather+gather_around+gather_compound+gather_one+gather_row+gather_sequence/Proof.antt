@@ -1,0 +1,1050 @@
+-- The emitter's functions meet their contracts. The measure is five times the bytes from the place on: a row is four more, a
+-- content three more, a content with operands two more, and one that is no choice one more; every call goes on past a byte, or from a row to its first content, or from a
+-- content to what its operator needs. Each return is a law of EmitLaws.
+use native.Mathlib.Omega.{arith}
+use mathlib.Core.List.{List}
+use mathlib.Core.Path.{_≡_, refl, sym, _∙_, ap}
+use lib.ListN.{length, getD, getElem?, length-set}
+use borrow.Author.Needs.{needs}
+use Rattle.grammar.specs.Limits.{standard}
+use Rattle.grammar.specs.Content.{sequence, choice}
+use Rattle.grammar.specs.ReadContent.{operators}
+use Rattle.reader.proofs.ExprLaws.{operator-sequence, operator-choice}
+use Rattle.contents.specs.Emitting.{Source}
+use Rattle.contents.proofs.MarkLaws.{part-words, part-long}
+use Rattle.reader.proofs.ContentAtLaws.{content-inside, type-there, count-there}
+use Rattle.contents.proofs.SourceLaws.{CountedThere, counted-of, single-of, content-found, row-found}
+use Rattle.contents.proofs.EmitLaws.{
+  no-sources,
+  first-source,
+  row-wide,
+  other-sources,
+  goes-on,
+  row-then,
+  no-operands,
+  first-operand,
+  operand-noted,
+  operand-wide,
+  operand-kept,
+  goes-on',
+  operand-long,
+  other-operands,
+  row-on,
+  sequence-inside,
+  sequence-blank,
+  sequence-operands,
+  sequence-wide,
+  sequence-newest,
+  sequence-settled,
+  around-inside,
+  around-blank,
+  around-empty,
+  around-operands,
+  around-wide,
+  around-newest,
+  around-settled,
+  source-room,
+  source-marked,
+  plain-gives,
+  none-gives,
+  empty-gives,
+  choice-sources,
+  choice-gives,
+  type-gives,
+}
+use Prim.Native.Nat.{ℕ, _+_, _-_, _*_, _<_}
+use borrow.Fn.Kinds.{In}
+use borrow.Fn.PlainCycle.{Measures, is, falls, and}
+use Rattle.contents.proofs.emitter.emit_row.Reads as emit-row
+use Rattle.contents.proofs.emitter.emit_row.Kinds as emit-row-kinds
+use Rattle.contents.proofs.emitter.+emit_row+gather+gather_around+gather_compound+gather_one+gather_row+gather_sequence.Lts-emit_row as emit-row-lts
+use Rattle.contents.proofs.emitter.gather.Reads as gather
+use Rattle.contents.proofs.emitter.gather.Kinds as gather-kinds
+use Rattle.contents.proofs.emitter.+emit_row+gather+gather_around+gather_compound+gather_one+gather_row+gather_sequence.Lts-gather as gather-lts
+use Rattle.contents.proofs.emitter.gather_around.Reads as gather-around
+use Rattle.contents.proofs.emitter.gather_around.Kinds as gather-around-kinds
+use Rattle.contents.proofs.emitter.+emit_row+gather+gather_around+gather_compound+gather_one+gather_row+gather_sequence.Lts-gather_around as gather-around-lts
+use Rattle.contents.proofs.emitter.gather_compound.Reads as gather-compound
+use Rattle.contents.proofs.emitter.gather_compound.Kinds as gather-compound-kinds
+use Rattle.contents.proofs.emitter.+emit_row+gather+gather_around+gather_compound+gather_one+gather_row+gather_sequence.Lts-gather_compound as gather-compound-lts
+use Rattle.contents.proofs.emitter.gather_one.Reads as gather-one
+use Rattle.contents.proofs.emitter.gather_one.Kinds as gather-one-kinds
+use Rattle.contents.proofs.emitter.+emit_row+gather+gather_around+gather_compound+gather_one+gather_row+gather_sequence.Lts-gather_one as gather-one-lts
+use Rattle.contents.proofs.emitter.gather_row.Reads as gather-row
+use Rattle.contents.proofs.emitter.gather_row.Kinds as gather-row-kinds
+use Rattle.contents.proofs.emitter.+emit_row+gather+gather_around+gather_compound+gather_one+gather_row+gather_sequence.Lts-gather_row as gather-row-lts
+use Rattle.contents.proofs.emitter.gather_sequence.Reads as gather-sequence
+use Rattle.contents.proofs.emitter.gather_sequence.Kinds as gather-sequence-kinds
+use Rattle.contents.proofs.emitter.+emit_row+gather+gather_around+gather_compound+gather_one+gather_row+gather_sequence.Lts-gather_sequence as gather-sequence-lts
+use Rattle.contents.proofs.drafts.finish.Reads as finish-reads
+use Rattle.contents.proofs.drafts.settle.Reads as settle-reads
+use Rattle.contents.proofs.emitter.gather_empty.Reads as gather-empty-reads
+use Rattle.contents.proofs.emitter.gather_type.Reads as gather-type-reads
+use Rattle.reader.proofs.numbers.wide.Reads as wide-reads
+use Rattle.union.proofs.productive.content_has.Reads as content-has-reads
+use Rattle.union.proofs.productive.row_has.Reads as row-has-reads
+use Rattle.union.specs.Walks.{listOfType}
+use Rattle.contents.proofs.emitter.+emit_row+gather+gather_around+gather_compound+gather_one+gather_row+gather_sequence.{
+  statement,
+}
+use Rattle.contents.proofs.emitter.+emit_row+gather+gather_around+gather_compound+gather_one+gather_row+gather_sequence.Tie.{
+  close,
+}
+
+abbrev μ-emit-row : Measures 6 emit-row-kinds.ps ℕ
+μ-emit-row κs a = 5 * (length (a .0 .now) - a .1 .0) + 4
+
+abbrev μ-gather : Measures 7 gather-kinds.ps ℕ
+μ-gather κs a = 5 * (length (a .0 .now) - a .1 .0) + 3
+
+abbrev μ-gather-around : Measures 6 gather-around-kinds.ps ℕ
+μ-gather-around κs a = 5 * (length (a .0 .now) - a .1 .0)
+
+abbrev μ-gather-compound : Measures 7 gather-compound-kinds.ps ℕ
+μ-gather-compound κs a = 5 * (length (a .0 .now) - a .1 .0) + 2
+
+abbrev μ-gather-one : Measures 6 gather-one-kinds.ps ℕ
+μ-gather-one κs a = 5 * (length (a .0 .now) - a .1 .0) + 1
+
+abbrev μ-gather-row : Measures 7 gather-row-kinds.ps ℕ
+μ-gather-row κs a = 5 * (length (a .0 .now) - a .1 .0) + 4
+
+abbrev μ-gather-sequence : Measures 6 gather-sequence-kinds.ps ℕ
+μ-gather-sequence κs a = 5 * (length (a .0 .now) - a .1 .0)
+
+abbrev emit-row-at : ℕ → In 6 emit-row-kinds.ps
+emit-row-at t = and 6 emit-row-kinds.ps (is 6 emit-row-kinds.ps μ-emit-row t) emit-row.Pre
+
+abbrev emit-row-below : ℕ → In 6 emit-row-kinds.ps
+emit-row-below t =
+    and 6 emit-row-kinds.ps (falls 6 emit-row-kinds.ps _<_ μ-emit-row t) emit-row.Pre
+
+abbrev gather-at : ℕ → In 7 gather-kinds.ps
+gather-at t = and 7 gather-kinds.ps (is 7 gather-kinds.ps μ-gather t) gather.Pre
+
+abbrev gather-below : ℕ → In 7 gather-kinds.ps
+gather-below t = and 7 gather-kinds.ps (falls 7 gather-kinds.ps _<_ μ-gather t) gather.Pre
+
+abbrev gather-around-at : ℕ → In 6 gather-around-kinds.ps
+gather-around-at t =
+    and 6 gather-around-kinds.ps (is 6 gather-around-kinds.ps μ-gather-around t) gather-around.Pre
+
+abbrev gather-around-below : ℕ → In 6 gather-around-kinds.ps
+gather-around-below t =
+    and
+    6
+    gather-around-kinds.ps
+    (falls 6 gather-around-kinds.ps _<_ μ-gather-around t)
+    gather-around.Pre
+
+abbrev gather-compound-at : ℕ → In 7 gather-compound-kinds.ps
+gather-compound-at t =
+    and
+    7
+    gather-compound-kinds.ps
+    (is 7 gather-compound-kinds.ps μ-gather-compound t)
+    gather-compound.Pre
+
+abbrev gather-compound-below : ℕ → In 7 gather-compound-kinds.ps
+gather-compound-below t =
+    and
+    7
+    gather-compound-kinds.ps
+    (falls 7 gather-compound-kinds.ps _<_ μ-gather-compound t)
+    gather-compound.Pre
+
+abbrev gather-one-at : ℕ → In 6 gather-one-kinds.ps
+gather-one-at t =
+    and 6 gather-one-kinds.ps (is 6 gather-one-kinds.ps μ-gather-one t) gather-one.Pre
+
+abbrev gather-one-below : ℕ → In 6 gather-one-kinds.ps
+gather-one-below t =
+    and 6 gather-one-kinds.ps (falls 6 gather-one-kinds.ps _<_ μ-gather-one t) gather-one.Pre
+
+abbrev gather-row-at : ℕ → In 7 gather-row-kinds.ps
+gather-row-at t =
+    and 7 gather-row-kinds.ps (is 7 gather-row-kinds.ps μ-gather-row t) gather-row.Pre
+
+abbrev gather-row-below : ℕ → In 7 gather-row-kinds.ps
+gather-row-below t =
+    and 7 gather-row-kinds.ps (falls 7 gather-row-kinds.ps _<_ μ-gather-row t) gather-row.Pre
+
+abbrev gather-sequence-at : ℕ → In 6 gather-sequence-kinds.ps
+gather-sequence-at t =
+    and
+    6
+    gather-sequence-kinds.ps
+    (is 6 gather-sequence-kinds.ps μ-gather-sequence t)
+    gather-sequence.Pre
+
+abbrev gather-sequence-below : ℕ → In 6 gather-sequence-kinds.ps
+gather-sequence-below t =
+    and
+    6
+    gather-sequence-kinds.ps
+    (falls 6 gather-sequence-kinds.ps _<_ μ-gather-sequence t)
+    gather-sequence.Pre
+
+abbrev emit-row-calls : ℕ → emit-row-lts.Claims
+emit-row-calls t = (
+  gather-below t,
+  gather.Post,
+  finish-reads.Asked,
+  finish-reads.Learnt,
+  emit-row-below t,
+  emit-row.Post,
+)
+
+abbrev gather-calls : ℕ → gather-lts.Claims
+gather-calls t = (
+  wide-reads.Asked,
+  wide-reads.Learnt,
+  gather-empty-reads.Asked,
+  gather-empty-reads.Learnt,
+  gather-type-reads.Asked,
+  gather-type-reads.Learnt,
+  gather-compound-below t,
+  gather-compound.Post,
+)
+
+abbrev gather-around-calls : ℕ → gather-around-lts.Claims
+gather-around-calls t = (
+  content-has-reads.Asked,
+  content-has-reads.Learnt,
+  emit-row-below t,
+  emit-row.Post,
+  settle-reads.Asked,
+  settle-reads.Learnt,
+  gather-empty-reads.Asked,
+  gather-empty-reads.Learnt,
+)
+
+abbrev gather-compound-calls : ℕ → gather-compound-lts.Claims
+gather-compound-calls t = (
+  wide-reads.Asked,
+  wide-reads.Learnt,
+  gather-row-below t,
+  gather-row.Post,
+  gather-one-below t,
+  gather-one.Post,
+)
+
+abbrev gather-one-calls : ℕ → gather-one-lts.Claims
+gather-one-calls t = (
+  wide-reads.Asked,
+  wide-reads.Learnt,
+  gather-sequence-below t,
+  gather-sequence.Post,
+  gather-around-below t,
+  gather-around.Post,
+)
+
+abbrev gather-row-calls : ℕ → gather-row-lts.Claims
+gather-row-calls t = (
+  gather-below t,
+  gather.Post,
+  gather-row-below t,
+  gather-row.Post,
+)
+
+abbrev gather-sequence-calls : ℕ → gather-sequence-lts.Claims
+gather-sequence-calls t = (
+  wide-reads.Asked,
+  wide-reads.Learnt,
+  row-has-reads.Asked,
+  row-has-reads.Learnt,
+  emit-row-below t,
+  emit-row.Post,
+  settle-reads.Asked,
+  settle-reads.Learnt,
+)
+
+-- the operands of a sequence and of a choice
+module _ {s : List ℕ} {at n : ℕ} {types from results d : List ℕ} {base count end limit words : ℕ}
+    (q : Source s at types from results d base count end limit words) where
+  operands-of : getD s at 0 ≡ 3 → n ≡ getD s (at + 1) 0 → CountedThere standard s at n (q .there) sequence
+  operands-of b e =
+      counted-of standard s at n (q .there) sequence e (omega arith) (omega arith) (ap (getElem? operators) b ∙ operator-sequence)
+
+  choices-of : getD s at 0 ≡ 4 → n ≡ getD s (at + 1) 0 → CountedThere standard s at n (q .there) choice
+  choices-of b e =
+      counted-of standard s at n (q .there) choice e (omega arith) (omega arith) (ap (getElem? operators) b ∙ operator-choice)
+
+emit-row-add-gather : (t : ℕ) → emit-row-lts.Need-add-gather (emit-row-calls t) (emit-row-at t) emit-row.Post
+emit-row-add-gather t c =
+    let q = c .before .before .before .before .before .before .before .before .pre .1 in
+    omega arith
+
+emit-row-add-gather-2 : (t : ℕ) → emit-row-lts.Need-add-gather-2 (emit-row-calls t) (emit-row-at t) emit-row.Post
+emit-row-add-gather-2 t c =
+    let q = c .before .before .before .before .before .before .before .before .pre .1 in
+    omega arith
+
+emit-row-add-gather-3 : (t : ℕ) → emit-row-lts.Need-add-gather-3 (emit-row-calls t) (emit-row-at t) emit-row.Post
+emit-row-add-gather-3 t c =
+    let q = c .before .before .before .before .before .before .before .before .pre .1 in
+    omega arith
+
+emit-row-gather-requires : (t : ℕ) → emit-row-lts.Need-gather-requires (emit-row-calls t) (emit-row-at t) emit-row.Post
+emit-row-gather-requires t c κs =
+    let a = c .before .before .before .before .before .before .before .before .before .before .args in
+    let res = listOfType (a .from .now) (a .results .now) in
+    let some = c .before .before .before .if1 .left in
+    let m = c .before .before .before .before .before .before .before .before .before .before .pre .0 in
+    let q = c .before .before .before .before .before .before .before .before .before .before .pre .1 in
+    (omega arith, (first-operand q res some, operand-noted q res some (a .marks .now) refl))
+
+emit-row-finish-requires : (t : ℕ) → emit-row-lts.Need-finish-requires (emit-row-calls t) (emit-row-at t) emit-row.Post
+emit-row-finish-requires t c κs =
+    let a = c .before .before .before .before .before .before .before .before .before .before .before .before .before .before .before .before .before .before .before .before .args in
+    let res = listOfType (a .from .now) (a .results .now) in
+    let some = c .before .before .before .before .before .before .before .before .before .before .before .before .before .if1 .left in
+    let q = c .before .before .before .before .before .before .before .before .before .before .before .before .before .before .before .before .before .before .before .before .pre .1 in
+    let g = c .before .before .before .before .before .before .before .before .before .gather .ensures (first-operand q res some) (operand-noted q res some (a .marks .now) refl) .gathers in
+    operand-kept q res some _ _ g (c .before .before .next .given .1) (c .before .before .before .before .before .before .before .before .before .gather .kept .1 .1 .1 .1 .1 .0)
+
+emit-row-add-if2 : (t : ℕ) → emit-row-lts.Need-add-if2 (emit-row-calls t) (emit-row-at t) emit-row.Post
+emit-row-add-if2 t c =
+    let q = c .before .before .before .before .before .before .before .before .before .before .before .before .before .before .before .before .before .before .before .before .before .before .before .pre .1 in
+    omega (arith, c .before .before .before .before .before .before .before .before .before .before .before .before .before .before .before .before .before .before .before .before .before .before .before .good .1 .1 .1 .1 .1 .1 .0)
+
+emit-row-same-length : (t : ℕ) → emit-row-lts.Need-same-length (emit-row-calls t) (emit-row-at t) emit-row.Post
+emit-row-same-length t c =
+    c .before .before .before .finish .kept .0 ∙ c .before .before .before .before .before .before .before .before .before .before .before .before .before .gather .kept .1 .1 .1 .1 .1 .0
+
+emit-row-returns-2 : (t : ℕ) → emit-row-lts.Need-returns-2 (emit-row-calls t) (emit-row-at t) emit-row.Post
+emit-row-returns-2 t c =
+    let a = c .before .before .before .before .before .before .before .before .before .before .before .before .before .before .before .before .before .before .before .before .before .before .before .before .args in
+    let res = listOfType (a .from .now) (a .results .now) in
+    let some = c .before .before .before .before .before .before .before .before .before .before .before .before .before .before .before .before .before .if1 .left in
+    let e = c .before .before .before .before .before .before .next .given .1 in
+    let l = c .before .before .before .before .before .before .before .before .before .before .before .before .before .gather .kept .1 .1 .1 .1 .1 .0 in
+    λ q.
+    let g = c .before .before .before .before .before .before .before .before .before .before .before .before .before .gather .ensures (first-operand q res some) (operand-noted q res some (a .marks .now) refl) .gathers in
+    let f = c .before .before .before .finish .ensures (operand-kept q res some _ _ g e l) in
+    operand-long q res some _ _ g e l f (c .before .before .before .finish .kept .0) (c .if2 .taken)
+
+emit-row-sub-emit-row : (t : ℕ) → emit-row-lts.Need-sub-emit-row (emit-row-calls t) (emit-row-at t) emit-row.Post
+emit-row-sub-emit-row t c =
+    let some = c .before .before .before .before .before .before .before .before .before .before .before .before .before .before .before .before .before .if1 .left in
+    omega arith
+
+emit-row-emit-row-requires : (t : ℕ) → emit-row-lts.Need-emit-row-requires (emit-row-calls t) (emit-row-at t) emit-row.Post
+emit-row-emit-row-requires t c κs =
+    let a = c .before .before .before .before .before .before .before .before .before .before .before .before .before .before .before .before .before .before .before .before .before .before .before .before .before .before .args in
+    let res = listOfType (a .from .now) (a .results .now) in
+    let some = c .before .before .before .before .before .before .before .before .before .before .before .before .before .before .before .before .before .before .before .if1 .left in
+    let e = c .before .before .before .before .before .before .before .before .next .given .1 in
+    let l = c .before .before .before .before .before .before .before .before .before .before .before .before .before .before .before .gather .kept .1 .1 .1 .1 .1 .0 in
+    let l' = c .before .before .before .before .before .finish .kept .0 in
+    let m = c .before .before .before .before .before .before .before .before .before .before .before .before .before .before .before .before .before .before .before .before .before .before .before .before .before .before .pre .0 in
+    let q = c .before .before .before .before .before .before .before .before .before .before .before .before .before .before .before .before .before .before .before .before .before .before .before .before .before .before .pre .1 in
+    let g = c .before .before .before .before .before .before .before .before .before .before .before .before .before .before .before .gather .ensures (first-operand q res some) (operand-noted q res some (a .marks .now) refl) .gathers in
+    let f = c .before .before .before .before .before .finish .ensures (operand-kept q res some _ _ g e l) in
+    let on = goes-on' q res some _ _ g e l in
+    let others = other-operands q res some _ _ g e l f l' (c .before .before .if2 .left) _ (c .before .before .before .before .before .before .before .before .before .before .before .before .before .before .before .gather .kept .1 .1 .1 .1 .1 .1 .1 .1 .1 .1 .1 .0) in
+    let i = others .there .inside in
+    (omega arith, others)
+
+emit-row-returns-3 : (t : ℕ) → emit-row-lts.Need-returns-3 (emit-row-calls t) (emit-row-at t) emit-row.Post
+emit-row-returns-3 t c =
+    let a = c .before .before .before .before .before .before .before .before .before .before .before .before .before .before .before .before .before .before .args in
+    let res = listOfType (a .from .now) (a .results .now) in
+    let some = c .before .before .before .before .before .before .before .before .before .before .before .if1 .left in
+    λ q. operand-wide q res some _ _ (c .before .before .before .before .before .before .before .gather .ensures (first-operand q res some) (operand-noted q res some (a .marks .now) refl) .gathers) (c .enum-told .given .1)
+
+emit-row-same-length-5 : (t : ℕ) → emit-row-lts.Need-same-length-5 (emit-row-calls t) (emit-row-at t) emit-row.Post
+emit-row-same-length-5 t c =
+    c .before .before .before .before .emit-row .kept .1 .1 .1 .1 .1 .1 .0 ∙ c .before .before .before .before .before .before .before .before .before .before .finish .kept .0 ∙ c .before .before .before .before .before .before .before .before .before .before .before .before .before .before .before .before .before .before .before .before .gather .kept .1 .1 .1 .1 .1 .0
+
+emit-row-same-length-6 : (t : ℕ) → emit-row-lts.Need-same-length-6 (emit-row-calls t) (emit-row-at t) emit-row.Post
+emit-row-same-length-6 t c = c .before .before .before .before .emit-row .kept .1 .1 .1 .1 .1 .1 .1 .1 .1 .0 ∙ c .before .before .before .before .before .before .before .before .before .before .before .before .before .before .before .before .before .before .before .before .gather .kept .1 .1 .1 .1 .1 .1 .1 .1 .1 .1 .1 .0
+
+emit-row-returns-4 : (t : ℕ) → emit-row-lts.Need-returns-4 (emit-row-calls t) (emit-row-at t) emit-row.Post
+emit-row-returns-4 t c =
+    let a = c .before .before .before .before .before .before .before .before .before .before .before .before .before .before .before .before .before .before .before .before .before .before .before .before .before .before .before .before .before .before .before .args in
+    let res = listOfType (a .from .now) (a .results .now) in
+    let some = c .before .before .before .before .before .before .before .before .before .before .before .before .before .before .before .before .before .before .before .before .before .before .before .before .if1 .left in
+    let e = c .before .before .before .before .before .before .before .before .before .before .before .before .before .next .given .1 in
+    let l = c .before .before .before .before .before .before .before .before .before .before .before .before .before .before .before .before .before .before .before .before .gather .kept .1 .1 .1 .1 .1 .0 in
+    let l' = c .before .before .before .before .before .before .before .before .before .before .finish .kept .0 in
+    λ q.
+    let g = c .before .before .before .before .before .before .before .before .before .before .before .before .before .before .before .before .before .before .before .before .gather .ensures (first-operand q res some) (operand-noted q res some (a .marks .now) refl) .gathers in
+    let f = c .before .before .before .before .before .before .before .before .before .before .finish .ensures (operand-kept q res some _ _ g e l) in
+    row-on q res some _ _ g e l f l' (c .before .before .before .before .before .before .before .if2 .left) _ _ (c .before .before .before .before .emit-row .ensures (other-operands q res some _ _ g e l f l' (c .before .before .before .before .before .before .before .if2 .left) _ (c .before .before .before .before .before .before .before .before .before .before .before .before .before .before .before .before .before .before .before .before .gather .kept .1 .1 .1 .1 .1 .1 .1 .1 .1 .1 .1 .0)))
+
+gather-shared-slice-read-wide : (t : ℕ) → gather-lts.Need-shared-slice-read-wide (gather-calls t) (gather-at t) gather.Post
+gather-shared-slice-read-wide t c =
+    let q = c .before .before .before .before .before .before .before .before .pre .1 .0 in
+    content-inside standard _ _ (q .there) .0
+
+gather-add-t18 : (t : ℕ) → gather-lts.Need-add-t18 (gather-calls t) (gather-at t) gather.Post
+gather-add-t18 t c =
+    let q = c .before .before .before .before .before .before .before .before .before .before .pre .1 .0 in
+    let i = content-inside standard _ _ (q .there) in
+    omega arith
+
+gather-add-gather-empty : (t : ℕ) → gather-lts.Need-add-gather-empty (gather-calls t) (gather-at t) gather.Post
+gather-add-gather-empty t c =
+    let q = c .before .before .before .before .before .before .before .before .before .before .before .pre .1 .0 in
+    let i = content-inside standard _ _ (q .there) in
+    omega arith
+
+gather-gather-empty-requires : (t : ℕ) → gather-lts.Need-gather-empty-requires (gather-calls t) (gather-at t) gather.Post
+gather-gather-empty-requires t c κs = (source-room (c .before .before .before .before .before .before .before .before .before .before .before .before .pre .1 .0), c .before .before .before .before .before .before .before .before .before .before .before .before .pre .1 .1 .marked)
+
+gather-add-wide : (t : ℕ) → gather-lts.Need-add-wide (gather-calls t) (gather-at t) gather.Post
+gather-add-wide t c =
+    let q = c .before .before .before .before .before .before .before .before .before .before .pre .1 .0 in
+    let i = content-inside standard _ _ (q .there) in
+    omega arith
+
+gather-shared-slice-read-wide-2 : (t : ℕ) → gather-lts.Need-shared-slice-read-wide-2 (gather-calls t) (gather-at t) gather.Post
+gather-shared-slice-read-wide-2 t c = type-there standard _ _ (c .before .before .before .before .before .before .before .before .before .before .before .pre .1 .0 .there) (sym (c .before .before .wide .ensures .0) ∙ c .before .match .keys3) .0
+
+gather-add-gather-type : (t : ℕ) → gather-lts.Need-add-gather-type (gather-calls t) (gather-at t) gather.Post
+gather-add-gather-type t c =
+    let b = sym (c .before .before .before .before .wide .ensures .0) ∙ c .before .before .before .match .keys3 in
+    let i = type-there standard _ _ (c .before .before .before .before .before .before .before .before .before .before .before .before .before .pre .1 .0 .there) b in
+    omega arith
+
+gather-gather-type-requires : (t : ℕ) → gather-lts.Need-gather-type-requires (gather-calls t) (gather-at t) gather.Post
+unfolding standard
+gather-gather-type-requires t c κs =
+    let q = c .before .before .before .before .before .before .before .before .before .before .before .before .before .before .before .pre .1 .0 in
+    let b = sym (c .before .before .before .before .before .before .wide .ensures .0) ∙ c .before .before .before .before .before .match .keys3 in
+    let k = c .before .before .before .wide2 .ensures .0 in
+    let i = type-there standard _ _ (q .there) b in
+    (omega arith, (source-room q, c .before .before .before .before .before .before .before .before .before .before .before .before .before .before .before .pre .1 .1))
+
+gather-gather-compound-requires : (t : ℕ) → gather-lts.Need-gather-compound-requires (gather-calls t) (gather-at t) gather.Post
+gather-gather-compound-requires t c κs =
+    let m = c .before .before .before .before .before .before .before .before .before .before .before .before .before .pre .0 in
+    let w = c .before .before .before .before .wide .ensures .0 in
+    let r = c .before .before .before .match .rest in
+    let n2 = r .1 in
+    let n1 = r .0 .1 in
+    let n0 = r .0 .0 .1 in
+    (omega arith, (omega arith, c .before .before .before .before .before .before .before .before .before .before .before .before .before .pre .1))
+
+gather-returns : (t : ℕ) → gather-lts.Need-returns (gather-calls t) (gather-at t) gather.Post
+gather-returns t c =
+    let b = sym (c .before .wide .ensures .0) ∙ c .match .keys1 in
+    λ q s. none-gives q _ b s
+
+gather-returns-2 : (t : ℕ) → gather-lts.Need-returns-2 (gather-calls t) (gather-at t) gather.Post
+gather-returns-2 t c =
+    let b = sym (c .before .before .before .before .before .before .before .before .wide .ensures .0) ∙ c .before .before .before .before .before .before .before .match .keys2 in
+    λ q s. plain-gives q _ (λ z. omega arith) (λ z. omega arith)
+    (s .types)
+    (empty-gives q _ b _ _ (c .before .before .before .before .gather-empty .ensures (source-room q) (s .marked)))
+
+gather-returns-3 : (t : ℕ) → gather-lts.Need-returns-3 (gather-calls t) (gather-at t) gather.Post
+gather-returns-3 t c =
+    let b = sym (c .before .before .before .before .before .before .before .before .before .before .before .before .before .wide .ensures .0) ∙ c .before .before .before .before .before .before .before .before .before .before .before .before .match .keys3 in
+    λ q s. type-gives q b _ (c .before .before .before .before .before .before .before .before .before .before .wide2 .ensures .0) _ _ (c .before .before .before .before .before .before .gather-type .ensures (source-room q) s)
+
+gather-around-shared-slice-read-operator : (t : ℕ) → gather-around-lts.Need-shared-slice-read-operator (gather-around-calls t) (gather-around-at t) gather-around.Post
+gather-around-shared-slice-read-operator t c =
+    let q = c .before .before .before .before .before .before .before .pre .1 .1 .0 in
+    content-inside standard _ _ (q .there) .0
+
+gather-around-add-content-has : (t : ℕ) → gather-around-lts.Need-add-content-has (gather-around-calls t) (gather-around-at t) gather-around.Post
+gather-around-add-content-has t c =
+    let q = c .before .before .before .before .before .before .before .pre .1 .1 .0 in
+    let i = content-inside standard _ _ (q .there) in
+    omega arith
+
+gather-around-content-has-requires : (t : ℕ) → gather-around-lts.Need-content-has-requires (gather-around-calls t) (gather-around-at t) gather-around.Post
+gather-around-content-has-requires t c κs =
+    let a = c .before .before .before .before .before .before .before .args in
+    let res = listOfType (a .from .now) (a .results .now) in
+    let q = c .before .before .before .before .before .before .before .pre .1 .1 .0 in
+    let b = c .before .before .before .before .before .before .before .pre .1 .0 in
+    let words = q .maps .words in
+    (single-of standard _ _ (q .there) res b .operand, omega arith)
+
+gather-around-slice-write-draft : (t : ℕ) → gather-around-lts.Need-slice-write-draft (gather-around-calls t) (gather-around-at t) gather-around.Post
+gather-around-slice-write-draft t c =
+    let a = c .before .before .before .before .before .before .before .before .before .args in
+    let res = listOfType (a .from .now) (a .results .now) in
+    let q = c .before .before .before .before .before .before .before .before .before .pre .1 .1 .0 in
+    let b = c .before .before .before .before .before .before .before .before .before .pre .1 .0 in
+    around-inside q res (single-of standard _ _ (q .there) res b)
+
+gather-around-add-emit-row : (t : ℕ) → gather-around-lts.Need-add-emit-row (gather-around-calls t) (gather-around-at t) gather-around.Post
+gather-around-add-emit-row t c =
+    let q = c .before .before .before .before .before .before .before .before .before .pre .1 .1 .0 in
+    let i = content-inside standard _ _ (q .there) in
+    omega arith
+
+gather-around-add-emit-row-2 : (t : ℕ) → gather-around-lts.Need-add-emit-row-2 (gather-around-calls t) (gather-around-at t) gather-around.Post
+gather-around-add-emit-row-2 t c =
+    let a = c .before .before .before .before .before .before .before .before .before .before .args in
+    let res = listOfType (a .from .now) (a .results .now) in
+    let q = c .before .before .before .before .before .before .before .before .before .before .pre .1 .1 .0 in
+    let b = c .before .before .before .before .before .before .before .before .before .before .pre .1 .0 in
+    let i = around-inside q res (single-of standard _ _ (q .there) res b) in
+    omega arith
+
+gather-around-sub-emit-row : (t : ℕ) → gather-around-lts.Need-sub-emit-row (gather-around-calls t) (gather-around-at t) gather-around.Post
+gather-around-sub-emit-row t c =
+    let m = c .before .before .before .before .before .before .before .before .before .before .pre .1 .1 .1 .room in
+    omega arith
+
+gather-around-part-emit-row-start : (t : ℕ) → gather-around-lts.Need-part-emit-row-start (gather-around-calls t) (gather-around-at t) gather-around.Post
+gather-around-part-emit-row-start t c =
+    let m = c .before .before .before .before .before .before .before .before .before .before .pre .1 .1 .1 .room in
+    omega arith
+
+gather-around-part-emit-row-end : (t : ℕ) → gather-around-lts.Need-part-emit-row-end (gather-around-calls t) (gather-around-at t) gather-around.Post
+gather-around-part-emit-row-end t c =
+    let m = c .before .before .before .before .before .before .before .before .before .before .pre .1 .1 .1 .room in
+    omega arith
+
+gather-around-emit-row-requires : (t : ℕ) → gather-around-lts.Need-emit-row-requires (gather-around-calls t) (gather-around-at t) gather-around.Post
+gather-around-emit-row-requires t c κs =
+    let a = c .before .before .before .before .before .before .before .before .before .before .before .args in
+    let res = listOfType (a .from .now) (a .results .now) in
+    let m = c .before .before .before .before .before .before .before .before .before .before .before .pre .0 in
+    let q = c .before .before .before .before .before .before .before .before .before .before .before .pre .1 .1 .0 in
+    let b = c .before .before .before .before .before .before .before .before .before .before .before .pre .1 .0 in
+    let i = content-inside standard _ _ (q .there) in
+    (omega arith, around-operands q res (single-of standard _ _ (q .there) res b) _ (part-words (a .marks .now) (c .before .before .before .before .before .before .before .before .before .before .before .pre .1 .1 .1 .room)))
+
+gather-around-settle-requires : (t : ℕ) → gather-around-lts.Need-settle-requires (gather-around-calls t) (gather-around-at t) gather-around.Post
+gather-around-settle-requires t c κs =
+    let a = c .before .before .before .before .before .before .before .before .before .before .before .before .before .before .before .before .before .before .before .before .before .args in
+    let res = listOfType (a .from .now) (a .results .now) in
+    let q = c .before .before .before .before .before .before .before .before .before .before .before .before .before .before .before .before .before .before .before .before .before .pre .1 .1 .0 in
+    let m = c .before .before .before .before .before .before .before .before .before .before .before .before .before .before .before .before .before .before .before .before .before .pre .1 .1 .1 in
+    let b = c .before .before .before .before .before .before .before .before .before .before .before .before .before .before .before .before .before .before .before .before .before .pre .1 .0 in
+    let one = single-of standard _ _ (q .there) res b in
+    let found = content-found _ _ _ (q .maps) _ _ (one .operand) _ _ (c .before .before .before .before .before .before .before .before .before .before .before .before .before .content-has .ensures) in
+    let has = sym (found .0) ∙ c .before .before .before .before .before .before .before .before .before .before .before .before .if1 .taken in
+    let g = c .before .before .before .before .before .before .before .before .before .emit-row .ensures (around-operands q res one _ (part-words (a .marks .now) (m .room))) in
+    ((around-newest q res one has _ _ g (c .before .before .before .next .given .1) (c .before .before .before .before .before .before .before .before .before .emit-row .kept .1 .1 .1 .1 .1 .1 .0), source-marked q m _), q .fits, q .small)
+
+gather-around-same-length-2 : (t : ℕ) → gather-around-lts.Need-same-length-2 (gather-around-calls t) (gather-around-at t) gather-around.Post
+gather-around-same-length-2 t c = part-long (c .before .before .before .before .before .before .before .before .before .before .before .before .before .before .before .before .before .before .args .marks .now) (c .before .before .before .before .before .before .emit-row .last .1 .1 .1 .1 .1 .1 .1 .1 .1 .0) (c .before .before .before .before .before .before .before .before .before .before .before .before .before .before .before .before .before .before .pre .1 .1 .1 .room) (c .before .before .before .before .before .before .emit-row .kept .1 .1 .1 .1 .1 .1 .1 .1 .1 .0)
+
+gather-around-returns : (t : ℕ) → gather-around-lts.Need-returns (gather-around-calls t) (gather-around-at t) gather-around.Post
+gather-around-returns t c =
+    let a = c .before .before .before .before .before .before .before .before .before .before .before .before .before .before .before .before .before .before .args in
+    let res = listOfType (a .from .now) (a .results .now) in
+    let b = c .before .before .before .before .before .before .before .before .before .before .before .before .before .before .before .before .before .before .pre .1 .0 in
+    λ q m.
+    let one = single-of standard _ _ (q .there) res b in
+    let found = content-found _ _ _ (q .maps) _ _ (one .operand) _ _ (c .before .before .before .before .before .before .before .before .before .before .content-has .ensures) in
+    let has = sym (found .0) ∙ c .before .before .before .before .before .before .before .before .before .if1 .taken in
+    let g = c .before .before .before .before .before .before .emit-row .ensures (around-operands q res one _ (part-words (a .marks .now) (m .room))) in
+    around-wide q res one has _ _ g (c .enum-told .given .1)
+
+gather-around-same-length-4 : (t : ℕ) → gather-around-lts.Need-same-length-4 (gather-around-calls t) (gather-around-at t) gather-around.Post
+gather-around-same-length-4 t c = c .before .before .settle .kept .1 .1 .1 .1 .1 .1 .1 .0 ∙ part-long (c .before .before .before .before .before .before .before .before .before .before .before .before .before .before .before .before .before .before .before .before .before .before .before .before .args .marks .now) (c .before .before .before .before .before .before .before .before .before .before .before .before .emit-row .last .1 .1 .1 .1 .1 .1 .1 .1 .1 .0) (c .before .before .before .before .before .before .before .before .before .before .before .before .before .before .before .before .before .before .before .before .before .before .before .before .pre .1 .1 .1 .room) (c .before .before .before .before .before .before .before .before .before .before .before .before .emit-row .kept .1 .1 .1 .1 .1 .1 .1 .1 .1 .0)
+
+gather-around-returns-2 : (t : ℕ) → gather-around-lts.Need-returns-2 (gather-around-calls t) (gather-around-at t) gather-around.Post
+gather-around-returns-2 t c =
+    let a = c .before .before .before .before .before .before .before .before .before .before .before .before .before .before .before .before .before .before .before .before .before .before .before .before .args in
+    let res = listOfType (a .from .now) (a .results .now) in
+    let b = c .before .before .before .before .before .before .before .before .before .before .before .before .before .before .before .before .before .before .before .before .before .before .before .before .pre .1 .0 in
+    let e = c .before .before .before .before .before .before .next .given .1 in
+    let l = c .before .before .before .before .before .before .before .before .before .before .before .before .emit-row .kept .1 .1 .1 .1 .1 .1 .0 in
+    λ q m.
+    let one = single-of standard _ _ (q .there) res b in
+    let found = content-found _ _ _ (q .maps) _ _ (one .operand) _ _ (c .before .before .before .before .before .before .before .before .before .before .before .before .before .before .before .before .content-has .ensures) in
+    let has = sym (found .0) ∙ c .before .before .before .before .before .before .before .before .before .before .before .before .before .before .before .if1 .taken in
+    let g = c .before .before .before .before .before .before .before .before .before .before .before .before .emit-row .ensures (around-operands q res one _ (part-words (a .marks .now) (m .room))) in
+    around-settled q res one has _ _ g e l _ (c .before .before .settle .ensures (around-newest q res one has _ _ g e l) (source-marked q m _))
+
+gather-around-returns-3 : (t : ℕ) → gather-around-lts.Need-returns-3 (gather-around-calls t) (gather-around-at t) gather-around.Post
+gather-around-returns-3 t c =
+    let a = c .before .before .before .before .before .before .before .before .before .before .args in
+    let res = listOfType (a .from .now) (a .results .now) in
+    let b = c .before .before .before .before .before .before .before .before .before .before .pre .1 .0 in
+    λ q m.
+    let one = single-of standard _ _ (q .there) res b in
+    let found = content-found _ _ _ (q .maps) _ _ (one .operand) _ _ (c .before .before .content-has .ensures) in
+    around-blank q res one _ (found .1) (c .if2 .taken) (sym (found .0) ∙ c .before .if1 .left) m
+
+gather-around-gather-empty-requires : (t : ℕ) → gather-around-lts.Need-gather-empty-requires (gather-around-calls t) (gather-around-at t) gather-around.Post
+gather-around-gather-empty-requires t c κs = (source-room (c .before .before .before .before .before .before .before .before .before .before .before .before .pre .1 .1 .0), c .before .before .before .before .before .before .before .before .before .before .before .before .pre .1 .1 .1)
+
+gather-around-returns-4 : (t : ℕ) → gather-around-lts.Need-returns-4 (gather-around-calls t) (gather-around-at t) gather-around.Post
+gather-around-returns-4 t c =
+    let a = c .before .before .before .before .before .before .before .before .before .before .before .before .before .before .before .before .before .args in
+    let res = listOfType (a .from .now) (a .results .now) in
+    let b = c .before .before .before .before .before .before .before .before .before .before .before .before .before .before .before .before .before .pre .1 .0 in
+    λ q m.
+    let one = single-of standard _ _ (q .there) res b in
+    let found = content-found _ _ _ (q .maps) _ _ (one .operand) _ _ (c .before .before .before .before .before .before .before .before .before .content-has .ensures) in
+    let has-not = sym (found .0) ∙ c .before .before .before .before .before .before .before .before .if1 .left in
+    around-empty q res one _ _ _ (found .1) (c .before .before .before .before .before .before .before .if2 .left) has-not (c .before .before .before .before .gather-empty .ensures (source-room q) m)
+
+gather-compound-shared-slice-read-wide : (t : ℕ) → gather-compound-lts.Need-shared-slice-read-wide (gather-compound-calls t) (gather-compound-at t) gather-compound.Post
+gather-compound-shared-slice-read-wide t c =
+    let q = c .before .before .before .before .before .before .before .before .pre .1 .1 .0 in
+    content-inside standard _ _ (q .there) .0
+
+gather-compound-add-gather-row : (t : ℕ) → gather-compound-lts.Need-add-gather-row (gather-compound-calls t) (gather-compound-at t) gather-compound.Post
+gather-compound-add-gather-row t c =
+    let q = c .before .before .before .before .before .before .before .before .before .before .pre .1 .1 .0 in
+    let b = sym (c .before .wide .ensures .0) ∙ c .if1 .taken in
+    let i = count-there standard _ _ (q .there) (omega arith) (omega arith) in
+    omega arith
+
+gather-compound-add-wide : (t : ℕ) → gather-compound-lts.Need-add-wide (gather-compound-calls t) (gather-compound-at t) gather-compound.Post
+gather-compound-add-wide t c =
+    let q = c .before .before .before .before .before .before .before .before .before .before .pre .1 .1 .0 in
+    let i = content-inside standard _ _ (q .there) in
+    omega arith
+
+gather-compound-shared-slice-read-wide-2 : (t : ℕ) → gather-compound-lts.Need-shared-slice-read-wide-2 (gather-compound-calls t) (gather-compound-at t) gather-compound.Post
+gather-compound-shared-slice-read-wide-2 t c =
+    let q = c .before .before .before .before .before .before .before .before .before .before .before .pre .1 .1 .0 in
+    let b = sym (c .before .before .wide .ensures .0) ∙ c .before .if1 .taken in
+    count-there standard _ _ (q .there) (omega arith) (omega arith)
+
+gather-compound-gather-row-requires : (t : ℕ) → gather-compound-lts.Need-gather-row-requires (gather-compound-calls t) (gather-compound-at t) gather-compound.Post
+gather-compound-gather-row-requires t c κs =
+    let a = c .before .before .before .before .before .before .before .before .before .before .before .before .before .before .before .args in
+    let res = listOfType (a .from .now) (a .results .now) in
+    let m = c .before .before .before .before .before .before .before .before .before .before .before .before .before .before .before .pre .0 in
+    let q = c .before .before .before .before .before .before .before .before .before .before .before .before .before .before .before .pre .1 .1 .0 in
+    let b = sym (c .before .before .before .before .before .before .wide .ensures .0) ∙ c .before .before .before .before .before .if1 .taken in
+    let i = count-there standard _ _ (q .there) (omega arith) (omega arith) in
+    (omega arith, (choice-sources q res (choices-of q b (c .before .before .before .wide2 .ensures .0)), c .before .before .before .before .before .before .before .before .before .before .before .before .before .before .before .pre .1 .1 .1))
+
+gather-compound-returns : (t : ℕ) → gather-compound-lts.Need-returns (gather-compound-calls t) (gather-compound-at t) gather-compound.Post
+gather-compound-returns t c =
+    let a = c .before .before .before .before .before .before .before .before .before .before .before .before .before .before .before .before .before .before .before .before .before .before .args in
+    let res = listOfType (a .from .now) (a .results .now) in
+    let b = sym (c .before .before .before .before .before .before .before .before .before .before .before .before .before .wide .ensures .0) ∙ c .before .before .before .before .before .before .before .before .before .before .before .before .if1 .taken in
+    λ q s.
+    let cs = choices-of q b (c .before .before .before .before .before .before .before .before .before .before .wide2 .ensures .0) in
+    choice-gives q res cs _ _ (c .before .before .before .before .before .before .gather-row .ensures (choice-sources q res cs) s)
+
+gather-compound-gather-one-requires : (t : ℕ) → gather-compound-lts.Need-gather-one-requires (gather-compound-calls t) (gather-compound-at t) gather-compound.Post
+gather-compound-gather-one-requires t c κs =
+    let m = c .before .before .before .before .before .before .before .before .before .before .before .before .pre .0 in
+    let w = c .before .before .before .wide .ensures .0 in
+    (omega arith, (c .before .before .before .before .before .before .before .before .before .before .before .before .pre .1 .0, (λ z. c .before .before .if1 .left (w ∙ z)), (c .before .before .before .before .before .before .before .before .before .before .before .before .pre .1 .1 .0, c .before .before .before .before .before .before .before .before .before .before .before .before .pre .1 .1 .1 .marked)))
+
+gather-compound-returns-2 : (t : ℕ) → gather-compound-lts.Need-returns-2 (gather-compound-calls t) (gather-compound-at t) gather-compound.Post
+gather-compound-returns-2 t c =
+    let low = c .before .before .before .before .before .before .before .before .before .before .before .before .before .before .before .before .before .pre .1 .0 in
+    let w = c .before .before .before .before .before .before .before .before .wide .ensures .0 in
+    λ q s. plain-gives q _ (λ z. omega arith) (λ z. c .before .before .before .before .before .before .before .if1 .left (w ∙ z)) (s .types) (c .before .before .before .before .gather-one .ensures q (s .marked))
+
+gather-one-shared-slice-read-wide : (t : ℕ) → gather-one-lts.Need-shared-slice-read-wide (gather-one-calls t) (gather-one-at t) gather-one.Post
+gather-one-shared-slice-read-wide t c = content-inside standard _ _ (c .before .before .before .before .before .before .before .pre .1 .2 .0 .there) .0
+
+gather-one-gather-sequence-requires : (t : ℕ) → gather-one-lts.Need-gather-sequence-requires (gather-one-calls t) (gather-one-at t) gather-one.Post
+gather-one-gather-sequence-requires t c κs =
+    let m = c .before .before .before .before .before .before .before .before .before .before .before .pre .0 in
+    (omega arith, (sym (c .before .before .before .wide .ensures .0) ∙ c .before .before .if1 .taken, c .before .before .before .before .before .before .before .before .before .before .before .pre .1 .2))
+
+gather-one-gather-around-requires : (t : ℕ) → gather-one-lts.Need-gather-around-requires (gather-one-calls t) (gather-one-at t) gather-one.Post
+gather-one-gather-around-requires t c κs =
+    let m = c .before .before .before .before .before .before .before .before .before .before .before .pre .0 in
+    let low = c .before .before .before .before .before .before .before .before .before .before .before .pre .1 .0 in
+    let n4 = c .before .before .before .before .before .before .before .before .before .before .before .pre .1 .1 in
+    let n3 = c .before .before .if1 .left in
+    let w = c .before .before .before .wide .ensures .0 in
+    (omega arith, (omega arith, c .before .before .before .before .before .before .before .before .before .before .before .pre .1 .2))
+
+gather-row-gather-requires : (t : ℕ) → gather-row-lts.Need-gather-requires (gather-row-calls t) (gather-row-at t) gather-row.Post
+gather-row-gather-requires t c κs =
+    let a = c .before .before .before .before .before .before .before .before .before .before .before .args in
+    let res = listOfType (a .from .now) (a .results .now) in
+    let some = c .before .before .before .if1 .left in
+    let m = c .before .before .before .before .before .before .before .before .before .before .before .pre .0 in
+    let q = c .before .before .before .before .before .before .before .before .before .before .before .pre .1 .0 in
+    (omega arith, (first-source q res some, c .before .before .before .before .before .before .before .before .before .before .before .pre .1 .1))
+
+gather-row-sub-gather-row : (t : ℕ) → gather-row-lts.Need-sub-gather-row (gather-row-calls t) (gather-row-at t) gather-row.Post
+gather-row-sub-gather-row t c =
+    let some = c .before .before .before .before .before .before .before .before .before .before .before .before .before .if1 .left in
+    omega arith
+
+gather-row-gather-row-requires : (t : ℕ) → gather-row-lts.Need-gather-row-requires (gather-row-calls t) (gather-row-at t) gather-row.Post
+gather-row-gather-row-requires t c κs =
+    let a = c .before .before .before .before .before .before .before .before .before .before .before .before .before .before .before .before .before .before .before .before .before .before .before .before .args in
+    let res = listOfType (a .from .now) (a .results .now) in
+    let some = c .before .before .before .before .before .before .before .before .before .before .before .before .before .before .before .before .if1 .left in
+    let e = c .before .before .before .before .next .given .1 in
+    let l = c .before .before .before .before .before .before .before .before .before .before .before .before .gather .kept .1 .1 .1 .1 .1 .0 in
+    let m = c .before .before .before .before .before .before .before .before .before .before .before .before .before .before .before .before .before .before .before .before .before .before .before .before .pre .0 in
+    let q = c .before .before .before .before .before .before .before .before .before .before .before .before .before .before .before .before .before .before .before .before .before .before .before .before .pre .1 .0 in
+    let g = c .before .before .before .before .before .before .before .before .before .before .before .before .gather .ensures (first-source q res some) (c .before .before .before .before .before .before .before .before .before .before .before .before .before .before .before .before .before .before .before .before .before .before .before .before .pre .1 .1) in
+    let on = goes-on q res some _ _ g e l in
+    let others = other-sources q res some _ _ g e l _ (c .before .before .before .before .before .before .before .before .before .before .before .before .gather .kept .1 .1 .1 .1 .1 .1 .1 .1 .1 .1 .1 .0) in
+    let i = others .there .inside in
+    (omega arith, (others, g .noted e))
+
+gather-row-returns-2 : (t : ℕ) → gather-row-lts.Need-returns-2 (gather-row-calls t) (gather-row-at t) gather-row.Post
+gather-row-returns-2 t c =
+    let a = c .before .before .before .before .before .before .before .before .before .before .before .before .before .before .before .before .before .before .before .before .args in
+    let res = listOfType (a .from .now) (a .results .now) in
+    let some = c .before .before .before .before .before .before .before .before .before .before .before .before .if1 .left in
+    λ q s. row-wide q res some _ _ (c .before .before .before .before .before .before .before .before .gather .ensures (first-source q res some) s) (c .enum-told .given .1)
+
+gather-row-same-length-4 : (t : ℕ) → gather-row-lts.Need-same-length-4 (gather-row-calls t) (gather-row-at t) gather-row.Post
+gather-row-same-length-4 t c = c .before .before .before .before .before .before .gather-row .kept .1 .1 .1 .1 .1 .1 .0 ∙ c .before .before .before .before .before .before .before .before .before .before .before .before .before .before .before .before .before .before .before .gather .kept .1 .1 .1 .1 .1 .0
+
+gather-row-same-length-5 : (t : ℕ) → gather-row-lts.Need-same-length-5 (gather-row-calls t) (gather-row-at t) gather-row.Post
+gather-row-same-length-5 t c = c .before .before .before .before .before .before .gather-row .kept .1 .1 .1 .1 .1 .1 .1 .1 .1 .1 .1 .0 ∙ c .before .before .before .before .before .before .before .before .before .before .before .before .before .before .before .before .before .before .before .gather .kept .1 .1 .1 .1 .1 .1 .1 .1 .1 .1 .0
+
+gather-row-same-length-6 : (t : ℕ) → gather-row-lts.Need-same-length-6 (gather-row-calls t) (gather-row-at t) gather-row.Post
+gather-row-same-length-6 t c = c .before .before .before .before .before .before .gather-row .kept .1 .1 .1 .1 .1 .1 .1 .1 .1 .1 .1 .1 .0 ∙ c .before .before .before .before .before .before .before .before .before .before .before .before .before .before .before .before .before .before .before .gather .kept .1 .1 .1 .1 .1 .1 .1 .1 .1 .1 .1 .0
+
+gather-row-returns-3 : (t : ℕ) → gather-row-lts.Need-returns-3 (gather-row-calls t) (gather-row-at t) gather-row.Post
+gather-row-returns-3 t c =
+    let a = c .before .before .before .before .before .before .before .before .before .before .before .before .before .before .before .before .before .before .before .before .before .before .before .before .before .before .before .before .before .before .before .args in
+    let res = listOfType (a .from .now) (a .results .now) in
+    let some = c .before .before .before .before .before .before .before .before .before .before .before .before .before .before .before .before .before .before .before .before .before .before .before .if1 .left in
+    let e = c .before .before .before .before .before .before .before .before .before .before .before .next .given .1 in
+    let l = c .before .before .before .before .before .before .before .before .before .before .before .before .before .before .before .before .before .before .before .gather .kept .1 .1 .1 .1 .1 .0 in
+    λ q s.
+    let g = c .before .before .before .before .before .before .before .before .before .before .before .before .before .before .before .before .before .before .before .gather .ensures (first-source q res some) s in
+    row-then q res some _ _ g e l _ _ (c .before .before .before .before .before .before .gather-row .ensures (other-sources q res some _ _ g e l _ (c .before .before .before .before .before .before .before .before .before .before .before .before .before .before .before .before .before .before .before .gather .kept .1 .1 .1 .1 .1 .1 .1 .1 .1 .1 .1 .0)) (g .noted e))
+
+gather-sequence-add-wide : (t : ℕ) → gather-sequence-lts.Need-add-wide (gather-sequence-calls t) (gather-sequence-at t) gather-sequence.Post
+gather-sequence-add-wide t c =
+    let q = c .before .before .before .before .before .before .pre .1 .1 .0 in
+    let b = c .before .before .before .before .before .before .pre .1 .0 in
+    let i = count-there standard _ _ (q .there) (omega arith) (omega arith) in
+    omega arith
+
+gather-sequence-shared-slice-read-wide : (t : ℕ) → gather-sequence-lts.Need-shared-slice-read-wide (gather-sequence-calls t) (gather-sequence-at t) gather-sequence.Post
+gather-sequence-shared-slice-read-wide t c =
+    let q = c .before .before .before .before .before .before .before .pre .1 .1 .0 in
+    let b = c .before .before .before .before .before .before .before .pre .1 .0 in
+    let i = count-there standard _ _ (q .there) (omega arith) (omega arith) in
+    omega arith
+
+gather-sequence-add-row-has : (t : ℕ) → gather-sequence-lts.Need-add-row-has (gather-sequence-calls t) (gather-sequence-at t) gather-sequence.Post
+gather-sequence-add-row-has t c =
+    let q = c .before .before .before .before .before .before .before .before .pre .1 .1 .0 in
+    let b = c .before .before .before .before .before .before .before .before .pre .1 .0 in
+    let i = count-there standard _ _ (q .there) (omega arith) (omega arith) in
+    omega arith
+
+gather-sequence-row-has-requires : (t : ℕ) → gather-sequence-lts.Need-row-has-requires (gather-sequence-calls t) (gather-sequence-at t) gather-sequence.Post
+gather-sequence-row-has-requires t c κs =
+    let q = c .before .before .before .before .before .before .before .before .pre .1 .1 .0 in
+    let b = c .before .before .before .before .before .before .before .before .pre .1 .0 in
+    let words = q .maps .words in
+    (operands-of q b (c .wide .ensures .0) .operands, omega arith)
+
+gather-sequence-slice-write-draft : (t : ℕ) → gather-sequence-lts.Need-slice-write-draft (gather-sequence-calls t) (gather-sequence-at t) gather-sequence.Post
+gather-sequence-slice-write-draft t c =
+    let a = c .before .before .before .before .before .before .before .before .before .before .args in
+    let res = listOfType (a .from .now) (a .results .now) in
+    let q = c .before .before .before .before .before .before .before .before .before .before .pre .1 .1 .0 in
+    let b = c .before .before .before .before .before .before .before .before .before .before .pre .1 .0 in
+    let n = c .before .before .wide .ensures .0 in
+    let i = sequence-inside q res (operands-of q b n) n in
+    omega arith
+
+gather-sequence-add-draft : (t : ℕ) → gather-sequence-lts.Need-add-draft (gather-sequence-calls t) (gather-sequence-at t) gather-sequence.Post
+gather-sequence-add-draft t c =
+    let q = c .before .before .before .before .before .before .before .before .before .before .pre .1 .1 .0 in
+    let b = c .before .before .before .before .before .before .before .before .before .before .pre .1 .0 in
+    let i = count-there standard _ _ (q .there) (omega arith) (omega arith) in
+    omega arith
+
+gather-sequence-shared-slice-read-draft : (t : ℕ) → gather-sequence-lts.Need-shared-slice-read-draft (gather-sequence-calls t) (gather-sequence-at t) gather-sequence.Post
+gather-sequence-shared-slice-read-draft t c =
+    let q = c .before .before .before .before .before .before .before .before .before .before .before .pre .1 .1 .0 in
+    let b = c .before .before .before .before .before .before .before .before .before .before .before .pre .1 .0 in
+    let i = count-there standard _ _ (q .there) (omega arith) (omega arith) in
+    omega arith
+
+gather-sequence-add-draft-2 : (t : ℕ) → gather-sequence-lts.Need-add-draft-2 (gather-sequence-calls t) (gather-sequence-at t) gather-sequence.Post
+gather-sequence-add-draft-2 t c =
+    let a = c .before .before .before .before .before .before .before .before .before .before .before .args in
+    let res = listOfType (a .from .now) (a .results .now) in
+    let q = c .before .before .before .before .before .before .before .before .before .before .before .pre .1 .1 .0 in
+    let b = c .before .before .before .before .before .before .before .before .before .before .before .pre .1 .0 in
+    let n = c .before .before .before .wide .ensures .0 in
+    let i = sequence-inside q res (operands-of q b n) n in
+    omega arith
+
+gather-sequence-slice-write-draft-2 : (t : ℕ) → gather-sequence-lts.Need-slice-write-draft-2 (gather-sequence-calls t) (gather-sequence-at t) gather-sequence.Post
+gather-sequence-slice-write-draft-2 t c =
+    let a = c .before .before .before .before .before .before .before .before .before .before .before .args in
+    let res = listOfType (a .from .now) (a .results .now) in
+    let q = c .before .before .before .before .before .before .before .before .before .before .before .pre .1 .1 .0 in
+    let b = c .before .before .before .before .before .before .before .before .before .before .before .pre .1 .0 in
+    let n = c .before .before .before .wide .ensures .0 in
+    let i = sequence-inside q res (operands-of q b n) n in
+    simp length-set (omega arith)
+
+gather-sequence-add-emit-row : (t : ℕ) → gather-sequence-lts.Need-add-emit-row (gather-sequence-calls t) (gather-sequence-at t) gather-sequence.Post
+gather-sequence-add-emit-row t c =
+    let q = c .before .before .before .before .before .before .before .before .before .before .before .pre .1 .1 .0 in
+    let b = c .before .before .before .before .before .before .before .before .before .before .before .pre .1 .0 in
+    let i = count-there standard _ _ (q .there) (omega arith) (omega arith) in
+    omega arith
+
+gather-sequence-add-emit-row-2 : (t : ℕ) → gather-sequence-lts.Need-add-emit-row-2 (gather-sequence-calls t) (gather-sequence-at t) gather-sequence.Post
+gather-sequence-add-emit-row-2 t c =
+    let a = c .before .before .before .before .before .before .before .before .before .before .before .before .args in
+    let res = listOfType (a .from .now) (a .results .now) in
+    let q = c .before .before .before .before .before .before .before .before .before .before .before .before .pre .1 .1 .0 in
+    let b = c .before .before .before .before .before .before .before .before .before .before .before .before .pre .1 .0 in
+    let n = c .before .before .before .before .wide .ensures .0 in
+    let i = sequence-inside q res (operands-of q b n) n in
+    omega arith
+
+gather-sequence-sub-emit-row : (t : ℕ) → gather-sequence-lts.Need-sub-emit-row (gather-sequence-calls t) (gather-sequence-at t) gather-sequence.Post
+gather-sequence-sub-emit-row t c =
+    let m = c .before .before .before .before .before .before .before .before .before .before .before .before .pre .1 .1 .1 .room in
+    omega arith
+
+gather-sequence-part-emit-row-start : (t : ℕ) → gather-sequence-lts.Need-part-emit-row-start (gather-sequence-calls t) (gather-sequence-at t) gather-sequence.Post
+gather-sequence-part-emit-row-start t c =
+    let m = c .before .before .before .before .before .before .before .before .before .before .before .before .pre .1 .1 .1 .room in
+    omega arith
+
+gather-sequence-part-emit-row-end : (t : ℕ) → gather-sequence-lts.Need-part-emit-row-end (gather-sequence-calls t) (gather-sequence-at t) gather-sequence.Post
+gather-sequence-part-emit-row-end t c =
+    let m = c .before .before .before .before .before .before .before .before .before .before .before .before .pre .1 .1 .1 .room in
+    omega arith
+
+gather-sequence-emit-row-requires : (t : ℕ) → gather-sequence-lts.Need-emit-row-requires (gather-sequence-calls t) (gather-sequence-at t) gather-sequence.Post
+gather-sequence-emit-row-requires t c κs =
+    let a = c .before .before .before .before .before .before .before .before .before .before .before .before .before .args in
+    let res = listOfType (a .from .now) (a .results .now) in
+    let m = c .before .before .before .before .before .before .before .before .before .before .before .before .before .pre .0 in
+    let q = c .before .before .before .before .before .before .before .before .before .before .before .before .before .pre .1 .1 .0 in
+    let b = c .before .before .before .before .before .before .before .before .before .before .before .before .before .pre .1 .0 in
+    let n = c .before .before .before .before .before .wide .ensures .0 in
+    let i = count-there standard _ _ (q .there) (omega arith) (omega arith) in
+    (omega arith, sequence-operands q res (operands-of q b n) n _ (part-words (a .marks .now) (c .before .before .before .before .before .before .before .before .before .before .before .before .before .pre .1 .1 .1 .room)))
+
+gather-sequence-settle-requires : (t : ℕ) → gather-sequence-lts.Need-settle-requires (gather-sequence-calls t) (gather-sequence-at t) gather-sequence.Post
+gather-sequence-settle-requires t c κs =
+    let a = c .before .before .before .before .before .before .before .before .before .before .before .before .before .before .before .before .before .before .before .before .before .before .before .args in
+    let res = listOfType (a .from .now) (a .results .now) in
+    let q = c .before .before .before .before .before .before .before .before .before .before .before .before .before .before .before .before .before .before .before .before .before .before .before .pre .1 .1 .0 in
+    let m = c .before .before .before .before .before .before .before .before .before .before .before .before .before .before .before .before .before .before .before .before .before .before .before .pre .1 .1 .1 in
+    let b = c .before .before .before .before .before .before .before .before .before .before .before .before .before .before .before .before .before .before .before .before .before .before .before .pre .1 .0 in
+    let n = c .before .before .before .before .before .before .before .before .before .before .before .before .before .before .before .wide .ensures .0 in
+    let cs = operands-of q b n in
+    let found = row-found _ _ _ (q .maps) _ _ _ (cs .operands) _ _ _ (c .before .before .before .before .before .before .before .before .before .before .before .before .before .before .row-has .ensures) in
+    let has = sym (found .0) ∙ c .before .before .before .before .before .before .before .before .before .before .before .before .before .if1 .taken in
+    let g = c .before .before .before .before .before .before .before .before .before .emit-row .ensures (sequence-operands q res cs n _ (part-words (a .marks .now) (m .room))) in
+    ((sequence-newest q res cs n has _ _ g (c .before .before .before .next .given .1) (c .before .before .before .before .before .before .before .before .before .emit-row .kept .1 .1 .1 .1 .1 .1 .0), source-marked q m _), q .fits, q .small)
+
+gather-sequence-same-length-2 : (t : ℕ) → gather-sequence-lts.Need-same-length-2 (gather-sequence-calls t) (gather-sequence-at t) gather-sequence.Post
+gather-sequence-same-length-2 t c = part-long (c .before .before .before .before .before .before .before .before .before .before .before .before .before .before .before .before .before .before .before .before .args .marks .now) (c .before .before .before .before .before .before .emit-row .last .1 .1 .1 .1 .1 .1 .1 .1 .1 .0) (c .before .before .before .before .before .before .before .before .before .before .before .before .before .before .before .before .before .before .before .before .pre .1 .1 .1 .room) (c .before .before .before .before .before .before .emit-row .kept .1 .1 .1 .1 .1 .1 .1 .1 .1 .0)
+
+gather-sequence-returns : (t : ℕ) → gather-sequence-lts.Need-returns (gather-sequence-calls t) (gather-sequence-at t) gather-sequence.Post
+gather-sequence-returns t c =
+    let a = c .before .before .before .before .before .before .before .before .before .before .before .before .before .before .before .before .before .before .before .before .args in
+    let res = listOfType (a .from .now) (a .results .now) in
+    let b = c .before .before .before .before .before .before .before .before .before .before .before .before .before .before .before .before .before .before .before .before .pre .1 .0 in
+    let n = c .before .before .before .before .before .before .before .before .before .before .before .before .wide .ensures .0 in
+    λ q m.
+    let cs = operands-of q b n in
+    let found = row-found _ _ _ (q .maps) _ _ _ (cs .operands) _ _ _ (c .before .before .before .before .before .before .before .before .before .before .before .row-has .ensures) in
+    let has = sym (found .0) ∙ c .before .before .before .before .before .before .before .before .before .before .if1 .taken in
+    let g = c .before .before .before .before .before .before .emit-row .ensures (sequence-operands q res cs n _ (part-words (a .marks .now) (m .room))) in
+    sequence-wide q res cs n has _ _ g (c .enum-told .given .1)
+
+gather-sequence-same-length-4 : (t : ℕ) → gather-sequence-lts.Need-same-length-4 (gather-sequence-calls t) (gather-sequence-at t) gather-sequence.Post
+gather-sequence-same-length-4 t c = c .before .before .settle .kept .1 .1 .1 .1 .1 .1 .1 .0 ∙ part-long (c .before .before .before .before .before .before .before .before .before .before .before .before .before .before .before .before .before .before .before .before .before .before .before .before .before .before .args .marks .now) (c .before .before .before .before .before .before .before .before .before .before .before .before .emit-row .last .1 .1 .1 .1 .1 .1 .1 .1 .1 .0) (c .before .before .before .before .before .before .before .before .before .before .before .before .before .before .before .before .before .before .before .before .before .before .before .before .before .before .pre .1 .1 .1 .room) (c .before .before .before .before .before .before .before .before .before .before .before .before .emit-row .kept .1 .1 .1 .1 .1 .1 .1 .1 .1 .0)
+
+gather-sequence-returns-2 : (t : ℕ) → gather-sequence-lts.Need-returns-2 (gather-sequence-calls t) (gather-sequence-at t) gather-sequence.Post
+gather-sequence-returns-2 t c =
+    let a = c .before .before .before .before .before .before .before .before .before .before .before .before .before .before .before .before .before .before .before .before .before .before .before .before .before .before .args in
+    let res = listOfType (a .from .now) (a .results .now) in
+    let b = c .before .before .before .before .before .before .before .before .before .before .before .before .before .before .before .before .before .before .before .before .before .before .before .before .before .before .pre .1 .0 in
+    let n = c .before .before .before .before .before .before .before .before .before .before .before .before .before .before .before .before .before .before .wide .ensures .0 in
+    let e = c .before .before .before .before .before .before .next .given .1 in
+    let l = c .before .before .before .before .before .before .before .before .before .before .before .before .emit-row .kept .1 .1 .1 .1 .1 .1 .0 in
+    λ q m.
+    let cs = operands-of q b n in
+    let found = row-found _ _ _ (q .maps) _ _ _ (cs .operands) _ _ _ (c .before .before .before .before .before .before .before .before .before .before .before .before .before .before .before .before .before .row-has .ensures) in
+    let has = sym (found .0) ∙ c .before .before .before .before .before .before .before .before .before .before .before .before .before .before .before .before .if1 .taken in
+    let g = c .before .before .before .before .before .before .before .before .before .before .before .before .emit-row .ensures (sequence-operands q res cs n _ (part-words (a .marks .now) (m .room))) in
+    sequence-settled q res cs n has _ _ g e l _ (c .before .before .settle .ensures (sequence-newest q res cs n has _ _ g e l) (source-marked q m _))
+
+gather-sequence-returns-3 : (t : ℕ) → gather-sequence-lts.Need-returns-3 (gather-sequence-calls t) (gather-sequence-at t) gather-sequence.Post
+gather-sequence-returns-3 t c =
+    let a = c .before .before .before .before .before .before .before .before .before .before .args in
+    let res = listOfType (a .from .now) (a .results .now) in
+    let b = c .before .before .before .before .before .before .before .before .before .before .pre .1 .0 in
+    let n = c .before .before .wide .ensures .0 in
+    λ q m.
+    let cs = operands-of q b n in
+    let found = row-found _ _ _ (q .maps) _ _ _ (cs .operands) _ _ _ (c .before .row-has .ensures) in
+    sequence-blank q res cs n _ (found .1) (sym (found .0) ∙ c .if1 .left) m
+
+pub +emit-row+gather+gather-around+gather-compound+gather-one+gather-row+gather-sequence-spec :
+    {M : Type 1} → statement M
++emit-row+gather+gather-around+gather-compound+gather-one+gather-row+gather-sequence-spec =
+    close
+    μ-emit-row
+    μ-gather
+    μ-gather-around
+    μ-gather-compound
+    μ-gather-one
+    μ-gather-row
+    μ-gather-sequence
+    (λ t. emit-row-lts.spec (emit-row-calls t)
+    (emit-row-at t)
+    emit-row.Post
+    (λ c. λ q. no-operands q _ (c .if1 .taken))
+    (emit-row-add-gather t)
+    (emit-row-add-gather-2 t)
+    (emit-row-add-gather-3 t)
+    (λ c. refl)
+    (emit-row-gather-requires t)
+    (λ c. search needs)
+    (λ c. search needs)
+    (emit-row-finish-requires t)
+    (emit-row-add-if2 t)
+    (emit-row-same-length t)
+    (λ c. c .before .before .before .before .before .before .before .before .before .before .before .before .before .gather .kept .1 .1 .1 .1 .1 .1 .1 .1 .1 .1 .1 .0)
+    (emit-row-returns-2 t)
+    (emit-row-sub-emit-row t)
+    (emit-row-emit-row-requires t)
+    (λ c. c .before .before .before .before .before .before .before .gather .kept .1 .1 .1 .1 .1 .0)
+    (λ c. c .before .before .before .before .before .before .before .gather .kept .1 .1 .1 .1 .1 .1 .1 .1 .1 .1 .1 .0)
+    (emit-row-returns-3 t)
+    (emit-row-same-length-5 t)
+    (emit-row-same-length-6 t)
+    (emit-row-returns-4 t))
+    (λ t. gather-lts.spec (gather-calls t)
+    (gather-at t)
+    gather.Post
+    (gather-shared-slice-read-wide t)
+    (λ c κs. search needs)
+    (gather-add-t18 t)
+    (gather-add-gather-empty t)
+    (gather-gather-empty-requires t)
+    (gather-add-wide t)
+    (gather-shared-slice-read-wide-2 t)
+    (λ c κs. search needs)
+    (gather-add-gather-type t)
+    (gather-gather-type-requires t)
+    (gather-gather-compound-requires t)
+    (gather-returns t)
+    (λ c. c .before .before .before .before .gather-empty .kept .0)
+    (λ c. c .before .before .before .before .gather-empty .kept .1 .1 .1 .1 .1 .1 .0)
+    (gather-returns-2 t)
+    (λ c. c .before .before .before .before .before .before .gather-type .kept .1 .1 .1 .0)
+    (λ c. c .before .before .before .before .before .before .gather-type .kept .1 .1 .1 .1 .1 .1 .1 .1 .1 .0)
+    (λ c. c .before .before .before .before .before .before .gather-type .kept .1 .1 .1 .1 .1 .1 .1 .1 .1 .1 .0)
+    (gather-returns-3 t)
+    (λ c. c .before .before .before .before .before .before .gather-compound .kept .1 .1 .1 .1 .1 .0)
+    (λ c. c .before .before .before .before .before .before .gather-compound .kept .1 .1 .1 .1 .1 .1 .1 .1 .1 .1 .0)
+    (λ c. c .before .before .before .before .before .before .gather-compound .kept .1 .1 .1 .1 .1 .1 .1 .1 .1 .1 .1 .0)
+    (λ c. c .before .before .before .before .before .before .gather-compound .ensures))
+    (λ t. gather-around-lts.spec (gather-around-calls t)
+    (gather-around-at t)
+    gather-around.Post
+    (gather-around-shared-slice-read-operator t)
+    (gather-around-add-content-has t)
+    (gather-around-content-has-requires t)
+    (gather-around-slice-write-draft t)
+    (gather-around-add-emit-row t)
+    (gather-around-add-emit-row-2 t)
+    (gather-around-sub-emit-row t)
+    (gather-around-part-emit-row-start t)
+    (gather-around-part-emit-row-end t)
+    (gather-around-emit-row-requires t)
+    (λ c. search needs)
+    (λ c. search needs)
+    (gather-around-settle-requires t)
+    (λ c. c .before .before .before .before .before .before .emit-row .kept .1 .1 .1 .1 .1 .1 .0 ∙ simp length-set)
+    (gather-around-same-length-2 t)
+    (gather-around-returns t)
+    (λ c. c .before .before .before .before .before .before .before .before .before .before .before .before .emit-row .kept .1 .1 .1 .1 .1 .1 .0 ∙ simp length-set)
+    (gather-around-same-length-4 t)
+    (gather-around-returns-2 t)
+    (gather-around-returns-3 t)
+    (gather-around-gather-empty-requires t)
+    (λ c. c .before .before .before .before .gather-empty .kept .0)
+    (λ c. c .before .before .before .before .gather-empty .kept .1 .1 .1 .1 .1 .1 .0)
+    (gather-around-returns-4 t))
+    (λ t. gather-compound-lts.spec (gather-compound-calls t)
+    (gather-compound-at t)
+    gather-compound.Post
+    (gather-compound-shared-slice-read-wide t)
+    (λ c κs. search needs)
+    (gather-compound-add-gather-row t)
+    (gather-compound-add-wide t)
+    (gather-compound-shared-slice-read-wide-2 t)
+    (λ c κs. search needs)
+    (gather-compound-gather-row-requires t)
+    (λ c. c .before .before .before .before .before .before .gather-row .kept .1 .1 .1 .1 .1 .1 .0)
+    (λ c. c .before .before .before .before .before .before .gather-row .kept .1 .1 .1 .1 .1 .1 .1 .1 .1 .1 .1 .0)
+    (λ c. c .before .before .before .before .before .before .gather-row .kept .1 .1 .1 .1 .1 .1 .1 .1 .1 .1 .1 .1 .0)
+    (gather-compound-returns t)
+    (gather-compound-gather-one-requires t)
+    (λ c. c .before .before .before .before .gather-one .kept .1 .1 .1 .1 .1 .0)
+    (λ c. c .before .before .before .before .gather-one .kept .1 .1 .1 .1 .1 .1 .1 .1 .1 .1 .0)
+    (gather-compound-returns-2 t))
+    (λ t. gather-one-lts.spec (gather-one-calls t)
+    (gather-one-at t)
+    gather-one.Post
+    (gather-one-shared-slice-read-wide t)
+    (λ c κs. search needs)
+    (gather-one-gather-sequence-requires t)
+    (λ c. c .before .before .before .before .gather-sequence .kept .1 .1 .1 .1 .1 .0)
+    (λ c. c .before .before .before .before .gather-sequence .kept .1 .1 .1 .1 .1 .1 .1 .1 .1 .1 .0)
+    (λ c. c .before .before .before .before .gather-sequence .ensures)
+    (gather-one-gather-around-requires t)
+    (λ c. c .before .before .before .before .gather-around .kept .1 .1 .1 .1 .1 .0)
+    (λ c. c .before .before .before .before .gather-around .kept .1 .1 .1 .1 .1 .1 .1 .1 .1 .1 .0)
+    (λ c. c .before .before .before .before .gather-around .ensures))
+    (λ t. gather-row-lts.spec (gather-row-calls t)
+    (gather-row-at t)
+    gather-row.Post
+    (λ c. λ q s. no-sources q _ (c .if1 .taken) s)
+    (gather-row-gather-requires t)
+    (λ c. search needs)
+    (λ c. search needs)
+    (gather-row-sub-gather-row t)
+    (gather-row-gather-row-requires t)
+    (λ c. c .before .before .before .before .before .before .before .before .gather .kept .1 .1 .1 .1 .1 .0)
+    (λ c. c .before .before .before .before .before .before .before .before .gather .kept .1 .1 .1 .1 .1 .1 .1 .1 .1 .1 .0)
+    (λ c. c .before .before .before .before .before .before .before .before .gather .kept .1 .1 .1 .1 .1 .1 .1 .1 .1 .1 .1 .0)
+    (gather-row-returns-2 t)
+    (gather-row-same-length-4 t)
+    (gather-row-same-length-5 t)
+    (gather-row-same-length-6 t)
+    (gather-row-returns-3 t))
+    λ t. gather-sequence-lts.spec (gather-sequence-calls t)
+    (gather-sequence-at t)
+    gather-sequence.Post
+    (gather-sequence-add-wide t)
+    (gather-sequence-shared-slice-read-wide t)
+    (λ c κs. search needs)
+    (gather-sequence-add-row-has t)
+    (gather-sequence-row-has-requires t)
+    (gather-sequence-slice-write-draft t)
+    (gather-sequence-add-draft t)
+    (gather-sequence-shared-slice-read-draft t)
+    (gather-sequence-add-draft-2 t)
+    (gather-sequence-slice-write-draft-2 t)
+    (gather-sequence-add-emit-row t)
+    (gather-sequence-add-emit-row-2 t)
+    (gather-sequence-sub-emit-row t)
+    (gather-sequence-part-emit-row-start t)
+    (gather-sequence-part-emit-row-end t)
+    (gather-sequence-emit-row-requires t)
+    (λ c. search needs)
+    (λ c. search needs)
+    (gather-sequence-settle-requires t)
+    (λ c. c .before .before .before .before .before .before .emit-row .kept .1 .1 .1 .1 .1 .1 .0 ∙ simp length-set)
+    (gather-sequence-same-length-2 t)
+    (gather-sequence-returns t)
+    (λ c. c .before .before .before .before .before .before .before .before .before .before .before .before .emit-row .kept .1 .1 .1 .1 .1 .1 .0 ∙ simp length-set)
+    (gather-sequence-same-length-4 t)
+    (gather-sequence-returns-2 t)
+    (gather-sequence-returns-3 t)

@@ -1,0 +1,57 @@
+-- `gather_empty` meets its contract: the byte after the operands is the empty content.
+use Prim.Native.Nat.{ℕ, _+_, _<_}
+use native.Mathlib.Omega.{arith}
+use mathlib.Core.List.{List, [], _∷_}
+use mathlib.Core.Option.{some as just}
+use mathlib.Core.Path.{_≡_}
+use lib.ListN.{length, take, set, length-set}
+use lib.Seq.{take-set-le, getD-set-same}
+use borrow.Author.Needs.{needs}
+use Rattle.grammar.specs.Content.{empty}
+use Rattle.theory.specs.Alternatives.{gathered}
+use Rattle.reader.specs.ExprAt.{_upTo_, exprAt}
+use Rattle.reader.proofs.ExprLaws.{operator-empty}
+use Rattle.contents.specs.Drafts.{Kept, Newest}
+use Rattle.contents.proofs.FinishLaws.{alone-stands}
+use Rattle.contents.proofs.GatherLaws.{newest-of, with-from}
+use Rattle.contents.proofs.emitter.gather_empty.Statement.{statement}
+use Rattle.contents.proofs.emitter.gather_empty.Tie as tie
+
+slice-write-draft : tie.Need-slice-write-draft
+slice-write-draft c = search needs
+
+add-settle : tie.Need-add-settle
+add-settle c = search needs
+
+module _ (d : List ℕ) (base count end : ℕ) (h : end < length d) where
+  same-before : take end (set d end 1) ≡ take end d
+  same-before = take-set-le end d end 1 (omega arith)
+
+  empty-stands : exprAt (set d end 1) end ≡ just (empty upTo (end + 1))
+  empty-stands =
+      let l = length-set d end 1 in
+      alone-stands (set d end 1) end 1 empty (omega arith) (getD-set-same d end 1 0 h) operator-empty
+
+  abbrev newest : Kept d base count end → Newest (set d end 1) base count end (end + 1)
+  newest k = newest-of d (set d end 1) base count end (end + 1) empty same-before (length-set d end 1) k empty-stands
+
+settle-requires : tie.Need-settle-requires
+settle-requires c κs =
+    let p = c .before .before .before .before .pre in
+    ((newest _ _ _ _ (omega arith) (p .0 .kept), p .1), p .0 .fits, p .0 .small)
+
+same-length : tie.Need-same-length
+same-length c = search needs
+
+returns : tie.Need-returns
+returns c =
+    let a = c .before .before .before .before .before .before .before .args in
+    let p = c .before .before .before .before .before .before .before .pre in
+    λ q m.
+    let h : a .end < length (a .draft .now) = omega arith in
+    with-from (gathered (q .kept .list) (empty ∷ [])) (same-before (a .draft .now) (a .base) (a .count) (a .end) h)
+    (c .before .before .settle .ensures (newest (a .draft .now) (a .base) (a .count) (a .end) h (q .kept)) m)
+
+pub gather-empty-spec : {M : Type 1} → statement M
+gather-empty-spec =
+    tie.close (tie.spec slice-write-draft add-settle settle-requires same-length (λ c. search needs) returns)

@@ -1,4 +1,0 @@
-pub mod Drafts
-pub mod Marks
-pub mod Emitting
-pub mod Completing

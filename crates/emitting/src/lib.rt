@@ -1,5 +1,0 @@
-// Contents of a result made in a draft.
-pub mod completing;
-pub mod drafts;
-pub mod emitter;
-pub mod limits;

@@ -1,3 +1,0 @@
-pub mod AgreeLaws
-pub mod RuleLaws
-pub mod LoopLaws

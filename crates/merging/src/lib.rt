@@ -1,2 +1,0 @@
-// The content of a set of pairs.
-pub mod contents;

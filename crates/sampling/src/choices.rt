@@ -1,0 +1,125 @@
+// The content of a type: the choice of the child sequences of its nodes.
+use crate::limits::OPERANDS_END;
+use crate::limits::RULE;
+use crate::sequences::put_sequence;
+use contents::drafts::Gathering;
+use contents::drafts::finish;
+use contents::drafts::settle;
+use contents::limits::OPERANDS;
+use writer::writing::Drafted;
+ghost use Prim.Native.Nat.{ℕ, _≤_, _<_};
+ghost use mathlib.Core.List.{[], _∷_};
+ghost use lib.ListN.{length, getD};
+ghost use Rattle.grammar.specs.Lists.{numbersBelow};
+ghost use Rattle.theory.specs.Alternatives.{gathered};
+ghost use Rattle.contents.specs.Drafts.{Kept};
+ghost use Rattle.contents.specs.Marks.{Marked};
+ghost use Rattle.sampling.specs.SampleTable.{contentIn, ContentMade, NodesHeld};
+ghost use Rattle.sampling.specs.SampleContents.{Kids, sequencesAmong, GathersInRule, GathersMarked, operandsEnd, scratchBytes};
+
+// Gathers the child sequence of a node, if it is of the type `k`, among those that stand in the draft.
+fn one_more(
+    scratch: &mut [u8],
+    parents: &[usize],
+    types: &[usize],
+    nodes: usize,
+    kids: usize,
+    k: usize,
+    i: usize,
+    count: usize,
+    end: usize,
+    marks: &mut [u32],
+) -> Gathering
+    requires { ⌜ Kids (now parents) (now types) nodes i kids × ((q : Kept (now scratch) 4 count end) × Marked (now marks) (q .list))
+        × (end ≤ operandsEnd) × (scratchBytes ≤ length (now scratch)) ⌝ }
+    ensures { λ r. ⌜ ((q : Kept (now (scratch .entry)) 4 count end) → Marked (now (marks .entry)) (q .list)
+        → GathersMarked (now (scratch .exit)) (now (marks .exit))
+        (gathered (q .list) (sequencesAmong (now (parents .entry)) (now (types .entry)) nodes k (i ∷ []))) r) ⌝ }
+{
+    if types[i] != k {
+        return Gathering::Upto {
+            next: 0,
+            count,
+            end,
+        };
+    }
+    let fresh = put_sequence(scratch, end, parents, types, nodes, i, kids);
+    settle(scratch, 4, count, end, fresh, OPERANDS_END, 0, marks)
+}
+
+// Gathers the child sequences of the nodes of a type.
+fn gather(
+    scratch: &mut [u8],
+    parents: &[usize],
+    types: &[usize],
+    children: &[u16],
+    nodes: usize,
+    k: usize,
+) -> Gathering
+    requires { ⌜ (scratchBytes ≤ length (now scratch)) × (nodes ≤ length (now children))
+        × ((i : ℕ) → i < nodes → Kids (now parents) (now types) nodes i (getD (now children) i 0)) ⌝ }
+    ensures { λ r. ⌜ GathersInRule (now (scratch .exit))
+        (gathered [] (sequencesAmong (now (parents .entry)) (now (types .entry)) nodes k (numbersBelow nodes))) r ⌝ }
+{
+    let mut marks = [0u32; OPERANDS];
+    let mut count: usize = 0;
+    let mut end: usize = 4;
+    let mut i: usize = 0;
+    while i < nodes {
+        let kids = children[i] as usize;
+        match one_more(
+            scratch,
+            parents,
+            types,
+            nodes,
+            kids,
+            k,
+            i,
+            count,
+            end,
+            &mut marks,
+        ) {
+            Gathering::TooLarge => {
+                return Gathering::TooLarge;
+            }
+            Gathering::Upto {
+                next,
+                count: more,
+                end: fresh,
+            } => {
+                count = more;
+                end = fresh;
+            }
+        }
+        i += 1;
+    }
+    Gathering::Upto {
+        next: 0,
+        count,
+        end,
+    }
+}
+
+// Makes the content of a type from the second place on: the choice of its nodes' child sequences.
+pub fn make_content(
+    scratch: &mut [u8],
+    parents: &[usize],
+    types: &[usize],
+    children: &[u16],
+    nodes: usize,
+    k: usize,
+) -> Drafted
+    requires { ⌜ (scratchBytes ≤ length (now scratch)) × NodesHeld (now parents) (now types) (now children) nodes ⌝ }
+    ensures { λ r. ⌜ ContentMade (now (scratch .exit)) (contentIn (now (parents .entry)) (now (types .entry)) nodes k) r ⌝ }
+{
+    match gather(scratch, parents, types, children, nodes, k) {
+        Gathering::TooLarge => Drafted::TooLarge,
+        Gathering::Upto { next, count, end } => {
+            let stop = finish(scratch, 2, count, end);
+            if RULE < stop {
+                return Drafted::TooLarge;
+            }
+            Drafted::Length(stop)
+        }
+    }
+}
