@@ -415,6 +415,15 @@ module _ {s : List ℕ} {at n : ℕ} {types from results d : List ℕ} {start pl
                 (first' .ends)
                 g'))
 
+-- What is still to be written of a row: once it is written, the whole row is.
+pub record RowRest {s : List ℕ} {at n : ℕ} {types from results d : List ℕ} {start place words : ℕ}
+    (q : Operands s at n types from results d start place words) (res : ℕ → List ℕ) (d' : List ℕ) (at' left place' words' : ℕ)
+    : Type 0 where
+  pub rest : Operands s at' left types from results d' start place' words'
+  pub whole : (d'' : List ℕ) (o : Emitted)
+      → Emits d' d'' start place' left (rest .there .next) (eachWritten res (rest .there .contents)) o
+      → Emits d d'' start place n (q .there .next) (eachWritten res (q .there .contents)) o
+
 -- a row of one
 one-stands : (s : List ℕ) (at : ℕ) (c : Content) (next : ℕ) → exprsAt s at 1 ≡ just ((c ∷ᶜ []ᶜ) upTo next)
     → exprAt s at ≡ just (c upTo next)
