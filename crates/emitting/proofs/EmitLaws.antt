@@ -1,6 +1,7 @@
 -- The emitter's steps, as its code meets them:
 --   no-sources, first-source, other-sources, row-wide, row-then   a row gathered: none; the first; the others after it
 --   no-operands, first-operand, .. , row-on                       a row written: none; the first, finished; the others after it
+--   SourcesLeft, RowRest                                          what is left of a row, within its loop
 --   sequence-..., around-...                                      a sequence, and an operator of one operand, around a row written
 use Prim.Native.Nat.{ℕ, suc, _+_, _-_, _*_, _≤_, _<_}
 use native.Mathlib.Omega.{arith}
@@ -175,6 +176,19 @@ module _ {s : List ℕ} {at n : ℕ} {types from results d : List ℕ} {base cou
                   (f .gathers));
               noted = λ u. subst Holds' both-gathered (f .noted u);
             }
+
+-- What is still to be gathered of a row: once it is gathered, the whole row is.
+pub record SourcesLeft {s : List ℕ} {at n : ℕ} {types from results d : List ℕ} {base count end limit words : ℕ}
+    (q : Sources s at n types from results d base count end limit words) (res : ℕ → List ℕ) (kept marks d' : List ℕ)
+    (at' left count' end' words' : ℕ)
+    : Type 0 where
+  pub rest : Sources s at' left types from results d' base count' end' limit words'
+  pub noted : Noted kept marks (rest .kept .list)
+  pub whole : (kept' marks' d'' : List ℕ) (o : Gathering)
+      → GathersWith (Noted kept' marks') d' d'' base end' limit (rest .there .next)
+      (gathered (rest .kept .list) (joinedOf (λ xs. xs) (altsOfEach res (rest .there .contents)))) o
+      → GathersWith (Noted kept' marks') d d'' base end limit (q .there .next)
+      (gathered (q .kept .list) (joinedOf (λ xs. xs) (altsOfEach res (q .there .contents)))) o
 
 -- what an answer says, once it is known which it is
 pub emits-large : (d d' : List ℕ) (start place n next : ℕ) (cs : Contents) (r : Emitted) → r ≡ emitted.TooLarge

@@ -517,32 +517,14 @@ pub fn gather_row(
         (gathered (q .kept .list)
         (joinedOf (λ xs. xs) (altsOfEach (listOfType (now (from .entry)) (now (results .entry))) (q .there .contents)))) r) ⌝ }
 {
-    if n == 0 {
-        return Gathering::Upto {
-            next: at,
-            count,
-            end,
-        };
-    }
-    match gather(
-        content,
-        at,
-        types,
-        from,
-        results,
-        draft,
-        base,
-        count,
-        end,
-        limit,
-        kept,
-        marks,
-    ) {
-        Gathering::TooLarge => Gathering::TooLarge,
-        Gathering::Upto { next, count, end } => gather_row(
+    let mut at = at;
+    let mut count = count;
+    let mut end = end;
+    let mut left = n;
+    while 0 < left {
+        match gather(
             content,
-            next,
-            n - 1,
+            at,
             types,
             from,
             results,
@@ -553,8 +535,24 @@ pub fn gather_row(
             limit,
             kept,
             marks,
-        ),
+        ) {
+            Gathering::TooLarge => {
+                return Gathering::TooLarge;
+            }
+            Gathering::Upto {
+                next,
+                count: more,
+                end: fresh,
+            } => {
+                at = next;
+                count = more;
+                end = fresh;
+            }
+        }
+        left -= 1;
     }
+    let next = at;
+    Gathering::Upto { next, count, end }
 }
 
 // Writes the contents that so many source contents give, one after the other, as operands of an expression that begins at `start`.

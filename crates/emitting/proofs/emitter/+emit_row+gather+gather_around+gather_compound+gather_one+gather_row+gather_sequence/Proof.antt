@@ -1,5 +1,5 @@
 -- The emitter's functions meet their contracts. The measure is five times the bytes from the place on: a row is four more, a
--- content three more, a content with operands two more, and one that is no choice one more; every call goes on past a byte, or from a row to its first content, or from a
+-- content three more, a content with operands two more, and one that is no choice one more; every call goes on past a byte, or from a row to one of its contents, or from a
 -- content to what its operator needs. Each return is a law of EmitLaws.
 use native.Mathlib.Omega.{arith}
 use mathlib.Core.List.{List}
@@ -10,7 +10,7 @@ use Rattle.grammar.specs.Limits.{standard}
 use Rattle.grammar.specs.Content.{sequence, choice}
 use Rattle.grammar.specs.ReadContent.{operators}
 use Rattle.reader.proofs.ExprLaws.{operator-sequence, operator-choice}
-use Rattle.emitting.specs.Emitting.{Source, Operands}
+use Rattle.emitting.specs.Emitting.{Source, Sources, Noted, Operands}
 use Rattle.emitting.proofs.MarkLaws.{part-words, part-long}
 use Rattle.reader.proofs.ContentAtLaws.{content-inside, type-there, count-there}
 use Rattle.emitting.proofs.SourceLaws.{CountedThere, counted-of, single-of, content-found, row-found}
@@ -20,6 +20,7 @@ use Rattle.emitting.proofs.EmitLaws.{
   row-wide,
   other-sources,
   goes-on,
+  SourcesLeft,
   row-then,
   no-operands,
   first-operand,
@@ -239,12 +240,7 @@ gather-one-calls t = (
 )
 
 abbrev gather-row-calls : ℕ → gather-row-lts.Claims
-gather-row-calls t = (
-  gather-below t,
-  gather.Post,
-  gather-row-below t,
-  gather-row.Post,
-)
+gather-row-calls t = (gather-below t, gather.Post)
 
 abbrev gather-sequence-calls : ℕ → gather-sequence-lts.Claims
 gather-sequence-calls t = (
@@ -705,61 +701,110 @@ gather-one-gather-around-requires t c κs =
     let w = c .before .before .before .wide .ensures .0 in
     (omega arith, (omega arith, c .before .before .before .before .before .before .before .before .before .before .before .pre .1 .2))
 
-gather-row-gather-requires : (t : ℕ) → gather-row-lts.Need-gather-requires (gather-row-calls t) (gather-row-at t) gather-row.Post
+abbrev gather-row-Inv-loop : gather-row-lts.InvT-loop
+gather-row-Inv-loop content at n types from results draft₀ base count end limit kept₀ marks₀ at₀ count₀ end₀ left₀ draft kept marks at' count' end' left =
+    (at ≤ at')
+    × (length draft ≡ length draft₀)
+    × (length kept ≡ length kept₀)
+    × (length marks ≡ length marks₀)
+    × ((q : Sources content at n types from results draft₀ base count end limit (length marks₀)) → Noted kept₀ marks₀ (q .kept .list)
+    → SourcesLeft q (listOfType from results) kept marks draft at' left count' end' (length marks))
+
+abbrev gather-row-μ-loop : gather-row-lts.MeasureT-loop
+gather-row-μ-loop content at n types from results draft₀ base count end limit kept₀ marks₀ at₀ count₀ end₀ left₀ draft kept marks at' count' end' left = left
+
+gather-row-loop-holds : (t : ℕ) → gather-row-lts.Need-loop-holds (gather-row-calls t) (gather-row-at t) gather-row.Post gather-row-Inv-loop gather-row-μ-loop
+gather-row-loop-holds t c = (omega arith, refl, refl, refl, λ q y. record { rest = q; noted = y; whole = λ kept marks d o g. g })
+
+gather-row-gather-requires : (t : ℕ) → gather-row-lts.Need-gather-requires (gather-row-calls t) (gather-row-at t) gather-row.Post gather-row-Inv-loop gather-row-μ-loop
 gather-row-gather-requires t c κs =
-    let a = c .before .before .before .before .before .before .before .before .before .before .before .args in
+    let a = c .before .before .before .before .before .before .before .before .before .before .before .before .args in
     let res = listOfType (a .from .now) (a .results .now) in
-    let some = c .before .before .before .if1 .left in
-    let m = c .before .before .before .before .before .before .before .before .before .before .before .pre .0 in
-    let q = c .before .before .before .before .before .before .before .before .before .before .before .pre .1 .0 in
-    (omega arith, (first-source q res some, c .before .before .before .before .before .before .before .before .before .before .before .pre .1 .1))
+    let some = some-left (c .before .before .before .loop-test .taken) in
+    let m = c .before .before .before .before .before .before .before .before .before .before .before .before .pre .0 in
+    let on = c .before .before .before .before .loop .inv .0 in
+    let q = c .before .before .before .before .before .before .before .before .before .before .before .before .pre .1 .0 in
+    let y = c .before .before .before .before .before .before .before .before .before .before .before .before .pre .1 .1 in
+    let x = c .before .before .before .before .loop .inv .4 q y in
+    let r = x .rest in
+    (omega arith, (first-source r res some, x .noted))
 
-gather-row-sub-gather-row : (t : ℕ) → gather-row-lts.Need-sub-gather-row (gather-row-calls t) (gather-row-at t) gather-row.Post
-gather-row-sub-gather-row t c =
-    let some = c .before .before .before .before .before .before .before .before .before .before .before .before .before .if1 .left in
-    omega arith
+gather-row-enum-told : (t : ℕ) → gather-row-lts.Need-enum-told (gather-row-calls t) (gather-row-at t) gather-row.Post gather-row-Inv-loop gather-row-μ-loop
+gather-row-enum-told t c = search needs
 
-gather-row-gather-row-requires : (t : ℕ) → gather-row-lts.Need-gather-row-requires (gather-row-calls t) (gather-row-at t) gather-row.Post
-gather-row-gather-row-requires t c κs =
-    let a = c .before .before .before .before .before .before .before .before .before .before .before .before .before .before .before .before .before .before .before .before .before .before .before .before .args in
+gather-row-same-length : (t : ℕ) → gather-row-lts.Need-same-length (gather-row-calls t) (gather-row-at t) gather-row.Post gather-row-Inv-loop gather-row-μ-loop
+gather-row-same-length t c = c .before .before .before .before .before .before .before .before .gather .kept .1 .1 .1 .1 .1 .0 ∙ c .before .before .before .before .before .before .before .before .before .before .before .before .before .loop .inv .1
+
+gather-row-same-length-2 : (t : ℕ) → gather-row-lts.Need-same-length-2 (gather-row-calls t) (gather-row-at t) gather-row.Post gather-row-Inv-loop gather-row-μ-loop
+gather-row-same-length-2 t c = c .before .before .before .before .before .before .before .before .gather .kept .1 .1 .1 .1 .1 .1 .1 .1 .1 .1 .0 ∙ c .before .before .before .before .before .before .before .before .before .before .before .before .before .loop .inv .2
+
+gather-row-same-length-3 : (t : ℕ) → gather-row-lts.Need-same-length-3 (gather-row-calls t) (gather-row-at t) gather-row.Post gather-row-Inv-loop gather-row-μ-loop
+gather-row-same-length-3 t c = c .before .before .before .before .before .before .before .before .gather .kept .1 .1 .1 .1 .1 .1 .1 .1 .1 .1 .1 .0 ∙ c .before .before .before .before .before .before .before .before .before .before .before .before .before .loop .inv .3
+
+gather-row-returns : (t : ℕ) → gather-row-lts.Need-returns (gather-row-calls t) (gather-row-at t) gather-row.Post gather-row-Inv-loop gather-row-μ-loop
+gather-row-returns t c =
+    let a = c .before .before .before .before .before .before .before .before .before .before .before .before .before .before .before .before .before .before .before .before .before .args in
     let res = listOfType (a .from .now) (a .results .now) in
-    let some = c .before .before .before .before .before .before .before .before .before .before .before .before .before .before .before .before .if1 .left in
-    let e = c .before .before .before .before .next .given .1 in
-    let l = c .before .before .before .before .before .before .before .before .before .before .before .before .gather .kept .1 .1 .1 .1 .1 .0 in
-    let m = c .before .before .before .before .before .before .before .before .before .before .before .before .before .before .before .before .before .before .before .before .before .before .before .before .pre .0 in
-    let q = c .before .before .before .before .before .before .before .before .before .before .before .before .before .before .before .before .before .before .before .before .before .before .before .before .pre .1 .0 in
-    let g = c .before .before .before .before .before .before .before .before .before .before .before .before .gather .ensures (first-source q res some) (c .before .before .before .before .before .before .before .before .before .before .before .before .before .before .before .before .before .before .before .before .before .before .before .before .pre .1 .1) in
-    let on = goes-on q res some _ _ g e l in
-    let others = other-sources q res some _ _ g e l _ (c .before .before .before .before .before .before .before .before .before .before .before .before .gather .kept .1 .1 .1 .1 .1 .1 .1 .1 .1 .1 .1 .0) in
-    let i = others .there .inside in
-    (omega arith, (others, g .noted e))
+    let some = some-left (c .before .before .before .before .before .before .before .before .before .before .before .before .loop-test .taken) in
+    λ q y.
+    let x = c .before .before .before .before .before .before .before .before .before .before .before .before .before .loop .inv .4 q y in
+    let r = x .rest in
+    x .whole _ _ _ _ (row-wide r res some _ _ (c .before .before .before .before .before .before .before .before .gather .ensures (first-source r res some) (x .noted)) (c .enum-told .given .1))
 
-gather-row-returns-2 : (t : ℕ) → gather-row-lts.Need-returns-2 (gather-row-calls t) (gather-row-at t) gather-row.Post
+gather-row-enum-known-next : (t : ℕ) → gather-row-lts.Need-enum-known-next (gather-row-calls t) (gather-row-at t) gather-row.Post gather-row-Inv-loop gather-row-μ-loop
+gather-row-enum-known-next t c = search needs
+
+gather-row-sub-left : (t : ℕ) → gather-row-lts.Need-sub-left (gather-row-calls t) (gather-row-at t) gather-row.Post gather-row-Inv-loop gather-row-μ-loop
+gather-row-sub-left t c = omega arith
+
+gather-row-loop-less : (t : ℕ) → gather-row-lts.Need-loop-less (gather-row-calls t) (gather-row-at t) gather-row.Post gather-row-Inv-loop gather-row-μ-loop
+gather-row-loop-less t c = omega arith
+
+gather-row-loop-again : (t : ℕ) → gather-row-lts.Need-loop-again (gather-row-calls t) (gather-row-at t) gather-row.Post gather-row-Inv-loop gather-row-μ-loop
+gather-row-loop-again t c =
+    let a = c .before .before .before .before .before .before .before .before .before .before .before .before .before .before .before .before .before .before .before .before .before .before .args in
+    let res = listOfType (a .from .now) (a .results .now) in
+    let some = some-left (c .before .before .before .before .before .before .before .before .before .before .before .before .before .loop-test .taken) in
+    let e = c .before .next .given .1 in
+    let l = c .before .before .before .before .before .before .before .before .before .gather .kept .1 .1 .1 .1 .1 .0 in
+    let on =
+    let q = c .before .before .before .before .before .before .before .before .before .before .before .before .before .before .before .before .before .before .before .before .before .before .pre .1 .0 in
+    let y = c .before .before .before .before .before .before .before .before .before .before .before .before .before .before .before .before .before .before .before .before .before .before .pre .1 .1 in
+    let x = c .before .before .before .before .before .before .before .before .before .before .before .before .before .before .loop .inv .4 q y in
+    let r = x .rest in
+    let g = c .before .before .before .before .before .before .before .before .before .gather .ensures (first-source r res some) (x .noted) in
+    goes-on r res some _ _ g e l in
+    let was = c .before .before .before .before .before .before .before .before .before .before .before .before .before .before .loop .inv .0 in (
+      omega arith,
+      l ∙ c .before .before .before .before .before .before .before .before .before .before .before .before .before .before .loop .inv .1,
+      c .before .before .before .before .before .before .before .before .before .gather .kept .1 .1 .1 .1 .1 .1 .1 .1 .1 .1 .0 ∙ c .before .before .before .before .before .before .before .before .before .before .before .before .before .before .loop .inv .2,
+      c .before .before .before .before .before .before .before .before .before .gather .kept .1 .1 .1 .1 .1 .1 .1 .1 .1 .1 .1 .0 ∙ c .before .before .before .before .before .before .before .before .before .before .before .before .before .before .loop .inv .3,
+      λ q y.
+          let x = c .before .before .before .before .before .before .before .before .before .before .before .before .before .before .loop .inv .4 q y in
+          let r = x .rest in
+          let g = c .before .before .before .before .before .before .before .before .before .gather .ensures (first-source r res some) (x .noted) in
+          record {
+            rest = other-sources r res some _ _ g e l _ (c .before .before .before .before .before .before .before .before .before .gather .kept .1 .1 .1 .1 .1 .1 .1 .1 .1 .1 .1 .0);
+            noted = g .noted e;
+            whole = λ kept marks d o h. x .whole kept marks d o (row-then r res some _ _ g e l d o h);
+          },
+    )
+
+gather-row-same-length-4 : (t : ℕ) → gather-row-lts.Need-same-length-4 (gather-row-calls t) (gather-row-at t) gather-row.Post gather-row-Inv-loop gather-row-μ-loop
+gather-row-same-length-4 t c = c .before .loop .inv .1
+
+gather-row-same-length-5 : (t : ℕ) → gather-row-lts.Need-same-length-5 (gather-row-calls t) (gather-row-at t) gather-row.Post gather-row-Inv-loop gather-row-μ-loop
+gather-row-same-length-5 t c = c .before .loop .inv .2
+
+gather-row-same-length-6 : (t : ℕ) → gather-row-lts.Need-same-length-6 (gather-row-calls t) (gather-row-at t) gather-row.Post gather-row-Inv-loop gather-row-μ-loop
+gather-row-same-length-6 t c = c .before .loop .inv .3
+
+gather-row-returns-2 : (t : ℕ) → gather-row-lts.Need-returns-2 (gather-row-calls t) (gather-row-at t) gather-row.Post gather-row-Inv-loop gather-row-μ-loop
 gather-row-returns-2 t c =
-    let a = c .before .before .before .before .before .before .before .before .before .before .before .before .before .before .before .before .before .before .before .before .args in
-    let res = listOfType (a .from .now) (a .results .now) in
-    let some = c .before .before .before .before .before .before .before .before .before .before .before .before .if1 .left in
-    λ q s. row-wide q res some _ _ (c .before .before .before .before .before .before .before .before .gather .ensures (first-source q res some) s) (c .enum-told .given .1)
-
-gather-row-same-length-4 : (t : ℕ) → gather-row-lts.Need-same-length-4 (gather-row-calls t) (gather-row-at t) gather-row.Post
-gather-row-same-length-4 t c = c .before .before .before .before .before .before .gather-row .kept .1 .1 .1 .1 .1 .1 .0 ∙ c .before .before .before .before .before .before .before .before .before .before .before .before .before .before .before .before .before .before .before .gather .kept .1 .1 .1 .1 .1 .0
-
-gather-row-same-length-5 : (t : ℕ) → gather-row-lts.Need-same-length-5 (gather-row-calls t) (gather-row-at t) gather-row.Post
-gather-row-same-length-5 t c = c .before .before .before .before .before .before .gather-row .kept .1 .1 .1 .1 .1 .1 .1 .1 .1 .1 .1 .0 ∙ c .before .before .before .before .before .before .before .before .before .before .before .before .before .before .before .before .before .before .before .gather .kept .1 .1 .1 .1 .1 .1 .1 .1 .1 .1 .0
-
-gather-row-same-length-6 : (t : ℕ) → gather-row-lts.Need-same-length-6 (gather-row-calls t) (gather-row-at t) gather-row.Post
-gather-row-same-length-6 t c = c .before .before .before .before .before .before .gather-row .kept .1 .1 .1 .1 .1 .1 .1 .1 .1 .1 .1 .1 .0 ∙ c .before .before .before .before .before .before .before .before .before .before .before .before .before .before .before .before .before .before .before .gather .kept .1 .1 .1 .1 .1 .1 .1 .1 .1 .1 .1 .0
-
-gather-row-returns-3 : (t : ℕ) → gather-row-lts.Need-returns-3 (gather-row-calls t) (gather-row-at t) gather-row.Post
-gather-row-returns-3 t c =
-    let a = c .before .before .before .before .before .before .before .before .before .before .before .before .before .before .before .before .before .before .before .before .before .before .before .before .before .before .before .before .before .before .before .args in
-    let res = listOfType (a .from .now) (a .results .now) in
-    let some = c .before .before .before .before .before .before .before .before .before .before .before .before .before .before .before .before .before .before .before .before .before .before .before .if1 .left in
-    let e = c .before .before .before .before .before .before .before .before .before .before .before .next .given .1 in
-    let l = c .before .before .before .before .before .before .before .before .before .before .before .before .before .before .before .before .before .before .before .gather .kept .1 .1 .1 .1 .1 .0 in
-    λ q s.
-    let g = c .before .before .before .before .before .before .before .before .before .before .before .before .before .before .before .before .before .before .before .gather .ensures (first-source q res some) s in
-    row-then q res some _ _ g e l _ _ (c .before .before .before .before .before .before .gather-row .ensures (other-sources q res some _ _ g e l _ (c .before .before .before .before .before .before .before .before .before .before .before .before .before .before .before .before .before .before .before .gather .kept .1 .1 .1 .1 .1 .1 .1 .1 .1 .1 .1 .0)) (g .noted e))
+    λ q y.
+    let x = c .before .loop .inv .4 q y in
+    let r = x .rest in
+    x .whole _ _ _ _ (no-sources r _ (omega arith) (x .noted))
 
 gather-sequence-add-wide : (t : ℕ) → gather-sequence-lts.Need-add-wide (gather-sequence-calls t) (gather-sequence-at t) gather-sequence.Post
 gather-sequence-add-wide t c =
@@ -1060,20 +1105,23 @@ pub +emit-row+gather+gather-around+gather-compound+gather-one+gather-row+gather-
     (λ t. gather-row-lts.spec (gather-row-calls t)
     (gather-row-at t)
     gather-row.Post
-    (λ c. λ q s. no-sources q _ (c .if1 .taken) s)
+    gather-row-Inv-loop
+    gather-row-μ-loop
+    (gather-row-loop-holds t)
     (gather-row-gather-requires t)
-    (λ c. search needs)
-    (λ c. search needs)
-    (gather-row-sub-gather-row t)
-    (gather-row-gather-row-requires t)
-    (λ c. c .before .before .before .before .before .before .before .before .gather .kept .1 .1 .1 .1 .1 .0)
-    (λ c. c .before .before .before .before .before .before .before .before .gather .kept .1 .1 .1 .1 .1 .1 .1 .1 .1 .1 .0)
-    (λ c. c .before .before .before .before .before .before .before .before .gather .kept .1 .1 .1 .1 .1 .1 .1 .1 .1 .1 .1 .0)
-    (gather-row-returns-2 t)
+    (gather-row-enum-told t)
+    (gather-row-same-length t)
+    (gather-row-same-length-2 t)
+    (gather-row-same-length-3 t)
+    (gather-row-returns t)
+    (gather-row-enum-known-next t)
+    (gather-row-sub-left t)
+    (gather-row-loop-less t)
+    (gather-row-loop-again t)
     (gather-row-same-length-4 t)
     (gather-row-same-length-5 t)
     (gather-row-same-length-6 t)
-    (gather-row-returns-3 t))
+    (gather-row-returns-2 t))
     λ t. gather-sequence-lts.spec (gather-sequence-calls t)
     (gather-sequence-at t)
     gather-sequence.Post
