@@ -66,7 +66,18 @@ use Rattle.emitting.proofs.WideLaws.{
 }
 use Rattle.emitting.proofs.MarkLaws.{marked-none, marked-front}
 use Rattle.emitting.proofs.KeptLaws.{row-count}
-use Rattle.emitting.proofs.GatherLaws.{newest-of, keeps-before, first-wide, then-others, told-large, told-upto, with-as, with-from, with-none, with-large}
+use Rattle.emitting.proofs.GatherLaws.{
+  newest-of,
+  keeps-before,
+  first-wide,
+  then-others,
+  told-large,
+  told-upto,
+  with-as,
+  with-from,
+  with-none,
+  with-large,
+}
 use Rattle.emitting.proofs.TypesKeptLaws.{no-types, types-plain}
 use Rattle.emitting.proofs.SourceLaws.{
   first-deep,

@@ -1,6 +1,6 @@
 -- The emitter's functions meet their contracts. The measure is five times the bytes from the place on: a row is four more, a
--- content three more, a content with operands two more, and one that is no choice one more; every call goes on past a byte, or from a row to one of its contents, or from a
--- content to what its operator needs. Each return is a law of EmitLaws.
+-- content three more, a content with operands two more, one that is no choice one more; every call goes on past a byte, or from a
+-- row to its contents, or from a content to what its operator needs. Each return is a law of EmitLaws.
 use native.Mathlib.Omega.{arith}
 use mathlib.Core.List.{List}
 use mathlib.Core.Path.{_≡_, refl, sym, _∙_, ap}
@@ -298,9 +298,6 @@ emit-row-add-gather-3 t c =
     let r = c .before .before .loop .inv .3 (c .before .before .before .before .before .before .before .before .before .pre .1) .rest in
     omega arith
 
-emit-row-slice-aggregate-gather : (t : ℕ) → emit-row-lts.Need-slice-aggregate-gather (emit-row-calls t) (emit-row-at t) emit-row.Post emit-row-Inv-loop emit-row-μ-loop
-emit-row-slice-aggregate-gather t c = refl
-
 emit-row-gather-requires : (t : ℕ) → emit-row-lts.Need-gather-requires (emit-row-calls t) (emit-row-at t) emit-row.Post emit-row-Inv-loop emit-row-μ-loop
 emit-row-gather-requires t c κs =
     let a = c .before .before .before .before .before .before .before .before .before .before .before .args in
@@ -313,15 +310,6 @@ emit-row-gather-requires t c κs =
     let r = x .rest in
     (omega arith, (first-operand r res some, operand-noted r res some (c .before .before .before .before .loop .marks) refl))
 
-emit-row-enum-told : (t : ℕ) → emit-row-lts.Need-enum-told (emit-row-calls t) (emit-row-at t) emit-row.Post emit-row-Inv-loop emit-row-μ-loop
-emit-row-enum-told t c = search needs
-
-emit-row-same-length : (t : ℕ) → emit-row-lts.Need-same-length (emit-row-calls t) (emit-row-at t) emit-row.Post emit-row-Inv-loop emit-row-μ-loop
-emit-row-same-length t c = c .before .before .before .before .before .before .before .gather .kept .1 .1 .1 .1 .1 .0 ∙ c .before .before .before .before .before .before .before .before .before .before .before .before .loop .inv .1
-
-emit-row-same-length-2 : (t : ℕ) → emit-row-lts.Need-same-length-2 (emit-row-calls t) (emit-row-at t) emit-row.Post emit-row-Inv-loop emit-row-μ-loop
-emit-row-same-length-2 t c = c .before .before .before .before .before .before .before .gather .kept .1 .1 .1 .1 .1 .1 .1 .1 .1 .1 .1 .0 ∙ c .before .before .before .before .before .before .before .before .before .before .before .before .loop .inv .2
-
 emit-row-returns : (t : ℕ) → emit-row-lts.Need-returns (emit-row-calls t) (emit-row-at t) emit-row.Post emit-row-Inv-loop emit-row-μ-loop
 emit-row-returns t c =
     let a = c .before .before .before .before .before .before .before .before .before .before .before .before .before .before .before .before .before .before .before .args in
@@ -332,9 +320,6 @@ emit-row-returns t c =
     let r = x .rest in
     let g = c .before .before .before .before .before .before .before .gather .ensures (first-operand r res some) (operand-noted r res some (c .before .before .before .before .before .before .before .before .before .before .before .before .loop .marks) refl) .gathers in
     x .whole _ _ (operand-wide r res some _ _ g (c .enum-told .given .1))
-
-emit-row-enum-known-next : (t : ℕ) → emit-row-lts.Need-enum-known-next (emit-row-calls t) (emit-row-at t) emit-row.Post emit-row-Inv-loop emit-row-μ-loop
-emit-row-enum-known-next t c = search needs
 
 emit-row-finish-requires : (t : ℕ) → emit-row-lts.Need-finish-requires (emit-row-calls t) (emit-row-at t) emit-row.Post emit-row-Inv-loop emit-row-μ-loop
 emit-row-finish-requires t c κs =
@@ -373,12 +358,6 @@ emit-row-returns-2 t c =
     let l' = c .before .before .before .finish .kept .0 in
     x .whole _ _ (operand-long r res some _ _ g e l f l' (c .if1 .taken))
 
-emit-row-sub-left : (t : ℕ) → emit-row-lts.Need-sub-left (emit-row-calls t) (emit-row-at t) emit-row.Post emit-row-Inv-loop emit-row-μ-loop
-emit-row-sub-left t c = omega arith
-
-emit-row-loop-less : (t : ℕ) → emit-row-lts.Need-loop-less (emit-row-calls t) (emit-row-at t) emit-row.Post emit-row-Inv-loop emit-row-μ-loop
-emit-row-loop-less t c = omega arith
-
 emit-row-loop-again : (t : ℕ) → emit-row-lts.Need-loop-again (emit-row-calls t) (emit-row-at t) emit-row.Post emit-row-Inv-loop emit-row-μ-loop
 emit-row-loop-again t c =
     let a = c .before .before .before .before .before .before .before .before .before .before .before .before .before .before .before .before .before .before .before .before .before .before .before .before .before .args in
@@ -407,12 +386,6 @@ emit-row-loop-again t c =
             whole = λ d o h. x .whole d o (row-on r res some _ _ g e l f l' (c .if1 .left) d o h);
           },
     )
-
-emit-row-same-length-5 : (t : ℕ) → emit-row-lts.Need-same-length-5 (emit-row-calls t) (emit-row-at t) emit-row.Post emit-row-Inv-loop emit-row-μ-loop
-emit-row-same-length-5 t c = c .before .loop .inv .1
-
-emit-row-same-length-6 : (t : ℕ) → emit-row-lts.Need-same-length-6 (emit-row-calls t) (emit-row-at t) emit-row.Post emit-row-Inv-loop emit-row-μ-loop
-emit-row-same-length-6 t c = c .before .loop .inv .2
 
 emit-row-returns-3 : (t : ℕ) → emit-row-lts.Need-returns-3 (emit-row-calls t) (emit-row-at t) emit-row.Post emit-row-Inv-loop emit-row-μ-loop
 emit-row-returns-3 t c =
@@ -729,12 +702,6 @@ gather-row-gather-requires t c κs =
     let r = x .rest in
     (omega arith, (first-source r res some, x .noted))
 
-gather-row-enum-told : (t : ℕ) → gather-row-lts.Need-enum-told (gather-row-calls t) (gather-row-at t) gather-row.Post gather-row-Inv-loop gather-row-μ-loop
-gather-row-enum-told t c = search needs
-
-gather-row-same-length : (t : ℕ) → gather-row-lts.Need-same-length (gather-row-calls t) (gather-row-at t) gather-row.Post gather-row-Inv-loop gather-row-μ-loop
-gather-row-same-length t c = c .before .before .before .before .before .before .before .before .gather .kept .1 .1 .1 .1 .1 .0 ∙ c .before .before .before .before .before .before .before .before .before .before .before .before .before .loop .inv .1
-
 gather-row-same-length-2 : (t : ℕ) → gather-row-lts.Need-same-length-2 (gather-row-calls t) (gather-row-at t) gather-row.Post gather-row-Inv-loop gather-row-μ-loop
 gather-row-same-length-2 t c = c .before .before .before .before .before .before .before .before .gather .kept .1 .1 .1 .1 .1 .1 .1 .1 .1 .1 .0 ∙ c .before .before .before .before .before .before .before .before .before .before .before .before .before .loop .inv .2
 
@@ -750,15 +717,6 @@ gather-row-returns t c =
     let x = c .before .before .before .before .before .before .before .before .before .before .before .before .before .loop .inv .4 q y in
     let r = x .rest in
     x .whole _ _ _ _ (row-wide r res some _ _ (c .before .before .before .before .before .before .before .before .gather .ensures (first-source r res some) (x .noted)) (c .enum-told .given .1))
-
-gather-row-enum-known-next : (t : ℕ) → gather-row-lts.Need-enum-known-next (gather-row-calls t) (gather-row-at t) gather-row.Post gather-row-Inv-loop gather-row-μ-loop
-gather-row-enum-known-next t c = search needs
-
-gather-row-sub-left : (t : ℕ) → gather-row-lts.Need-sub-left (gather-row-calls t) (gather-row-at t) gather-row.Post gather-row-Inv-loop gather-row-μ-loop
-gather-row-sub-left t c = omega arith
-
-gather-row-loop-less : (t : ℕ) → gather-row-lts.Need-loop-less (gather-row-calls t) (gather-row-at t) gather-row.Post gather-row-Inv-loop gather-row-μ-loop
-gather-row-loop-less t c = omega arith
 
 gather-row-loop-again : (t : ℕ) → gather-row-lts.Need-loop-again (gather-row-calls t) (gather-row-at t) gather-row.Post gather-row-Inv-loop gather-row-μ-loop
 gather-row-loop-again t c =
@@ -789,15 +747,6 @@ gather-row-loop-again t c =
             whole = λ kept marks d o h. x .whole kept marks d o (row-then r res some _ _ g e l d o h);
           },
     )
-
-gather-row-same-length-4 : (t : ℕ) → gather-row-lts.Need-same-length-4 (gather-row-calls t) (gather-row-at t) gather-row.Post gather-row-Inv-loop gather-row-μ-loop
-gather-row-same-length-4 t c = c .before .loop .inv .1
-
-gather-row-same-length-5 : (t : ℕ) → gather-row-lts.Need-same-length-5 (gather-row-calls t) (gather-row-at t) gather-row.Post gather-row-Inv-loop gather-row-μ-loop
-gather-row-same-length-5 t c = c .before .loop .inv .2
-
-gather-row-same-length-6 : (t : ℕ) → gather-row-lts.Need-same-length-6 (gather-row-calls t) (gather-row-at t) gather-row.Post gather-row-Inv-loop gather-row-μ-loop
-gather-row-same-length-6 t c = c .before .loop .inv .3
 
 gather-row-returns-2 : (t : ℕ) → gather-row-lts.Need-returns-2 (gather-row-calls t) (gather-row-at t) gather-row.Post gather-row-Inv-loop gather-row-μ-loop
 gather-row-returns-2 t c =
@@ -1000,23 +949,23 @@ pub +emit-row+gather+gather-around+gather-compound+gather-one+gather-row+gather-
     (emit-row-add-gather t)
     (emit-row-add-gather-2 t)
     (emit-row-add-gather-3 t)
-    (emit-row-slice-aggregate-gather t)
+    (λ c. refl)
     (emit-row-gather-requires t)
-    (emit-row-enum-told t)
-    (emit-row-same-length t)
-    (emit-row-same-length-2 t)
+    (λ c. search needs)
+    (λ c. c .before .before .before .before .before .before .before .gather .kept .1 .1 .1 .1 .1 .0 ∙ c .before .before .before .before .before .before .before .before .before .before .before .before .loop .inv .1)
+    (λ c. c .before .before .before .before .before .before .before .gather .kept .1 .1 .1 .1 .1 .1 .1 .1 .1 .1 .1 .0 ∙ c .before .before .before .before .before .before .before .before .before .before .before .before .loop .inv .2)
     (emit-row-returns t)
-    (emit-row-enum-known-next t)
+    (λ c. search needs)
     (emit-row-finish-requires t)
     (emit-row-add-if1 t)
     (emit-row-same-length-3 t)
     (emit-row-same-length-4 t)
     (emit-row-returns-2 t)
-    (emit-row-sub-left t)
-    (emit-row-loop-less t)
+    (λ c. omega arith)
+    (λ c. omega arith)
     (emit-row-loop-again t)
-    (emit-row-same-length-5 t)
-    (emit-row-same-length-6 t)
+    (λ c. c .before .loop .inv .1)
+    (λ c. c .before .loop .inv .2)
     (emit-row-returns-3 t))
     (λ t. gather-lts.spec (gather-calls t)
     (gather-at t)
@@ -1109,18 +1058,18 @@ pub +emit-row+gather+gather-around+gather-compound+gather-one+gather-row+gather-
     gather-row-μ-loop
     (gather-row-loop-holds t)
     (gather-row-gather-requires t)
-    (gather-row-enum-told t)
-    (gather-row-same-length t)
+    (λ c. search needs)
+    (λ c. c .before .before .before .before .before .before .before .before .gather .kept .1 .1 .1 .1 .1 .0 ∙ c .before .before .before .before .before .before .before .before .before .before .before .before .before .loop .inv .1)
     (gather-row-same-length-2 t)
     (gather-row-same-length-3 t)
     (gather-row-returns t)
-    (gather-row-enum-known-next t)
-    (gather-row-sub-left t)
-    (gather-row-loop-less t)
+    (λ c. search needs)
+    (λ c. omega arith)
+    (λ c. omega arith)
     (gather-row-loop-again t)
-    (gather-row-same-length-4 t)
-    (gather-row-same-length-5 t)
-    (gather-row-same-length-6 t)
+    (λ c. c .before .loop .inv .1)
+    (λ c. c .before .loop .inv .2)
+    (λ c. c .before .loop .inv .3)
     (gather-row-returns-2 t))
     λ t. gather-sequence-lts.spec (gather-sequence-calls t)
     (gather-sequence-at t)
