@@ -98,7 +98,8 @@ among-first s marks base k (suc n) end x all h l a =
     let f = exprs-forward s (q .middle) n (operands (q .others)) end (omega arith) (q .others-at) in
     let split : anyPass (sameContent x) all ≡ (sameContent x (q .first) || anyPass (sameContent x) (q .others)) =
     a .same ∙ ap (anyPass (sameContent x)) (q .both) in
-    let m = first-mark marks k (mark (a .before) (contentBytes (q .first))) (marksOf (a .before + length (contentBytes (q .first))) (q .others))
+    let m = first-mark marks k (mark (a .before) (contentBytes (q .first)))
+    (marksOf (a .before + length (contentBytes (q .first))) (q .others))
     (length (q .others))
     (ap (λ (ds : List Content). take (length ds) (drop k marks)) (sym (q .both)) ∙ a .marked ∙ ap (marksOf (a .before)) (q .both)) in
     record {
@@ -131,7 +132,8 @@ pub same-marked : (s marks : List ℕ) (base k left end fresh print : ℕ) (x : 
 same-marked s marks base k left end fresh print x all r e p small f t =
     let i = f .inside in
     let m = getD marks k 0 in
-    let at : base + m % 65536 ≡ base + f .before = ap (λ (b : ℕ). base + b) (mark-before m (f .before) (contentBytes (f .first)) (f .mark-is) (omega arith)) in
+    let at : base + m % 65536 ≡ base + f .before =
+    ap (λ (b : ℕ). base + b) (mark-before m (f .before) (contentBytes (f .first)) (f .mark-is) (omega arith)) in
     same-there s (base + f .before) (f .middle) end fresh x (f .first) e (f .first-at) r (
       λ h. ap (λ (b : ℕ). take (fresh - end) (drop b s)) (sym at) ∙ t .0 h .1,
       λ b.

@@ -1,6 +1,7 @@
 -- The emitter's steps, as its code meets them:
 --   no-sources, first-source, other-sources, row-wide, row-then   a row gathered: none; the first; the others after it
 --   no-operands, first-operand, .. , row-on                       a row written: none; the first, finished; the others after it
+--   SourcesLeft, RowRest                                          what is left of a row, within its loop
 --   sequence-..., around-...                                      a sequence, and an operator of one operand, around a row written
 use Prim.Native.Nat.{ℕ, suc, _+_, _-_, _*_, _≤_, _<_}
 use native.Mathlib.Omega.{arith}
@@ -65,7 +66,18 @@ use Rattle.contents.proofs.WideLaws.{
 }
 use Rattle.contents.proofs.MarkLaws.{marked-none, marked-front}
 use Rattle.contents.proofs.KeptLaws.{row-count}
-use Rattle.contents.proofs.GatherLaws.{newest-of, keeps-before, first-wide, then-others, told-large, told-upto, with-as, with-from, with-none, with-large}
+use Rattle.contents.proofs.GatherLaws.{
+  newest-of,
+  keeps-before,
+  first-wide,
+  then-others,
+  told-large,
+  told-upto,
+  with-as,
+  with-from,
+  with-none,
+  with-large,
+}
 use Rattle.contents.proofs.TypesKeptLaws.{no-types, types-plain}
 use Rattle.contents.proofs.SourceLaws.{
   first-deep,
@@ -175,6 +187,19 @@ module _ {s : List ℕ} {at n : ℕ} {types from results d : List ℕ} {base cou
                   (f .gathers));
               noted = λ u. subst Holds' both-gathered (f .noted u);
             }
+
+-- What is still to be gathered of a row: once it is gathered, the whole row is.
+pub record SourcesLeft {s : List ℕ} {at n : ℕ} {types from results d : List ℕ} {base count end limit words : ℕ}
+    (q : Sources s at n types from results d base count end limit words) (res : ℕ → List ℕ) (kept marks d' : List ℕ)
+    (at' left count' end' words' : ℕ)
+    : Type 0 where
+  pub rest : Sources s at' left types from results d' base count' end' limit words'
+  pub noted : Noted kept marks (rest .kept .list)
+  pub whole : (kept' marks' d'' : List ℕ) (o : Gathering)
+      → GathersWith (Noted kept' marks') d' d'' base end' limit (rest .there .next)
+      (gathered (rest .kept .list) (joinedOf (λ xs. xs) (altsOfEach res (rest .there .contents)))) o
+      → GathersWith (Noted kept' marks') d d'' base end limit (q .there .next)
+      (gathered (q .kept .list) (joinedOf (λ xs. xs) (altsOfEach res (q .there .contents)))) o
 
 -- what an answer says, once it is known which it is
 pub emits-large : (d d' : List ℕ) (start place n next : ℕ) (cs : Contents) (r : Emitted) → r ≡ emitted.TooLarge
@@ -414,6 +439,15 @@ module _ {s : List ℕ} {at n : ℕ} {types from results d : List ℕ} {start pl
                 (omega arith)
                 (first' .ends)
                 g'))
+
+-- What is still to be written of a row: once it is written, the whole row is.
+pub record RowRest {s : List ℕ} {at n : ℕ} {types from results d : List ℕ} {start place words : ℕ}
+    (q : Operands s at n types from results d start place words) (res : ℕ → List ℕ) (d' : List ℕ) (at' left place' words' : ℕ)
+    : Type 0 where
+  pub rest : Operands s at' left types from results d' start place' words'
+  pub whole : (d'' : List ℕ) (o : Emitted)
+      → Emits d' d'' start place' left (rest .there .next) (eachWritten res (rest .there .contents)) o
+      → Emits d d'' start place n (q .there .next) (eachWritten res (q .there .contents)) o
 
 -- a row of one
 one-stands : (s : List ℕ) (at : ℕ) (c : Content) (next : ℕ) → exprsAt s at 1 ≡ just ((c ∷ᶜ []ᶜ) upTo next)

@@ -37,12 +37,14 @@ use Rattle.contents.proofs.MarkLaws.{no-upto}
 use Rattle.contents.specs.Joining.{Ready, GathersInContent, GathersKept}
 
 -- what is asked for, and what is not
-pub given-on : (draft set marks : List ℕ) (ds xs : List Content) (r : Gathering) (on : Bool) → on ≡ true → GathersKept draft set marks (gathered ds xs) r
+pub given-on : (draft set marks : List ℕ) (ds xs : List Content) (r : Gathering) (on : Bool) → on ≡ true
+    → GathersKept draft set marks (gathered ds xs) r
     → GathersKept draft set marks (gathered ds (onlyIf on xs)) r
 unfolding onlyIf
 given-on draft set marks ds xs r on e g = subst (λ (b : Bool). GathersKept draft set marks (gathered ds (onlyIf b xs)) r) (sym e) g
 
-pub given-off : (draft set marks : List ℕ) (count end : ℕ) (xs : List Content) (on : Bool) → on ≡ false → (k : Ready draft set marks count end)
+pub given-off : (draft set marks : List ℕ) (count end : ℕ) (xs : List Content) (on : Bool) → on ≡ false
+    → (k : Ready draft set marks count end)
     → GathersKept draft set marks (gathered (k .kept .list) (onlyIf on xs)) (Upto 0 count end)
 unfolding onlyIf GathersInContent
 given-off draft set marks count end xs on e k =
@@ -82,7 +84,8 @@ module _ (give : ℕ → List Content) (n : ℕ) where
   unfolding joinedOf numbersFrom
   rest-none = let z : n - n ≡ 0 = omega arith in ap (λ (m : ℕ). joinedOf give (numbersFrom n m)) z
 
-  pub so-far-none : {draft set marks : List ℕ} {count end : ℕ} (k : Ready draft set marks count end) → MergedSoFar (k .kept .list) draft set marks count end 0
+  pub so-far-none : {draft set marks : List ℕ} {count end : ℕ} (k : Ready draft set marks count end)
+      → MergedSoFar (k .kept .list) draft set marks count end 0
   unfolding numbersBelow
   so-far-none {draft} {set} {marks} {count} {end} k =
       let same = sym (gather-nothing (k .kept .list) (k .kept .row .apart)) in

@@ -94,7 +94,8 @@ module _ (marks : List ℕ) (ds : List Content) (s : Marked marks ds) where
         there =
             ap (λ (k : ℕ). take k (set marks count v)) n
             ∙ take-suc-set marks count v (omega arith)
-            ∙ ap₂ (λ (l : List ℕ) (k : ℕ). l ++ (k ∷ [])) (ap (λ (k : ℕ). take k marks) e ∙ s .there) (is ∙ ap (λ (k : ℕ). mark k (contentBytes x)) z)
+            ∙ ap₂ (λ (l : List ℕ) (k : ℕ). l ++ (k ∷ [])) (ap (λ (k : ℕ). take k marks) e ∙ s .there)
+            (is ∙ ap (λ (k : ℕ). mark k (contentBytes x)) z)
             ∙ sym (marks-more 0 ds x);
       }
 

@@ -517,32 +517,14 @@ pub fn gather_row(
         (gathered (q .kept .list)
         (joinedOf (λ xs. xs) (altsOfEach (listOfType (now (from .entry)) (now (results .entry))) (q .there .contents)))) r) ⌝ }
 {
-    if n == 0 {
-        return Gathering::Upto {
-            next: at,
-            count,
-            end,
-        };
-    }
-    match gather(
-        content,
-        at,
-        types,
-        from,
-        results,
-        draft,
-        base,
-        count,
-        end,
-        limit,
-        kept,
-        marks,
-    ) {
-        Gathering::TooLarge => Gathering::TooLarge,
-        Gathering::Upto { next, count, end } => gather_row(
+    let mut at = at;
+    let mut count = count;
+    let mut end = end;
+    let mut left = n;
+    while 0 < left {
+        match gather(
             content,
-            next,
-            n - 1,
+            at,
             types,
             from,
             results,
@@ -553,8 +535,24 @@ pub fn gather_row(
             limit,
             kept,
             marks,
-        ),
+        ) {
+            Gathering::TooLarge => {
+                return Gathering::TooLarge;
+            }
+            Gathering::Upto {
+                next,
+                count: more,
+                end: fresh,
+            } => {
+                at = next;
+                count = more;
+                end = fresh;
+            }
+        }
+        left -= 1;
     }
+    let next = at;
+    Gathering::Upto { next, count, end }
 }
 
 // Writes the contents that so many source contents give, one after the other, as operands of an expression that begins at `start`.
@@ -576,43 +574,38 @@ fn emit_row(
         → Emits (now (draft .entry)) (now (draft .exit)) start place n (q .there .next)
         (operands (map oneContent (altsOfEach (listOfType (now (from .entry)) (now (results .entry))) (q .there .contents)))) r) ⌝ }
 {
-    if n == 0 {
-        let next = at;
-        return Emitted::Upto { next, end: place };
-    }
-    let mut kept = [0u32; 8];
-    match gather(
-        content,
-        at,
-        types,
-        from,
-        results,
-        draft,
-        place + 2,
-        0,
-        place + 2,
-        start + HEADED,
-        &mut kept,
-        marks,
-    ) {
-        Gathering::TooLarge => Emitted::TooLarge,
-        Gathering::Upto { next, count, end } => {
-            let last = finish(draft, place, count, end);
-            if start + CONTENT < last {
+    let mut at = at;
+    let mut place = place;
+    let mut left = n;
+    while 0 < left {
+        let mut kept = [0u32; 8];
+        match gather(
+            content,
+            at,
+            types,
+            from,
+            results,
+            draft,
+            place + 2,
+            0,
+            place + 2,
+            start + HEADED,
+            &mut kept,
+            marks,
+        ) {
+            Gathering::TooLarge => {
                 return Emitted::TooLarge;
             }
-            emit_row(
-                content,
-                next,
-                n - 1,
-                types,
-                from,
-                results,
-                draft,
-                start,
-                last,
-                marks,
-            )
+            Gathering::Upto { next, count, end } => {
+                at = next;
+                place = finish(draft, place, count, end);
+            }
         }
+        if start + CONTENT < place {
+            return Emitted::TooLarge;
+        }
+        left -= 1;
     }
+    let next = at;
+    Emitted::Upto { next, end: place }
 }

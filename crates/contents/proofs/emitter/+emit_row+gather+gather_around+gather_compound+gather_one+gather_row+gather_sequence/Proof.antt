@@ -1,6 +1,6 @@
 -- The emitter's functions meet their contracts. The measure is five times the bytes from the place on: a row is four more, a
--- content three more, a content with operands two more, and one that is no choice one more; every call goes on past a byte, or from a row to its first content, or from a
--- content to what its operator needs. Each return is a law of EmitLaws.
+-- content three more, a content with operands two more, one that is no choice one more; every call goes on past a byte, or from a
+-- row to its contents, or from a content to what its operator needs. Each return is a law of EmitLaws.
 use native.Mathlib.Omega.{arith}
 use mathlib.Core.List.{List}
 use mathlib.Core.Path.{_≡_, refl, sym, _∙_, ap}
@@ -10,7 +10,7 @@ use Rattle.grammar.specs.Limits.{standard}
 use Rattle.grammar.specs.Content.{sequence, choice}
 use Rattle.grammar.specs.ReadContent.{operators}
 use Rattle.reader.proofs.ExprLaws.{operator-sequence, operator-choice}
-use Rattle.contents.specs.Emitting.{Source}
+use Rattle.contents.specs.Emitting.{Source, Sources, Noted, Operands}
 use Rattle.contents.proofs.MarkLaws.{part-words, part-long}
 use Rattle.reader.proofs.ContentAtLaws.{content-inside, type-there, count-there}
 use Rattle.contents.proofs.SourceLaws.{CountedThere, counted-of, single-of, content-found, row-found}
@@ -20,6 +20,7 @@ use Rattle.contents.proofs.EmitLaws.{
   row-wide,
   other-sources,
   goes-on,
+  SourcesLeft,
   row-then,
   no-operands,
   first-operand,
@@ -29,6 +30,7 @@ use Rattle.contents.proofs.EmitLaws.{
   goes-on',
   operand-long,
   other-operands,
+  RowRest,
   row-on,
   sequence-inside,
   sequence-blank,
@@ -52,7 +54,7 @@ use Rattle.contents.proofs.EmitLaws.{
   choice-gives,
   type-gives,
 }
-use Prim.Native.Nat.{ℕ, _+_, _-_, _*_, _<_}
+use Prim.Native.Nat.{ℕ, _+_, _-_, _*_, _≤_, _<_}
 use borrow.Fn.Kinds.{In}
 use borrow.Fn.PlainCycle.{Measures, is, falls, and}
 use Rattle.contents.proofs.emitter.emit_row.Reads as emit-row
@@ -191,8 +193,6 @@ emit-row-calls t = (
   gather.Post,
   finish-reads.Asked,
   finish-reads.Learnt,
-  emit-row-below t,
-  emit-row.Post,
 )
 
 abbrev gather-calls : ℕ → gather-lts.Claims
@@ -240,12 +240,7 @@ gather-one-calls t = (
 )
 
 abbrev gather-row-calls : ℕ → gather-row-lts.Claims
-gather-row-calls t = (
-  gather-below t,
-  gather.Post,
-  gather-row-below t,
-  gather-row.Post,
-)
+gather-row-calls t = (gather-below t, gather.Post)
 
 abbrev gather-sequence-calls : ℕ → gather-sequence-lts.Claims
 gather-sequence-calls t = (
@@ -270,108 +265,134 @@ module _ {s : List ℕ} {at n : ℕ} {types from results d : List ℕ} {base cou
   choices-of b e =
       counted-of standard s at n (q .there) choice e (omega arith) (omega arith) (ap (getElem? operators) b ∙ operator-choice)
 
-emit-row-add-gather : (t : ℕ) → emit-row-lts.Need-add-gather (emit-row-calls t) (emit-row-at t) emit-row.Post
+some-left : {n : ℕ} → 0 < n → n ≡ 0 → ⊥
+some-left h z = omega arith
+
+-- what is left of the row is written, and the place in the source only goes on
+abbrev emit-row-Inv-loop : emit-row-lts.InvT-loop
+emit-row-Inv-loop content at n types from results draft₀ start place marks₀ at₀ place₀ left₀ draft marks at' place' left =
+    (at ≤ at')
+    × (length draft ≡ length draft₀)
+    × (length marks ≡ length marks₀)
+    × ((q : Operands content at n types from results draft₀ start place (length marks₀))
+    → RowRest q (listOfType from results) draft at' left place' (length marks))
+
+abbrev emit-row-μ-loop : emit-row-lts.MeasureT-loop
+emit-row-μ-loop content at n types from results draft₀ start place marks₀ at₀ place₀ left₀ draft marks at' place' left = left
+
+emit-row-loop-holds : (t : ℕ) → emit-row-lts.Need-loop-holds (emit-row-calls t) (emit-row-at t) emit-row.Post emit-row-Inv-loop emit-row-μ-loop
+emit-row-loop-holds t c = (omega arith, refl, refl, λ q. record { rest = q; whole = λ d o g. g })
+
+emit-row-add-gather : (t : ℕ) → emit-row-lts.Need-add-gather (emit-row-calls t) (emit-row-at t) emit-row.Post emit-row-Inv-loop emit-row-μ-loop
 emit-row-add-gather t c =
-    let q = c .before .before .before .before .before .before .before .before .pre .1 in
+    let r = c .before .before .loop .inv .3 (c .before .before .before .before .before .before .before .before .before .pre .1) .rest in
     omega arith
 
-emit-row-add-gather-2 : (t : ℕ) → emit-row-lts.Need-add-gather-2 (emit-row-calls t) (emit-row-at t) emit-row.Post
+emit-row-add-gather-2 : (t : ℕ) → emit-row-lts.Need-add-gather-2 (emit-row-calls t) (emit-row-at t) emit-row.Post emit-row-Inv-loop emit-row-μ-loop
 emit-row-add-gather-2 t c =
-    let q = c .before .before .before .before .before .before .before .before .pre .1 in
+    let r = c .before .before .loop .inv .3 (c .before .before .before .before .before .before .before .before .before .pre .1) .rest in
     omega arith
 
-emit-row-add-gather-3 : (t : ℕ) → emit-row-lts.Need-add-gather-3 (emit-row-calls t) (emit-row-at t) emit-row.Post
+emit-row-add-gather-3 : (t : ℕ) → emit-row-lts.Need-add-gather-3 (emit-row-calls t) (emit-row-at t) emit-row.Post emit-row-Inv-loop emit-row-μ-loop
 emit-row-add-gather-3 t c =
-    let q = c .before .before .before .before .before .before .before .before .pre .1 in
+    let r = c .before .before .loop .inv .3 (c .before .before .before .before .before .before .before .before .before .pre .1) .rest in
     omega arith
 
-emit-row-gather-requires : (t : ℕ) → emit-row-lts.Need-gather-requires (emit-row-calls t) (emit-row-at t) emit-row.Post
+emit-row-gather-requires : (t : ℕ) → emit-row-lts.Need-gather-requires (emit-row-calls t) (emit-row-at t) emit-row.Post emit-row-Inv-loop emit-row-μ-loop
 emit-row-gather-requires t c κs =
-    let a = c .before .before .before .before .before .before .before .before .before .before .args in
+    let a = c .before .before .before .before .before .before .before .before .before .before .before .args in
     let res = listOfType (a .from .now) (a .results .now) in
-    let some = c .before .before .before .if1 .left in
-    let m = c .before .before .before .before .before .before .before .before .before .before .pre .0 in
-    let q = c .before .before .before .before .before .before .before .before .before .before .pre .1 in
-    (omega arith, (first-operand q res some, operand-noted q res some (a .marks .now) refl))
+    let some = some-left (c .before .before .before .loop-test .taken) in
+    let q = c .before .before .before .before .before .before .before .before .before .before .before .pre .1 in
+    let m = c .before .before .before .before .before .before .before .before .before .before .before .pre .0 in
+    let on = c .before .before .before .before .loop .inv .0 in
+    let x = c .before .before .before .before .loop .inv .3 q in
+    let r = x .rest in
+    (omega arith, (first-operand r res some, operand-noted r res some (c .before .before .before .before .loop .marks) refl))
 
-emit-row-finish-requires : (t : ℕ) → emit-row-lts.Need-finish-requires (emit-row-calls t) (emit-row-at t) emit-row.Post
+emit-row-returns : (t : ℕ) → emit-row-lts.Need-returns (emit-row-calls t) (emit-row-at t) emit-row.Post emit-row-Inv-loop emit-row-μ-loop
+emit-row-returns t c =
+    let a = c .before .before .before .before .before .before .before .before .before .before .before .before .before .before .before .before .before .before .before .args in
+    let res = listOfType (a .from .now) (a .results .now) in
+    let some = some-left (c .before .before .before .before .before .before .before .before .before .before .before .loop-test .taken) in
+    λ q.
+    let x = c .before .before .before .before .before .before .before .before .before .before .before .before .loop .inv .3 q in
+    let r = x .rest in
+    let g = c .before .before .before .before .before .before .before .gather .ensures (first-operand r res some) (operand-noted r res some (c .before .before .before .before .before .before .before .before .before .before .before .before .loop .marks) refl) .gathers in
+    x .whole _ _ (operand-wide r res some _ _ g (c .enum-told .given .1))
+
+emit-row-finish-requires : (t : ℕ) → emit-row-lts.Need-finish-requires (emit-row-calls t) (emit-row-at t) emit-row.Post emit-row-Inv-loop emit-row-μ-loop
 emit-row-finish-requires t c κs =
-    let a = c .before .before .before .before .before .before .before .before .before .before .before .before .before .before .before .before .before .before .before .before .args in
+    let a = c .before .before .before .before .before .before .before .before .before .before .before .before .before .before .before .before .before .before .before .before .before .args in
     let res = listOfType (a .from .now) (a .results .now) in
-    let some = c .before .before .before .before .before .before .before .before .before .before .before .before .before .if1 .left in
-    let q = c .before .before .before .before .before .before .before .before .before .before .before .before .before .before .before .before .before .before .before .before .pre .1 in
-    let g = c .before .before .before .before .before .before .before .before .before .gather .ensures (first-operand q res some) (operand-noted q res some (a .marks .now) refl) .gathers in
-    operand-kept q res some _ _ g (c .before .before .next .given .1) (c .before .before .before .before .before .before .before .before .before .gather .kept .1 .1 .1 .1 .1 .0)
+    let some = some-left (c .before .before .before .before .before .before .before .before .before .before .before .before .before .loop-test .taken) in
+    let q = c .before .before .before .before .before .before .before .before .before .before .before .before .before .before .before .before .before .before .before .before .before .pre .1 in
+    let x = c .before .before .before .before .before .before .before .before .before .before .before .before .before .before .loop .inv .3 q in
+    let r = x .rest in
+    let g = c .before .before .before .before .before .before .before .before .before .gather .ensures (first-operand r res some) (operand-noted r res some (c .before .before .before .before .before .before .before .before .before .before .before .before .before .before .loop .marks) refl) .gathers in
+    operand-kept r res some _ _ g (c .before .before .next .given .1) (c .before .before .before .before .before .before .before .before .before .gather .kept .1 .1 .1 .1 .1 .0)
 
-emit-row-add-if2 : (t : ℕ) → emit-row-lts.Need-add-if2 (emit-row-calls t) (emit-row-at t) emit-row.Post
-emit-row-add-if2 t c =
-    let q = c .before .before .before .before .before .before .before .before .before .before .before .before .before .before .before .before .before .before .before .before .before .before .before .pre .1 in
-    omega (arith, c .before .before .before .before .before .before .before .before .before .before .before .before .before .before .before .before .before .before .before .before .before .before .before .good .1 .1 .1 .1 .1 .1 .0)
+emit-row-add-if1 : (t : ℕ) → emit-row-lts.Need-add-if1 (emit-row-calls t) (emit-row-at t) emit-row.Post emit-row-Inv-loop emit-row-μ-loop
+emit-row-add-if1 t c =
+    let q = c .before .before .before .before .before .before .before .before .before .before .before .before .before .before .before .before .before .before .before .before .before .before .before .before .pre .1 in
+    omega (arith, c .before .before .before .before .before .before .before .before .before .before .before .before .before .before .before .before .before .before .before .before .before .before .before .before .good .1 .1 .1 .1 .1 .1 .0)
 
-emit-row-same-length : (t : ℕ) → emit-row-lts.Need-same-length (emit-row-calls t) (emit-row-at t) emit-row.Post
-emit-row-same-length t c =
-    c .before .before .before .finish .kept .0 ∙ c .before .before .before .before .before .before .before .before .before .before .before .before .before .gather .kept .1 .1 .1 .1 .1 .0
+emit-row-same-length-3 : (t : ℕ) → emit-row-lts.Need-same-length-3 (emit-row-calls t) (emit-row-at t) emit-row.Post emit-row-Inv-loop emit-row-μ-loop
+emit-row-same-length-3 t c = c .before .before .before .finish .kept .0 ∙ c .before .before .before .before .before .before .before .before .before .before .before .before .before .gather .kept .1 .1 .1 .1 .1 .0 ∙ c .before .before .before .before .before .before .before .before .before .before .before .before .before .before .before .before .before .before .loop .inv .1
 
-emit-row-returns-2 : (t : ℕ) → emit-row-lts.Need-returns-2 (emit-row-calls t) (emit-row-at t) emit-row.Post
+emit-row-same-length-4 : (t : ℕ) → emit-row-lts.Need-same-length-4 (emit-row-calls t) (emit-row-at t) emit-row.Post emit-row-Inv-loop emit-row-μ-loop
+emit-row-same-length-4 t c = c .before .before .before .before .before .before .before .before .before .before .before .before .before .gather .kept .1 .1 .1 .1 .1 .1 .1 .1 .1 .1 .1 .0 ∙ c .before .before .before .before .before .before .before .before .before .before .before .before .before .before .before .before .before .before .loop .inv .2
+
+emit-row-returns-2 : (t : ℕ) → emit-row-lts.Need-returns-2 (emit-row-calls t) (emit-row-at t) emit-row.Post emit-row-Inv-loop emit-row-μ-loop
 emit-row-returns-2 t c =
-    let a = c .before .before .before .before .before .before .before .before .before .before .before .before .before .before .before .before .before .before .before .before .before .before .before .before .args in
+    let a = c .before .before .before .before .before .before .before .before .before .before .before .before .before .before .before .before .before .before .before .before .before .before .before .before .before .args in
     let res = listOfType (a .from .now) (a .results .now) in
-    let some = c .before .before .before .before .before .before .before .before .before .before .before .before .before .before .before .before .before .if1 .left in
+    let some = some-left (c .before .before .before .before .before .before .before .before .before .before .before .before .before .before .before .before .before .loop-test .taken) in
     let e = c .before .before .before .before .before .before .next .given .1 in
     let l = c .before .before .before .before .before .before .before .before .before .before .before .before .before .gather .kept .1 .1 .1 .1 .1 .0 in
     λ q.
-    let g = c .before .before .before .before .before .before .before .before .before .before .before .before .before .gather .ensures (first-operand q res some) (operand-noted q res some (a .marks .now) refl) .gathers in
-    let f = c .before .before .before .finish .ensures (operand-kept q res some _ _ g e l) in
-    operand-long q res some _ _ g e l f (c .before .before .before .finish .kept .0) (c .if2 .taken)
+    let x = c .before .before .before .before .before .before .before .before .before .before .before .before .before .before .before .before .before .before .loop .inv .3 q in
+    let r = x .rest in
+    let g = c .before .before .before .before .before .before .before .before .before .before .before .before .before .gather .ensures (first-operand r res some) (operand-noted r res some (c .before .before .before .before .before .before .before .before .before .before .before .before .before .before .before .before .before .before .loop .marks) refl) .gathers in
+    let f = c .before .before .before .finish .ensures (operand-kept r res some _ _ g e l) in
+    let l' = c .before .before .before .finish .kept .0 in
+    x .whole _ _ (operand-long r res some _ _ g e l f l' (c .if1 .taken))
 
-emit-row-sub-emit-row : (t : ℕ) → emit-row-lts.Need-sub-emit-row (emit-row-calls t) (emit-row-at t) emit-row.Post
-emit-row-sub-emit-row t c =
-    let some = c .before .before .before .before .before .before .before .before .before .before .before .before .before .before .before .before .before .if1 .left in
-    omega arith
-
-emit-row-emit-row-requires : (t : ℕ) → emit-row-lts.Need-emit-row-requires (emit-row-calls t) (emit-row-at t) emit-row.Post
-emit-row-emit-row-requires t c κs =
-    let a = c .before .before .before .before .before .before .before .before .before .before .before .before .before .before .before .before .before .before .before .before .before .before .before .before .before .before .args in
+emit-row-loop-again : (t : ℕ) → emit-row-lts.Need-loop-again (emit-row-calls t) (emit-row-at t) emit-row.Post emit-row-Inv-loop emit-row-μ-loop
+emit-row-loop-again t c =
+    let a = c .before .before .before .before .before .before .before .before .before .before .before .before .before .before .before .before .before .before .before .before .before .before .before .before .before .args in
     let res = listOfType (a .from .now) (a .results .now) in
-    let some = c .before .before .before .before .before .before .before .before .before .before .before .before .before .before .before .before .before .before .before .if1 .left in
-    let e = c .before .before .before .before .before .before .before .before .next .given .1 in
-    let l = c .before .before .before .before .before .before .before .before .before .before .before .before .before .before .before .gather .kept .1 .1 .1 .1 .1 .0 in
-    let l' = c .before .before .before .before .before .finish .kept .0 in
-    let m = c .before .before .before .before .before .before .before .before .before .before .before .before .before .before .before .before .before .before .before .before .before .before .before .before .before .before .pre .0 in
-    let q = c .before .before .before .before .before .before .before .before .before .before .before .before .before .before .before .before .before .before .before .before .before .before .before .before .before .before .pre .1 in
-    let g = c .before .before .before .before .before .before .before .before .before .before .before .before .before .before .before .gather .ensures (first-operand q res some) (operand-noted q res some (a .marks .now) refl) .gathers in
-    let f = c .before .before .before .before .before .finish .ensures (operand-kept q res some _ _ g e l) in
-    let on = goes-on' q res some _ _ g e l in
-    let others = other-operands q res some _ _ g e l f l' (c .before .before .if2 .left) _ (c .before .before .before .before .before .before .before .before .before .before .before .before .before .before .before .gather .kept .1 .1 .1 .1 .1 .1 .1 .1 .1 .1 .1 .0) in
-    let i = others .there .inside in
-    (omega arith, others)
+    let some = some-left (c .before .before .before .before .before .before .before .before .before .before .before .before .before .before .before .before .before .loop-test .taken) in
+    let e = c .before .before .before .before .before .before .next .given .1 in
+    let l = c .before .before .before .before .before .before .before .before .before .before .before .before .before .gather .kept .1 .1 .1 .1 .1 .0 in
+    let on =
+    let q = c .before .before .before .before .before .before .before .before .before .before .before .before .before .before .before .before .before .before .before .before .before .before .before .before .before .pre .1 in
+    let x = c .before .before .before .before .before .before .before .before .before .before .before .before .before .before .before .before .before .before .loop .inv .3 q in
+    let r = x .rest in
+    let g = c .before .before .before .before .before .before .before .before .before .before .before .before .before .gather .ensures (first-operand r res some) (operand-noted r res some (c .before .before .before .before .before .before .before .before .before .before .before .before .before .before .before .before .before .before .loop .marks) refl) .gathers in
+    goes-on' r res some _ _ g e l in
+    let was = c .before .before .before .before .before .before .before .before .before .before .before .before .before .before .before .before .before .before .loop .inv .0 in (
+      omega arith,
+      c .before .before .before .finish .kept .0 ∙ l ∙ c .before .before .before .before .before .before .before .before .before .before .before .before .before .before .before .before .before .before .loop .inv .1,
+      c .before .before .before .before .before .before .before .before .before .before .before .before .before .gather .kept .1 .1 .1 .1 .1 .1 .1 .1 .1 .1 .1 .0 ∙ c .before .before .before .before .before .before .before .before .before .before .before .before .before .before .before .before .before .before .loop .inv .2,
+      λ q.
+          let x = c .before .before .before .before .before .before .before .before .before .before .before .before .before .before .before .before .before .before .loop .inv .3 q in
+          let r = x .rest in
+          let g = c .before .before .before .before .before .before .before .before .before .before .before .before .before .gather .ensures (first-operand r res some) (operand-noted r res some (c .before .before .before .before .before .before .before .before .before .before .before .before .before .before .before .before .before .before .loop .marks) refl) .gathers in
+          let f = c .before .before .before .finish .ensures (operand-kept r res some _ _ g e l) in
+          let l' = c .before .before .before .finish .kept .0 in
+          record {
+            rest = other-operands r res some _ _ g e l f l' (c .if1 .left) _ (c .before .before .before .before .before .before .before .before .before .before .before .before .before .gather .kept .1 .1 .1 .1 .1 .1 .1 .1 .1 .1 .1 .0);
+            whole = λ d o h. x .whole d o (row-on r res some _ _ g e l f l' (c .if1 .left) d o h);
+          },
+    )
 
-emit-row-returns-3 : (t : ℕ) → emit-row-lts.Need-returns-3 (emit-row-calls t) (emit-row-at t) emit-row.Post
+emit-row-returns-3 : (t : ℕ) → emit-row-lts.Need-returns-3 (emit-row-calls t) (emit-row-at t) emit-row.Post emit-row-Inv-loop emit-row-μ-loop
 emit-row-returns-3 t c =
-    let a = c .before .before .before .before .before .before .before .before .before .before .before .before .before .before .before .before .before .before .args in
-    let res = listOfType (a .from .now) (a .results .now) in
-    let some = c .before .before .before .before .before .before .before .before .before .before .before .if1 .left in
-    λ q. operand-wide q res some _ _ (c .before .before .before .before .before .before .before .gather .ensures (first-operand q res some) (operand-noted q res some (a .marks .now) refl) .gathers) (c .enum-told .given .1)
-
-emit-row-same-length-5 : (t : ℕ) → emit-row-lts.Need-same-length-5 (emit-row-calls t) (emit-row-at t) emit-row.Post
-emit-row-same-length-5 t c =
-    c .before .before .before .before .emit-row .kept .1 .1 .1 .1 .1 .1 .0 ∙ c .before .before .before .before .before .before .before .before .before .before .finish .kept .0 ∙ c .before .before .before .before .before .before .before .before .before .before .before .before .before .before .before .before .before .before .before .before .gather .kept .1 .1 .1 .1 .1 .0
-
-emit-row-same-length-6 : (t : ℕ) → emit-row-lts.Need-same-length-6 (emit-row-calls t) (emit-row-at t) emit-row.Post
-emit-row-same-length-6 t c = c .before .before .before .before .emit-row .kept .1 .1 .1 .1 .1 .1 .1 .1 .1 .0 ∙ c .before .before .before .before .before .before .before .before .before .before .before .before .before .before .before .before .before .before .before .before .gather .kept .1 .1 .1 .1 .1 .1 .1 .1 .1 .1 .1 .0
-
-emit-row-returns-4 : (t : ℕ) → emit-row-lts.Need-returns-4 (emit-row-calls t) (emit-row-at t) emit-row.Post
-emit-row-returns-4 t c =
-    let a = c .before .before .before .before .before .before .before .before .before .before .before .before .before .before .before .before .before .before .before .before .before .before .before .before .before .before .before .before .before .before .before .args in
-    let res = listOfType (a .from .now) (a .results .now) in
-    let some = c .before .before .before .before .before .before .before .before .before .before .before .before .before .before .before .before .before .before .before .before .before .before .before .before .if1 .left in
-    let e = c .before .before .before .before .before .before .before .before .before .before .before .before .before .next .given .1 in
-    let l = c .before .before .before .before .before .before .before .before .before .before .before .before .before .before .before .before .before .before .before .before .gather .kept .1 .1 .1 .1 .1 .0 in
-    let l' = c .before .before .before .before .before .before .before .before .before .before .finish .kept .0 in
     λ q.
-    let g = c .before .before .before .before .before .before .before .before .before .before .before .before .before .before .before .before .before .before .before .before .gather .ensures (first-operand q res some) (operand-noted q res some (a .marks .now) refl) .gathers in
-    let f = c .before .before .before .before .before .before .before .before .before .before .finish .ensures (operand-kept q res some _ _ g e l) in
-    row-on q res some _ _ g e l f l' (c .before .before .before .before .before .before .before .if2 .left) _ _ (c .before .before .before .before .emit-row .ensures (other-operands q res some _ _ g e l f l' (c .before .before .before .before .before .before .before .if2 .left) _ (c .before .before .before .before .before .before .before .before .before .before .before .before .before .before .before .before .before .before .before .before .gather .kept .1 .1 .1 .1 .1 .1 .1 .1 .1 .1 .1 .0)))
+    let x = c .before .loop .inv .3 q in
+    let r = x .rest in
+    x .whole _ _ (no-operands r _ (omega arith))
 
 gather-shared-slice-read-wide : (t : ℕ) → gather-lts.Need-shared-slice-read-wide (gather-calls t) (gather-at t) gather.Post
 gather-shared-slice-read-wide t c =
@@ -653,61 +674,86 @@ gather-one-gather-around-requires t c κs =
     let w = c .before .before .before .wide .ensures .0 in
     (omega arith, (omega arith, c .before .before .before .before .before .before .before .before .before .before .before .pre .1 .2))
 
-gather-row-gather-requires : (t : ℕ) → gather-row-lts.Need-gather-requires (gather-row-calls t) (gather-row-at t) gather-row.Post
+abbrev gather-row-Inv-loop : gather-row-lts.InvT-loop
+gather-row-Inv-loop content at n types from results draft₀ base count end limit kept₀ marks₀ at₀ count₀ end₀ left₀ draft kept marks at' count' end' left =
+    (at ≤ at')
+    × (length draft ≡ length draft₀)
+    × (length kept ≡ length kept₀)
+    × (length marks ≡ length marks₀)
+    × ((q : Sources content at n types from results draft₀ base count end limit (length marks₀)) → Noted kept₀ marks₀ (q .kept .list)
+    → SourcesLeft q (listOfType from results) kept marks draft at' left count' end' (length marks))
+
+abbrev gather-row-μ-loop : gather-row-lts.MeasureT-loop
+gather-row-μ-loop content at n types from results draft₀ base count end limit kept₀ marks₀ at₀ count₀ end₀ left₀ draft kept marks at' count' end' left = left
+
+gather-row-loop-holds : (t : ℕ) → gather-row-lts.Need-loop-holds (gather-row-calls t) (gather-row-at t) gather-row.Post gather-row-Inv-loop gather-row-μ-loop
+gather-row-loop-holds t c = (omega arith, refl, refl, refl, λ q y. record { rest = q; noted = y; whole = λ kept marks d o g. g })
+
+gather-row-gather-requires : (t : ℕ) → gather-row-lts.Need-gather-requires (gather-row-calls t) (gather-row-at t) gather-row.Post gather-row-Inv-loop gather-row-μ-loop
 gather-row-gather-requires t c κs =
-    let a = c .before .before .before .before .before .before .before .before .before .before .before .args in
+    let a = c .before .before .before .before .before .before .before .before .before .before .before .before .args in
     let res = listOfType (a .from .now) (a .results .now) in
-    let some = c .before .before .before .if1 .left in
-    let m = c .before .before .before .before .before .before .before .before .before .before .before .pre .0 in
-    let q = c .before .before .before .before .before .before .before .before .before .before .before .pre .1 .0 in
-    (omega arith, (first-source q res some, c .before .before .before .before .before .before .before .before .before .before .before .pre .1 .1))
+    let some = some-left (c .before .before .before .loop-test .taken) in
+    let m = c .before .before .before .before .before .before .before .before .before .before .before .before .pre .0 in
+    let on = c .before .before .before .before .loop .inv .0 in
+    let q = c .before .before .before .before .before .before .before .before .before .before .before .before .pre .1 .0 in
+    let y = c .before .before .before .before .before .before .before .before .before .before .before .before .pre .1 .1 in
+    let x = c .before .before .before .before .loop .inv .4 q y in
+    let r = x .rest in
+    (omega arith, (first-source r res some, x .noted))
 
-gather-row-sub-gather-row : (t : ℕ) → gather-row-lts.Need-sub-gather-row (gather-row-calls t) (gather-row-at t) gather-row.Post
-gather-row-sub-gather-row t c =
-    let some = c .before .before .before .before .before .before .before .before .before .before .before .before .before .if1 .left in
-    omega arith
+gather-row-same-length-2 : (t : ℕ) → gather-row-lts.Need-same-length-2 (gather-row-calls t) (gather-row-at t) gather-row.Post gather-row-Inv-loop gather-row-μ-loop
+gather-row-same-length-2 t c = c .before .before .before .before .before .before .before .before .gather .kept .1 .1 .1 .1 .1 .1 .1 .1 .1 .1 .0 ∙ c .before .before .before .before .before .before .before .before .before .before .before .before .before .loop .inv .2
 
-gather-row-gather-row-requires : (t : ℕ) → gather-row-lts.Need-gather-row-requires (gather-row-calls t) (gather-row-at t) gather-row.Post
-gather-row-gather-row-requires t c κs =
-    let a = c .before .before .before .before .before .before .before .before .before .before .before .before .before .before .before .before .before .before .before .before .before .before .before .before .args in
+gather-row-same-length-3 : (t : ℕ) → gather-row-lts.Need-same-length-3 (gather-row-calls t) (gather-row-at t) gather-row.Post gather-row-Inv-loop gather-row-μ-loop
+gather-row-same-length-3 t c = c .before .before .before .before .before .before .before .before .gather .kept .1 .1 .1 .1 .1 .1 .1 .1 .1 .1 .1 .0 ∙ c .before .before .before .before .before .before .before .before .before .before .before .before .before .loop .inv .3
+
+gather-row-returns : (t : ℕ) → gather-row-lts.Need-returns (gather-row-calls t) (gather-row-at t) gather-row.Post gather-row-Inv-loop gather-row-μ-loop
+gather-row-returns t c =
+    let a = c .before .before .before .before .before .before .before .before .before .before .before .before .before .before .before .before .before .before .before .before .before .args in
     let res = listOfType (a .from .now) (a .results .now) in
-    let some = c .before .before .before .before .before .before .before .before .before .before .before .before .before .before .before .before .if1 .left in
-    let e = c .before .before .before .before .next .given .1 in
-    let l = c .before .before .before .before .before .before .before .before .before .before .before .before .gather .kept .1 .1 .1 .1 .1 .0 in
-    let m = c .before .before .before .before .before .before .before .before .before .before .before .before .before .before .before .before .before .before .before .before .before .before .before .before .pre .0 in
-    let q = c .before .before .before .before .before .before .before .before .before .before .before .before .before .before .before .before .before .before .before .before .before .before .before .before .pre .1 .0 in
-    let g = c .before .before .before .before .before .before .before .before .before .before .before .before .gather .ensures (first-source q res some) (c .before .before .before .before .before .before .before .before .before .before .before .before .before .before .before .before .before .before .before .before .before .before .before .before .pre .1 .1) in
-    let on = goes-on q res some _ _ g e l in
-    let others = other-sources q res some _ _ g e l _ (c .before .before .before .before .before .before .before .before .before .before .before .before .gather .kept .1 .1 .1 .1 .1 .1 .1 .1 .1 .1 .1 .0) in
-    let i = others .there .inside in
-    (omega arith, (others, g .noted e))
+    let some = some-left (c .before .before .before .before .before .before .before .before .before .before .before .before .loop-test .taken) in
+    λ q y.
+    let x = c .before .before .before .before .before .before .before .before .before .before .before .before .before .loop .inv .4 q y in
+    let r = x .rest in
+    x .whole _ _ _ _ (row-wide r res some _ _ (c .before .before .before .before .before .before .before .before .gather .ensures (first-source r res some) (x .noted)) (c .enum-told .given .1))
 
-gather-row-returns-2 : (t : ℕ) → gather-row-lts.Need-returns-2 (gather-row-calls t) (gather-row-at t) gather-row.Post
+gather-row-loop-again : (t : ℕ) → gather-row-lts.Need-loop-again (gather-row-calls t) (gather-row-at t) gather-row.Post gather-row-Inv-loop gather-row-μ-loop
+gather-row-loop-again t c =
+    let a = c .before .before .before .before .before .before .before .before .before .before .before .before .before .before .before .before .before .before .before .before .before .before .args in
+    let res = listOfType (a .from .now) (a .results .now) in
+    let some = some-left (c .before .before .before .before .before .before .before .before .before .before .before .before .before .loop-test .taken) in
+    let e = c .before .next .given .1 in
+    let l = c .before .before .before .before .before .before .before .before .before .gather .kept .1 .1 .1 .1 .1 .0 in
+    let on =
+    let q = c .before .before .before .before .before .before .before .before .before .before .before .before .before .before .before .before .before .before .before .before .before .before .pre .1 .0 in
+    let y = c .before .before .before .before .before .before .before .before .before .before .before .before .before .before .before .before .before .before .before .before .before .before .pre .1 .1 in
+    let x = c .before .before .before .before .before .before .before .before .before .before .before .before .before .before .loop .inv .4 q y in
+    let r = x .rest in
+    let g = c .before .before .before .before .before .before .before .before .before .gather .ensures (first-source r res some) (x .noted) in
+    goes-on r res some _ _ g e l in
+    let was = c .before .before .before .before .before .before .before .before .before .before .before .before .before .before .loop .inv .0 in (
+      omega arith,
+      l ∙ c .before .before .before .before .before .before .before .before .before .before .before .before .before .before .loop .inv .1,
+      c .before .before .before .before .before .before .before .before .before .gather .kept .1 .1 .1 .1 .1 .1 .1 .1 .1 .1 .0 ∙ c .before .before .before .before .before .before .before .before .before .before .before .before .before .before .loop .inv .2,
+      c .before .before .before .before .before .before .before .before .before .gather .kept .1 .1 .1 .1 .1 .1 .1 .1 .1 .1 .1 .0 ∙ c .before .before .before .before .before .before .before .before .before .before .before .before .before .before .loop .inv .3,
+      λ q y.
+          let x = c .before .before .before .before .before .before .before .before .before .before .before .before .before .before .loop .inv .4 q y in
+          let r = x .rest in
+          let g = c .before .before .before .before .before .before .before .before .before .gather .ensures (first-source r res some) (x .noted) in
+          record {
+            rest = other-sources r res some _ _ g e l _ (c .before .before .before .before .before .before .before .before .before .gather .kept .1 .1 .1 .1 .1 .1 .1 .1 .1 .1 .1 .0);
+            noted = g .noted e;
+            whole = λ kept marks d o h. x .whole kept marks d o (row-then r res some _ _ g e l d o h);
+          },
+    )
+
+gather-row-returns-2 : (t : ℕ) → gather-row-lts.Need-returns-2 (gather-row-calls t) (gather-row-at t) gather-row.Post gather-row-Inv-loop gather-row-μ-loop
 gather-row-returns-2 t c =
-    let a = c .before .before .before .before .before .before .before .before .before .before .before .before .before .before .before .before .before .before .before .before .args in
-    let res = listOfType (a .from .now) (a .results .now) in
-    let some = c .before .before .before .before .before .before .before .before .before .before .before .before .if1 .left in
-    λ q s. row-wide q res some _ _ (c .before .before .before .before .before .before .before .before .gather .ensures (first-source q res some) s) (c .enum-told .given .1)
-
-gather-row-same-length-4 : (t : ℕ) → gather-row-lts.Need-same-length-4 (gather-row-calls t) (gather-row-at t) gather-row.Post
-gather-row-same-length-4 t c = c .before .before .before .before .before .before .gather-row .kept .1 .1 .1 .1 .1 .1 .0 ∙ c .before .before .before .before .before .before .before .before .before .before .before .before .before .before .before .before .before .before .before .gather .kept .1 .1 .1 .1 .1 .0
-
-gather-row-same-length-5 : (t : ℕ) → gather-row-lts.Need-same-length-5 (gather-row-calls t) (gather-row-at t) gather-row.Post
-gather-row-same-length-5 t c = c .before .before .before .before .before .before .gather-row .kept .1 .1 .1 .1 .1 .1 .1 .1 .1 .1 .1 .0 ∙ c .before .before .before .before .before .before .before .before .before .before .before .before .before .before .before .before .before .before .before .gather .kept .1 .1 .1 .1 .1 .1 .1 .1 .1 .1 .0
-
-gather-row-same-length-6 : (t : ℕ) → gather-row-lts.Need-same-length-6 (gather-row-calls t) (gather-row-at t) gather-row.Post
-gather-row-same-length-6 t c = c .before .before .before .before .before .before .gather-row .kept .1 .1 .1 .1 .1 .1 .1 .1 .1 .1 .1 .1 .0 ∙ c .before .before .before .before .before .before .before .before .before .before .before .before .before .before .before .before .before .before .before .gather .kept .1 .1 .1 .1 .1 .1 .1 .1 .1 .1 .1 .0
-
-gather-row-returns-3 : (t : ℕ) → gather-row-lts.Need-returns-3 (gather-row-calls t) (gather-row-at t) gather-row.Post
-gather-row-returns-3 t c =
-    let a = c .before .before .before .before .before .before .before .before .before .before .before .before .before .before .before .before .before .before .before .before .before .before .before .before .before .before .before .before .before .before .before .args in
-    let res = listOfType (a .from .now) (a .results .now) in
-    let some = c .before .before .before .before .before .before .before .before .before .before .before .before .before .before .before .before .before .before .before .before .before .before .before .if1 .left in
-    let e = c .before .before .before .before .before .before .before .before .before .before .before .next .given .1 in
-    let l = c .before .before .before .before .before .before .before .before .before .before .before .before .before .before .before .before .before .before .before .gather .kept .1 .1 .1 .1 .1 .0 in
-    λ q s.
-    let g = c .before .before .before .before .before .before .before .before .before .before .before .before .before .before .before .before .before .before .before .gather .ensures (first-source q res some) s in
-    row-then q res some _ _ g e l _ _ (c .before .before .before .before .before .before .gather-row .ensures (other-sources q res some _ _ g e l _ (c .before .before .before .before .before .before .before .before .before .before .before .before .before .before .before .before .before .before .before .gather .kept .1 .1 .1 .1 .1 .1 .1 .1 .1 .1 .1 .0)) (g .noted e))
+    λ q y.
+    let x = c .before .loop .inv .4 q y in
+    let r = x .rest in
+    x .whole _ _ _ _ (no-sources r _ (omega arith) (x .noted))
 
 gather-sequence-add-wide : (t : ℕ) → gather-sequence-lts.Need-add-wide (gather-sequence-calls t) (gather-sequence-at t) gather-sequence.Post
 gather-sequence-add-wide t c =
@@ -897,27 +943,30 @@ pub +emit-row+gather+gather-around+gather-compound+gather-one+gather-row+gather-
     (λ t. emit-row-lts.spec (emit-row-calls t)
     (emit-row-at t)
     emit-row.Post
-    (λ c. λ q. no-operands q _ (c .if1 .taken))
+    emit-row-Inv-loop
+    emit-row-μ-loop
+    (emit-row-loop-holds t)
     (emit-row-add-gather t)
     (emit-row-add-gather-2 t)
     (emit-row-add-gather-3 t)
     (λ c. refl)
     (emit-row-gather-requires t)
     (λ c. search needs)
+    (λ c. c .before .before .before .before .before .before .before .gather .kept .1 .1 .1 .1 .1 .0 ∙ c .before .before .before .before .before .before .before .before .before .before .before .before .loop .inv .1)
+    (λ c. c .before .before .before .before .before .before .before .gather .kept .1 .1 .1 .1 .1 .1 .1 .1 .1 .1 .1 .0 ∙ c .before .before .before .before .before .before .before .before .before .before .before .before .loop .inv .2)
+    (emit-row-returns t)
     (λ c. search needs)
     (emit-row-finish-requires t)
-    (emit-row-add-if2 t)
-    (emit-row-same-length t)
-    (λ c. c .before .before .before .before .before .before .before .before .before .before .before .before .before .gather .kept .1 .1 .1 .1 .1 .1 .1 .1 .1 .1 .1 .0)
+    (emit-row-add-if1 t)
+    (emit-row-same-length-3 t)
+    (emit-row-same-length-4 t)
     (emit-row-returns-2 t)
-    (emit-row-sub-emit-row t)
-    (emit-row-emit-row-requires t)
-    (λ c. c .before .before .before .before .before .before .before .gather .kept .1 .1 .1 .1 .1 .0)
-    (λ c. c .before .before .before .before .before .before .before .gather .kept .1 .1 .1 .1 .1 .1 .1 .1 .1 .1 .1 .0)
-    (emit-row-returns-3 t)
-    (emit-row-same-length-5 t)
-    (emit-row-same-length-6 t)
-    (emit-row-returns-4 t))
+    (λ c. omega arith)
+    (λ c. omega arith)
+    (emit-row-loop-again t)
+    (λ c. c .before .loop .inv .1)
+    (λ c. c .before .loop .inv .2)
+    (emit-row-returns-3 t))
     (λ t. gather-lts.spec (gather-calls t)
     (gather-at t)
     gather.Post
@@ -1005,20 +1054,23 @@ pub +emit-row+gather+gather-around+gather-compound+gather-one+gather-row+gather-
     (λ t. gather-row-lts.spec (gather-row-calls t)
     (gather-row-at t)
     gather-row.Post
-    (λ c. λ q s. no-sources q _ (c .if1 .taken) s)
+    gather-row-Inv-loop
+    gather-row-μ-loop
+    (gather-row-loop-holds t)
     (gather-row-gather-requires t)
     (λ c. search needs)
+    (λ c. c .before .before .before .before .before .before .before .before .gather .kept .1 .1 .1 .1 .1 .0 ∙ c .before .before .before .before .before .before .before .before .before .before .before .before .before .loop .inv .1)
+    (gather-row-same-length-2 t)
+    (gather-row-same-length-3 t)
+    (gather-row-returns t)
     (λ c. search needs)
-    (gather-row-sub-gather-row t)
-    (gather-row-gather-row-requires t)
-    (λ c. c .before .before .before .before .before .before .before .before .gather .kept .1 .1 .1 .1 .1 .0)
-    (λ c. c .before .before .before .before .before .before .before .before .gather .kept .1 .1 .1 .1 .1 .1 .1 .1 .1 .1 .0)
-    (λ c. c .before .before .before .before .before .before .before .before .gather .kept .1 .1 .1 .1 .1 .1 .1 .1 .1 .1 .1 .0)
-    (gather-row-returns-2 t)
-    (gather-row-same-length-4 t)
-    (gather-row-same-length-5 t)
-    (gather-row-same-length-6 t)
-    (gather-row-returns-3 t))
+    (λ c. omega arith)
+    (λ c. omega arith)
+    (gather-row-loop-again t)
+    (λ c. c .before .loop .inv .1)
+    (λ c. c .before .loop .inv .2)
+    (λ c. c .before .loop .inv .3)
+    (gather-row-returns-2 t))
     λ t. gather-sequence-lts.spec (gather-sequence-calls t)
     (gather-sequence-at t)
     gather-sequence.Post
