@@ -27,8 +27,8 @@ extern "C" {
 /* Words that every call needs. */
 #define COGARRUNE_WORK_WORDS 16384
 
-/* Stack that a thread should leave for a call (measured, with room to spare). */
-#define COGARRUNE_STACK_BYTES 524288
+/* Stack that a thread should leave for a call: twice what the hardest inputs known take (tests/stack/run). */
+#define COGARRUNE_STACK_BYTES 1048576
 
 /* No input is longer, and no table written. An output of this many bytes is never too short. */
 #define COGARRUNE_MOST_BYTES 32768

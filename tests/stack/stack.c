@@ -1,0 +1,63 @@
+/* The stack that a call takes. It runs on a thread of its own, whose stack was painted before; what is no longer paint was used. */
+#include <pthread.h>
+#include <stddef.h>
+#include <stdint.h>
+#include <string.h>
+#include <sys/mman.h>
+
+#include "cogarrune.h"
+
+#define ROOM ((size_t)4 << 20)
+#define PAINT 0xA5
+
+struct call {
+    int number; /* as in tests/second_validator; 0 does nothing */
+    const uint8_t *first, *second;
+    size_t first_length, second_length, label;
+};
+
+static uint8_t out[COGARRUNE_MOST_BYTES];
+static uint32_t work[COGARRUNE_WORK_WORDS];
+
+#define FIRST c->first, c->first_length
+#define BOTH FIRST, c->second, c->second_length
+#define OUT out, sizeof out
+#define WORK work, COGARRUNE_WORK_WORDS
+
+static void *run(void *given)
+{
+    const struct call *c = given;
+    switch (c->number) {
+    case 1: cogarrune_table_reads(FIRST, WORK); break;
+    case 2: cogarrune_document_reads(FIRST, WORK); break;
+    case 3: cogarrune_label_name(FIRST, c->label, WORK); break;
+    case 4: cogarrune_lets_in(BOTH, WORK); break;
+    case 5: cogarrune_is_local(FIRST, WORK); break;
+    case 6: cogarrune_is_single_type(FIRST, WORK); break;
+    case 7: cogarrune_sample(FIRST, OUT, WORK); break;
+    case 8: cogarrune_widen_local_by_table(BOTH, OUT, WORK); break;
+    case 9: cogarrune_widen_local_by_document(BOTH, OUT, WORK); break;
+    case 10: cogarrune_widen_single_type_by_table(BOTH, OUT, WORK); break;
+    case 11: cogarrune_widen_single_type_by_document(BOTH, OUT, WORK); break;
+    }
+    return NULL;
+}
+
+/* Bytes of stack, with those that the thread itself takes; 0 if no thread could be made. */
+size_t stack_of(int number, const uint8_t *first, size_t first_length, const uint8_t *second, size_t second_length, size_t label)
+{
+    struct call call = { number, first, second, first_length, second_length, label };
+    uint8_t *stack = mmap(NULL, ROOM, PROT_READ | PROT_WRITE, MAP_PRIVATE | MAP_ANONYMOUS, -1, 0);
+    pthread_attr_t attributes;
+    pthread_t thread;
+    size_t clean = 0;
+    if (stack == MAP_FAILED || pthread_attr_init(&attributes) != 0 || pthread_attr_setstack(&attributes, stack, ROOM) != 0)
+        return 0;
+    memset(stack, PAINT, ROOM);
+    if (pthread_create(&thread, &attributes, run, &call) != 0 || pthread_join(thread, NULL) != 0)
+        return 0;
+    while (clean < ROOM && stack[clean] == PAINT)
+        clean++;
+    munmap(stack, ROOM);
+    return ROOM - clean;
+}
