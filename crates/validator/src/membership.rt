@@ -165,14 +165,8 @@ fn root_types(
         let from = names[at] as usize;
         let to = from + sizes[at] as usize;
         let count = children[at] as usize;
-        let label = label_of(
-            &document[from..to],
-            table,
-            &label_from,
-            &label_to,
-            &by_key,
-            labels,
-        );
+        let name = &document[from..to];
+        let label = label_of(name, table, &label_from, &label_to, &by_key, labels);
         let base = top - 4;
         put_types(
             table,

@@ -148,18 +148,18 @@ shared-slice-read-count c =
 cast-count : tie.Need-cast-count Inv-loop μ-loop
 cast-count c = omega (arith, c .shared-slice-known8 .given (c .before .before .before .before .loop .i - 1))
 
-sub-label-of : tie.Need-sub-label-of Inv-loop μ-loop
-sub-label-of c =
+sub-name : tie.Need-sub-name Inv-loop μ-loop
+sub-name c =
     let within = c .before .before .before .before .before .before .before .before .before .before .before .before .before .before .before .before .before .before .before .before .before .before .before .before .before .before .before .before .before .before .pre .1 .indexed .within (c .before .before .before .before .loop .i - 1) (inside (c .before .before .before .before .loop .i) _ (c .before .before .before .before .loop .inv .0) (c .before .before .before .loop-test .taken)) in
     omega arith
 
-part-label-of-start : tie.Need-part-label-of-start Inv-loop μ-loop
-part-label-of-start c =
+part-name-start : tie.Need-part-name-start Inv-loop μ-loop
+part-name-start c =
     let within = c .before .before .before .before .before .before .before .before .before .before .before .before .before .before .before .before .before .before .before .before .before .before .before .before .before .before .before .before .before .before .pre .1 .indexed .within (c .before .before .before .before .loop .i - 1) (inside (c .before .before .before .before .loop .i) _ (c .before .before .before .before .loop .inv .0) (c .before .before .before .loop-test .taken)) in
     omega arith
 
-part-label-of-end : tie.Need-part-label-of-end Inv-loop μ-loop
-part-label-of-end c =
+part-name-end : tie.Need-part-name-end Inv-loop μ-loop
+part-name-end c =
     let within = c .before .before .before .before .before .before .before .before .before .before .before .before .before .before .before .before .before .before .before .before .before .before .before .before .before .before .before .before .before .before .pre .1 .indexed .within (c .before .before .before .before .loop .i - 1) (inside (c .before .before .before .before .loop .i) _ (c .before .before .before .before .loop .inv .0) (c .before .before .before .loop-test .taken)) in
     omega arith
 
@@ -349,9 +349,9 @@ root-types-spec =
     mul-count
     shared-slice-read-count
     cast-count
-    sub-label-of
-    part-label-of-start
-    part-label-of-end
+    sub-name
+    part-name-start
+    part-name-end
     slice-aggregate-label-of
     slice-aggregate-label-of-2
     slice-aggregate-label-of-3
