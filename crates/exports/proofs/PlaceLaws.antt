@@ -12,7 +12,7 @@ use Rattle.grammar.specs.Promises.{placeValue, NamePlace}
 use Rattle.grammar.specs.declared.Refusal.the-variants.{WorkTooShort}
 use Rattle.reader.specs.declared.label_places.LabelFound.{LabelFound}
 use Rattle.reader.specs.declared.label_places.LabelFound.the-variants.{At, Refused}
-use Rattle.reader.specs.LabelPlaces.{LabelSought, labelIn}
+use Rattle.reader.specs.LabelPlaces.{LabelSought, labelPart}
 use Rattle.reader.proofs.LabelPlaceLaws.{name-bounds}
 use Rattle.reader.proofs.CallLaws.{left-as, left-short, label-name-short, label-name-enough}
 use Rattle.exports.specs.Exported.{told, parted, placeNumbers, ShortName}
@@ -26,7 +26,7 @@ module _ (table : List ℕ) (label : ℕ) (work : List ℕ) where
       retold (λ n. NamePlace standard asciiClasses table label work (after n [] work)) (refusedBy WorkTooShort) answer e (omega arith)
       (record { settled = left-short placeValue (labelName standard asciiClasses table label work) work h (label-name-short table label work h) })
 
-  module _ (found : LabelFound) (so : LabelSought table (labelIn table label) found) where
+  module _ (found : LabelFound) (so : LabelSought table (labelPart table label) found) where
     pub short-name : (from to : ℕ) → found ≡ At from to → ShortName from to
     short-name from to e =
         let p = so .found from to e in
@@ -34,8 +34,8 @@ module _ (table : List ℕ) (label : ℕ) (work : List ℕ) where
         record { early = b .0; order = p .0 .order; short = b .1 }
 
   -- the numbers of what was found
-  found-numbers : (found : LabelFound) → LabelSought table (labelIn table label) found
-      → (placeNumbers found ≡ numbersOf placeValue (labelIn table label)) × (placeNumbers found .value < 4294967296)
+  found-numbers : (found : LabelFound) → LabelSought table (labelPart table label) found
+      → (placeNumbers found ≡ numbersOf placeValue (labelPart table label)) × (placeNumbers found .value < 4294967296)
   unfolding placeNumbers numbersOf refusedBy
   found-numbers (At from to) so =
       let short = short-name (At from to) so from to refl in
@@ -45,7 +45,7 @@ module _ (table : List ℕ) (label : ℕ) (work : List ℕ) where
   found-numbers (Refused q) so = (ap (numbersOf placeValue) (sym (so .unfound q refl)), omega arith)
 
   pub place-answered : 16384 ≤ length work → (left : List ℕ) → left ≡ workAfter standard work → (found : LabelFound)
-      → LabelSought table (labelIn table label) found → (answer : ℕ) → answer ≡ told (placeNumbers found)
+      → LabelSought table (labelPart table label) found → (answer : ℕ) → answer ≡ told (placeNumbers found)
       → NamePlace standard asciiClasses table label work (after (parted answer) [] left)
   place-answered h left w found so answer e =
       let numbers = found-numbers found so in

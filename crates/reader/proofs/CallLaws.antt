@@ -38,7 +38,7 @@ use Rattle.reader.specs.declared.documents.DocumentRead.{DocumentRead}
 use Rattle.reader.specs.DocumentNodes.{DocumentReads}
 use Rattle.reader.specs.TableIndex.{part, labelFrom, labelTo, Inside, Reads}
 use Rattle.reader.specs.Held.{SomeHeld}
-use Rattle.reader.specs.LabelPlaces.{LabelSought, labelIn, nameBegins}
+use Rattle.reader.specs.LabelPlaces.{LabelSought, labelPart, nameBegins}
 use Rattle.reader.proofs.AnswerLaws.{was-unreadable}
 use Rattle.reader.proofs.DocumentAnswers.{document-answer}
 use Rattle.reader.proofs.LabelParts.{are-bytes, label-unread, label-past}
@@ -127,26 +127,26 @@ module _ (s : List ℕ) (o : Outcome Part) where
       second q = cc
 
 module _ (s : List ℕ) (label : ℕ) (r : TableRead) (so : Reads s (readTable standard asciiClasses s) r) where
-  pub find-unread : (q : Refusal) → r .answer ≡ Unreadable q → LabelSought s (labelIn s label) (Unfound q)
+  pub find-unread : (q : Refusal) → r .answer ≡ Unreadable q → LabelSought s (labelPart s label) (Unfound q)
   find-unread q e =
-      sought-none s (labelIn s label) q (label-unread s label q (was-unreadable (readTable standard asciiClasses s) q (sym (so .answer) ∙ e)))
+      sought-none s (labelPart s label) q (label-unread s label q (was-unreadable (readTable standard asciiClasses s) q (sym (so .answer) ∙ e)))
 
   module _ (e : r .answer ≡ Readable) where
     pub table-there : SomeHeld standard asciiClasses s (r .index)
     table-there = table-found s r so e .some
 
-    pub find-past : r .index .labels ≤ label → LabelSought s (labelIn s label) (Unfound OutOfRange)
+    pub find-past : r .index .labels ≤ label → LabelSought s (labelPart s label) (Unfound OutOfRange)
     find-past h =
         let f = table-found s r so e in
-        sought-none s (labelIn s label) OutOfRange (label-past s label (f .some .table) (f .read) (omega (arith, f .some .held .indexes .labels)))
+        sought-none s (labelPart s label) OutOfRange (label-past s label (f .some .table) (f .read) (omega (arith, f .some .held .indexes .labels)))
 
     pub find-at : label < r .index .labels → ((i : ℕ) → getD s i 0 < 256) → (from : ℕ)
         → ((f : SomeHeld standard asciiClasses s (r .index)) → from ≡ nameBegins (f .table .labels) label)
-        → LabelSought s (labelIn s label) (At from (from + (labelTo (r .index) label - labelFrom (r .index) label)))
+        → LabelSought s (labelPart s label) (At from (from + (labelTo (r .index) label - labelFrom (r .index) label)))
     find-at h small from begins =
         let f = table-found s r so e in
         let p = place-found f (are-bytes s small) label h from (begins (f .some)) in
-        sought-at s (labelIn s label) from _ (p .0) (p .1)
+        sought-at s (labelPart s label) from _ (p .0) (p .1)
 
 module _ (table : List ℕ) (label : ℕ) (work : List ℕ) where
   pub label-name-short : length work < 16384 → labelName standard asciiClasses table label work ≡ refused WorkTooShort
@@ -156,8 +156,8 @@ module _ (table : List ℕ) (label : ℕ) (work : List ℕ) where
       (λ (o : Outcome Table). o >>= (λ g. turnBack (leb (length (g .labels)) label) OutOfRange >> given (partOfLabel (g .labels) label)))
       (lent-short work (readTable standard asciiClasses table) h)
 
-  pub label-name-enough : 16384 ≤ length work → labelName standard asciiClasses table label work ≡ labelIn table label
-  unfolding labelName tableReads labelIn
+  pub label-name-enough : 16384 ≤ length work → labelName standard asciiClasses table label work ≡ labelPart table label
+  unfolding labelName tableReads labelPart
   label-name-enough h =
       ap
       (λ (o : Outcome Table). o >>= (λ g. turnBack (leb (length (g .labels)) label) OutOfRange >> given (partOfLabel (g .labels) label)))
@@ -187,7 +187,7 @@ module _ (table : List ℕ) (label : ℕ) (work : List ℕ) where
     unfolding number
     label-unanswered offset h = refused-so offset WorkTooShort (label-name-short h)
 
-    module _ (h : 16384 ≤ length work) (found : LabelFound) (so : LabelSought table (labelIn table label) found) where
+    module _ (h : 16384 ≤ length work) (found : LabelFound) (so : LabelSought table (labelPart table label) found) where
       pub label-refused : at .1 ≡ input .1 + 0 → (r : Refusal) → found ≡ Unfound r → (n : ℕ) → n ≡ number r → Told left input n [] at
       label-refused offset r e n m =
           subst (λ (k : ℕ). Told left input k [] at) (sym m) (refused-so offset r (label-name-enough h ∙ so .unfound r e))

@@ -25,7 +25,7 @@ use Rattle.theory.proofs.bytes.FieldBytes.{AreBytes}
 use Rattle.theory.proofs.lists.ListLaws.{mem-at, just-eq, at-else}
 use Rattle.theory.proofs.bytes.OutcomeLaws.{given-then, no-fault}
 use Rattle.theory.proofs.bytes.ReadWithin.{read-was}
-use Rattle.reader.specs.LabelPlaces.{labelIn}
+use Rattle.reader.specs.LabelPlaces.{labelPart}
 use Rattle.reader.proofs.AnswerLaws.{fault}
 use Rattle.reader.proofs.FieldReading.{field-length}
 
@@ -86,20 +86,20 @@ module _ (lim : Limits) (classes : Classes) (s : List ℕ) (g : Table) (small : 
 
 -- the three ways of looking for a label
 module _ (s : List ℕ) (label : ℕ) where
-  pub label-unread : (r : Refusal) → readTable standard asciiClasses s ≡ refused r → labelIn s label ≡ refused r
-  unfolding labelIn
+  pub label-unread : (r : Refusal) → readTable standard asciiClasses s ≡ refused r → labelPart s label ≡ refused r
+  unfolding labelPart
   label-unread r e =
       ap
       (λ (o : Outcome Table). o >>= (λ g. turnBack (leb (length (g .labels)) label) OutOfRange >> given (partOfLabel (g .labels) label)))
       e
 
   module _ (g : Table) (e : readTable standard asciiClasses s ≡ given g) where
-    pub label-past : length (g .labels) ≤ label → labelIn s label ≡ refused OutOfRange
-    unfolding labelIn
+    pub label-past : length (g .labels) ≤ label → labelPart s label ≡ refused OutOfRange
+    unfolding labelPart
     label-past h =
         given-then (readTable standard asciiClasses s) g _ e ∙ fault _ OutOfRange _ (le-leb (length (g .labels)) label h)
 
-    pub label-found : label < length (g .labels) → labelIn s label ≡ given (partOfLabel (g .labels) label)
-    unfolding labelIn
+    pub label-found : label < length (g .labels) → labelPart s label ≡ given (partOfLabel (g .labels) label)
+    unfolding labelPart
     label-found h =
         given-then (readTable standard asciiClasses s) g _ e ∙ no-fault _ OutOfRange _ (lt-leb (length (g .labels)) label h)

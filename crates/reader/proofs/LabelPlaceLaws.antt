@@ -27,7 +27,7 @@ use Rattle.theory.proofs.bytes.ReadWithin.{read-within}
 use Rattle.reader.specs.declared.tables.TableIndex.{TableIndex}
 use Rattle.reader.specs.TableIndex.{labelFrom, labelTo, Inside}
 use Rattle.reader.specs.Held.{SomeHeld}
-use Rattle.reader.specs.LabelPlaces.{labelIn, nameBegins}
+use Rattle.reader.specs.LabelPlaces.{labelPart, nameBegins}
 use Rattle.reader.proofs.FieldReading.{field-length}
 use Rattle.reader.proofs.LabelParts.{label-inside, label-found}
 use Rattle.reader.proofs.TableFaults.{part-size}
@@ -105,7 +105,7 @@ module _ {s : List ℕ} {index : TableIndex} (f : TableFound s index) (small : A
   g = f .some .table
 
   pub place-found : (from : ℕ) → from ≡ nameBegins (g .labels) label
-      → Inside s from (from + size) × (labelIn s label ≡ given (record { from = from; size = (from + size) - from }))
+      → Inside s from (from + size) × (labelPart s label ≡ given (record { from = from; size = (from + size) - from }))
   unfolding nameBegins partOfLabel
   place-found from e =
       let few = f .some .held .indexes .labels in
@@ -121,8 +121,8 @@ module _ {s : List ℕ} {index : TableIndex} (f : TableFound s index) (small : A
       )
 
 module _ (s : List ℕ) (label : ℕ) where
-  pub name-bounds : (p : Part) → labelIn s label ≡ given p → (p .from ≤ 4227) × (p .size ≤ 63)
-  unfolding labelIn standard partOfLabel
+  pub name-bounds : (p : Part) → labelPart s label ≡ given p → (p .from ≤ 4227) × (p .size ≤ 63)
+  unfolding labelPart standard partOfLabel
   name-bounds p e =
       let a = was-given (readTable standard asciiClasses s) _ p e in
       let g : Table = a .0 in

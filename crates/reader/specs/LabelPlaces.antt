@@ -16,9 +16,9 @@ use Rattle.reader.specs.declared.label_places.LabelFound.the-variants.{A
 use Rattle.reader.specs.TableIndex.{Inside}
 
 -- the part of a table that is a label's name, where there is enough working memory
-unfoldable pub labelIn : List ℕ → ℕ → Outcome Part
+unfoldable pub labelPart : List ℕ → ℕ → Outcome Part
 unfolding readTable partOfLabel
-labelIn table label = do
+labelPart table label = do
   g ← readTable standard asciiClasses table
   turnBack (leb (length (g .labels)) label) OutOfRange
   given (partOfLabel (g .labels) label)

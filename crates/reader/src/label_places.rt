@@ -7,7 +7,7 @@ ghost use mathlib.Core.Path.{_≡_};
 ghost use Prim.Native.Nat.{_<_, _≤_};
 ghost use Rattle.grammar.specs.Limits.{standard};
 ghost use Rattle.grammar.specs.Names.{asciiClasses};
-ghost use Rattle.reader.specs.LabelPlaces.{LabelSought, labelIn, nameBegins};
+ghost use Rattle.reader.specs.LabelPlaces.{LabelSought, labelPart, nameBegins};
 ghost use Rattle.reader.specs.Held.{SomeHeld};
 
 // Where a label's name stands, or why there is none.
@@ -36,7 +36,7 @@ fn name_begins(table: &[u8], index: TableIndex, label: usize) -> usize
 
 // Where the name of a label stands in its table.
 pub fn find_label(table: &[u8], label: usize) -> LabelFound
-    ensures { λ r. ⌜ LabelSought (now (table .entry)) (labelIn (now (table .entry)) label) r ⌝ }
+    ensures { λ r. ⌜ LabelSought (now (table .entry)) (labelPart (now (table .entry)) label) r ⌝ }
 {
     let read = read_table(table);
     let answer = read.answer;

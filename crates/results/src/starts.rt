@@ -16,12 +16,12 @@ ghost use Rattle.writer.specs.Writing.{Puts};
 ghost use Rattle.results.specs.Results.{startsBytes};
 
 // Writes a type as a start, if it is one.
-fn put_start(draft: &mut [u8], at: usize, kind: usize, on: bool) -> Drafted
-    requires { ⌜ (at ≤ 32768) × (32768 ≤ length (now draft)) × (kind < 256) ⌝ }
-    ensures { λ r. ⌜ Puts (now (draft .entry)) at (onlyIf on (fieldBytes startTag (kind ∷ []))) (now (draft .exit)) r ⌝ }
+fn put_start(draft: &mut [u8], at: usize, ty: usize, on: bool) -> Drafted
+    requires { ⌜ (at ≤ 32768) × (32768 ≤ length (now draft)) × (ty < 256) ⌝ }
+    ensures { λ r. ⌜ Puts (now (draft .entry)) at (onlyIf on (fieldBytes startTag (ty ∷ []))) (now (draft .exit)) r ⌝ }
 {
     if on {
-        let value = [kind as u8; 1];
+        let value = [ty as u8; 1];
         return put_field(draft, at, START_TAG, &value);
     }
     Drafted::Length(at)
