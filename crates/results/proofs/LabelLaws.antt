@@ -18,18 +18,7 @@ use Rattle.grammar.specs.SingleTypeForm.{TypeSet}
 use Rattle.theory.specs.Alternatives.{onlyIf}
 use Rattle.theory.proofs.lists.BoolLaws.{false-of, same-test}
 use Rattle.theory.proofs.lists.PlaceLaws.{place-yes, place-past}
-use Rattle.theory.proofs.lists.ListLaws.{
-  any-found,
-  any-of,
-  keep-yes,
-  kept,
-  at-mem,
-  mem-at,
-  at-below,
-  at-else,
-  at-or-else,
-  numbers-below,
-}
+use Rattle.theory.proofs.lists.ListLaws.{any-found, any-of, keep-yes, kept, at-mem, mem-at, at-below, at-else, at-or-else, numbers-below, numbers-split}
 use Rattle.theory.proofs.lists.DistinctLaws.{keep-append}
 use Rattle.sets.specs.Sets.{nothing}
 use Rattle.union.specs.Rounds.{puts}
@@ -40,7 +29,6 @@ use Rattle.writer.specs.declared.writing.Drafted.the-variants.{Length}
 use Rattle.writer.specs.Writing.{Puts}
 use Rattle.writer.proofs.PutLaws.{put-none}
 use Rattle.reducing.proofs.NumberLaws.{keep-next, keep-start}
-use Rattle.sampling.proofs.NumberingLaws.{numbers-split}
 use Rattle.forms.specs.SetForms.{setLabel}
 use Rattle.results.specs.Results.{isUsed}
 

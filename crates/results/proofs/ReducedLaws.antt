@@ -29,7 +29,7 @@ use Rattle.union.specs.Places.{setsEnd, startsAt, leftAt, startTypesAt}
 use Rattle.union.specs.Rounds.{puts}
 use Rattle.union.specs.PairNumbers.{isStart, isLeft}
 use Rattle.writer.specs.declared.writing.Drafted.{Drafted}
-use Rattle.sampling.specs.SampleTable.{TablePut}
+use Rattle.writer.specs.Tables.{TablePut}
 use Rattle.contents.proofs.AgreeLaws.{union-shallow}
 use Rattle.forms.specs.declared.set_words.Counted.{Counted}
 use Rattle.forms.specs.declared.set_words.Counted.the-variants.{TooMany, Count}

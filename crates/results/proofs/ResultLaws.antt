@@ -35,7 +35,7 @@ use Rattle.contents.specs.declared.completing.ContentMade.{ContentMade}
 use Rattle.contents.specs.declared.completing.ContentMade.the-variants.{TooLarge, Upto}
 use Rattle.contents.specs.Completing.{Stored, Made}
 use Rattle.reducing.proofs.NumberLaws.{joined-only}
-use Rattle.sampling.specs.SampleTable.{rulesBytes}
+use Rattle.writer.specs.Tables.{rulesBytes}
 use Rattle.forms.specs.SetForms.{labelsOf, tableBySets, pairsWithin}
 use Rattle.results.specs.Results.{resultRule, isUsed, LabelsIn, labelsBytes, startsBytes, bodyBytes}
 

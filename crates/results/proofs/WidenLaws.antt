@@ -35,8 +35,8 @@ use Rattle.sets.specs.Sets.{nothing}
 use Rattle.union.specs.PairNumbers.{isStart}
 use Rattle.writer.specs.declared.writing.Drafted.{Drafted}
 use Rattle.writer.specs.declared.writing.Drafted.the-variants.{Length as Upto, TooLarge as Over}
-use Rattle.sampling.specs.SampleTable.{TablePut}
-use Rattle.sampling.proofs.TableSize.{size-over, size-fits, content-over, bytes-over, all-fit}
+use Rattle.writer.specs.Tables.{TablePut}
+use Rattle.writer.proofs.TableSize.{size-over, size-fits, content-over, bytes-over, all-fit}
 use Rattle.forms.specs.SetForms.{ruleBySet, pairsWithin}
 use Rattle.forms.proofs.UnionFit.{UnionFit, union-fit}
 use Rattle.forms.proofs.WidenedBySets.{setsOf, tableOf, table-of-kind, rules-of-kind, rule-count, too-many-sets}

@@ -27,7 +27,7 @@ use Rattle.union.specs.UnitedLabels.{NamesHeld}
 use Rattle.contents.specs.Joining.{Shallow}
 use Rattle.forms.specs.SetForms.{setLabel, ruleBySet, pairsWithin}
 use Rattle.forms.specs.SetWords.{SetsHeld}
-use Rattle.sampling.specs.SampleTable.{restBytes}
+use Rattle.writer.specs.Tables.{restBytes}
 
 -- the rule of a set, by its number
 abbrev pub resultRule : Table → List TypeSet → Kind → ℕ → Rule

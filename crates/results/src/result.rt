@@ -16,7 +16,7 @@ ghost use Rattle.sets.specs.Sets.{setAt};
 ghost use Rattle.union.specs.Places.{startTypesAt};
 ghost use Rattle.contents.specs.Drafts.{draftLength};
 ghost use Rattle.forms.specs.SetForms.{tableBySets, pairsWithin};
-ghost use Rattle.sampling.specs.SampleTable.{TablePut};
+ghost use Rattle.writer.specs.Tables.{TablePut};
 ghost use Rattle.results.specs.Results.{RulesWith, ResultFrom, ruleFrom, bodyBytes};
 ghost use Rattle.results.specs.Widened.{kindOf};
 

@@ -31,7 +31,7 @@ ghost use Rattle.union.specs.TypeLists.{ListsOf};
 ghost use Rattle.union.specs.PairNumbers.{fruitfulOf, isLeft};
 ghost use Rattle.contents.specs.Drafts.{draftLength};
 ghost use Rattle.contents.specs.Completing.{Made};
-ghost use Rattle.sampling.specs.SampleTable.{RulePuts, RulesPut, TablePut, restBytes};
+ghost use Rattle.writer.specs.Tables.{RulePuts, RulesPut, TablePut, restBytes};
 ghost use Rattle.forms.specs.SetForms.{pairsWithin};
 ghost use Rattle.results.specs.Results.{RulesFrom, RulesWith, ruleFrom};
 ghost use Rattle.results.specs.Widened.{kindOf};

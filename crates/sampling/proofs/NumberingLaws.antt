@@ -3,8 +3,7 @@
 --   number-new, number-old : one more element is new where its place is past the end, else the distinct ones stay
 --   number-stays   : the place found then is the place in the end
 --   place-map, place-agree : numbers of images, and by tests that agree
---   numbers-split  : the numbers below a bound, before one and after it
-use Prim.Native.Nat.{ℕ, zero, suc, _+_, _-_, _≤_, _<_}
+use Prim.Native.Nat.{ℕ, suc, _+_, _-_, _≤_, _<_}
 use native.Mathlib.Omega.{arith}
 use native.Mathlib.Numerals.{add-one}
 use mathlib.Core.Bool.{Bool, true, false}
@@ -13,8 +12,8 @@ use mathlib.Core.Logic.{_⊎_, inl, inr}
 use mathlib.Core.Path.{_≡_, refl, sym, _∙_, ap}
 use lib.ListN.{length, set, take}
 use lib.Seq.{length-take-le, take-suc-set, take-set-le}
-use Rattle.grammar.specs.Lists.{anyPass, distinct, place, numbersFrom, numbersBelow}
-use Rattle.theory.proofs.lists.ListLaws.{any-of, numbers-joined}
+use Rattle.grammar.specs.Lists.{anyPass, distinct, place}
+use Rattle.theory.proofs.lists.ListLaws.{any-of}
 use Rattle.theory.proofs.lists.PlaceLaws.{place-some, place-none, place-most, place-front, place-end, place-image}
 use Rattle.theory.proofs.lists.DistinctLaws.{distinct-grows, one-more-new, one-more-old, among-distinct}
 
@@ -54,17 +53,6 @@ place-map f same x xs = sym (place-image f (λ y z. same (f y) (f z)) same x xs 
 pub place-agree : {A : Type 0} (p q : A → A → Bool) (x : A) (xs : List A) → ((y : A) → List·Memᴰ y xs → p x y ≡ q x y)
     → place p x xs ≡ place q x xs
 place-agree p q x xs h = place-image (λ y. y) p q x xs (λ y m. sym (h y m)) ∙ ap (place q x) (map-id xs)
-
-pub numbers-split : (n i : ℕ) → i < n → (later : List ℕ) × (numbersBelow n ≡ numbersBelow i ++ i ∷ later)
-unfolding numbersBelow numbersFrom
-numbers-split n i h =
-    let z : n ≡ i + suc (n - suc i) = omega arith in
-    let y : zero + i ≡ i = omega arith in (
-      numbersFrom (suc i) (n - suc i),
-      ap (numbersFrom zero) z
-          ∙ numbers-joined zero i (suc (n - suc i))
-          ∙ ap (λ (k : ℕ). numbersFrom zero i ++ numbersFrom k (suc (n - suc i))) y,
-    )
 
 -- one more in a list of distinct ones that grows in an array
 pub record OneMore (same : ℕ → ℕ → Bool) (done : List ℕ) (x : ℕ) (firsts : List ℕ) (count more r : ℕ) : Type 0 where

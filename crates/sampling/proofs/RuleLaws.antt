@@ -1,77 +1,22 @@
--- Fields written one after the other by number, and the fields of rules.
---   step-stop, step-more : one field more, where it does not fit or does
---   rule-value, rule-puts : a rule's bytes in a draft, and its field
---   rules-stop, rules-more : one rule more
-use Prim.Native.Nat.{ℕ, zero, suc, _+_, _-_, _≤_, _<_}
+-- What making a content said, and a rule's bytes in a draft.
+use Prim.Native.Nat.{ℕ, suc, _-_, _≤_}
 use native.Mathlib.Omega.{arith}
-use native.Mathlib.Numerals.{add-one}
-use mathlib.Core.Bool.{Bool, true, false}
-use mathlib.Core.List.{List, [], _∷_, _++_}
-use mathlib.Core.Logic.{inl, inr, ⊎-elim}
+use mathlib.Core.Bool.{true, false}
+use mathlib.Core.List.{List, [], _∷_}
 use mathlib.Core.Option.{some as just}
-use mathlib.Core.Path.{_≡_, refl, sym, _∙_, ap, subst}
-use lib.Dec.{ltb}
-use borrow.Author.Tests.{ltb-true, ltb-false}
-use lib.ListN.{length, length-append, set, take}
-use Rattle.grammar.specs.Lists.{joinedOf, numbersBelow}
+use mathlib.Core.Path.{_≡_, _∙_, ap, subst}
+use lib.ListN.{set, take}
 use Rattle.grammar.specs.Limits.{standard}
 use Rattle.grammar.specs.Content.{Content}
-use Rattle.grammar.specs.Table.{Rule}
-use Rattle.grammar.specs.Fields.{fieldBytes}
 use Rattle.grammar.specs.WriteTable.{ruleBytes}
 use Rattle.grammar.specs.Size.{contentTooLarge}
-use Rattle.theory.proofs.lists.ListLaws.{joined-next}
 use Rattle.reader.specs.ExprAt.{_upTo_, exprAt}
 use Rattle.reader.proofs.ExprLaws.{expr-forward, expr-bytes}
 use Rattle.writer.specs.declared.writing.Drafted.{Drafted}
 use Rattle.writer.specs.declared.writing.Drafted.the-variants.{Length, TooLarge}
-use Rattle.writer.specs.Writing.{Put, Puts}
 use Rattle.sampling.specs.SampleContents.{ruleEnd}
-use Rattle.sampling.specs.SampleTable.{ContentMade, RulePuts, ruleField, RulesPut, TablePut}
-use Rattle.writer.proofs.PutLaws.{put-none, put-join}
+use Rattle.sampling.specs.SampleTable.{ContentMade}
 
-module _ (f : ℕ → List ℕ) where
-  abbrev first : ℕ → List ℕ
-  first n = joinedOf f (numbersBelow n)
-
-  up-over : (t n : ℕ) → t < n → length (first t) + length (f t) ≤ length (first n)
-  up-over t zero h = absurd (omega arith)
-  up-over t (suc n) h = go (ltb t n) refl (λ k. up-over t n k)
-    where
-      next : length (first (suc n)) ≡ length (first n) + length (f n)
-      next = ap (λ (m : ℕ). length (first m)) (sym (add-one n)) ∙ ap length (joined-next f n) ∙ length-append (first n) (f n)
-
-      go : (b : Bool) → ltb t n ≡ b → (t < n → length (first t) + length (f t) ≤ length (first n))
-          → length (first t) + length (f t) ≤ length (first (suc n))
-      go true e ih = let k = ih (ltb-true t n e) in let x = next in omega arith
-      go false e ih =
-          let k = ltb-false t n e in
-          let z : n ≡ t = omega arith in
-          subst (λ (m : ℕ). length (first m) + length (f m) ≤ length (first (suc n))) z (let x = next in omega arith)
-
-  pub up-start : (before : List ℕ) (at : ℕ) → at ≤ length before → Put before at (first 0) before at
-  unfolding joinedOf numbersBelow
-  up-start before at h = put-none before at h
-
-  module _ (t : ℕ) {before : List ℕ} {at : ℕ} {draft : List ℕ} {end : ℕ} (p : Put before at (joinedOf f (numbersBelow t)) draft end) where
-    pub up-more : {after : List ℕ} {m : ℕ} → Put draft end (f t) after m → Put before at (first (t + 1)) after m
-    up-more {after} {m} q = subst (λ (l : List ℕ). Put before at l after m) (sym (joined-next f t)) (put-join p q)
-
-    pub up-stop : (n : ℕ) → 32768 < end + length (f t) → t < n → 32768 < at + length (first n)
-    up-stop n h k = let o = up-over t n k in let e = p .next-is in omega arith
-
-    module _ (bytes after : List ℕ) (r : Drafted) (same : bytes ≡ f t) (g : Puts draft end bytes after r) where
-      pub step-stop : r ≡ TooLarge → (n : ℕ) → t < n → 32768 < at + length (first n)
-      step-stop e n h =
-          up-stop n (subst (λ (l : List ℕ). 32768 < end + length l) same (subst (λ (x : Drafted). Puts draft end bytes after x) e g)) h
-
-      pub step-more : {m : ℕ} → r ≡ Length m → Put before at (first (t + 1)) after m × (m ≤ 32768)
-      step-more {m} e =
-          let x = subst (λ (x : Drafted). Puts draft end bytes after x) e g in
-          (up-more (subst (λ (l : List ℕ). Put draft end l after m) same (x .0)), x .1)
-
--- the bytes of a part, so many long
--- what making a content said
 pub made-stop : (d : List ℕ) (c : Content) (r : Drafted) {stop : ℕ} → ContentMade d c r → r ≡ Length stop
     → (exprAt d 2 ≡ just (c upTo stop)) × (stop ≤ ruleEnd) × (contentTooLarge standard c ≡ false)
 made-stop d c r g e = subst (λ (x : Drafted). ContentMade d c x) e g
@@ -88,64 +33,3 @@ rule-value (x ∷ y ∷ rest) k l stop c e =
     let h = expr-forward (x ∷ y ∷ rest) 2 c stop e in
     let z : stop - 0 ≡ suc (suc (stop - 2)) = omega arith in
     ap (λ (n : ℕ). take n (k ∷ l ∷ rest)) z ∙ ap (λ (b : List ℕ). k ∷ l ∷ b) (expr-bytes (x ∷ y ∷ rest) 2 c stop e)
-
-pub rule-puts : (before after : List ℕ) (at : ℕ) (value : List ℕ) (rule : Rule) (r : Drafted) → value ≡ ruleBytes rule
-    → contentTooLarge standard (rule .content) ≡ false → Puts before at (fieldBytes 0x12 value) after r → RulePuts before at rule after r
-rule-puts before after at value rule (Length n) e f p =
-    (subst (λ (v : List ℕ). Put before at (fieldBytes 0x12 v) after n) e (p .0), p .1, f)
-rule-puts before after at value rule TooLarge e f p = inr (subst (λ (v : List ℕ). 32768 < at + length (fieldBytes 0x12 v)) e p)
-
--- one rule more
-module _ (rule : ℕ → Rule) (t : ℕ) {before : List ℕ} {at : ℕ} {draft : List ℕ} {end : ℕ}
-    (p : Put before at (joinedOf (ruleField rule) (numbersBelow t)) draft end) (after : List ℕ) (r : Drafted) (g : RulePuts draft end (rule t) after r) where
-  pub rules-stop : r ≡ TooLarge → (n : ℕ) → t < n → RulesPut before at rule n after TooLarge
-  rules-stop e n h =
-      ⊎-elim (λ x. inl (t, h, x)) (λ x. inr (up-stop (ruleField rule) t p n x h)) (subst (λ (x : Drafted). RulePuts draft end (rule t) after x) e g)
-
-  pub rules-more : {m : ℕ} → r ≡ Length m
-      → Put before at (joinedOf (ruleField rule) (numbersBelow (t + 1))) after m × (m ≤ 32768) × (contentTooLarge standard (rule t .content) ≡ false)
-  rules-more {m} e =
-      let x = subst (λ (x : Drafted). RulePuts draft end (rule t) after x) e g in
-      (up-more (ruleField rule) t p (x .0), x .1, x .2)
-
--- one part of a table after another
-module _ (before : List ℕ) (at : ℕ) (rule : ℕ → Rule) (count : ℕ) (xs ys mid after : List ℕ) (r : Drafted) where
-  pub put-over : Puts before at xs mid r → r ≡ TooLarge → TablePut before at rule count (xs ++ ys) after TooLarge
-  put-over p e =
-      let h = subst (λ (x : Drafted). Puts before at xs mid x) e p in
-      let l = length-append xs ys in
-      inr (omega arith)
-
-  pub put-length-is : Puts before at xs mid r → {n : ℕ} → r ≡ Length n → Put before at xs mid n × (n ≤ 32768)
-  put-length-is p e = subst (λ (x : Drafted). Puts before at xs mid x) e p
-
-  pub put-then : Puts before at xs mid r → {n : ℕ} → r ≡ Length n → (z : Drafted) → TablePut mid n rule count ys after z
-      → TablePut before at rule count (xs ++ ys) after z
-  put-then p {n} e (Length m) q =
-      let h = subst (λ (x : Drafted). Puts before at xs mid x) e p in
-      (put-join (h .0) (q .0), q .1, q .2)
-  put-then p {n} e TooLarge q =
-      let h = subst (λ (x : Drafted). Puts before at xs mid x) e p in
-      let a = h .0 .next-is in
-      let l = length-append xs ys in
-      ⊎-elim inl (λ o. inr (omega arith)) q
-
-  pub table-over : TablePut before at rule count xs mid r → r ≡ TooLarge → TablePut before at rule count (xs ++ ys) after TooLarge
-  table-over p e =
-      let l = length-append xs ys in
-      ⊎-elim inl (λ o. inr (omega arith)) (subst (λ (x : Drafted). TablePut before at rule count xs mid x) e p)
-
-  pub table-length-is : TablePut before at rule count xs mid r → {n : ℕ} → r ≡ Length n
-      → Put before at xs mid n × (n ≤ 32768) × ((t : ℕ) → t < count → contentTooLarge standard (rule t .content) ≡ false)
-  table-length-is p e = subst (λ (x : Drafted). TablePut before at rule count xs mid x) e p
-
-  pub table-then : TablePut before at rule count xs mid r → {n : ℕ} → r ≡ Length n → (z : Drafted) → Puts mid n ys after z
-      → TablePut before at rule count (xs ++ ys) after z
-  table-then p {n} e (Length m) q =
-      let h = subst (λ (x : Drafted). TablePut before at rule count xs mid x) e p in
-      (put-join (h .0) (q .0), q .1, h .2)
-  table-then p {n} e TooLarge q =
-      let h = subst (λ (x : Drafted). TablePut before at rule count xs mid x) e p in
-      let a = h .0 .next-is in
-      let l = length-append xs ys in
-      inr (omega arith)

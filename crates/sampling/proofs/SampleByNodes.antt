@@ -22,17 +22,7 @@ use Rattle.grammar.specs.ReadDocument.{Node, forestOf, treeOf}
 use Rattle.grammar.specs.Sample.{Visit, visits, samePath, pathsOf, namesOf, sequenceOf, childSequence, contentAt, ruleAt, sample}
 use Rattle.theory.specs.SamplePaths.{pathType}
 use Rattle.theory.proofs.lists.BoolLaws.{and-left, and-right, and-intro, same-test}
-use Rattle.theory.proofs.lists.ListLaws.{
-  keep-map,
-  kept,
-  distinct-map,
-  distinct-was,
-  numbers-below,
-  keep-on,
-  map-on,
-  listed-from,
-  numbers-within,
-}
+use Rattle.theory.proofs.lists.ListLaws.{keep-map, kept, distinct-map, distinct-was, numbers-below, keep-on, map-on, listed-from, numbers-within, numbers-split}
 use Rattle.theory.proofs.lists.DistinctLaws.{distinct-finer}
 use Rattle.theory.proofs.trees.NameLaws.{name-refl, name-sym, name-trans}
 use Rattle.theory.proofs.trees.PathLaws.{SamePath, path-refl, path-sym, path-trans, path-parts, path-append}
@@ -63,7 +53,7 @@ use Rattle.sampling.specs.SampleNodes.{
   ruleOfNode,
   sampleOfNodes,
 }
-use Rattle.sampling.proofs.NumberingLaws.{place-map, numbers-split, number-stays}
+use Rattle.sampling.proofs.NumberingLaws.{place-map, number-stays}
 use Rattle.sampling.proofs.VisitedNodes.{visits-nodes, visit-names, visit-counts, parents-many, path-step, handed-many, handed-below, map-handed, pick, pick-own, pick-roots, child-names}
 
 -- lists by places

@@ -46,7 +46,8 @@ use Rattle.theory.proofs.emission.EmittedContent.{joined-map}
 use Rattle.writer.specs.declared.writing.Drafted.{Drafted}
 use Rattle.writer.specs.declared.writing.Drafted.the-variants.{Length, TooLarge}
 use Rattle.sampling.specs.SampleContents.{kidTypes, sequenceIn, sequencesAmong}
-use Rattle.sampling.specs.SampleTable.{contentIn, ruleIn, labelField, ruleField, rulesBytes, startBytes, TablePut, SampleHeld, SampleReady, NodesHeld, RulesHeld, SampleDrafted}
+use Rattle.writer.specs.Tables.{ruleField, rulesBytes, TablePut}
+use Rattle.sampling.specs.SampleTable.{contentIn, ruleIn, labelField, startBytes, SampleHeld, SampleReady, NodesHeld, RulesHeld, SampleDrafted}
 use Rattle.sampling.specs.SampleNodes.{
   KeyAt,
   KeysAt,
@@ -68,7 +69,7 @@ use Rattle.sampling.specs.SampleNodes.{
   sampleOfNodes,
 }
 use Rattle.sampling.proofs.NumberingLaws.{place-agree}
-use Rattle.sampling.proofs.TableSize.{size-over, size-fits, content-over, bytes-over, all-fit, types-over}
+use Rattle.writer.proofs.TableSize.{size-over, size-fits, content-over, bytes-over, all-fit, types-over}
 use Rattle.sampling.proofs.SampleByNodes.{sample-nodes, kids-count}
 
 -- lists by places

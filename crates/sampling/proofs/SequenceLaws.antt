@@ -13,7 +13,7 @@ use Rattle.grammar.specs.Lists.{keep, distinct, numbersBelow}
 use Rattle.grammar.specs.Content.{Content, operands}
 use Rattle.grammar.specs.ReadContent.{contentBytes}
 use Rattle.theory.specs.Alternatives.{gathered}
-use Rattle.theory.proofs.lists.ListLaws.{keep-yes, keep-no, numbers-end}
+use Rattle.theory.proofs.lists.ListLaws.{keep-yes, keep-no, numbers-end, numbers-split}
 use Rattle.theory.proofs.lists.DistinctLaws.{keep-append}
 use Rattle.theory.proofs.emission.GatheringLaws.{gathered-so, gather-nothing, gather-more}
 use Rattle.reader.specs.ExprAt.{_upTo_}
@@ -25,7 +25,6 @@ use Rattle.contents.specs.Marks.{Marked}
 use Rattle.writer.specs.Writing.{Put}
 use Rattle.contents.proofs.MarkLaws.{marked-none}
 use Rattle.contents.proofs.WideLaws.{wide-gathered}
-use Rattle.sampling.proofs.NumberingLaws.{numbers-split}
 use Rattle.writer.proofs.PutLaws.{put-length, put-kept, put-there}
 use Rattle.sampling.specs.SampleContents.{operandsEnd, sequenceIn, sequencesAmong, GathersInRule, GathersMarked}
 

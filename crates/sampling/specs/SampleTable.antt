@@ -2,17 +2,16 @@
 use Prim.Native.Nat.{ℕ, _+_, _≤_, _<_}
 use mathlib.Core.Bool.{true, false}
 use mathlib.Core.List.{List, [], _∷_, _++_, map}
-use mathlib.Core.Logic.{_⊎_}
 use mathlib.Core.Option.{some as just}
 use mathlib.Core.Path.{_≡_}
 use lib.ListN.{length, getD, drop}
-use Rattle.grammar.specs.Lists.{joinedOf, numbersBelow}
+use Rattle.grammar.specs.Lists.{numbersBelow}
 use Rattle.grammar.specs.Limits.{standard}
 use Rattle.grammar.specs.Content.{Content, choiceOf}
 use Rattle.grammar.specs.Table.{Rule}
 use Rattle.grammar.specs.Fields.{fieldBytes}
-use Rattle.grammar.specs.ReadTable.{labelTag, startTag, ruleTag, tableEndTag}
-use Rattle.grammar.specs.WriteTable.{ruleBytes, tableBytes}
+use Rattle.grammar.specs.ReadTable.{labelTag, startTag}
+use Rattle.grammar.specs.WriteTable.{tableBytes}
 use Rattle.grammar.specs.Size.{contentTooLarge}
 use Rattle.grammar.specs.Names.{asciiClasses}
 use Rattle.grammar.specs.Outcome.{given, refused}
@@ -27,7 +26,7 @@ use Rattle.reader.specs.ExprAt.{_upTo_, exprAt}
 use Rattle.reader.specs.DocumentNodes.{nodesIn, NodesIndexed}
 use Rattle.writer.specs.declared.writing.Drafted.{Drafted}
 use Rattle.writer.specs.declared.writing.Drafted.the-variants.{Length, TooLarge}
-use Rattle.writer.specs.Writing.{Put}
+use Rattle.writer.specs.Tables.{restBytes}
 use Rattle.sampling.specs.SampleNodes.{nameIn, Whole, TypedTo}
 use Rattle.sampling.specs.SampleContents.{Kids, sequencesAmong, ruleEnd}
 
@@ -54,37 +53,11 @@ pub record NodesHeld (parents types children : List ℕ) (n : ℕ) : Type 0 wher
   pub counts-held : n ≤ length children
   pub each : (i : ℕ) → i < n → Kids parents types n i (getD children i 0)
 
--- a rule is written; or its content, or the whole, is too large
-abbrev pub RulePuts : List ℕ → ℕ → Rule → List ℕ → Drafted → Type 0
-RulePuts before at r after (Length n) =
-    Put before at (fieldBytes ruleTag (ruleBytes r)) after n × (n ≤ 32768) × (contentTooLarge standard (r .content) ≡ false)
-RulePuts before at r after TooLarge =
-    (contentTooLarge standard (r .content) ≡ true) ⊎ (32768 < at + length (fieldBytes ruleTag (ruleBytes r)))
-
--- the fields of labels and of rules, by number
+-- the field of a label, by number
 abbrev pub labelField : (s names sizes firsts : List ℕ) → ℕ → List ℕ
 labelField s names sizes firsts l = fieldBytes labelTag (nameIn s names sizes (getD firsts l 0))
 
-abbrev pub ruleField : (ℕ → Rule) → ℕ → List ℕ
-ruleField rule t = fieldBytes ruleTag (ruleBytes (rule t))
-
--- these bytes are written, and the rules' contents are not too large; or one of them, or the whole, is
-abbrev pub TablePut : List ℕ → ℕ → (ℕ → Rule) → ℕ → List ℕ → List ℕ → Drafted → Type 0
-TablePut before at rule count bytes after (Length n) =
-    Put before at bytes after n × (n ≤ 32768) × ((t : ℕ) → t < count → contentTooLarge standard (rule t .content) ≡ false)
-TablePut before at rule count bytes after TooLarge =
-    ((t : ℕ) × (t < count) × (contentTooLarge standard (rule t .content) ≡ true)) ⊎ (32768 < at + length bytes)
-
-abbrev pub rulesBytes : (ℕ → Rule) → ℕ → List ℕ
-rulesBytes rule count = joinedOf (ruleField rule) (numbersBelow count)
-
-abbrev pub RulesPut : List ℕ → ℕ → (ℕ → Rule) → ℕ → List ℕ → Drafted → Type 0
-RulesPut before at rule count after r = TablePut before at rule count (rulesBytes rule count) after r
-
--- the rules and the end; the start, the rules and the end
-abbrev pub restBytes : (ℕ → Rule) → ℕ → List ℕ
-restBytes rule count = rulesBytes rule count ++ fieldBytes tableEndTag []
-
+-- the start, the rules and the end
 abbrev pub startBytes : (ℕ → Rule) → ℕ → List ℕ
 startBytes rule count = fieldBytes startTag (0 ∷ []) ++ restBytes rule count
 

@@ -10,7 +10,8 @@ ghost use lib.ListN.{length};
 ghost use Rattle.grammar.specs.Lists.{joinedOf, numbersBelow};
 ghost use Rattle.writer.specs.Writing.{Puts};
 ghost use Rattle.sampling.specs.SampleContents.{scratchBytes};
-ghost use Rattle.sampling.specs.SampleTable.{ruleIn, NodesHeld, labelField, RulesHeld, TablePut, restBytes, startBytes};
+ghost use Rattle.writer.specs.Tables.{TablePut, restBytes};
+ghost use Rattle.sampling.specs.SampleTable.{ruleIn, NodesHeld, labelField, RulesHeld, startBytes};
 ghost use Rattle.sampling.specs.SampleNodes.{KeysAt};
 
 // Writes the labels: each first node's name.

@@ -6,7 +6,8 @@ use writer::writing::put_field;
 ghost use Prim.Native.Nat.{_≤_, _<_};
 ghost use lib.ListN.{length};
 ghost use Rattle.sampling.specs.SampleContents.{scratchBytes};
-ghost use Rattle.sampling.specs.SampleTable.{contentIn, ruleIn, NodesHeld, RulePuts, RulesPut, RulesHeld};
+ghost use Rattle.writer.specs.Tables.{RulePuts, RulesPut};
+ghost use Rattle.sampling.specs.SampleTable.{contentIn, ruleIn, NodesHeld, RulesHeld};
 
 // Writes the rule of a type.
 fn put_rule(

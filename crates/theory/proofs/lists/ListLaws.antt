@@ -8,7 +8,7 @@
 --     map-on, map-at, at-map, take-map, drop-map              images; part-of
 --     related-map, related-at, related-mem                    lists related element by element
 -- Of numbers: in-mem, mem-in, in-append, taken-mem, set-all, set-up-to, same-numbers, and AllIn (all of one list are in another);
--- numbers-below, numbers-joined, numbers-next, numbers-end, joined-next, listed-from, one-place.
+-- numbers-below, numbers-joined, numbers-split, numbers-next, numbers-end, joined-next, listed-from, one-place.
 use Prim.Native.Nat.{ℕ, zero, suc, _+_, _-_, _≤_, _<_}
 use native.Mathlib.Omega.{arith}
 use native.Mathlib.Numerals.{add-one}
@@ -645,6 +645,18 @@ numbers-joined a (suc m) k =
     ap (numbersFrom a) z
     ∙ ap (λ (l : List ℕ). a ∷ l)
     (numbers-joined (suc a) m k ∙ ap (λ (b : ℕ). numbersFrom (suc a) m ++ numbersFrom b k) y)
+
+-- before one and after it
+pub numbers-split : (n i : ℕ) → i < n → (later : List ℕ) × (numbersBelow n ≡ numbersBelow i ++ i ∷ later)
+unfolding numbersBelow numbersFrom
+numbers-split n i h =
+    let z : n ≡ i + suc (n - suc i) = omega arith in
+    let y : zero + i ≡ i = omega arith in (
+      numbersFrom (suc i) (n - suc i),
+      ap (numbersFrom zero) z
+          ∙ numbers-joined zero i (suc (n - suc i))
+          ∙ ap (λ (k : ℕ). numbersFrom zero i ++ numbersFrom k (suc (n - suc i))) y,
+    )
 
 pub numbers-next : (a n : ℕ) → numbersFrom a (suc n) ≡ numbersFrom a n ++ ((a + n) ∷ [])
 unfolding numbersFrom

@@ -11,7 +11,7 @@ use Rattle.grammar.specs.Fields.{fieldBytes}
 use Rattle.theory.specs.Alternatives.{onlyIf}
 use Rattle.sets.specs.Sets.{member}
 use Rattle.writer.specs.Writing.{Put}
-use Rattle.sampling.proofs.RuleLaws.{up-start, step-stop, step-more}
+use Rattle.writer.proofs.TableLaws.{up-start, step-stop, step-more}
 use Rattle.results.specs.Results.{LabelsIn, labelsBytes}
 use Rattle.results.proofs.ResultLaws.{nameField, labels-joined}
 use Rattle.results.proofs.labels_used.put_labels.Statement.{statement}

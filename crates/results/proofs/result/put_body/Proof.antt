@@ -6,8 +6,8 @@ use lib.ListN.{length}
 use borrow.Author.Needs.{needs}
 use Rattle.sets.specs.Sets.{setAt}
 use Rattle.union.specs.Places.{startTypesAt}
-use Rattle.sampling.specs.SampleTable.{restBytes}
-use Rattle.sampling.proofs.RuleLaws.{put-length-is, put-over, put-then}
+use Rattle.writer.specs.Tables.{restBytes}
+use Rattle.writer.proofs.TableLaws.{put-length-is, put-over, put-then}
 use Rattle.results.specs.Results.{ruleFrom, startsBytes}
 use Rattle.results.proofs.result.put_body.Statement.{statement}
 use Rattle.results.proofs.result.put_body.Tie as tie

@@ -12,8 +12,8 @@ use Rattle.sets.specs.Sets.{setAt}
 use Rattle.sets.proofs.SetLaws.{kept-before}
 use Rattle.union.specs.Places.{startTypesAt, usedAt}
 use Rattle.writer.specs.declared.writing.Drafted.the-variants.{TooLarge}
-use Rattle.sampling.specs.SampleTable.{TablePut}
-use Rattle.sampling.proofs.RuleLaws.{put-length-is, put-over, put-then}
+use Rattle.writer.specs.Tables.{TablePut}
+use Rattle.writer.proofs.TableLaws.{put-length-is, put-over, put-then}
 use Rattle.forms.specs.SetForms.{tableBySets, pairsWithin}
 use Rattle.results.specs.Widened.{kindOf}
 use Rattle.results.specs.Results.{ruleFrom, labelsBytes, bodyBytes}

@@ -5,8 +5,8 @@ use mathlib.Core.Path.{_≡_}
 use lib.ListN.{length}
 use borrow.Author.Needs.{needs}
 use Rattle.grammar.specs.Fields.{fieldBytes}
-use Rattle.sampling.specs.SampleTable.{rulesBytes}
-use Rattle.sampling.proofs.RuleLaws.{table-length-is, table-over, table-then}
+use Rattle.writer.specs.Tables.{rulesBytes}
+use Rattle.writer.proofs.TableLaws.{table-length-is, table-over, table-then}
 use Rattle.results.specs.Results.{ruleFrom}
 use Rattle.results.proofs.rules.put_rest.Statement.{statement}
 use Rattle.results.proofs.rules.put_rest.Tie as tie

@@ -11,8 +11,8 @@ use Rattle.grammar.specs.Lists.{keep, place, numbersBelow}
 use Rattle.grammar.specs.Table.{Rule}
 use Rattle.sets.specs.Sets.{member}
 use Rattle.union.proofs.ViewLaws.{views-sized}
-use Rattle.sampling.specs.SampleTable.{RulePuts}
-use Rattle.sampling.proofs.RuleLaws.{rule-puts}
+use Rattle.writer.specs.Tables.{RulePuts}
+use Rattle.writer.proofs.TableLaws.{rule-puts}
 use Rattle.results.specs.Results.{ruleFrom}
 use Rattle.results.specs.Widened.{kindOf}
 use Rattle.results.proofs.SetLaws.{set-held, set-room, set-four, set-ascending, set-some, set-labelled, label-small, label-used, rule-is}

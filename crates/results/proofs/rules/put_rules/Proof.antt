@@ -10,8 +10,8 @@ use Rattle.grammar.specs.Lists.{joinedOf, numbersBelow}
 use Rattle.grammar.specs.Limits.{standard}
 use Rattle.grammar.specs.Size.{contentTooLarge}
 use Rattle.writer.specs.Writing.{Put}
-use Rattle.sampling.specs.SampleTable.{ruleField}
-use Rattle.sampling.proofs.RuleLaws.{up-start, rules-stop, rules-more}
+use Rattle.writer.specs.Tables.{ruleField}
+use Rattle.writer.proofs.TableLaws.{up-start, rules-stop, rules-more}
 use Rattle.results.specs.Results.{RulesWith, ruleFrom}
 use Rattle.results.specs.Widened.{kindOf}
 use Rattle.results.proofs.rules.put_rules.Statement.{statement}

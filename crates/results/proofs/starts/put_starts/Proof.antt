@@ -12,7 +12,7 @@ use Rattle.theory.specs.Alternatives.{onlyIf}
 use Rattle.sets.specs.Sets.{member}
 use Rattle.writer.specs.Writing.{Put}
 use Rattle.reducing.proofs.NumberLaws.{joined-only}
-use Rattle.sampling.proofs.RuleLaws.{up-start, step-stop, step-more}
+use Rattle.writer.proofs.TableLaws.{up-start, step-stop, step-more}
 use Rattle.results.specs.Results.{startsBytes}
 use Rattle.results.proofs.starts.put_starts.Statement.{statement}
 use Rattle.results.proofs.starts.put_starts.Tie as tie

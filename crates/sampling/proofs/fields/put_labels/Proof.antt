@@ -9,7 +9,7 @@ use Rattle.grammar.specs.Fields.{fieldBytes}
 use Rattle.theory.proofs.lists.ListLaws.{part-of}
 use Rattle.writer.specs.Writing.{Put}
 use Rattle.sampling.specs.SampleTable.{labelField}
-use Rattle.sampling.proofs.RuleLaws.{up-start, step-stop, step-more}
+use Rattle.writer.proofs.TableLaws.{up-start, step-stop, step-more}
 use Rattle.sampling.proofs.fields.put_labels.Statement.{statement}
 use Rattle.sampling.proofs.fields.put_labels.Tie as tie
 

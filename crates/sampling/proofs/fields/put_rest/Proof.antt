@@ -4,8 +4,9 @@ use mathlib.Core.List.{[]}
 use mathlib.Core.Path.{_≡_}
 use lib.ListN.{length}
 use Rattle.grammar.specs.Fields.{fieldBytes}
-use Rattle.sampling.specs.SampleTable.{ruleIn, rulesBytes}
-use Rattle.sampling.proofs.RuleLaws.{table-length-is, table-over, table-then}
+use Rattle.writer.specs.Tables.{rulesBytes}
+use Rattle.sampling.specs.SampleTable.{ruleIn}
+use Rattle.writer.proofs.TableLaws.{table-length-is, table-over, table-then}
 use borrow.Author.Needs.{needs}
 use Rattle.sampling.proofs.fields.put_rest.Statement.{statement}
 use Rattle.sampling.proofs.fields.put_rest.Tie as tie

@@ -4,8 +4,9 @@ use mathlib.Core.List.{[], _∷_}
 use mathlib.Core.Path.{_≡_}
 use lib.ListN.{length}
 use Rattle.grammar.specs.Fields.{fieldBytes}
-use Rattle.sampling.specs.SampleTable.{ruleIn, restBytes}
-use Rattle.sampling.proofs.RuleLaws.{put-length-is, put-over, put-then}
+use Rattle.writer.specs.Tables.{restBytes}
+use Rattle.sampling.specs.SampleTable.{ruleIn}
+use Rattle.writer.proofs.TableLaws.{put-length-is, put-over, put-then}
 use borrow.Author.Needs.{needs}
 use Rattle.sampling.proofs.fields.put_start.Statement.{statement}
 use Rattle.sampling.proofs.fields.put_start.Tie as tie

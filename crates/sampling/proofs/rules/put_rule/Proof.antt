@@ -4,7 +4,8 @@ use mathlib.Core.Logic.{inl}
 use mathlib.Core.Path.{_≡_}
 use lib.ListN.{length, length-set, set}
 use Rattle.sampling.specs.SampleTable.{contentIn}
-use Rattle.sampling.proofs.RuleLaws.{made-stop, made-over, rule-value, rule-puts}
+use Rattle.writer.proofs.TableLaws.{rule-puts}
+use Rattle.sampling.proofs.RuleLaws.{made-stop, made-over, rule-value}
 use borrow.Author.Needs.{needs}
 use Rattle.sampling.proofs.rules.put_rule.Statement.{statement}
 use Rattle.sampling.proofs.rules.put_rule.Tie as tie

@@ -10,8 +10,9 @@ use Rattle.grammar.specs.Lists.{joinedOf, numbersBelow}
 use Rattle.grammar.specs.Limits.{standard}
 use Rattle.grammar.specs.Size.{contentTooLarge}
 use Rattle.writer.specs.Writing.{Put}
-use Rattle.sampling.specs.SampleTable.{ruleIn, ruleField}
-use Rattle.sampling.proofs.RuleLaws.{up-start, rules-stop, rules-more}
+use Rattle.writer.specs.Tables.{ruleField}
+use Rattle.sampling.specs.SampleTable.{ruleIn}
+use Rattle.writer.proofs.TableLaws.{up-start, rules-stop, rules-more}
 use Rattle.sampling.proofs.rules.put_rules.Statement.{statement}
 use Rattle.sampling.proofs.rules.put_rules.Tie as tie
 

@@ -6,7 +6,7 @@ use lib.ListN.{length}
 use Rattle.grammar.specs.Lists.{joinedOf, numbersBelow}
 use Rattle.writer.specs.declared.writing.Drafted.the-variants.{TooLarge}
 use Rattle.sampling.specs.SampleTable.{ruleIn, labelField, startBytes}
-use Rattle.sampling.proofs.RuleLaws.{put-length-is, put-over, put-then}
+use Rattle.writer.proofs.TableLaws.{put-length-is, put-over, put-then}
 use Rattle.sampling.proofs.SampleWritten.{sample-wide, sample-drafted, firsts-keys, labels-keys, nodes-held, rules-held}
 use borrow.Author.Needs.{needs}
 use Rattle.sampling.proofs.sample.write_sample.Statement.{statement}
