@@ -3,6 +3,7 @@ use Prim.Native.Nat.{ℕ, _≤_, _<_}
 use mathlib.Core.List.{List, List·Memᴰ}
 use mathlib.Core.Path.{_≡_}
 use lib.ListN.{length}
+use Rattle.grammar.specs.Limits.{nestingLimit}
 use Rattle.grammar.specs.Content.{Content, nesting}
 use Rattle.grammar.specs.Table.{Rule, Table}
 use Rattle.theory.specs.Alternatives.{someLeft}
@@ -20,7 +21,7 @@ use Rattle.contents.specs.Emitting.{Noted}
 
 -- its contents nest no deeper than those of a table that was read
 abbrev pub Shallow : Table → Type 0
-Shallow u = (r : Rule) → List·Memᴰ r (u .rules) → nesting (r .content) ≤ 32
+Shallow u = (r : Rule) → List·Memᴰ r (u .rules) → nesting (r .content) ≤ nestingLimit
 
 -- A union by its view, the result types of each of its types, and the set of its types that have some.
 pub record Joining (old add : List ℕ) (v : United) (types : Set4) (results : TypeLists) : Type 0 where

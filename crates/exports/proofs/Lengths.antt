@@ -7,7 +7,7 @@ use mathlib.Core.List.{List}
 use mathlib.Core.Path.{_≡_, refl, sym, ap, subst}
 use lib.ListN.{length}
 use lib.Dec.{ltb}
-use Rattle.grammar.specs.Limits.{standard}
+use Rattle.grammar.specs.Limits.{standard, inputLimit}
 use Rattle.grammar.specs.Names.{asciiClasses}
 use Rattle.grammar.specs.Tree.{Tree}
 use Rattle.grammar.specs.Table.{Table}
@@ -39,7 +39,7 @@ then-below (refused r) next h = omega arith
 then-below (given a) next h = h a refl
 
 -- a table of at most 32,768 bytes
-table-below : (out : List ℕ) (g : Table) → length (tableBytes g) ≤ 32768 → Below (writtenTo out g)
+table-below : (out : List ℕ) (g : Table) → length (tableBytes g) ≤ inputLimit → Below (writtenTo out g)
 unfolding writtenTo numbersOf refusedBy
 table-below out g h = go (ltb (length out) (length (tableBytes g)))
   where
@@ -47,21 +47,21 @@ table-below out g h = go (ltb (length out) (length (tableBytes g)))
     go true = omega arith
     go false = omega arith
 
-sample-size : (d : Tree) (g : Table) → sampleTable standard d ≡ given g → length (tableBytes g) ≤ 32768
+sample-size : (d : Tree) (g : Table) → sampleTable standard d ≡ given g → length (tableBytes g) ≤ inputLimit
 unfolding sampleTable ofSize standard
 sample-size d g e =
     let (small, same) = had-no-fault (tooLarge standard (sample d)) ResultTooLarge (given (sample d)) g e in
-    subst (λ (r : Table). length (tableBytes r) ≤ 32768) (given-eq same) (table-small standard (sample d) small .size)
+    subst (λ (r : Table). length (tableBytes r) ≤ inputLimit) (given-eq same) (table-small standard (sample d) small .size)
 
 result-size : (kind : Kind) (old addition result : Table) → widenByTable standard kind old addition ≡ given result
-    → length (tableBytes result) ≤ 32768
+    → length (tableBytes result) ≤ inputLimit
 unfolding standard
 result-size kind old addition result e =
     let w = widening.widened standard kind old addition result e in
-    subst (λ (r : Table). length (tableBytes r) ≤ 32768) (sym (w .made)) (w .small .size)
+    subst (λ (r : Table). length (tableBytes r) ≤ inputLimit) (sym (w .made)) (w .small .size)
 
 widen-size : (kind : Kind) (old : Table) (addition : Addition) (result : Table) → widen standard kind old addition ≡ given result
-    → length (tableBytes result) ≤ 32768
+    → length (tableBytes result) ≤ inputLimit
 unfolding widen
 widen-size kind old (byTable a) result e = result-size kind old a result e
 widen-size kind old (byDocument d) result e =

@@ -1,6 +1,7 @@
 -- The answer of an exported call is one number: the refusal's number times 2^32, and the value. The promises are those of the calls
 -- themselves (grammar's Promises), of the two parts of that number.
 use Prim.Native.Nat.{ℕ, _+_, _*_, _-_, _/_, _%_, _≤_}
+use Rattle.grammar.specs.Limits.{nameLimit}
 use Rattle.grammar.specs.Answers.{Numbers, refusedBy}
 use Rattle.reader.specs.declared.label_places.LabelFound.{LabelFound}
 use Rattle.reader.specs.declared.label_places.LabelFound.the-variants.{At, Refused}
@@ -21,4 +22,4 @@ placeNumbers (Refused r) = refusedBy r
 pub record ShortName (from to : ℕ) : Type 0 where
   pub early : from ≤ 4227
   pub order : from ≤ to
-  pub short : to - from ≤ 63
+  pub short : to - from ≤ nameLimit

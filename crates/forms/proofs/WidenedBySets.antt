@@ -13,7 +13,7 @@ use lib.ListN.{length, length-map}
 use lib.Dec.{ltb}
 use borrow.Author.Tests.{lt-ltb}
 use Rattle.grammar.specs.Lists.{anyPass, numbersBelow}
-use Rattle.grammar.specs.Limits.{standard}
+use Rattle.grammar.specs.Limits.{standard, inputLimit}
 use Rattle.grammar.specs.Names.{asciiClasses}
 use Rattle.grammar.specs.Table.{Rule, Table}
 use Rattle.grammar.specs.WriteTable.{tableBytes}
@@ -111,5 +111,5 @@ module _ (u : Table) (fit : UnionFit u) where
       let large : (Rule → Bool) = λ r. contentTooLarge standard (r .content) in
       let many = ltb 64 (length (table .rules)) in
       let n = rule-count kind in
-      or-left (many || anyPass large (table .rules)) (ltb 32768 (length (tableBytes table)))
+      or-left (many || anyPass large (table .rules)) (ltb inputLimit (length (tableBytes table)))
       (or-left many (anyPass large (table .rules)) (lt-ltb 64 (length (table .rules)) (omega arith)))

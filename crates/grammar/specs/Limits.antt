@@ -16,21 +16,40 @@ pub record Limits : Type 0 where
   pub nodes : ℕ
   pub levels : ℕ  -- the root is level 1
 
+-- Those that no site changes, by name: contracts name them too.
+abbrev pub inputLimit : ℕ
+inputLimit = 32768
+
+abbrev pub nameLimit : ℕ
+nameLimit = 63
+
+abbrev pub contentLimit : ℕ
+contentLimit = 1024
+
+abbrev pub operandLimit : ℕ
+operandLimit = 255
+
+abbrev pub nestingLimit : ℕ
+nestingLimit = 32
+
+abbrev pub childLimit : ℕ
+childLimit = 200
+
 -- the limits of the paper
 unfoldable pub standard : Limits
 standard =
     record {
       words = 16384;
-      input = 32768;
-      name = 63;
+      input = inputLimit;
+      name = nameLimit;
       labels = 64;
       starts = 64;
       rules = 64;
       types = 64;
-      content = 1024;
-      operands = 255;
-      nesting = 32;
-      children = 200;
+      content = contentLimit;
+      operands = operandLimit;
+      nesting = nestingLimit;
+      children = childLimit;
       nodes = 1024;
       levels = 64;
     }

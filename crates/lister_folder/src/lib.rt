@@ -9,7 +9,7 @@ use reader::limits::WORDS;
 use widening::calls::widen_local_by_document;
 ghost use Prim.Native.Nat.{_≤_};
 ghost use lib.ListN.{length};
-ghost use Rattle.grammar.specs.Limits.{standard};
+ghost use Rattle.grammar.specs.Limits.{standard, inputLimit};
 ghost use Rattle.grammar.specs.Names.{asciiClasses};
 ghost use Rattle.grammar.specs.Listing.{listing};
 ghost use Rattle.writer.specs.Writing.{Put};
@@ -19,7 +19,7 @@ const FILE: usize = INPUT + 1;
 
 // The text for the bytes of an old table and a document: of the local widening, or of the refusal.
 pub fn list(old: &[u8], document: &[u8], out: &mut [u8], work: &mut [u32], text: &mut [u8]) -> usize
-    requires { ⌜ (32768 ≤ length (now out)) × (16384 ≤ length (now work)) × (202000 ≤ length (now text)) ⌝ }
+    requires { ⌜ (inputLimit ≤ length (now out)) × (16384 ≤ length (now work)) × (202000 ≤ length (now text)) ⌝ }
     ensures { λ r. ⌜ Put (now (text .entry)) 0 (listing standard asciiClasses (now (old .entry)) (now (document .entry)))
         (now (text .exit)) r ⌝ }
 {

@@ -9,7 +9,7 @@ use lib.ListN.{length, take, drop, length-append}
 use lib.Seq.{take-append-seam}
 use lib.Dec.{ltb}
 use borrow.Author.Tests.{le-ltb}
-use Rattle.grammar.specs.Limits.{standard}
+use Rattle.grammar.specs.Limits.{standard, inputLimit}
 use Rattle.grammar.specs.Names.{asciiClasses}
 use Rattle.grammar.specs.Tree.{Tree}
 use Rattle.grammar.specs.Table.{Table}
@@ -43,7 +43,7 @@ use Rattle.lister_lines.proofs.PrintSteps.{put-as}
 refused-eq : {A : Type 0} {q r : Refusal} → _≡_ {A = Outcome A} (refused q) (refused r) → q ≡ r
 refused-eq e = cc
 
-module _ (old document out work : List ℕ) (words : 16384 ≤ length work) (room : 32768 ≤ length out) where
+module _ (old document out work : List ℕ) (words : 16384 ≤ length work) (room : inputLimit ≤ length out) where
   abbrev result : Outcome Table
   result =
       readTable standard asciiClasses old

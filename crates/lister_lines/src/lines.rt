@@ -14,7 +14,7 @@ ghost use Prim.Native.Nat.{_+_, _≤_, _<_};
 ghost use mathlib.Core.List.{[]};
 ghost use lib.ListN.{length, getD};
 ghost use Rattle.grammar.specs.Lists.{joinedOf};
-ghost use Rattle.grammar.specs.Limits.{standard};
+ghost use Rattle.grammar.specs.Limits.{standard, nameLimit};
 ghost use Rattle.grammar.specs.Names.{asciiClasses};
 ghost use Rattle.grammar.specs.Outcome.{refused};
 ghost use Rattle.grammar.specs.ReadTable.{readTable};
@@ -26,8 +26,8 @@ ghost use Rattle.lister_lines.specs.Printing.{TextPut};
 
 // A label's name.
 fn put_name(table: &[u8], index: TableIndex, label: usize, text: &mut [u8], at: usize) -> usize
-    requires { ⌜ SomeHeld standard asciiClasses (now table) index × (label < index .labels) × (at + 63 ≤ length (now text)) ⌝ }
-    ensures { λ r. ⌜ TextPut (now (table .entry)) index (λ g. getD (g .labels) label []) 63 (now (text .entry)) at (now (text .exit)) r ⌝ }
+    requires { ⌜ SomeHeld standard asciiClasses (now table) index × (label < index .labels) × (at + nameLimit ≤ length (now text)) ⌝ }
+    ensures { λ r. ⌜ TextPut (now (table .entry)) index (λ g. getD (g .labels) label []) nameLimit (now (text .entry)) at (now (text .exit)) r ⌝ }
 {
     let label_from = index.label_from;
     let label_to = index.label_to;

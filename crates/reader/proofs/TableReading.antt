@@ -8,7 +8,7 @@ use mathlib.Core.Path.{_≡_, refl, sym, _∙_, ap, subst}
 use lib.Dec.{ltb}
 use lib.ListN.{length, drop, length-drop, drop-of-length-le}
 use borrow.Author.Tests.{eq-eqb, ne-eqb, lt-ltb, le-ltb}
-use Rattle.grammar.specs.Limits.{standard}
+use Rattle.grammar.specs.Limits.{standard, inputLimit}
 use Rattle.grammar.specs.Names.{asciiClasses}
 use Rattle.grammar.specs.Table.{Table, emptyTable}
 use Rattle.grammar.specs.Outcome.{Outcome, refused, _>>=_, _>>_, turnBack}
@@ -182,10 +182,10 @@ module _ (s : List ℕ) (from to : ℕ) (h : Inside s from to) (g : Table) where
 
 -- an input that is too long, and any other
 module _ (s : List ℕ) where
-  pub table-too-long : 32768 < length s → readTable standard asciiClasses s ≡ refused InputTooLong
+  pub table-too-long : inputLimit < length s → readTable standard asciiClasses s ≡ refused InputTooLong
   unfolding readTable standard
-  table-too-long h = fault (ltb 32768 (length s)) InputTooLong _ (lt-ltb 32768 (length s) h)
+  table-too-long h = fault (ltb inputLimit (length s)) InputTooLong _ (lt-ltb inputLimit (length s) h)
 
-  pub table-by-fields : length s ≤ 32768 → readTable standard asciiClasses s ≡ wholeTable s
+  pub table-by-fields : length s ≤ inputLimit → readTable standard asciiClasses s ≡ wholeTable s
   unfolding readTable standard
-  table-by-fields h = no-fault (ltb 32768 (length s)) InputTooLong _ (le-ltb 32768 (length s) h)
+  table-by-fields h = no-fault (ltb inputLimit (length s)) InputTooLong _ (le-ltb inputLimit (length s) h)

@@ -3,7 +3,7 @@ use Prim.Native.Nat.{ℕ, zero, suc, _+_, _≤_, _<_}
 use mathlib.Core.List.{List, [], _∷_, _++_}
 use mathlib.Core.Path.{_≡_}
 use lib.ListN.{length, getD, take, drop}
-use Rattle.grammar.specs.Limits.{standard}
+use Rattle.grammar.specs.Limits.{standard, childLimit}
 use Rattle.grammar.specs.Names.{asciiClasses}
 use Rattle.grammar.specs.Outcome.{Outcome, given, refused}
 use Rattle.grammar.specs.ReadDocument.{Node, readNodes}
@@ -36,7 +36,7 @@ outcomeOf (Unreadable r) ns = refused r
 pub record NodesIndexed (s names sizes children : List ℕ) (nodes : ℕ) : Type 0 where
   pub few : nodes ≤ 1024
   pub within : (i : ℕ) → i < nodes → getD names i 0 + getD sizes i 0 ≤ length s
-  pub counts : (i : ℕ) → i < nodes → getD children i 0 ≤ 200
+  pub counts : (i : ℕ) → i < nodes → getD children i 0 ≤ childLimit
 
 -- what was read into the arrays is the document's answer, and its nodes if it reads
 pub record NodesFound (s names sizes children : List ℕ) (r : NodesRead) : Type 0 where

@@ -5,7 +5,7 @@ use mathlib.Core.List.{List, [], _∷_}
 use mathlib.Core.Path.{_≡_}
 use lib.Dec.{eqb, leb, ltb}
 use lib.ListN.{length, getD, take, drop}
-use Rattle.grammar.specs.Limits.{Limits, standard}
+use Rattle.grammar.specs.Limits.{Limits, standard, childLimit}
 use Rattle.grammar.specs.Names.{asciiClasses}
 use Rattle.grammar.specs.Fields.{Field, Fields, fieldsOf}
 use Rattle.grammar.specs.Outcome.{Outcome, _>>=_}
@@ -54,7 +54,7 @@ pub record NodeStep (s : List ℕ) (at nodes depth : ℕ) (whole : Opened → Ou
   pub room : nodes < 1024
   pub some-level : 0 < depth
   pub level : depth ≤ 64
-  pub few : children ≤ 200
+  pub few : children ≤ childLimit
   pub goes : (o : Opened) → Sized o nodes depth
       → whole o ≡ restOf (withNode o (record { name = take (to - from) (drop from s); children = children })) (fieldsOf (drop to s))
 

@@ -4,7 +4,7 @@ ghost use Prim.Native.Nat.{_≤_, _<_};
 ghost use lib.ListN.{length, drop};
 ghost use lib.Seq.{slice};
 ghost use Rattle.grammar.specs.Names.{asciiClasses};
-ghost use Rattle.grammar.specs.Limits.{standard};
+ghost use Rattle.grammar.specs.Limits.{standard, inputLimit};
 ghost use Rattle.grammar.specs.Fields.{fieldsOf};
 ghost use Rattle.grammar.specs.ReadDocument.{nothingRead};
 ghost use Rattle.reader.specs.DocumentNodes.{firstNodes, outcomeOf, NodesIndexed, NodesFound, DocumentReads};
@@ -176,7 +176,7 @@ fn read_fields(
     children: &mut [u16],
 ) -> NodesRead
     requires { ⌜ now classes ≡ asciiClasses ⌝ }
-    requires { ⌜ (length (now s) ≤ 32768) × (1024 ≤ length (now names)) × (1024 ≤ length (now sizes)) × (1024 ≤ length (now children)) ⌝ }
+    requires { ⌜ (length (now s) ≤ inputLimit) × (1024 ≤ length (now names)) × (1024 ≤ length (now sizes)) × (1024 ≤ length (now children)) ⌝ }
     ensures answer { λ r. ⌜ restOf nothingRead (fieldsOf (now (s .entry)))
         ≡ outcomeOf (r .answer) (firstNodes (now (s .entry)) (now (names .exit)) (now (sizes .exit)) (now (children .exit)) (r .nodes)) ⌝ }
     ensures index { λ r. ⌜ NodesIndexed (now (s .entry)) (now (names .exit)) (now (sizes .exit)) (now (children .exit)) (r .nodes) ⌝ }

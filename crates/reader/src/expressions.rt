@@ -6,7 +6,7 @@ use grammar::Refusal;
 ghost use mathlib.Core.Path.{_≡_};
 ghost use Prim.Native.Nat.{_≤_};
 ghost use lib.ListN.{length};
-ghost use Rattle.grammar.specs.Limits.{standard};
+ghost use Rattle.grammar.specs.Limits.{standard, contentLimit};
 ghost use Rattle.grammar.specs.ReadContent.{readContent};
 ghost use Rattle.reader.specs.Extents.{NestsBelow, deeperOf, joinedExtent, typeExtent, properAt, properRowAt, contentAnswer};
 
@@ -71,7 +71,7 @@ fn type_number(content: &[u8], at: usize) -> Extent
 
 // The proper expression at a place.
 pub fn expression(content: &[u8], at: usize) -> Extent
-    requires { ⌜ length (now content) ≤ 1024 ⌝ }
+    requires { ⌜ length (now content) ≤ contentLimit ⌝ }
     ensures { λ r. ⌜ r ≡ properAt standard (now (content .entry)) at ⌝ }
 {
     if content.len() <= at {
@@ -101,7 +101,7 @@ pub fn expression(content: &[u8], at: usize) -> Extent
 
 // So many proper expressions, one after the other.
 fn operands(content: &[u8], at: usize, count: usize) -> Extent
-    requires { ⌜ length (now content) ≤ 1024 ⌝ }
+    requires { ⌜ length (now content) ≤ contentLimit ⌝ }
     ensures { λ r. ⌜ r ≡ properRowAt standard (now (content .entry)) at count ⌝ }
 {
     if count == 0 {
@@ -118,7 +118,7 @@ fn operands(content: &[u8], at: usize, count: usize) -> Extent
 
 // Why a content is turned back, if it is. The nesting is looked at after the whole walk.
 pub fn content_refusal(content: &[u8]) -> ContentAnswer
-    requires { ⌜ length (now content) ≤ 1024 ⌝ }
+    requires { ⌜ length (now content) ≤ contentLimit ⌝ }
     ensures { λ r. ⌜ r ≡ contentAnswer (readContent standard (now (content .entry))) ⌝ }
 {
     match expression(content, 0) {

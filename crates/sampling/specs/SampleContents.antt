@@ -5,6 +5,7 @@ use mathlib.Core.List.{List, [], _∷_, _++_, map}
 use mathlib.Core.Path.{_≡_}
 use lib.Dec.{eqb}
 use lib.ListN.{length, getD}
+use Rattle.grammar.specs.Limits.{contentLimit, childLimit}
 use Rattle.grammar.specs.Lists.{keep, numbersFrom}
 use Rattle.grammar.specs.Content.{Content}
 use Rattle.grammar.specs.Sample.{sequenceOf}
@@ -15,10 +16,10 @@ use Rattle.contents.specs.Marks.{Marked}
 
 -- A content is made in scratch bytes: where its operands end at most, where it ends, and how many bytes are lent.
 abbrev pub operandsEnd : ℕ
-operandsEnd = 1028
+operandsEnd = 4 + contentLimit
 
 abbrev pub ruleEnd : ℕ
-ruleEnd = 1026
+ruleEnd = 2 + contentLimit
 
 abbrev pub scratchBytes : ℕ
 scratchBytes = 2048
@@ -40,7 +41,7 @@ kidsBytes parents types i (suc m) =
 
 -- the arrays hold the children of a node: so many, with types that are bytes
 pub record Kids (parents types : List ℕ) (n i kids : ℕ) : Type 0 where
-  pub few : kids ≤ 200
+  pub few : kids ≤ childLimit
   pub many : length (kidTypes parents types n i) ≡ kids
   pub here : i < n
   pub parents-held : n ≤ length parents
@@ -57,7 +58,7 @@ sequencesAmong parents types n k nodes = map (sequenceIn parents types n) (keep 
 
 -- these operands stand in a draft from the fourth place on; or they are too large for a content
 abbrev pub GathersInRule : List ℕ → List Content → Gathering → Type 0
-GathersInRule draft ds TooLarge = TooWide 1024 ds
+GathersInRule draft ds TooLarge = TooWide contentLimit ds
 GathersInRule draft ds (Upto next count end) = Row draft 4 count ds end × (end ≤ operandsEnd)
 
 -- and they are marked

@@ -6,7 +6,7 @@ use mathlib.Core.Option.{some as just}
 use mathlib.Core.Path.{_≡_}
 use lib.ListN.{length, getD, drop}
 use Rattle.grammar.specs.Lists.{numbersBelow}
-use Rattle.grammar.specs.Limits.{standard}
+use Rattle.grammar.specs.Limits.{standard, inputLimit, childLimit}
 use Rattle.grammar.specs.Content.{Content, choiceOf}
 use Rattle.grammar.specs.Table.{Rule}
 use Rattle.grammar.specs.Fields.{fieldBytes}
@@ -85,7 +85,7 @@ SampleDrafted d before after (Length n) =
     (sampleTable standard d ≡ given (sample d))
     × (after ≡ tableBytes (sample d) ++ drop n before)
     × (n ≡ length (tableBytes (sample d)))
-    × (n ≤ 32768)
+    × (n ≤ inputLimit)
 SampleDrafted d before after TooLarge = sampleTable standard d ≡ refused ResultTooLarge
 
 -- a document's nodes are those that an index holds
@@ -98,4 +98,4 @@ pub record SampleReady (s names sizes children parents types firsts : List ℕ) 
   pub held : SampleHeld s names sizes parents types firsts n count
   pub counts-held : n ≤ length children
   pub counts-are : (i : ℕ) → i < n → getD children i 0 ≡ getD (map (λ (m : Node). m .children) (held .whole .list)) i 0
-  pub counts-few : (i : ℕ) → i < n → getD children i 0 ≤ 200
+  pub counts-few : (i : ℕ) → i < n → getD children i 0 ≤ childLimit

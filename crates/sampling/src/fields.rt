@@ -7,6 +7,7 @@ use writer::writing::Drafted;
 use writer::writing::put_field;
 ghost use Prim.Native.Nat.{_+_, _≤_};
 ghost use lib.ListN.{length};
+ghost use Rattle.grammar.specs.Limits.{inputLimit};
 ghost use Rattle.grammar.specs.Lists.{joinedOf, numbersBelow};
 ghost use Rattle.writer.specs.Writing.{Puts};
 ghost use Rattle.sampling.specs.SampleContents.{scratchBytes};
@@ -24,7 +25,7 @@ pub fn put_labels(
     firsts: &[usize],
     count: usize,
 ) -> Drafted
-    requires { ⌜ (32768 ≤ length (now draft)) × (count ≤ 64) × KeysAt (now s) (now names) (now sizes) (now keys) (now firsts) count ⌝ }
+    requires { ⌜ (inputLimit ≤ length (now draft)) × (count ≤ 64) × KeysAt (now s) (now names) (now sizes) (now keys) (now firsts) count ⌝ }
     ensures { λ r. ⌜ Puts (now (draft .entry)) 0
         (joinedOf (labelField (now (s .entry)) (now (names .entry)) (now (sizes .entry)) (now (firsts .entry))) (numbersBelow count))
         (now (draft .exit)) r ⌝ }
@@ -61,7 +62,7 @@ fn put_rest(
     labels: &[usize],
     count: usize,
 ) -> Drafted
-    requires { ⌜ (at ≤ 32768) × (32768 ≤ length (now draft)) × (scratchBytes ≤ length (now scratch))
+    requires { ⌜ (at ≤ inputLimit) × (inputLimit ≤ length (now draft)) × (scratchBytes ≤ length (now scratch))
         × NodesHeld (now parents) (now types) (now children) nodes × RulesHeld (now types) (now firsts) (now labels) nodes count ⌝ }
     ensures { λ r. ⌜ TablePut (now (draft .entry)) at
         (ruleIn (now (parents .entry)) (now (types .entry)) (now (firsts .entry)) (now (labels .entry)) nodes) count
@@ -98,7 +99,7 @@ pub fn put_start(
     labels: &[usize],
     count: usize,
 ) -> Drafted
-    requires { ⌜ (at ≤ 32768) × (32768 ≤ length (now draft)) × (scratchBytes ≤ length (now scratch))
+    requires { ⌜ (at ≤ inputLimit) × (inputLimit ≤ length (now draft)) × (scratchBytes ≤ length (now scratch))
         × NodesHeld (now parents) (now types) (now children) nodes × RulesHeld (now types) (now firsts) (now labels) nodes count ⌝ }
     ensures { λ r. ⌜ TablePut (now (draft .entry)) at
         (ruleIn (now (parents .entry)) (now (types .entry)) (now (firsts .entry)) (now (labels .entry)) nodes) count

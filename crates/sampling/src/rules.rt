@@ -5,6 +5,7 @@ use writer::writing::Drafted;
 use writer::writing::put_field;
 ghost use Prim.Native.Nat.{_≤_, _<_};
 ghost use lib.ListN.{length};
+ghost use Rattle.grammar.specs.Limits.{inputLimit};
 ghost use Rattle.sampling.specs.SampleContents.{scratchBytes};
 ghost use Rattle.writer.specs.Tables.{RulePuts, RulesPut};
 ghost use Rattle.sampling.specs.SampleTable.{contentIn, ruleIn, NodesHeld, RulesHeld};
@@ -21,7 +22,7 @@ fn put_rule(
     k: usize,
     label: usize,
 ) -> Drafted
-    requires { ⌜ (at ≤ 32768) × (32768 ≤ length (now draft)) × (scratchBytes ≤ length (now scratch)) × (k < 256) × (label < 256)
+    requires { ⌜ (at ≤ inputLimit) × (inputLimit ≤ length (now draft)) × (scratchBytes ≤ length (now scratch)) × (k < 256) × (label < 256)
         × NodesHeld (now parents) (now types) (now children) nodes ⌝ }
     ensures { λ r. ⌜ RulePuts (now (draft .entry)) at
         (record { type = k; label = label; content = contentIn (now (parents .entry)) (now (types .entry)) nodes k })
@@ -50,7 +51,7 @@ pub fn put_rules(
     labels: &[usize],
     count: usize,
 ) -> Drafted
-    requires { ⌜ (at ≤ 32768) × (32768 ≤ length (now draft)) × (scratchBytes ≤ length (now scratch))
+    requires { ⌜ (at ≤ inputLimit) × (inputLimit ≤ length (now draft)) × (scratchBytes ≤ length (now scratch))
         × NodesHeld (now parents) (now types) (now children) nodes × RulesHeld (now types) (now firsts) (now labels) nodes count ⌝ }
     ensures { λ r. ⌜ RulesPut (now (draft .entry)) at
         (ruleIn (now (parents .entry)) (now (types .entry)) (now (firsts .entry)) (now (labels .entry)) nodes) count

@@ -11,6 +11,7 @@ use writer::writing::Drafted;
 ghost use Prim.Native.Nat.{ℕ, _≤_};
 ghost use mathlib.Core.Path.{_≡_};
 ghost use lib.ListN.{length, getD};
+ghost use Rattle.grammar.specs.Limits.{inputLimit};
 ghost use Rattle.grammar.specs.Outcome.{given};
 ghost use Rattle.grammar.specs.Tree.{Tree};
 ghost use Rattle.grammar.specs.ReadDocument.{treeOf};
@@ -33,7 +34,7 @@ fn write_sample(
     nodes: usize,
     count: usize,
 ) -> Drafted
-    requires { ⌜ (32768 ≤ length (now draft)) × (scratchBytes ≤ length (now scratch)) × (1024 ≤ length (now keys))
+    requires { ⌜ (inputLimit ≤ length (now draft)) × (scratchBytes ≤ length (now scratch)) × (1024 ≤ length (now keys))
         × ((i : ℕ) → getD (now keys) i 0 ≡ 0)
         × SampleReady (now s) (now names) (now sizes) (now children) (now parents) (now types) (now firsts) nodes count ⌝ }
     ensures { λ r. ⌜ ((q : SampleHeld (now (s .entry)) (now (names .entry)) (now (sizes .entry)) (now (parents .entry))
@@ -65,7 +66,7 @@ fn write_sample(
 
 // The sample of a document as a table, from the draft's beginning.
 pub fn sample_table(document: &[u8], index: DocumentIndex, draft: &mut [u8]) -> Drafted
-    requires { ⌜ (32768 ≤ length (now draft)) × HoldsNodes (now document) index ⌝ }
+    requires { ⌜ (inputLimit ≤ length (now draft)) × HoldsNodes (now document) index ⌝ }
     ensures { λ r. ⌜ ((d : Tree) → treeOf (nodesIn (now (document .entry)) index) ≡ given d
         → SampleDrafted d (now (draft .entry)) (now (draft .exit)) r) ⌝ }
 {

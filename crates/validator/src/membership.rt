@@ -16,7 +16,7 @@ ghost use mathlib.Core.List.{[]};
 ghost use mathlib.Core.Path.{_≡_};
 ghost use Prim.Native.Nat.{_+_, _*_, _<_, _≤_};
 ghost use lib.ListN.{length};
-ghost use Rattle.grammar.specs.Limits.{standard};
+ghost use Rattle.grammar.specs.Limits.{standard, contentLimit};
 ghost use Rattle.grammar.specs.Names.{asciiClasses};
 ghost use Rattle.grammar.specs.Lists.{anyPass};
 ghost use Rattle.grammar.specs.Membership.{letsIn};
@@ -41,7 +41,7 @@ fn nullable_contents(
     marks: &mut [u8],
     words: &[u32],
 ) -> [bool; 64]
-    requires { ⌜ (SomeContents (now table) (now «content_from») (now «content_to») rules) × (1024 ≤ length (now marks))
+    requires { ⌜ (SomeContents (now table) (now «content_from») (now «content_to») rules) × (contentLimit ≤ length (now marks))
         × (4 ≤ length (now words)) ⌝ }
     ensures { λ r. ⌜ NullableAre (now (table .entry)) (now («content_from» .entry)) (now («content_to» .entry)) rules r ⌝ }
 {
@@ -101,7 +101,7 @@ fn put_types(
     count: usize,
 )
     requires { ⌜ (SomeRules (now table) (now «rule_type») (now next) (now «content_from») (now «content_to») (now nullable) rules)
-        × (label ≤ 64) × (1024 ≤ length (now marks)) × (base + 4 + 4 * count ≤ length (now words)) ⌝ }
+        × (label ≤ 64) × (contentLimit ≤ length (now marks)) × (base + 4 + 4 * count ≤ length (now words)) ⌝ }
     ensures { λ r. ⌜ TypesAre (now (table .entry)) (now («rule_type» .entry)) (now (next .entry)) (now («content_from» .entry))
         (now («content_to» .entry)) (now (nullable .entry)) rules label (now (words .entry)) base count (now (words .exit)) ⌝ }
 {
@@ -143,7 +143,7 @@ fn root_types(
 ) -> usize
     requires { ⌜ (SomeHeld standard asciiClasses (now table) index)
         × (KnownNodes (now document) (indexOf (now names) (now sizes) (now children) nodes))
-        × (NodeRoom (now names) (now sizes) (now children)) × (1024 ≤ length (now marks)) × (4096 ≤ length (now words)) ⌝ }
+        × (NodeRoom (now names) (now sizes) (now children)) × (contentLimit ≤ length (now marks)) × (4096 ≤ length (now words)) ⌝ }
     ensures { λ r. ⌜ RootTypes (now (table .entry)) index (now (document .entry))
         (indexOf (now (names .entry)) (now (sizes .entry)) (now (children .entry)) nodes) (now (words .exit)) r ⌝ }
 {

@@ -6,7 +6,7 @@ use mathlib.Core.List.{List}
 use mathlib.Core.Option.{none as nothing, some as just}
 use mathlib.Core.Path.{_≡_}
 use lib.ListN.{length, set, getD}
-use Rattle.grammar.specs.Limits.{Limits}
+use Rattle.grammar.specs.Limits.{Limits, contentLimit}
 use Rattle.theory.specs.MarkedWalk.{Walked, markNumber, walk, walkInTurn, walkEach, walks}
 use Rattle.theory.specs.Marked.{run}
 use Rattle.reader.specs.ExprAt.{exprAt, exprsAt}
@@ -59,6 +59,6 @@ pub record AroundType (s : List ℕ) (at : ℕ) : Type 0 where
 
 -- room for the walk: a mark for each byte, and the four words of a set at base
 pub record WalkRoom (s marks words : List ℕ) (base : ℕ) : Type 0 where
-  pub few : length s ≤ 1024
+  pub few : length s ≤ contentLimit
   pub mark-each : length s ≤ length marks
   pub four-words : base + 4 ≤ length words

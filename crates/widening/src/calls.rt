@@ -6,6 +6,7 @@ use crate::drafting::draft_widened;
 use grammar::Refusal;
 use grammar::Source;
 use grammar::Written;
+use reader::limits::INPUT;
 use reader::limits::WORDS;
 use reader::work::clear_work;
 use results::widen::Kind;
@@ -26,7 +27,7 @@ pub fn sample(document: &[u8], out: &mut [u8], work: &mut [u32]) -> Written
     if work.len() < WORDS {
         return Written::Refused(Refusal::WorkTooShort);
     }
-    let mut draft = [0u8; 32768];
+    let mut draft = [0u8; INPUT];
     let made = draft_sample(document, &mut draft);
     clear_work(work);
     deliver(&draft, made, out)
@@ -47,7 +48,7 @@ fn widen(
     if work.len() < WORDS {
         return Written::Refused(Refusal::WorkTooShort);
     }
-    let mut draft = [0u8; 32768];
+    let mut draft = [0u8; INPUT];
     let made = draft_widened(kind, source, old, addition, &mut work[0..WORDS], &mut draft);
     clear_work(work);
     deliver(&draft, made, out)

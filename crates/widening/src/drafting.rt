@@ -4,6 +4,7 @@ use grammar::Refusal;
 use grammar::Source;
 use grammar::Written;
 use reader::documents::read_document;
+use reader::limits::INPUT;
 use reader::tables::TableIndex;
 use reader::tables::read_table;
 use results::widen::Kind;
@@ -15,7 +16,7 @@ ghost use Prim.Native.Nat.{_≤_};
 ghost use mathlib.Core.List.{_++_};
 ghost use mathlib.Core.Path.{_≡_};
 ghost use lib.ListN.{length, take, drop};
-ghost use Rattle.grammar.specs.Limits.{standard};
+ghost use Rattle.grammar.specs.Limits.{standard, inputLimit};
 ghost use Rattle.grammar.specs.Names.{asciiClasses};
 ghost use Rattle.grammar.specs.Table.{Table};
 ghost use Rattle.grammar.specs.Outcome.{Outcome};
@@ -26,7 +27,7 @@ ghost use Rattle.widening.specs.Drafting.{sampleOf, widenedBy, widenedFr
 
 // The first `n` bytes of the draft at the front of the output. What stands behind them stays.
 fn hand_over(draft: &[u8], n: usize, out: &mut [u8])
-    requires { ⌜ (length (now draft) ≡ 32768) × (n ≤ length (now draft)) × (n ≤ length (now out)) ⌝ }
+    requires { ⌜ (length (now draft) ≡ inputLimit) × (n ≤ length (now draft)) × (n ≤ length (now out)) ⌝ }
     ensures { λ r. ⌜ now (out .exit) ≡ take n (now (draft .entry)) ++ drop n (now (out .entry)) ⌝ }
 {
     let mut i: usize = 0;
@@ -41,7 +42,7 @@ fn hand_over(draft: &[u8], n: usize, out: &mut [u8])
 
 // Hands over what stands in the draft, if the output has room.
 pub fn deliver(draft: &[u8], made: Written, out: &mut [u8]) -> Written
-    requires { ⌜ (length (now draft) ≡ 32768) × FitsDraft (now draft) made ⌝ }
+    requires { ⌜ (length (now draft) ≡ inputLimit) × FitsDraft (now draft) made ⌝ }
     ensures { λ r. ⌜ ((o : Outcome Table) → InDraft o (now (draft .entry)) made → HandedOver o (now (out .entry)) (now (out .exit)) r) ⌝ }
 {
     match made {
@@ -65,7 +66,7 @@ fn read_and_widen(
     words: &mut [u32],
     draft: &mut [u8],
 ) -> Written
-    requires { ⌜ (SomeHeld standard asciiClasses (now old) index) × (16384 ≤ length (now words)) × (32768 ≤ length (now draft)) ⌝ }
+    requires { ⌜ (SomeHeld standard asciiClasses (now old) index) × (16384 ≤ length (now words)) × (inputLimit ≤ length (now draft)) ⌝ }
     ensures { λ r. ⌜ ((g : Table) → Held standard asciiClasses (now (old .entry)) index g
         → InDraft (widenedBy aTable (kindOf kind) g (now (addition .entry))) (now (draft .exit)) r) ⌝ }
 {
@@ -83,7 +84,7 @@ fn read_and_widen(
 
 // Reads a document and makes its sample in the draft.
 pub fn draft_sample(document: &[u8], draft: &mut [u8]) -> Written
-    requires { ⌜ 32768 ≤ length (now draft) ⌝ }
+    requires { ⌜ inputLimit ≤ length (now draft) ⌝ }
     ensures { λ r. ⌜ InDraft (sampleOf (now (document .entry))) (now (draft .exit)) r ⌝ }
 {
     let found = read_document(document);
@@ -106,11 +107,11 @@ fn widen_by_sample(
     words: &mut [u32],
     draft: &mut [u8],
 ) -> Written
-    requires { ⌜ (SomeHeld standard asciiClasses (now old) index) × (16384 ≤ length (now words)) × (32768 ≤ length (now draft)) ⌝ }
+    requires { ⌜ (SomeHeld standard asciiClasses (now old) index) × (16384 ≤ length (now words)) × (inputLimit ≤ length (now draft)) ⌝ }
     ensures { λ r. ⌜ ((g : Table) → Held standard asciiClasses (now (old .entry)) index g
         → InDraft (widenedBy aDocument (kindOf kind) g (now (document .entry))) (now (draft .exit)) r) ⌝ }
 {
-    let mut sample = [0u8; 32768];
+    let mut sample = [0u8; INPUT];
     match draft_sample(document, &mut sample) {
         Written::Refused(r) => Written::Refused(r),
         Written::Length(n) => read_and_widen(kind, old, index, &sample[0..n], words, draft),
@@ -127,7 +128,7 @@ fn widen_read(
     words: &mut [u32],
     draft: &mut [u8],
 ) -> Written
-    requires { ⌜ (SomeHeld standard asciiClasses (now old) index) × (16384 ≤ length (now words)) × (32768 ≤ length (now draft)) ⌝ }
+    requires { ⌜ (SomeHeld standard asciiClasses (now old) index) × (16384 ≤ length (now words)) × (inputLimit ≤ length (now draft)) ⌝ }
     ensures { λ r. ⌜ ((g : Table) → Held standard asciiClasses (now (old .entry)) index g
         → InDraft (widenedBy source (kindOf kind) g (now (addition .entry))) (now (draft .exit)) r) ⌝ }
 {
@@ -146,7 +147,7 @@ pub fn draft_widened(
     words: &mut [u32],
     draft: &mut [u8],
 ) -> Written
-    requires { ⌜ (16384 ≤ length (now words)) × (32768 ≤ length (now draft)) ⌝ }
+    requires { ⌜ (16384 ≤ length (now words)) × (inputLimit ≤ length (now draft)) ⌝ }
     ensures { λ r. ⌜ InDraft (widenedFrom source (kindOf kind) (now (old .entry)) (now (addition .entry))) (now (draft .exit)) r ⌝ }
 {
     let known = read_table(old);

@@ -14,7 +14,7 @@ use lib.Dec.{ltb}
 use borrow.Author.Tests.{ltb-true, ltb-false}
 use lib.ListN.{length, length-append}
 use Rattle.grammar.specs.Lists.{joinedOf, numbersBelow}
-use Rattle.grammar.specs.Limits.{standard}
+use Rattle.grammar.specs.Limits.{standard, inputLimit}
 use Rattle.grammar.specs.Table.{Rule}
 use Rattle.grammar.specs.Fields.{fieldBytes}
 use Rattle.grammar.specs.ReadTable.{ruleTag}
@@ -54,15 +54,15 @@ module _ (f : ℕ → List ℕ) where
     pub up-more : {after : List ℕ} {m : ℕ} → Put draft end (f t) after m → Put before at (first (t + 1)) after m
     up-more {after} {m} q = subst (λ (l : List ℕ). Put before at l after m) (sym (joined-next f t)) (put-join p q)
 
-    pub up-stop : (n : ℕ) → 32768 < end + length (f t) → t < n → 32768 < at + length (first n)
+    pub up-stop : (n : ℕ) → inputLimit < end + length (f t) → t < n → inputLimit < at + length (first n)
     up-stop n h k = let o = up-over t n k in let e = p .next-is in omega arith
 
     module _ (bytes after : List ℕ) (r : Drafted) (same : bytes ≡ f t) (g : Puts draft end bytes after r) where
-      pub step-stop : r ≡ TooLarge → (n : ℕ) → t < n → 32768 < at + length (first n)
+      pub step-stop : r ≡ TooLarge → (n : ℕ) → t < n → inputLimit < at + length (first n)
       step-stop e n h =
-          up-stop n (subst (λ (l : List ℕ). 32768 < end + length l) same (subst (λ (x : Drafted). Puts draft end bytes after x) e g)) h
+          up-stop n (subst (λ (l : List ℕ). inputLimit < end + length l) same (subst (λ (x : Drafted). Puts draft end bytes after x) e g)) h
 
-      pub step-more : {m : ℕ} → r ≡ Length m → Put before at (first (t + 1)) after m × (m ≤ 32768)
+      pub step-more : {m : ℕ} → r ≡ Length m → Put before at (first (t + 1)) after m × (m ≤ inputLimit)
       step-more {m} e =
           let x = subst (λ (x : Drafted). Puts draft end bytes after x) e g in
           (up-more (subst (λ (l : List ℕ). Put draft end l after m) same (x .0)), x .1)
@@ -71,7 +71,7 @@ pub rule-puts : (before after : List ℕ) (at : ℕ) (value : List ℕ) (rule : 
     → contentTooLarge standard (rule .content) ≡ false → Puts before at (fieldBytes ruleTag value) after r → RulePuts before at rule after r
 rule-puts before after at value rule (Length n) e f p =
     (subst (λ (v : List ℕ). Put before at (fieldBytes ruleTag v) after n) e (p .0), p .1, f)
-rule-puts before after at value rule TooLarge e f p = inr (subst (λ (v : List ℕ). 32768 < at + length (fieldBytes ruleTag v)) e p)
+rule-puts before after at value rule TooLarge e f p = inr (subst (λ (v : List ℕ). inputLimit < at + length (fieldBytes ruleTag v)) e p)
 
 -- one rule more
 module _ (rule : ℕ → Rule) (t : ℕ) {before : List ℕ} {at : ℕ} {draft : List ℕ} {end : ℕ}
@@ -81,7 +81,7 @@ module _ (rule : ℕ → Rule) (t : ℕ) {before : List ℕ} {at : ℕ} {draft :
       ⊎-elim (λ x. inl (t, h, x)) (λ x. inr (up-stop (ruleField rule) t p n x h)) (subst (λ (x : Drafted). RulePuts draft end (rule t) after x) e g)
 
   pub rules-more : {m : ℕ} → r ≡ Length m
-      → Put before at (joinedOf (ruleField rule) (numbersBelow (t + 1))) after m × (m ≤ 32768) × (contentTooLarge standard (rule t .content) ≡ false)
+      → Put before at (joinedOf (ruleField rule) (numbersBelow (t + 1))) after m × (m ≤ inputLimit) × (contentTooLarge standard (rule t .content) ≡ false)
   rules-more {m} e =
       let x = subst (λ (x : Drafted). RulePuts draft end (rule t) after x) e g in
       (up-more (ruleField rule) t p (x .0), x .1, x .2)
@@ -94,7 +94,7 @@ module _ (before : List ℕ) (at : ℕ) (rule : ℕ → Rule) (count : ℕ) (xs 
       let l = length-append xs ys in
       inr (omega arith)
 
-  pub put-length-is : Puts before at xs mid r → {n : ℕ} → r ≡ Length n → Put before at xs mid n × (n ≤ 32768)
+  pub put-length-is : Puts before at xs mid r → {n : ℕ} → r ≡ Length n → Put before at xs mid n × (n ≤ inputLimit)
   put-length-is p e = subst (λ (x : Drafted). Puts before at xs mid x) e p
 
   pub put-then : Puts before at xs mid r → {n : ℕ} → r ≡ Length n → (z : Drafted) → TablePut mid n rule count ys after z
@@ -114,7 +114,7 @@ module _ (before : List ℕ) (at : ℕ) (rule : ℕ → Rule) (count : ℕ) (xs 
       ⊎-elim inl (λ o. inr (omega arith)) (subst (λ (x : Drafted). TablePut before at rule count xs mid x) e p)
 
   pub table-length-is : TablePut before at rule count xs mid r → {n : ℕ} → r ≡ Length n
-      → Put before at xs mid n × (n ≤ 32768) × ((t : ℕ) → t < count → contentTooLarge standard (rule t .content) ≡ false)
+      → Put before at xs mid n × (n ≤ inputLimit) × ((t : ℕ) → t < count → contentTooLarge standard (rule t .content) ≡ false)
   table-length-is p e = subst (λ (x : Drafted). TablePut before at rule count xs mid x) e p
 
   pub table-then : TablePut before at rule count xs mid r → {n : ℕ} → r ≡ Length n → (z : Drafted) → Puts mid n ys after z

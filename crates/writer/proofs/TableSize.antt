@@ -9,7 +9,7 @@ use mathlib.Core.Path.{_≡_, ap}
 use lib.Dec.{ltb}
 use lib.ListN.{length}
 use Rattle.grammar.specs.Lists.{anyPass}
-use Rattle.grammar.specs.Limits.{standard}
+use Rattle.grammar.specs.Limits.{standard, inputLimit}
 use Rattle.grammar.specs.Table.{Rule, Table}
 use Rattle.grammar.specs.Outcome.{given, refused, _>>_, turnBack}
 use Rattle.grammar.specs.WriteTable.{tableBytes}
@@ -28,7 +28,7 @@ module _ (g : Table) where
   many = ltb 64 (length (g .rules))
 
   abbrev long : Bool
-  long = ltb 32768 (length (tableBytes g))
+  long = ltb inputLimit (length (tableBytes g))
 
   pub size-over : tooLarge standard g ≡ true → ofSize standard g ≡ refused ResultTooLarge
   unfolding ofSize
@@ -46,12 +46,12 @@ module _ (g : Table) where
   unfolding tooLarge standard
   content-over m e = or-left (many || anyPass over (g .rules)) long (or-right many (anyPass over (g .rules)) (any-of over m e))
 
-  pub bytes-over : 32768 < length (tableBytes g) → tooLarge standard g ≡ true
+  pub bytes-over : inputLimit < length (tableBytes g) → tooLarge standard g ≡ true
   unfolding tooLarge standard
-  bytes-over h = or-right (many || anyPass over (g .rules)) long (lt-ltb 32768 (length (tableBytes g)) h)
+  bytes-over h = or-right (many || anyPass over (g .rules)) long (lt-ltb inputLimit (length (tableBytes g)) h)
 
   pub all-fit : length (g .rules) ≤ 64 → ((r : Rule) → List·Memᴰ r (g .rules) → contentTooLarge standard (r .content) ≡ false)
-      → length (tableBytes g) ≤ 32768 → tooLarge standard g ≡ false
+      → length (tableBytes g) ≤ inputLimit → tooLarge standard g ≡ false
   unfolding tooLarge standard
   all-fit a b c =
       or-none (many || anyPass over (g .rules)) long
@@ -60,4 +60,4 @@ module _ (g : Table) where
       (λ o.
       let (x, m, w) = any-found over (g .rules) o in
       not-both w (b x m))))
-      (le-ltb 32768 (length (tableBytes g)) c)
+      (le-ltb inputLimit (length (tableBytes g)) c)

@@ -3,6 +3,7 @@ use Prim.Native.Nat.{ℕ, _+_, _≤_, _<_}
 use mathlib.Core.List.{List, _++_}
 use mathlib.Core.Path.{_≡_}
 use lib.ListN.{length, take, drop}
+use Rattle.grammar.specs.Limits.{inputLimit}
 use Rattle.writer.specs.declared.writing.Drafted.{Drafted}
 use Rattle.writer.specs.declared.writing.Drafted.the-variants.{Length, TooLarge}
 
@@ -14,5 +15,5 @@ pub record Put (before : List ℕ) (at : ℕ) (bytes after : List ℕ) (next : �
 
 -- and this within the bytes of a file; or the bytes are too many
 abbrev pub Puts : List ℕ → ℕ → List ℕ → List ℕ → Drafted → Type 0
-Puts before at bytes after (Length n) = Put before at bytes after n × (n ≤ 32768)
-Puts before at bytes after TooLarge = 32768 < at + length bytes
+Puts before at bytes after (Length n) = Put before at bytes after n × (n ≤ inputLimit)
+Puts before at bytes after TooLarge = inputLimit < at + length bytes

@@ -4,6 +4,7 @@ ghost use Prim.Native.Nat.{_+_, _≤_, _<_};
 ghost use mathlib.Core.Path.{_≡_};
 ghost use lib.ListN.{length};
 ghost use lib.Seq.{paste};
+ghost use Rattle.grammar.specs.Limits.{inputLimit};
 ghost use Rattle.grammar.specs.Fields.{fieldBytes};
 ghost use Rattle.writer.specs.Writing.{Puts};
 
@@ -27,7 +28,7 @@ pub fn copy(draft: &mut [u8], at: usize, value: &[u8])
 
 // One field after what is written.
 pub fn put_field(draft: &mut [u8], at: usize, tag: u8, value: &[u8]) -> Drafted
-    requires { ⌜ (at ≤ 32768) × (32768 ≤ length (now draft)) ⌝ }
+    requires { ⌜ (at ≤ inputLimit) × (inputLimit ≤ length (now draft)) ⌝ }
     ensures { λ r. ⌜ Puts (now (draft .entry)) at (fieldBytes tag (now (value .entry))) (now (draft .exit)) r ⌝ }
 {
     let size = value.len();

@@ -4,6 +4,7 @@ use native.Mathlib.Omega.{arith}
 use mathlib.Core.Path.{_≡_, refl, ap, subst}
 use lib.ListN.{length, getD}
 use borrow.Author.Needs.{needs}
+use Rattle.grammar.specs.Limits.{inputLimit}
 use Rattle.grammar.specs.Lists.{joinedOf, numbersBelow}
 use Rattle.grammar.specs.Fields.{fieldBytes}
 use Rattle.theory.proofs.lists.ListLaws.{part-of}
@@ -16,7 +17,7 @@ use Rattle.sampling.proofs.fields.put_labels.Tie as tie
 abbrev Inv-loop : tie.InvT-loop
 Inv-loop draft₀ s names sizes keys firsts count end₀ l₀ draft end l =
     (l ≤ count)
-    × (end ≤ 32768)
+    × (end ≤ inputLimit)
     × (length draft ≡ length draft₀)
     × Put draft₀ 0 (joinedOf (labelField s names sizes firsts) (numbersBelow l)) draft end
 

@@ -7,7 +7,7 @@ use lib.ListN.{length}
 use borrow.Author.Needs.{needs}
 use borrow.Author.Count.{below-more}
 use Rattle.grammar.specs.Lists.{joinedOf, numbersBelow}
-use Rattle.grammar.specs.Limits.{standard}
+use Rattle.grammar.specs.Limits.{standard, inputLimit}
 use Rattle.grammar.specs.Size.{contentTooLarge}
 use Rattle.writer.specs.Writing.{Put}
 use Rattle.writer.specs.Tables.{ruleField}
@@ -19,7 +19,7 @@ use Rattle.sampling.proofs.rules.put_rules.Tie as tie
 abbrev Inv-loop : tie.InvT-loop
 Inv-loop draft₀ at scratch₀ parents types children nodes firsts labels count end₀ t₀ draft scratch end t =
     (t ≤ count)
-    × (end ≤ 32768)
+    × (end ≤ inputLimit)
     × (length draft ≡ length draft₀)
     × (length scratch ≡ length scratch₀)
     × Put draft₀ at (joinedOf (ruleField (ruleIn parents types firsts labels nodes)) (numbersBelow t)) draft end
