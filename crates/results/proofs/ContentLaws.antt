@@ -4,24 +4,22 @@ use mathlib.Core.Bool.{Bool}
 use mathlib.Core.List.{List}
 use mathlib.Core.Path.{_≡_, subst}
 use lib.ListN.{length}
-use Rattle.grammar.specs.Kinds.{Kind}
 use Rattle.grammar.specs.Normalise.{pairsOf, normalise}
 use Rattle.grammar.specs.Reduce.{fruitful}
 use Rattle.theory.specs.Alternatives.{someLeft, resultsOf}
 use Rattle.sets.specs.Sets.{member}
 use Rattle.sets.specs.declared.four.Set4.{Set4}
 use Rattle.union.specs.declared.lists.TypeLists.{TypeLists}
-use Rattle.union.specs.declared.united.United.{United}
 use Rattle.union.specs.TypeLists.{ListsOf}
 use Rattle.contents.specs.Joining.{Joining}
 use Rattle.forms.specs.SetForms.{setNumber}
 use Rattle.forms.specs.Worklist.{NumbersOf}
+use Rattle.results.specs.declared.plan.Plan.{Plan}
 use Rattle.results.specs.Results.{RulesFrom}
 
-module _ {old add : List ℕ} {v : United} {labels : ℕ} {lists : TypeLists} {words : List ℕ} {count : ℕ} {kind : Kind}
-    (q : RulesFrom old add v labels lists words count kind) where
+module _ {old add : List ℕ} {plan : Plan} {words : List ℕ} (q : RulesFrom old add plan words) where
   -- the numbers of all labels
-  pub all-labels : (f : ℕ → ℕ) (list : List ℕ) → NumbersOf f labels list → NumbersOf f (length (q .in-words .table .labels)) list
+  pub all-labels : (f : ℕ → ℕ) (list : List ℕ) → NumbersOf f (plan .labels) list → NumbersOf f (length (q .in-words .table .labels)) list
   all-labels f list h = subst (λ (n : ℕ). NumbersOf f n list) (q .labels-are) h
 
   -- the sets of the pairs of a type, where these pairs form the sets
@@ -31,7 +29,7 @@ module _ {old add : List ℕ} {v : United} {labels : ℕ} {lists : TypeLists} {w
 
   abbrev pub merged : (within : ℕ → Bool) (types : Set4) (results : TypeLists) → ListsOf (resultsIn within) results → length (types .words) ≡ 4
       → ((of : ℕ → List ℕ) → ListsOf of results → (k : ℕ) → k < 128 → member (types .words) 0 k ≡ someLeft of k)
-      → Joining old add v types results
+      → Joining old add (plan .union) types results
   merged within types results x l t =
       record {
         table = q .in-words .table;

@@ -54,7 +54,8 @@ use Rattle.forms.proofs.SetWordLaws.{sets-stay}
 use Rattle.forms.proofs.UnionFit.{UnionFit, union-fit}
 use Rattle.forms.proofs.WidenedBySets as by-sets
 use Rattle.results.specs.Results.{SetsIn, ResultFrom}
-use Rattle.results.specs.Widened.{madeOf, Widens, UnionReduced}
+use Rattle.results.specs.Widened.{kindOf, madeOf, Widens, UnionReduced}
+use Rattle.results.specs.declared.widen.Kind.{Kind as Asked}
 use Rattle.results.specs.declared.widen.Made.{Made}
 use Rattle.results.specs.declared.widen.Made.the-variants.{TooLarge}
 use Rattle.results.proofs.StartTypes.{local-starts, start-key, first-starts}
@@ -158,23 +159,6 @@ module _ {old add : List ℕ} {union : Union} {lists : TypeLists} {words : List 
         let x = by-sets.regular-by-set u fit kind (held .few) i (omega (arith, many)) in
         record { counted = x .counted; below = x .below }
 
-    abbrev result-from : 16384 ≤ length after → setAt after leftAt ≡ isLeft u → ResultFrom old add union lists after count kind
-    result-from room left =
-        record {
-          rules =
-              record {
-                in-words = sets-in;
-                labels-are = union-count (r .seen);
-                lists-are = r .lists-are;
-                room = room;
-                left-is = left;
-                shallow = union-shallow asciiClasses g h (r .first-within) (r .second-within);
-                regular = regular;
-              };
-          names = union-names (r .seen);
-          same = union-same (r .seen);
-        }
-
     pub widens-put : (types : ℕ → Bool)
         → tableBySets u (by-sets.setsOf kind u) (pairsWithin kind u) (keep types (numbersBelow count)) ≡ by-sets.tableOf kind u
         → (before end : List ℕ) (d : Drafted)
@@ -188,17 +172,33 @@ module _ {old add : List ℕ} {union : Union} {lists : TypeLists} {words : List 
         (subst (λ (t : Table). TablePut before 0 rule count (tableBytes t) end d) e put))
 
   -- the sets of a kind are laid down in the first words, and then the start types
-  module _ (kind : Kind) (room : 16384 ≤ length words) (front : List ℕ) (same : length front ≡ length (take setsEnd words)) (count : ℕ)
-      (held : SetsHeld front (by-sets.setsOf kind u)) (many : count ≡ length (by-sets.setsOf kind u)) (last : List ℕ)
+  module _ (asked : Asked) (room : 16384 ≤ length words) (front : List ℕ) (same : length front ≡ length (take setsEnd words)) (count : ℕ)
+      (held : SetsHeld front (by-sets.setsOf (kindOf asked) u)) (many : count ≡ length (by-sets.setsOf (kindOf asked) u)) (last : List ℕ)
       (kept : OthersKept startTypesAt (front ++ drop setsEnd words) last) (long : length last ≡ length (front ++ drop setsEnd words)) where
     pub last-room : 16384 ≤ length last
     last-room = let a = room-stays words room front same in omega arith
 
-    pub last-held : SetsHeld last (by-sets.setsOf kind u)
+    pub last-held : SetsHeld last (by-sets.setsOf (kindOf asked) u)
     last-held = let a = last-room in types-stay kept (omega arith) (sets-held words room front same held)
 
-    abbrev pub result-after : ResultFrom old add union lists last count kind
-    result-after = result-from kind last count last-held many last-room (types-left kept ∙ reduced-stay room front same .left-are)
+    abbrev pub result-after : (labels : ℕ) → labels ≡ length (u .labels)
+        → ResultFrom old add (record { union = union .rules; labels = labels; lists = lists; count = count; kind = asked })
+        (union .«old_names») (union .«new_names») last
+    result-after labels labels-are =
+        record {
+          rules =
+              record {
+                in-words = sets-in (kindOf asked) last count last-held many;
+                labels-are = labels-are;
+                lists-are = r .lists-are;
+                room = last-room;
+                left-is = types-left kept ∙ reduced-stay room front same .left-are;
+                shallow = union-shallow asciiClasses g h (r .first-within) (r .second-within);
+                regular = regular (kindOf asked) last count last-held many;
+              };
+          names = union-names (r .seen);
+          same = union-same (r .seen);
+        }
 
   pub widens-many : (kind : Kind) → 64 < length (by-sets.setsOf kind u) → (before after : List ℕ) → Widens kind g h before after TooLarge
   unfolding Widens

@@ -22,7 +22,6 @@ use Rattle.theory.proofs.lists.ListLaws.{any-of, at-mem, at-or-else}
 use Rattle.sets.specs.Sets.{member, wordsAt, OthersKept}
 use Rattle.sets.proofs.SetLaws.{length-words, kept-before}
 use Rattle.reader.proofs.TableFaults.{is-some}
-use Rattle.union.specs.declared.lists.TypeLists.{TypeLists}
 use Rattle.union.specs.declared.united.United.{United}
 use Rattle.union.specs.Places.{leftAt, usedAt}
 use Rattle.union.specs.View.{Views}
@@ -32,6 +31,7 @@ use Rattle.forms.specs.SetWords.{Ascending}
 use Rattle.forms.specs.Worklist.{LabelsSized}
 use Rattle.forms.specs.SetForms.{setLabel, labelsOf, setNumber, contentBySet, ruleBySet, pairsWithin}
 use Rattle.forms.proofs.SetWordLaws.{sets-stay}
+use Rattle.results.specs.declared.plan.Plan.{Plan}
 use Rattle.results.specs.Results.{resultRule, isUsed, SetsIn, RulesFrom}
 
 first-there : (s : List ℕ) → 0 < length s → List·Memᴰ (getD s 0 0) s
@@ -119,9 +119,9 @@ module _ (u : Table) (sets : List TypeSet) (kind : Kind) (i : ℕ) where
       (f ∙ ap (λ (t : ℕ → Bool). place eqb (setLabel u (getD sets i [])) (keep t (numbersBelow (length (u .labels))))) e)
 
 -- what the rules are made from stays when the labels used are laid down
-module _ {old add : List ℕ} {v : United} {labels : ℕ} {lists : TypeLists} {before after : List ℕ} {count : ℕ} {kind : Kind} where
-  abbrev pub rules-stay : RulesFrom old add v labels lists before count kind → OthersKept usedAt before after → length after ≡ length before
-      → RulesFrom old add v labels lists after count kind
+module _ {old add : List ℕ} {plan : Plan} {before after : List ℕ} where
+  abbrev pub rules-stay : RulesFrom old add plan before → OthersKept usedAt before after → length after ≡ length before
+      → RulesFrom old add plan after
   rules-stay q kept same =
       let s = q .in-words in
       let room = q .room in

@@ -1,6 +1,6 @@
 -- What the table of a result is written from: the union of two tables, its fruitful pairs by type, the pairs left, and the sets of
 -- pairs that are the types of the result.
-use Prim.Native.Nat.{ℕ, _+_, _≤_, _<_}
+use Prim.Native.Nat.{ℕ, _≤_, _<_}
 use mathlib.Core.Bool.{Bool}
 use mathlib.Core.List.{List, [], _∷_, _++_, List·Memᴰ}
 use mathlib.Core.Path.{_≡_}
@@ -16,9 +16,7 @@ use Rattle.grammar.specs.SingleTypeForm.{TypeSet}
 use Rattle.theory.specs.Conditions.{Labelled, Regular}
 use Rattle.sets.specs.Sets.{setAt}
 use Rattle.union.specs.declared.labels.Names.{Names}
-use Rattle.union.specs.declared.lists.TypeLists.{TypeLists}
 use Rattle.union.specs.declared.united.United.{United}
-use Rattle.union.specs.declared.united.Union.{Union}
 use Rattle.union.specs.View.{Views}
 use Rattle.union.specs.TypeLists.{ListsOf}
 use Rattle.union.specs.Places.{leftAt, usedAt}
@@ -28,6 +26,8 @@ use Rattle.contents.specs.Joining.{Shallow}
 use Rattle.forms.specs.SetForms.{setLabel, ruleBySet, pairsWithin}
 use Rattle.forms.specs.SetWords.{SetsHeld}
 use Rattle.writer.specs.Tables.{restBytes}
+use Rattle.results.specs.declared.plan.Plan.{Plan}
+use Rattle.results.specs.Widened.{kindOf}
 
 -- the rule of a set, by its number
 abbrev pub resultRule : Table → List TypeSet → Kind → ℕ → Rule
@@ -57,33 +57,28 @@ pub record SetsIn (old add : List ℕ) (v : United) (words : List ℕ) (count : 
   pub pairs : (s : TypeSet) → List·Memᴰ s sets → (p : ℕ) → List·Memᴰ p s → p < length (table .rules)
 
 -- and what their contents are made from
-pub record RulesFrom (old add : List ℕ) (v : United) (labels : ℕ) (lists : TypeLists) (words : List ℕ) (count : ℕ) (kind : Kind)
-    : Type 0 where
-  pub in-words : SetsIn old add v words count
-  pub labels-are : labels ≡ length (in-words .table .labels)
-  pub lists-are : ListsOf (fruitfulOf (in-words .table)) lists
+pub record RulesFrom (old add : List ℕ) (plan : Plan) (words : List ℕ) : Type 0 where
+  pub in-words : SetsIn old add (plan .union) words (plan .count)
+  pub labels-are : plan .labels ≡ length (in-words .table .labels)
+  pub lists-are : ListsOf (fruitfulOf (in-words .table)) (plan .lists)
   pub room : 16384 ≤ length words
   pub left-is : setAt words leftAt ≡ isLeft (in-words .table)
   pub shallow : Shallow (in-words .table)
-  pub regular : (i : ℕ) → i < count → Regular (resultRule (in-words .table) (in-words .sets) kind i .content)
+  pub regular : (i : ℕ) → i < plan .count → Regular (resultRule (in-words .table) (in-words .sets) (kindOf (plan .kind)) i .content)
 
 -- with the labels that are used
-pub record RulesWith (old add : List ℕ) (v : United) (labels : ℕ) (lists : TypeLists) (words : List ℕ) (count : ℕ) (kind : Kind)
-    : Type 0 where
-  pub rules : RulesFrom old add v labels lists words count kind
+pub record RulesWith (old add : List ℕ) (plan : Plan) (words : List ℕ) : Type 0 where
+  pub rules : RulesFrom old add plan words
   pub used-are : setAt words usedAt ≡ isUsed (rules .in-words .table) (rules .in-words .sets)
 
 -- the rule of a number
-abbrev pub ruleFrom : {old add : List ℕ} {v : United} {labels : ℕ} {lists : TypeLists} {words : List ℕ} {count : ℕ} {kind : Kind}
-    → RulesFrom old add v labels lists words count kind
-    → ℕ
-    → Rule
-ruleFrom {old} {add} {v} {labels} {lists} {words} {count} {kind} q = resultRule (q .in-words .table) (q .in-words .sets) kind
+abbrev pub ruleFrom : {old add : List ℕ} {plan : Plan} {words : List ℕ} → RulesFrom old add plan words → ℕ → Rule
+ruleFrom {plan = plan} q = resultRule (q .in-words .table) (q .in-words .sets) (kindOf (plan .kind))
 
 -- What a result is written from: its rules, and where the labels stand.
-pub record ResultFrom (old add : List ℕ) (union : Union) (lists : TypeLists) (words : List ℕ) (count : ℕ) (kind : Kind) : Type 0 where
-  pub rules : RulesFrom old add (union .rules) (union .«old_names» .count + union .«new_names» .count) lists words count kind
-  pub names : LabelsIn old add (union .«old_names») (union .«new_names»)
+pub record ResultFrom (old add : List ℕ) (plan : Plan) (olds news : Names) (words : List ℕ) : Type 0 where
+  pub rules : RulesFrom old add plan words
+  pub names : LabelsIn old add olds news
   pub same : rules .in-words .table .labels ≡ names .first ++ names .second
 
 -- the bytes of some of the labels, and of some of the types as starts

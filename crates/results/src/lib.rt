@@ -1,5 +1,6 @@
 // The result of a widening by sets of pairs, written into a draft: labels used, starts, rules, and all steps together.
 pub mod labels_used;
+pub mod plan;
 pub mod result;
 pub mod rules;
 pub mod start_types;

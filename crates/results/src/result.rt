@@ -1,12 +1,10 @@
 // The table of a result by sets of pairs, written from the draft's beginning.
 use crate::labels_used::labels_used;
 use crate::labels_used::put_labels;
+use crate::plan::Plan;
 use crate::rules::put_rest;
 use crate::starts::put_starts;
-use crate::widen::Kind;
-use union::lists::TypeLists;
-use union::united::Union;
-use union::united::United;
+use union::labels::Names;
 use writer::writing::Drafted;
 ghost use Prim.Native.Nat.{_+_, _≤_};
 ghost use lib.ListN.{length};
@@ -27,34 +25,18 @@ fn put_body(
     scratch: &mut [u8],
     old: &[u8],
     add: &[u8],
-    v: United,
-    labels: usize,
-    lists: TypeLists,
+    plan: Plan,
     words: &[u32],
-    count: usize,
-    kind: Kind,
 ) -> Drafted
     requires { ⌜ (at ≤ 32768) × (32768 ≤ length (now draft)) × (2 + draftLength ≤ length (now scratch))
-        × RulesWith (now old) (now add) v labels lists (now words) count (kindOf kind) ⌝ }
-    ensures { λ r. ⌜ ((q : RulesWith (now (old .entry)) (now (add .entry)) v labels lists (now (words .entry)) count (kindOf kind))
-        → TablePut (now (draft .entry)) at (ruleFrom (q .rules)) count
-        (bodyBytes (setAt (now (words .entry)) startTypesAt) (ruleFrom (q .rules)) count) (now (draft .exit)) r) ⌝ }
+        × RulesWith (now old) (now add) plan (now words) ⌝ }
+    ensures { λ r. ⌜ ((q : RulesWith (now (old .entry)) (now (add .entry)) plan (now (words .entry)))
+        → TablePut (now (draft .entry)) at (ruleFrom (q .rules)) (plan .count)
+        (bodyBytes (setAt (now (words .entry)) startTypesAt) (ruleFrom (q .rules)) (plan .count)) (now (draft .exit)) r) ⌝ }
 {
-    match put_starts(draft, at, words, count) {
+    match put_starts(draft, at, words, plan.count) {
         Drafted::TooLarge => Drafted::TooLarge,
-        Drafted::Length(end) => put_rest(
-            draft,
-            end,
-            scratch,
-            old,
-            add,
-            v,
-            labels,
-            lists,
-            words,
-            count,
-            kind,
-        ),
+        Drafted::Length(end) => put_rest(draft, end, scratch, old, add, plan, words),
     }
 }
 
@@ -64,38 +46,22 @@ pub fn put_result(
     scratch: &mut [u8],
     old: &[u8],
     add: &[u8],
-    union: Union,
-    lists: TypeLists,
+    plan: Plan,
+    olds: Names,
+    news: Names,
     words: &mut [u32],
-    count: usize,
-    kind: Kind,
 ) -> Drafted
     requires { ⌜ (32768 ≤ length (now draft)) × (2 + draftLength ≤ length (now scratch))
-        × ResultFrom (now old) (now add) union lists (now words) count (kindOf kind) ⌝ }
-    ensures { λ r. ⌜ ((q : ResultFrom (now (old .entry)) (now (add .entry)) union lists (now (words .entry)) count (kindOf kind))
-        → TablePut (now (draft .entry)) 0 (ruleFrom (q .rules)) count
+        × ResultFrom (now old) (now add) plan olds news (now words) ⌝ }
+    ensures { λ r. ⌜ ((q : ResultFrom (now (old .entry)) (now (add .entry)) plan olds news (now (words .entry)))
+        → TablePut (now (draft .entry)) 0 (ruleFrom (q .rules)) (plan .count)
         (tableBytes (tableBySets (q .rules .in-words .table) (q .rules .in-words .sets)
-        (pairsWithin (kindOf kind) (q .rules .in-words .table))
-        (keep (setAt (now (words .entry)) startTypesAt) (numbersBelow count)))) (now (draft .exit)) r) ⌝ }
+        (pairsWithin (kindOf (plan .kind)) (q .rules .in-words .table))
+        (keep (setAt (now (words .entry)) startTypesAt) (numbersBelow (plan .count))))) (now (draft .exit)) r) ⌝ }
 {
-    let v = union.rules;
-    let olds = union.old_names;
-    let news = union.new_names;
-    labels_used(v, words, count);
+    labels_used(plan.union, words, plan.count);
     match put_labels(draft, old, add, olds, news, words) {
         Drafted::TooLarge => Drafted::TooLarge,
-        Drafted::Length(end) => put_body(
-            draft,
-            end,
-            scratch,
-            old,
-            add,
-            v,
-            olds.count + news.count,
-            lists,
-            words,
-            count,
-            kind,
-        ),
+        Drafted::Length(end) => put_body(draft, end, scratch, old, add, plan, words),
     }
 }

@@ -1,5 +1,6 @@
 // The rules of a result: one for each set of pairs, in the order of the sets.
 use crate::labels_used::label_place;
+use crate::plan::Plan;
 use crate::widen::Kind;
 use contents::completing::ContentMade;
 use contents::joining::content_of_set;
@@ -13,10 +14,8 @@ use reducing::meeting::met_set;
 use reducing::type_lists::types_listed;
 use sets::four::Set4;
 use sets::words::load;
-use union::lists::TypeLists;
 use union::places::LEFT;
 use union::places::USED;
-use union::united::United;
 use writer::writing::Drafted;
 use writer::writing::put_field;
 ghost use Prim.Native.Nat.{_+_, _*_, _≤_, _<_};
@@ -40,24 +39,17 @@ ghost use Rattle.results.specs.Widened.{kindOf};
 pub const SCRATCH: usize = 2 + DRAFT;
 
 // The pairs that form the sets named in the content of a set.
-fn pairs_within(
-    old: &[u8],
-    add: &[u8],
-    v: United,
-    lists: TypeLists,
-    left: Set4,
-    kind: Kind,
-    set: Set4,
-) -> Set4
-    requires { ⌜ ((u : Table) × Views (now old) (now add) v u × ListsOf (fruitfulOf u) lists) × (length (left .words) ≡ 4)
-        × (length (set .words) ≡ 4) ⌝ }
-    ensures { λ r. ⌜ ((u : Table) (s : TypeSet) → Views (now (old .entry)) (now (add .entry)) v u → ListsOf (fruitfulOf u) lists
-        → member (left .words) 0 ≡ isLeft u → member (set .words) 0 ≡ (λ p. isIn p s)
-        → member (r .words) 0 ≡ pairsWithin (kindOf kind) u s) × (length (r .words) ≡ 4) ⌝ }
+fn pairs_within(old: &[u8], add: &[u8], plan: Plan, left: Set4, set: Set4) -> Set4
+    requires { ⌜ ((u : Table) × Views (now old) (now add) (plan .union) u × ListsOf (fruitfulOf u) (plan .lists))
+        × (length (left .words) ≡ 4) × (length (set .words) ≡ 4) ⌝ }
+    ensures { λ r. ⌜ ((u : Table) (s : TypeSet) → Views (now (old .entry)) (now (add .entry)) (plan .union) u
+        → ListsOf (fruitfulOf u) (plan .lists) → member (left .words) 0 ≡ isLeft u → member (set .words) 0 ≡ (λ p. isIn p s)
+        → member (r .words) 0 ≡ pairsWithin (kindOf (plan .kind)) u s) × (length (r .words) ≡ 4) ⌝ }
 {
+    let kind = plan.kind;
     match kind {
         Kind::Local => left,
-        Kind::SingleType => met_set(old, add, v, lists, set),
+        Kind::SingleType => met_set(old, add, plan.union, plan.lists, set),
     }
 }
 
@@ -66,24 +58,21 @@ fn set_content(
     scratch: &mut [u8],
     old: &[u8],
     add: &[u8],
-    v: United,
-    labels: usize,
-    lists: TypeLists,
+    plan: Plan,
     words: &[u32],
-    count: usize,
-    kind: Kind,
     i: usize,
     set: Set4,
 ) -> ContentMade
-    requires { ⌜ (draftLength ≤ length (now scratch)) × (i < count) × (set .words ≡ wordsAt (now words) (4 * i) 4)
-        × RulesFrom (now old) (now add) v labels lists (now words) count (kindOf kind) ⌝ }
-    ensures { λ r. ⌜ ((q : RulesFrom (now (old .entry)) (now (add .entry)) v labels lists (now (words .entry)) count (kindOf kind))
+    requires { ⌜ (draftLength ≤ length (now scratch)) × (i < plan .count) × (set .words ≡ wordsAt (now words) (4 * i) 4)
+        × RulesFrom (now old) (now add) plan (now words) ⌝ }
+    ensures { λ r. ⌜ ((q : RulesFrom (now (old .entry)) (now (add .entry)) plan (now (words .entry)))
         → Made (now (scratch .exit)) (ruleFrom q i .content) r) ⌝ }
 {
+    let v = plan.union;
     let left = load(words, LEFT);
-    let within = pairs_within(old, add, v, lists, left, kind, set);
-    let numbers = label_numbers(v, labels, within, words, count);
-    let results = result_lists(v, lists, left, numbers);
+    let within = pairs_within(old, add, plan, left, set);
+    let numbers = label_numbers(v, plan.labels, within, words, plan.count);
+    let results = result_lists(v, plan.lists, left, numbers);
     let types = types_listed(results);
     content_of_set(old, add, v, set, types, results, scratch)
 }
@@ -95,35 +84,19 @@ fn put_rule(
     scratch: &mut [u8],
     old: &[u8],
     add: &[u8],
-    v: United,
-    labels: usize,
-    lists: TypeLists,
+    plan: Plan,
     words: &[u32],
-    count: usize,
-    kind: Kind,
     i: usize,
 ) -> Drafted
-    requires { ⌜ (at ≤ 32768) × (32768 ≤ length (now draft)) × (2 + draftLength ≤ length (now scratch)) × (i < count)
-        × RulesWith (now old) (now add) v labels lists (now words) count (kindOf kind) ⌝ }
-    ensures { λ r. ⌜ ((q : RulesWith (now (old .entry)) (now (add .entry)) v labels lists (now (words .entry)) count (kindOf kind))
+    requires { ⌜ (at ≤ 32768) × (32768 ≤ length (now draft)) × (2 + draftLength ≤ length (now scratch)) × (i < plan .count)
+        × RulesWith (now old) (now add) plan (now words) ⌝ }
+    ensures { λ r. ⌜ ((q : RulesWith (now (old .entry)) (now (add .entry)) plan (now (words .entry)))
         → RulePuts (now (draft .entry)) at (ruleFrom (q .rules) i) (now (draft .exit)) r) ⌝ }
 {
     let set = load(words, 4 * i);
     let used = load(words, USED);
-    let label = label_place(used, set_label(v, set));
-    match set_content(
-        &mut scratch[2..],
-        old,
-        add,
-        v,
-        labels,
-        lists,
-        words,
-        count,
-        kind,
-        i,
-        set,
-    ) {
+    let label = label_place(used, set_label(plan.union, set));
+    match set_content(&mut scratch[2..], old, add, plan, words, i, set) {
         ContentMade::TooLarge => Drafted::TooLarge,
         ContentMade::Upto { end } => {
             scratch[0] = i as u8;
@@ -141,35 +114,18 @@ fn put_rules(
     scratch: &mut [u8],
     old: &[u8],
     add: &[u8],
-    v: United,
-    labels: usize,
-    lists: TypeLists,
+    plan: Plan,
     words: &[u32],
-    count: usize,
-    kind: Kind,
 ) -> Drafted
     requires { ⌜ (at ≤ 32768) × (32768 ≤ length (now draft)) × (2 + draftLength ≤ length (now scratch))
-        × RulesWith (now old) (now add) v labels lists (now words) count (kindOf kind) ⌝ }
-    ensures { λ r. ⌜ ((q : RulesWith (now (old .entry)) (now (add .entry)) v labels lists (now (words .entry)) count (kindOf kind))
-        → RulesPut (now (draft .entry)) at (ruleFrom (q .rules)) count (now (draft .exit)) r) ⌝ }
+        × RulesWith (now old) (now add) plan (now words) ⌝ }
+    ensures { λ r. ⌜ ((q : RulesWith (now (old .entry)) (now (add .entry)) plan (now (words .entry)))
+        → RulesPut (now (draft .entry)) at (ruleFrom (q .rules)) (plan .count) (now (draft .exit)) r) ⌝ }
 {
     let mut end = at;
     let mut i: usize = 0;
-    while i < count {
-        match put_rule(
-            draft,
-            end,
-            scratch,
-            old,
-            add,
-            v,
-            labels,
-            lists,
-            words,
-            count,
-            kind,
-            i,
-        ) {
+    while i < plan.count {
+        match put_rule(draft, end, scratch, old, add, plan, words, i) {
             Drafted::TooLarge => {
                 return Drafted::TooLarge;
             }
@@ -189,31 +145,16 @@ pub fn put_rest(
     scratch: &mut [u8],
     old: &[u8],
     add: &[u8],
-    v: United,
-    labels: usize,
-    lists: TypeLists,
+    plan: Plan,
     words: &[u32],
-    count: usize,
-    kind: Kind,
 ) -> Drafted
     requires { ⌜ (at ≤ 32768) × (32768 ≤ length (now draft)) × (2 + draftLength ≤ length (now scratch))
-        × RulesWith (now old) (now add) v labels lists (now words) count (kindOf kind) ⌝ }
-    ensures { λ r. ⌜ ((q : RulesWith (now (old .entry)) (now (add .entry)) v labels lists (now (words .entry)) count (kindOf kind))
-        → TablePut (now (draft .entry)) at (ruleFrom (q .rules)) count (restBytes (ruleFrom (q .rules)) count) (now (draft .exit)) r) ⌝ }
+        × RulesWith (now old) (now add) plan (now words) ⌝ }
+    ensures { λ r. ⌜ ((q : RulesWith (now (old .entry)) (now (add .entry)) plan (now (words .entry)))
+        → TablePut (now (draft .entry)) at (ruleFrom (q .rules)) (plan .count)
+        (restBytes (ruleFrom (q .rules)) (plan .count)) (now (draft .exit)) r) ⌝ }
 {
-    match put_rules(
-        draft,
-        at,
-        scratch,
-        old,
-        add,
-        v,
-        labels,
-        lists,
-        words,
-        count,
-        kind,
-    ) {
+    match put_rules(draft, at, scratch, old, add, plan, words) {
         Drafted::TooLarge => Drafted::TooLarge,
         Drafted::Length(end) => put_field(draft, end, TABLE_END_TAG, &scratch[0..0]),
     }

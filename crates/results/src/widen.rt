@@ -1,5 +1,6 @@
 // Widening a table that was read by another, to either kind: the union, its fruitful pairs, those that are left, the sets that are the
 // types of the result, and the result in a draft.
+use crate::plan::Plan;
 use crate::result::put_result;
 use crate::rules::SCRATCH;
 use crate::start_types::first_numbers;
@@ -90,16 +91,24 @@ fn widen_local(
             let numbers = label_numbers(v, labels, left, words, count);
             start_numbers(v, numbers, words);
             let mut scratch = [0u8; SCRATCH];
+            let plan = Plan {
+                union: v,
+                labels: labels,
+                lists: lists,
+                count: count,
+                kind: Kind::Local,
+            };
+            let olds = union.old_names;
+            let news = union.new_names;
             told(put_result(
                 draft,
                 &mut scratch,
                 old,
                 add,
-                union,
-                lists,
+                plan,
+                olds,
+                news,
                 words,
-                count,
-                Kind::Local,
             ))
         }
     }
@@ -123,21 +132,30 @@ fn widen_from_starts(
         → Widens singleType g h (now (draft .entry)) (now (draft .exit)) r) ⌝ }
 {
     let v = union.rules;
+    let labels = label_count(union);
     match more_sets(old, add, v, lists, &mut words[0..SETS], first) {
         Counted::TooMany => Made::TooLarge,
         Counted::Count(count) => {
             first_numbers(first, words);
             let mut scratch = [0u8; SCRATCH];
+            let plan = Plan {
+                union: v,
+                labels: labels,
+                lists: lists,
+                count: count,
+                kind: Kind::SingleType,
+            };
+            let olds = union.old_names;
+            let news = union.new_names;
             told(put_result(
                 draft,
                 &mut scratch,
                 old,
                 add,
-                union,
-                lists,
+                plan,
+                olds,
+                news,
                 words,
-                count,
-                Kind::SingleType,
             ))
         }
     }

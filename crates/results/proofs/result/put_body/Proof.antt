@@ -28,14 +28,16 @@ enum-known-end c = search needs
 put-rest-requires : tie.Need-put-rest-requires
 put-rest-requires c κs =
     let start = c .before .before .before .before .before .before .before .before .before .before .before .before .before .before in
+    let starts = c .before .before .before .before .before .before .before .put-starts in
     let a = start .args in
+    let n = a .plan .count in
     let rule = ruleFrom (start .pre .3 .rules) in
     let h =
-    put-length-is (a .draft .now) (a .at) rule (a .count) (startsBytes (setAt (a .words .now) startTypesAt) (a .count)) (restBytes rule (a .count)) (c .before .before .before .before .before .before .before .put-starts .last .0) []
-    (c .before .before .before .before .before .before .before .put-starts .result)
-    (c .before .before .before .before .before .before .before .put-starts .ensures)
+    put-length-is (a .draft .now) (a .at) rule n (startsBytes (setAt (a .words .now) startTypesAt) n) (restBytes rule n) (starts .last .0) []
+    (starts .result)
+    (starts .ensures)
     (c .before .before .before .end .given .1) in
-    let w : length (c .before .before .before .before .before .before .before .put-starts .last .0) ≡ length (a .draft .now) = search needs in
+    let w : length (starts .last .0) ≡ length (a .draft .now) = search needs in
     (h .1, omega arith, start .pre .2, start .pre .3)
 
 same-length : tie.Need-same-length
@@ -43,13 +45,15 @@ same-length c = search needs
 
 returns : tie.Need-returns
 returns c =
-    λ q.
+    let starts = c .before .before .before .before .put-starts in
     let a = c .before .before .before .before .before .before .before .before .before .before .before .args in
+    let n = a .plan .count in
+    λ q.
     let rule = ruleFrom (q .rules) in
-    put-over (a .draft .now) (a .at) rule (a .count) (startsBytes (setAt (a .words .now) startTypesAt) (a .count)) (restBytes rule (a .count)) (c .before .before .before .before .put-starts .last .0)
-    (c .before .before .before .before .put-starts .last .0)
-    (c .before .before .before .before .put-starts .result)
-    (c .before .before .before .before .put-starts .ensures)
+    put-over (a .draft .now) (a .at) rule n (startsBytes (setAt (a .words .now) startTypesAt) n) (restBytes rule n) (starts .last .0)
+    (starts .last .0)
+    (starts .result)
+    (starts .ensures)
     (c .enum-told .given .1)
 
 same-length-2 : tie.Need-same-length-2
@@ -60,16 +64,19 @@ same-length-3 c = search needs
 
 returns-2 : tie.Need-returns-2
 returns-2 c =
-    λ q.
+    let starts = c .before .before .before .before .before .before .before .before .before .before .before .before .put-starts in
+    let rest = c .before .before .before .before .put-rest in
     let a = c .before .before .before .before .before .before .before .before .before .before .before .before .before .before .before .before .before .before .before .args in
+    let n = a .plan .count in
+    λ q.
     let rule = ruleFrom (q .rules) in
-    put-then (a .draft .now) (a .at) rule (a .count) (startsBytes (setAt (a .words .now) startTypesAt) (a .count)) (restBytes rule (a .count)) (c .before .before .before .before .before .before .before .before .before .before .before .before .put-starts .last .0)
-    (c .before .before .before .before .put-rest .last .0)
-    (c .before .before .before .before .before .before .before .before .before .before .before .before .put-starts .result)
-    (c .before .before .before .before .before .before .before .before .before .before .before .before .put-starts .ensures)
+    put-then (a .draft .now) (a .at) rule n (startsBytes (setAt (a .words .now) startTypesAt) n) (restBytes rule n) (starts .last .0)
+    (rest .last .0)
+    (starts .result)
+    (starts .ensures)
     (c .before .before .before .before .before .before .before .before .end .given .1)
-    (c .before .before .before .before .put-rest .result)
-    (c .before .before .before .before .put-rest .ensures q)
+    (rest .result)
+    (rest .ensures q)
 
 pub put-body-spec : {M : Type 1} → statement M
 put-body-spec =

@@ -24,16 +24,17 @@ use Rattle.results.proofs.result.put_result.Tie as tie
 
 labels-used-requires : tie.Need-labels-used-requires
 labels-used-requires c κs =
-    let q = c .before .before .before .before .before .before .before .before .before .pre .2 .rules in
+    let q = c .before .before .before .before .before .before .pre .2 .rules in
     ((_, _, q .in-words), q .room)
 
 put-labels-requires : tie.Need-put-labels-requires
 put-labels-requires c κs =
-    let start = c .before .before .before .before .before .before .before .before .before .before .before .before .before .before in
+    let start = c .before .before .before .before .before .before .before .before .before .before .before in
+    let used = c .before .before .before .before .labels-used in
     let q = start .pre .2 in
     let room = q .rules .room in
-    let fits-same = c .before .before .before .before .labels-used .kept .1 .0 in
-    let same : length (c .before .before .before .before .labels-used .last .1 .0) ≡ length (start .args .words .now) = search needs in
+    let fits-same = used .kept .1 .0 in
+    let same : length (used .last .1 .0) ≡ length (start .args .words .now) = search needs in
     (start .pre .0, omega arith, q .names)
 
 enum-told : tie.Need-enum-told
@@ -42,78 +43,81 @@ enum-told c = search needs
 enum-known-end : tie.Need-enum-known-end
 enum-known-end c = search needs
 
-add-put-body : tie.Need-add-put-body
-add-put-body c = search needs
-
 put-body-requires : tie.Need-put-body-requires
 put-body-requires c κs =
-    let start = c .before .before .before .before .before .before .before .before .before .before .before .before .before .before .before .before .before .before .before .before .before .before .before .before .before in
+    let start = c .before .before .before .before .before .before .before .before .before .before .before .before .before .before .before .before .before .before .before .before in
+    let used = c .before .before .before .before .before .before .before .before .before .before .before .before .before .labels-used in
+    let labels = c .before .before .before .before .before .before .before .before .put-labels in
     let a = start .args in
+    let n = a .plan .count in
     let q = start .pre .2 in
-    let on = setAt (c .before .before .before .before .before .before .before .before .before .before .before .before .before .before .before .labels-used .last .1 .0) usedAt in
+    let on = setAt (used .last .1 .0) usedAt in
     let rule = ruleFrom (q .rules) in
     let h =
-    put-length-is (a .draft .now) 0 rule (a .count) (labelsBytes (q .names .first ++ q .names .second) on)
-    (bodyBytes (setAt (a .words .now) startTypesAt) rule (a .count))
-    (c .before .before .before .before .before .before .before .before .before .before .put-labels .last .0)
+    put-length-is (a .draft .now) 0 rule n (labelsBytes (q .names .first ++ q .names .second) on)
+    (bodyBytes (setAt (a .words .now) startTypesAt) rule n)
+    (labels .last .0)
     []
-    (c .before .before .before .before .before .before .before .before .before .before .put-labels .result)
-    (c .before .before .before .before .before .before .before .before .before .before .put-labels .ensures (q .names))
-    (c .before .before .before .before .before .before .end .given .1) in
+    (labels .result)
+    (labels .ensures (q .names))
+    (c .before .before .before .before .end .given .1) in
     let k = start .pre .0 in
-    let fits-w = c .before .before .before .before .before .before .before .before .before .before .put-labels .kept .0 in
-    let w : length (c .before .before .before .before .before .before .before .before .before .before .put-labels .last .0) ≡ length (a .draft .now) = search needs in
-    let fits-same = c .before .before .before .before .before .before .before .before .before .before .before .before .before .before .before .labels-used .kept .1 .0 in
-    let same : length (c .before .before .before .before .before .before .before .before .before .before .before .before .before .before .before .labels-used .last .1 .0) ≡ length (a .words .now) = search needs in (
+    let fits-w = labels .kept .0 in
+    let w : length (labels .last .0) ≡ length (a .draft .now) = search needs in
+    let fits-same = used .kept .1 .0 in
+    let same : length (used .last .1 .0) ≡ length (a .words .now) = search needs in (
       h .1,
       omega arith,
       start .pre .1,
-      record {
-        rules = rules-stay (q .rules) (c .before .before .before .before .before .before .before .before .before .before .before .before .before .before .before .labels-used .ensures .1) same;
-        used-are = c .before .before .before .before .before .before .before .before .before .before .before .before .before .before .before .labels-used .ensures .0 _ _ (q .rules .in-words);
-      },
+      record { rules = rules-stay (q .rules) (used .ensures .1) same; used-are = used .ensures .0 _ _ (q .rules .in-words) },
     )
 
 returns : tie.Need-returns
 returns c =
+    let used = c .before .before .before .before .before .before .before .before .before .labels-used in
+    let labels = c .before .before .before .before .put-labels in
+    let a = c .before .before .before .before .before .before .before .before .before .before .before .before .before .before .before .before .args in
+    let n = a .plan .count in
     λ q.
-    let a = c .before .before .before .before .before .before .before .before .before .before .before .before .before .before .before .before .before .before .before .args in
     let s = q .rules .in-words in
-    let on = setAt (c .before .before .before .before .before .before .before .before .before .labels-used .last .1 .0) usedAt in
+    let on = setAt (used .last .1 .0) usedAt in
     let starts = setAt (a .words .now) startTypesAt in
     let rule = ruleFrom (q .rules) in
     let names = q .names .first ++ q .names .second in
-    subst (λ (b : List ℕ). TablePut (a .draft .now) 0 rule (a .count) b (c .before .before .before .before .put-labels .last .0) TooLarge)
-    (table-bytes (s .table) (s .sets) (kindOf (a .kind)) (a .count) names on starts (q .same) (s .count-is) (c .before .before .before .before .before .before .before .before .before .labels-used .ensures .0 _ _ s))
-    (put-over (a .draft .now) 0 rule (a .count) (labelsBytes names on) (bodyBytes starts rule (a .count)) (c .before .before .before .before .put-labels .last .0) (c .before .before .before .before .put-labels .last .0)
-    (c .before .before .before .before .put-labels .result)
-    (c .before .before .before .before .put-labels .ensures (q .names))
+    subst (λ (b : List ℕ). TablePut (a .draft .now) 0 rule n b (labels .last .0) TooLarge)
+    (table-bytes (s .table) (s .sets) (kindOf (a .plan .kind)) n names on starts (q .same) (s .count-is) (used .ensures .0 _ _ s))
+    (put-over (a .draft .now) 0 rule n (labelsBytes names on) (bodyBytes starts rule n) (labels .last .0) (labels .last .0)
+    (labels .result)
+    (labels .ensures (q .names))
     (c .enum-told .given .1))
 
 returns-2 : tie.Need-returns-2
 returns-2 c =
+    let used = c .before .before .before .before .before .before .before .before .before .before .before .before .before .before .before .before .before .before .labels-used in
+    let labels = c .before .before .before .before .before .before .before .before .before .before .before .before .before .put-labels in
+    let body = c .before .before .before .before .put-body in
+    let a = c .before .before .before .before .before .before .before .before .before .before .before .before .before .before .before .before .before .before .before .before .before .before .before .before .before .args in
+    let n = a .plan .count in
+    let kind = kindOf (a .plan .kind) in
     λ q.
-    let a = c .before .before .before .before .before .before .before .before .before .before .before .before .before .before .before .before .before .before .before .before .before .before .before .before .before .before .before .before .before .before .args in
     let s = q .rules .in-words in
-    let used = c .before .before .before .before .before .before .before .before .before .before .before .before .before .before .before .before .before .before .before .before .labels-used .ensures .0 _ _ s in
-    let fits = c .before .before .before .before .before .before .before .before .before .before .before .before .before .before .before .before .before .before .before .before .labels-used .kept .1 .0 in
-    let same : length (c .before .before .before .before .before .before .before .before .before .before .before .before .before .before .before .before .before .before .before .before .labels-used .last .1 .0) ≡ length (a .words .now) = search needs in
-    let on = setAt (c .before .before .before .before .before .before .before .before .before .before .before .before .before .before .before .before .before .before .before .before .labels-used .last .1 .0) usedAt in
-    let starts = setAt (c .before .before .before .before .before .before .before .before .before .before .before .before .before .before .before .before .before .before .before .before .labels-used .last .1 .0) startTypesAt in
+    let used-are = used .ensures .0 _ _ s in
+    let fits = used .kept .1 .0 in
+    let same : length (used .last .1 .0) ≡ length (a .words .now) = search needs in
+    let on = setAt (used .last .1 .0) usedAt in
+    let starts = setAt (used .last .1 .0) startTypesAt in
     let rule = ruleFrom (q .rules) in
     let names = q .names .first ++ q .names .second in
-    subst (λ (b : List ℕ). TablePut (a .draft .now) 0 rule (a .count) b (c .before .before .before .before .put-body .last .0) (c .before .before .before .before .put-body .result))
-    (table-bytes (s .table) (s .sets) (kindOf (a .kind)) (a .count) names on starts (q .same) (s .count-is) used
-    ∙ ap
-    (λ (t : ℕ → Bool).
-    tableBytes (tableBySets (s .table) (s .sets) (pairsWithin (kindOf (a .kind)) (s .table)) (keep t (numbersBelow (a .count)))))
-    (kept-before (c .before .before .before .before .before .before .before .before .before .before .before .before .before .before .before .before .before .before .before .before .labels-used .ensures .1) startTypesAt (omega arith)))
-    (put-then (a .draft .now) 0 rule (a .count) (labelsBytes names on) (bodyBytes starts rule (a .count)) (c .before .before .before .before .before .before .before .before .before .before .before .before .before .before .before .put-labels .last .0) (c .before .before .before .before .put-body .last .0)
-    (c .before .before .before .before .before .before .before .before .before .before .before .before .before .before .before .put-labels .result)
-    (c .before .before .before .before .before .before .before .before .before .before .before .before .before .before .before .put-labels .ensures (q .names))
-    (c .before .before .before .before .before .before .before .before .before .before .before .end .given .1)
-    (c .before .before .before .before .put-body .result)
-    (c .before .before .before .before .put-body .ensures (record { rules = rules-stay (q .rules) (c .before .before .before .before .before .before .before .before .before .before .before .before .before .before .before .before .before .before .before .before .labels-used .ensures .1) same; used-are = used })))
+    subst (λ (b : List ℕ). TablePut (a .draft .now) 0 rule n b (body .last .0) (body .result))
+    (table-bytes (s .table) (s .sets) kind n names on starts (q .same) (s .count-is) used-are
+    ∙ ap (λ (t : ℕ → Bool). tableBytes (tableBySets (s .table) (s .sets) (pairsWithin kind (s .table)) (keep t (numbersBelow n))))
+    (kept-before (used .ensures .1) startTypesAt (omega arith)))
+    (put-then (a .draft .now) 0 rule n (labelsBytes names on) (bodyBytes starts rule n) (labels .last .0) (body .last .0)
+    (labels .result)
+    (labels .ensures (q .names))
+    (c .before .before .before .before .before .before .before .before .before .end .given .1)
+    (body .result)
+    (body .ensures (record { rules = rules-stay (q .rules) (used .ensures .1) same; used-are = used-are })))
 
 pub put-result-spec : {M : Type 1} → statement M
 put-result-spec =
@@ -123,7 +127,6 @@ put-result-spec =
     put-labels-requires
     enum-told
     enum-known-end
-    add-put-body
     put-body-requires
     (λ c. search needs)
     (λ c. search needs)

@@ -32,14 +32,16 @@ part-put-field-end c = search needs
 put-field-requires : tie.Need-put-field-requires
 put-field-requires c κs =
     let start = c .before .before .before .before .before .before .before .before .before .before .before .before .before .before .before .before .before .before in
+    let rules = c .before .before .before .before .before .before .before .before .before .before .put-rules in
     let a = start .args in
+    let n = a .plan .count in
     let q = start .pre .3 in
     let rule = ruleFrom (q .rules) in
     let h =
-    table-length-is (a .draft .now) (a .at) rule (a .count) (rulesBytes rule (a .count)) (fieldBytes 0x1F []) (c .before .before .before .before .before .before .before .before .before .before .put-rules .last .0) [] (c .before .before .before .before .before .before .before .before .before .before .put-rules .result)
-    (c .before .before .before .before .before .before .before .before .before .before .put-rules .ensures q)
+    table-length-is (a .draft .now) (a .at) rule n (rulesBytes rule n) (fieldBytes 0x1F []) (rules .last .0) [] (rules .result)
+    (rules .ensures q)
     (c .before .before .before .before .end .given .1) in
-    let w : length (c .before .before .before .before .before .before .before .before .before .before .put-rules .last .0) ≡ length (a .draft .now) = search needs in
+    let w : length (rules .last .0) ≡ length (a .draft .now) = search needs in
     (h .1, omega arith)
 
 same-length : tie.Need-same-length
@@ -50,12 +52,14 @@ same-length-2 c = search needs
 
 returns : tie.Need-returns
 returns c =
-    λ q.
+    let rules = c .before .before .before .before .before .before .put-rules in
     let a = c .before .before .before .before .before .before .before .before .before .before .before .before .before .before .args in
+    let n = a .plan .count in
+    λ q.
     let rule = ruleFrom (q .rules) in
-    table-over (a .draft .now) (a .at) rule (a .count) (rulesBytes rule (a .count)) (fieldBytes 0x1F []) (c .before .before .before .before .before .before .put-rules .last .0) (c .before .before .before .before .before .before .put-rules .last .0)
-    (c .before .before .before .before .before .before .put-rules .result)
-    (c .before .before .before .before .before .before .put-rules .ensures q)
+    table-over (a .draft .now) (a .at) rule n (rulesBytes rule n) (fieldBytes 0x1F []) (rules .last .0) (rules .last .0)
+    (rules .result)
+    (rules .ensures q)
     (c .enum-told .given .1)
 
 same-length-3 : tie.Need-same-length-3
@@ -66,15 +70,18 @@ same-length-4 c = search needs
 
 returns-2 : tie.Need-returns-2
 returns-2 c =
-    λ q.
+    let rules = c .before .before .before .before .before .before .before .before .before .before .before .before .before .put-rules in
+    let field = c .before .before .put-field in
     let a = c .before .before .before .before .before .before .before .before .before .before .before .before .before .before .before .before .before .before .before .before .before .args in
+    let n = a .plan .count in
+    λ q.
     let rule = ruleFrom (q .rules) in
-    table-then (a .draft .now) (a .at) rule (a .count) (rulesBytes rule (a .count)) (fieldBytes 0x1F []) (c .before .before .before .before .before .before .before .before .before .before .before .before .before .put-rules .last .0) (c .before .before .put-field .last .0)
-    (c .before .before .before .before .before .before .before .before .before .before .before .before .before .put-rules .result)
-    (c .before .before .before .before .before .before .before .before .before .before .before .before .before .put-rules .ensures q)
+    table-then (a .draft .now) (a .at) rule n (rulesBytes rule n) (fieldBytes 0x1F []) (rules .last .0) (field .last .0)
+    (rules .result)
+    (rules .ensures q)
     (c .before .before .before .before .before .before .before .end .given .1)
-    (c .before .before .put-field .result)
-    (c .before .before .put-field .ensures)
+    (field .result)
+    (field .ensures)
 
 pub put-rest-spec : {M : Type 1} → statement M
 put-rest-spec =

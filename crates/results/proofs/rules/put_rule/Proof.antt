@@ -83,9 +83,10 @@ cast-scratch-2 c =
     let s = start .pre .4 .rules .in-words in
     let i = start .args .i in
     let h = start .pre .3 in
+    let label = c .before .before .before .before .before .before .before .before .set-label in
     let small =
-    label-small s i h (c .before .before .before .before .before .before .before .before .set-label .result)
-    (c .before .before .before .before .before .before .before .before .set-label .ensures _ _ (s .table) _ (s .views) (set-held s i h _ (c .before .before .before .before .before .before .before .before .before .before .load .ensures)) (set-ascending s i h) (set-some s i h)) in
+    label-small s i h (label .result)
+    (label .ensures _ _ (s .table) _ (s .views) (set-held s i h _ (c .before .before .before .before .before .before .before .before .before .before .load .ensures)) (set-ascending s i h) (set-some s i h)) in
     let few = c .before .before .before .before .before .before .before .label-place .ensures .1 in
     omega arith
 
@@ -112,11 +113,12 @@ part-put-field-start c = search needs
 part-put-field-end : tie.Need-part-put-field-end
 part-put-field-end c =
     let start = c .before .before .before .before .before .before .before .before .before .before .before .before .before .before .before .before .before .before in
+    let content = c .before .before .before .before .before .before .before .set-content in
     let q = start .pre .4 .rules in
     let long = start .pre .2 in
     let before = start .args .scratch .now in
-    let made = made-stored _ (ruleFrom q (start .args .i) .content) _ (c .before .before .before .before .before .before .before .set-content .ensures q) (c .before .before .before .end .given .1) in
-    scratch-room before (c .before .before .before .before .before .before .before .set-content .last .0) (drop (length before - 2) (drop 2 before)) (start .args .i) (c .before .before .before .before .before .before .before .before .before .label-place .result) _ (omega arith)
+    let made = made-stored _ (ruleFrom q (start .args .i) .content) _ (content .ensures q) (c .before .before .before .end .given .1) in
+    scratch-room before (content .last .0) (drop (length before - 2) (drop 2 before)) (start .args .i) (c .before .before .before .before .before .before .before .before .before .label-place .result) _ (omega arith)
     (made .inside)
 
 put-field-requires : tie.Need-put-field-requires
@@ -127,8 +129,9 @@ same-length c = search needs
 
 returns : tie.Need-returns
 returns c =
+    let start = c .before .before .before .before .before .before .before .before .before .before .before .before .before .before .before in
     λ q.
-    inl (made-over _ (ruleFrom (q .rules) (c .before .before .before .before .before .before .before .before .before .before .before .before .before .before .before .args .i) .content) _ (c .before .before .before .before .set-content .ensures (q .rules)) (c .enum-told .given .1))
+    inl (made-over _ (ruleFrom (q .rules) (start .args .i) .content) _ (c .before .before .before .before .set-content .ensures (q .rules)) (c .enum-told .given .1))
 
 same-length-2 : tie.Need-same-length-2
 same-length-2 c = search needs
@@ -139,28 +142,33 @@ same-length-3 c = search needs
 returns-2 : tie.Need-returns-2
 returns-2 c =
     let start = c .before .before .before .before .before .before .before .before .before .before .before .before .before .before .before .before .before .before .before .before .before .before in
+    let labelled = c .before .before .before .before .before .before .before .before .before .before .before .before .before .before .set-label in
+    let place-of = c .before .before .before .before .before .before .before .before .before .before .before .before .before .label-place in
+    let content = c .before .before .before .before .before .before .before .before .before .before .before .set-content in
+    let field = c .before .before .put-field in
+    let a = start .args in
     λ q.
     let s = q .rules .in-words in
-    let i = start .args .i in
+    let i = a .i in
     let h = start .pre .3 in
     let long = start .pre .2 in
     let on = member (c .before .before .before .before .before .before .before .before .before .before .before .before .before .before .before .load2 .result .words) 0 in
     let used = ap (λ (w : List ℕ). member w 0) (c .before .before .before .before .before .before .before .before .before .before .before .before .before .before .before .load2 .ensures) ∙ q .used-are in
-    let made = made-stored _ (ruleFrom (q .rules) i .content) _ (c .before .before .before .before .before .before .before .before .before .before .before .set-content .ensures (q .rules)) (c .before .before .before .before .before .before .before .end .given .1) in
-    let label : c .before .before .before .before .before .before .before .before .before .before .before .before .before .before .set-label .result ≡ _ =
-    c .before .before .before .before .before .before .before .before .before .before .before .before .before .before .set-label .ensures _ _ (s .table) _ (s .views) (set-held s i h _ (c .before .before .before .before .before .before .before .before .before .before .before .before .before .before .before .before .load .ensures)) (set-ascending s i h) (set-some s i h) in
+    let made = made-stored _ (ruleFrom (q .rules) i .content) _ (content .ensures (q .rules)) (c .before .before .before .before .before .before .before .end .given .1) in
+    let label : labelled .result ≡ _ =
+    labelled .ensures _ _ (s .table) _ (s .views) (set-held s i h _ (c .before .before .before .before .before .before .before .before .before .before .before .before .before .before .before .before .load .ensures)) (set-ascending s i h) (set-some s i h) in
     let below = set-labelled s i h in
     let placed =
-    c .before .before .before .before .before .before .before .before .before .before .before .before .before .label-place .ensures .0 (length (s .table .labels)) (omega arith) (label-used s i h on (c .before .before .before .before .before .before .before .before .before .before .before .before .before .before .set-label .result) used label)
+    place-of .ensures .0 (length (s .table .labels)) (omega arith) (label-used s i h on (labelled .result) used label)
     ∙ ap (λ (l : ℕ). place eqb l (keep on (numbersBelow (length (s .table .labels))))) label in
-    subst (λ (rule : Rule). RulePuts (start .args .draft .now) (start .args .at) rule (c .before .before .put-field .last .0) (c .before .before .put-field .result))
-    (rule-is (s .table) (s .sets) (kindOf (start .args .kind)) i on (c .before .before .before .before .before .before .before .before .before .before .before .before .before .label-place .result) used placed)
-    (rule-puts (start .args .draft .now) (c .before .before .put-field .last .0) (start .args .at) _
-    (record { type = i; label = c .before .before .before .before .before .before .before .before .before .before .before .before .before .label-place .result; content = ruleFrom (q .rules) i .content })
-    (c .before .before .put-field .result)
-    (rule-value (start .args .scratch .now) (c .before .before .before .before .before .before .before .before .before .before .before .set-content .last .0) _ i (c .before .before .before .before .before .before .before .before .before .before .before .before .before .label-place .result) _ (ruleFrom (q .rules) i .content) (omega arith) made)
+    subst (λ (rule : Rule). RulePuts (a .draft .now) (a .at) rule (field .last .0) (field .result))
+    (rule-is (s .table) (s .sets) (kindOf (a .plan .kind)) i on (place-of .result) used placed)
+    (rule-puts (a .draft .now) (field .last .0) (a .at) _
+    (record { type = i; label = place-of .result; content = ruleFrom (q .rules) i .content })
+    (field .result)
+    (rule-value (a .scratch .now) (content .last .0) _ i (place-of .result) _ (ruleFrom (q .rules) i .content) (omega arith) made)
     (made .fits)
-    (c .before .before .put-field .ensures))
+    (field .ensures))
 
 pub put-rule-spec : {M : Type 1} → statement M
 put-rule-spec =

@@ -13,25 +13,24 @@ use Rattle.writer.specs.Writing.{Put}
 use Rattle.writer.specs.Tables.{ruleField}
 use Rattle.writer.proofs.TableLaws.{up-start, rules-stop, rules-more}
 use Rattle.results.specs.Results.{RulesWith, ruleFrom}
-use Rattle.results.specs.Widened.{kindOf}
 use Rattle.results.proofs.rules.put_rules.Statement.{statement}
 use Rattle.results.proofs.rules.put_rules.Tie as tie
 
 abbrev Inv-loop : tie.InvT-loop
-Inv-loop draft₀ at scratch₀ old add v labels lists words count kind end₀ i₀ draft scratch end i =
-    (i ≤ count)
+Inv-loop draft₀ at scratch₀ old add plan words end₀ i₀ draft scratch end i =
+    (i ≤ plan .count)
     × (end ≤ 32768)
     × (length draft ≡ length draft₀)
     × (length scratch ≡ length scratch₀)
-    × ((q : RulesWith old add v labels lists words count (kindOf kind))
+    × ((q : RulesWith old add plan words)
     → Put draft₀ at (joinedOf (ruleField (ruleFrom (q .rules))) (numbersBelow i)) draft end)
-    × ((q : RulesWith old add v labels lists words count (kindOf kind))
+    × ((q : RulesWith old add plan words)
     → (j : ℕ)
     → j < i
     → contentTooLarge standard (ruleFrom (q .rules) j .content) ≡ false)
 
 abbrev μ-loop : tie.MeasureT-loop
-μ-loop draft₀ at scratch₀ old add v labels lists words count kind end₀ i₀ draft scratch end i = count - i
+μ-loop draft₀ at scratch₀ old add plan words end₀ i₀ draft scratch end i = plan .count - i
 
 loop-holds : tie.Need-loop-holds Inv-loop μ-loop
 loop-holds c =
@@ -47,9 +46,10 @@ loop-holds c =
 
 put-rule-requires : tie.Need-put-rule-requires Inv-loop μ-loop
 put-rule-requires c κs =
-    let x = c .before .before .before .loop .inv .2 in
-    let y = c .before .before .before .loop .inv .3 in
-    (c .before .before .before .loop .inv .1, omega arith, omega arith, c .before .before .loop-test .taken, c .before .before .before .before .before .before .before .before .before .pre .3)
+    let l = c .before .before .before .before .loop in
+    let x = l .inv .2 in
+    let y = l .inv .3 in
+    (l .inv .1, omega arith, omega arith, c .before .before .if1 .taken, c .before .before .before .before .before .before .before .before .before .before .pre .3)
 
 enum-told : tie.Need-enum-told Inv-loop μ-loop
 enum-told c = search needs
@@ -62,17 +62,20 @@ same-length-2 c = search needs
 
 returns : tie.Need-returns Inv-loop μ-loop
 returns c =
+    let l = c .before .before .before .before .before .before .before .before .before .before .before .loop in
+    let rule = c .before .before .before .before .before .before .put-rule in
+    let a = c .before .before .before .before .before .before .before .before .before .before .before .before .before .before .before .before .before .args in
     λ q.
-    rules-stop (ruleFrom (q .rules)) (c .before .before .before .before .before .before .before .before .before .before .loop .i) (c .before .before .before .before .before .before .before .before .before .before .loop .inv .4 q) (c .before .before .before .before .before .before .put-rule .last .0) (c .before .before .before .before .before .before .put-rule .result) (c .before .before .before .before .before .before .put-rule .ensures q) (c .enum-told .given .1)
-    (c .before .before .before .before .before .before .before .before .before .before .before .before .before .before .before .before .args .count)
-    (c .before .before .before .before .before .before .before .before .before .loop-test .taken)
+    rules-stop (ruleFrom (q .rules)) (l .i) (l .inv .4 q) (rule .last .0) (rule .result) (rule .ensures q) (c .enum-told .given .1)
+    (a .plan .count)
+    (c .before .before .before .before .before .before .before .before .before .if1 .taken)
 
 enum-known-more : tie.Need-enum-known-more Inv-loop μ-loop
 enum-known-more c = search needs
 
 add-i : tie.Need-add-i Inv-loop μ-loop
 add-i c =
-    let start = c .before .before .before .before .before .before .before .before .before .before .before .before .before .before .before .before .before in
+    let start = c .before .before .before .before .before .before .before .before .before .before .before .before .before .before .before .before .before .before in
     let few = start .pre .3 .rules .in-words .held .few in
     let e = start .pre .3 .rules .in-words .count-is in
     omega arith
@@ -82,15 +85,19 @@ loop-less c = omega arith
 
 loop-again : tie.Need-loop-again Inv-loop μ-loop
 loop-again c =
-    let p = c .before .before .before .before .before .before .before .before .before .before .before .before .before .before .before .before .before .pre .3 in (
+    let start = c .before .before .before .before .before .before .before .before .before .before .before .before .before .before .before .before .before .before in
+    let l = c .before .before .before .before .before .before .before .before .before .before .before .before .loop in
+    let rule = c .before .before .before .before .before .before .before .put-rule in
+    let p = start .pre .3 in
+    let below = c .before .before .before .before .before .before .before .before .before .before .if1 .taken in (
       omega arith,
-      rules-more (ruleFrom (p .rules)) (c .before .before .before .before .before .before .before .before .before .before .before .loop .i) (c .before .before .before .before .before .before .before .before .before .before .before .loop .inv .4 p) (c .before .before .before .before .before .before .before .put-rule .last .0) (c .before .before .before .before .before .before .before .put-rule .result) (c .before .before .before .before .before .before .before .put-rule .ensures p) (c .before .more .given .1) .1,
+      rules-more (ruleFrom (p .rules)) (l .i) (l .inv .4 p) (rule .last .0) (rule .result) (rule .ensures p) (c .before .more .given .1) .1,
       search needs,
       search needs,
-      λ q. rules-more (ruleFrom (q .rules)) (c .before .before .before .before .before .before .before .before .before .before .before .loop .i) (c .before .before .before .before .before .before .before .before .before .before .before .loop .inv .4 q) (c .before .before .before .before .before .before .before .put-rule .last .0) (c .before .before .before .before .before .before .before .put-rule .result) (c .before .before .before .before .before .before .before .put-rule .ensures q) (c .before .more .given .1) .0,
+      λ q. rules-more (ruleFrom (q .rules)) (l .i) (l .inv .4 q) (rule .last .0) (rule .result) (rule .ensures q) (c .before .more .given .1) .0,
       λ q.
-          below-more (λ j. contentTooLarge standard (ruleFrom (q .rules) j .content) ≡ false) (c .before .before .before .before .before .before .before .before .before .before .before .loop .i) (c .before .before .before .before .before .before .before .before .before .before .before .loop .inv .5 q)
-          (rules-more (ruleFrom (q .rules)) (c .before .before .before .before .before .before .before .before .before .before .before .loop .i) (c .before .before .before .before .before .before .before .before .before .before .before .loop .inv .4 q) (c .before .before .before .before .before .before .before .put-rule .last .0) (c .before .before .before .before .before .before .before .put-rule .result) (c .before .before .before .before .before .before .before .put-rule .ensures q) (c .before .more .given .1) .2),
+          below-more (λ j. contentTooLarge standard (ruleFrom (q .rules) j .content) ≡ false) (l .i) (l .inv .5 q)
+          (rules-more (ruleFrom (q .rules)) (l .i) (l .inv .4 q) (rule .last .0) (rule .result) (rule .ensures q) (c .before .more .given .1) .2),
     )
 
 same-length-3 : tie.Need-same-length-3 Inv-loop μ-loop
@@ -102,9 +109,9 @@ same-length-4 c = search needs
 returns-2 : tie.Need-returns-2 Inv-loop μ-loop
 returns-2 c =
     λ q.
-    let a = c .before .before .before .before .before .before .before .args in
-    let l = c .before .loop in
-    let e : l .i ≡ a .count = omega arith in (
+    let a = c .before .before .before .before .before .before .before .before .args in
+    let l = c .before .before .loop in
+    let e : l .i ≡ a .plan .count = omega arith in (
       subst (λ (n : ℕ). Put (a .draft .now) (a .at) (joinedOf (ruleField (ruleFrom (q .rules))) (numbersBelow n)) (l .draft) (l .end)) e (l .inv .4 q),
       l .inv .1,
       λ j h. l .inv .5 q j (omega arith),

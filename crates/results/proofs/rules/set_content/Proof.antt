@@ -21,12 +21,12 @@ use Rattle.results.proofs.rules.set_content.Tie as tie
 
 load-requires : tie.Need-load-requires
 load-requires c κs =
-    let room = c .before .before .before .before .pre .3 .room in
+    let room = c .before .before .before .before .before .pre .3 .room in
     omega arith
 
 pairs-within-requires : tie.Need-pairs-within-requires
 pairs-within-requires c κs =
-    let start = c .before .before .before .before .before in
+    let start = c .before .before .before .before .before .before in
     let q = start .pre .3 in
     let room = q .room in (
       (q .in-words .table, q .in-words .views, q .lists-are),
@@ -36,7 +36,7 @@ pairs-within-requires c κs =
 
 label-numbers-requires : tie.Need-label-numbers-requires
 label-numbers-requires c κs =
-    let q = c .before .before .before .before .before .before .pre .3 in
+    let q = c .before .before .before .before .before .before .before .pre .3 in
     let e = q .labels-are in
     let f = q .in-words .labels-few in
     let n = q .in-words .count-is in
@@ -48,7 +48,7 @@ label-numbers-requires c κs =
 
 result-lists-requires : tie.Need-result-lists-requires
 result-lists-requires c κs =
-    let q = c .before .before .before .before .before .before .before .pre .3 in
+    let q = c .before .before .before .before .before .before .before .before .pre .3 in
     let room = q .room in (
       views-sized (q .in-words .views),
       labels-sized (q .in-words .views) (q .in-words .labelled) (q .in-words .labels-few),
@@ -63,38 +63,48 @@ types-listed-requires c κs = search needs
 
 content-of-set-requires : tie.Need-content-of-set-requires
 content-of-set-requires c κs =
-    let start = c .before .before .before .before .before .before .before .before .before .before in
+    let start = c .before .before .before .before .before .before .before .before .before .before .before in
+    let pairs = c .before .before .before .before .pairs-within in
+    let counted = c .before .before .before .label-numbers in
+    let results = c .before .before .result-lists in
+    let types = c .before .types-listed in
     let q = start .pre .3 in
     let s = q .in-words in
-    let within = member (c .before .before .before .before .pairs-within .result .words) 0 in
-    let numbers = c .before .before .before .label-numbers .ensures .0 _ _ (s .table) (s .sets) (s .views) (s .held) (s .count-is) in
+    let within = member (pairs .result .words) 0 in
+    let numbers = counted .ensures .0 _ _ (s .table) (s .sets) (s .views) (s .held) (s .count-is) in
     let listed =
-    c .before .before .result-lists .ensures _ _ (s .table) (s .sets) within (s .views) (q .lists-are) (ap (λ (w : List ℕ). member w 0) (c .before .before .before .before .before .load .ensures) ∙ q .left-is) (s .labelled)
-    (all-labels q (λ l. place sameNumbers (pairsLabelled (s .table) within l) (s .sets)) (c .before .before .before .label-numbers .result .of) numbers) in
-    (merged q within (c .before .types-listed .result) (c .before .before .result-lists .result) listed (c .before .types-listed .ensures .1) (c .before .types-listed .ensures .0), start .pre .0)
+    results .ensures _ _ (s .table) (s .sets) within (s .views) (q .lists-are) (ap (λ (w : List ℕ). member w 0) (c .before .before .before .before .before .load .ensures) ∙ q .left-is) (s .labelled)
+    (all-labels q (λ l. place sameNumbers (pairsLabelled (s .table) within l) (s .sets)) (counted .result .of) numbers) in
+    (merged q within (types .result) (results .result) listed (types .ensures .1) (types .ensures .0), start .pre .0)
 
 same-length : tie.Need-same-length
 same-length c = search needs
 
 returns : tie.Need-returns
 returns c =
-    let start = c .before .before .before .before .before .before .before .before .before .before .before .before .before in
+    let start = c .before .before .before .before .before .before .before .before .before .before .before .before .before .before in
+    let pairs = c .before .before .before .before .before .before .before .pairs-within in
+    let counted = c .before .before .before .before .before .before .label-numbers in
+    let results = c .before .before .before .before .before .result-lists in
+    let types = c .before .before .before .before .types-listed in
+    let content = c .before .before .content-of-set in
     λ q.
     let s = q .in-words in
-    let within = member (c .before .before .before .before .before .before .before .pairs-within .result .words) 0 in
+    let within = member (pairs .result .words) 0 in
     let i = start .args .i in
-    let kind = kindOf (start .args .kind) in
-    let numbers = c .before .before .before .before .before .before .label-numbers .ensures .0 _ _ (s .table) (s .sets) (s .views) (s .held) (s .count-is) in
+    let kind = kindOf (start .args .plan .kind) in
+    let left = ap (λ (w : List ℕ). member w 0) (c .before .before .before .before .before .before .before .before .load .ensures) ∙ q .left-is in
+    let numbers = counted .ensures .0 _ _ (s .table) (s .sets) (s .views) (s .held) (s .count-is) in
     let listed =
-    c .before .before .before .before .before .result-lists .ensures _ _ (s .table) (s .sets) within (s .views) (q .lists-are) (ap (λ (w : List ℕ). member w 0) (c .before .before .before .before .before .before .before .before .load .ensures) ∙ q .left-is) (s .labelled)
-    (all-labels q (λ l. place sameNumbers (pairsLabelled (s .table) within l) (s .sets)) (c .before .before .before .before .before .before .label-numbers .result .of) numbers) in
+    results .ensures _ _ (s .table) (s .sets) within (s .views) (q .lists-are) left (s .labelled)
+    (all-labels q (λ l. place sameNumbers (pairsLabelled (s .table) within l) (s .sets)) (counted .result .of) numbers) in
     let held = set-held s i (start .pre .1) _ (start .pre .2) in
     let same =
     content-is (s .table) (s .sets) kind i (member (start .args .set .words) 0) within held
-    (c .before .before .before .before .before .before .before .pairs-within .ensures .0 (s .table) _ (s .views) (q .lists-are) (ap (λ (w : List ℕ). member w 0) (c .before .before .before .before .before .before .before .before .load .ensures) ∙ q .left-is) held) in
-    let from = merged q within (c .before .before .before .before .types-listed .result) (c .before .before .before .before .before .result-lists .result) listed (c .before .before .before .before .types-listed .ensures .1) (c .before .before .before .before .types-listed .ensures .0) in
-    subst (λ (d : Content). Made (c .before .before .content-of-set .last .1 .1 .1 .1 .1 .1 .0) d (c .before .before .content-of-set .result)) same
-    (c .before .before .content-of-set .ensures from (subst Regular (sym same) (q .regular i (start .pre .1))))
+    (pairs .ensures .0 (s .table) _ (s .views) (q .lists-are) left held) in
+    let from = merged q within (types .result) (results .result) listed (types .ensures .1) (types .ensures .0) in
+    subst (λ (d : Content). Made (content .last .1 .1 .1 .1 .1 .1 .0) d (content .result)) same
+    (content .ensures from (subst Regular (sym same) (q .regular i (start .pre .1))))
 
 pub set-content-spec : {M : Type 1} → statement M
 set-content-spec =

@@ -6,7 +6,6 @@ use mathlib.Core.Path.{_≡_, _∙_, ap}
 use lib.ListN.{length, take, drop}
 use borrow.Author.Needs.{needs}
 use Rattle.grammar.specs.Limits.{standard}
-use Rattle.grammar.specs.Kinds.{local}
 use Rattle.grammar.specs.Unite.{unite}
 use Rattle.sets.specs.Sets.{member}
 use Rattle.sets.proofs.SetLaws.{length-words}
@@ -14,6 +13,7 @@ use Rattle.union.specs.Places.{setsEnd, leftAt}
 use Rattle.union.proofs.ViewLaws.{views-sized}
 use Rattle.forms.specs.SetForms.{localSets}
 use Rattle.forms.proofs.WidenedBySets.{setsOf}
+use Rattle.results.specs.declared.widen.Kind.the-variants.{Local}
 use Rattle.results.specs.Widened.{kindOf}
 use Rattle.results.proofs.ReducedLaws as laws
 use Rattle.results.proofs.SetLaws.{labels-sized}
@@ -81,17 +81,18 @@ start-numbers-requires c κs =
 put-result-requires : tie.Need-put-result-requires
 unfolding kindOf
 put-result-requires c κs =
-    let start = c .before .before .before .before .before .before .before .before .before .before .before .before .before .before .before .before .before .before .before .before .before .before .before .before in
+    let start = c .before .before .before .before .before .before .before .before .before .before .before .before .before .before .before .before .before .before .before .before .before .before .before .before .before .before in
     let r = start .pre .0 .reduced in
-    let n = c .before .before .before .before .before .before .before .before .before .before .before .before .before .before .before .before .before .before .label-count .ensures ∙ laws.label-count-is r in
-    let s = c .before .before .before .before .before .before .before .before .before .before .before .before .before .before .label-sets in
+    let n = c .before .before .before .before .before .before .before .before .before .before .before .before .before .before .before .before .before .before .before .before .label-count .ensures ∙ laws.label-count-is r in
+    let s = c .before .before .before .before .before .before .before .before .before .before .before .before .before .before .before .before .label-sets in
     let front = s .last .1 .1 .1 .0 in
-    let (many, held) = laws.local-counted r front (s .result) _ (ap (λ (w : List ℕ). member w 0) (c .before .before .before .before .before .before .before .before .before .before .before .before .before .before .before .before .load .ensures) ∙ r .left-are) (s .ensures _ _ _ (r .seen .rules) n) _ (c .before .before .before .before .before .before .before .before .before .before .count .given .1) in
+    let (many, held) = laws.local-counted r front (s .result) _ (ap (λ (w : List ℕ). member w 0) (c .before .before .before .before .before .before .before .before .before .before .before .before .before .before .before .before .before .before .load .ensures) ∙ r .left-are) (s .ensures _ _ _ (r .seen .rules) n) _ (c .before .before .before .before .before .before .before .before .before .before .before .before .count .given .1) in
     let fits-same = s .kept .1 .1 .1 .0 in
     let same : length front ≡ length (take setsEnd (start .args .words .now)) = search needs in
-    let fits-long = c .before .before .before .before .before .start-numbers .kept .1 .1 .0 in
-    let long : length (c .before .before .before .before .before .start-numbers .last .1 .1 .0) ≡ length (front ++ drop setsEnd (start .args .words .now)) = search needs in
-    (start .pre .2, omega arith, laws.result-after r local (start .pre .1) front same _ held many _ (c .before .before .before .before .before .start-numbers .ensures .1) long)
+    let types = c .before .before .before .before .before .before .before .start-numbers in
+    let fits-long = types .kept .1 .1 .0 in
+    let long : length (types .last .1 .1 .0) ≡ length (front ++ drop setsEnd (start .args .words .now)) = search needs in
+    (start .pre .2, omega arith, laws.result-after r Local (start .pre .1) front same _ held many _ (types .ensures .1) long _ n)
 
 returns : tie.Need-returns
 returns c g h r =
@@ -102,22 +103,23 @@ returns c g h r =
 returns-2 : tie.Need-returns-2
 unfolding setsOf kindOf
 returns-2 c g h r =
-    let start = c .before .before .before .before .before .before .before .before .before .before .before .before .before .before .before .before .before .before .before .before .before .before .before .before .before .before .before .before .before .before .before in
+    let start = c .before .before .before .before .before .before .before .before .before .before .before .before .before .before .before .before .before .before .before .before .before .before .before .before .before .before .before .before .before .before .before .before .before in
     let room = start .pre .1 in
-    let n = c .before .before .before .before .before .before .before .before .before .before .before .before .before .before .before .before .before .before .before .before .before .before .before .before .before .label-count .ensures ∙ laws.label-count-is r in
-    let s = c .before .before .before .before .before .before .before .before .before .before .before .before .before .before .before .before .before .before .before .before .before .label-sets in
+    let n = c .before .before .before .before .before .before .before .before .before .before .before .before .before .before .before .before .before .before .before .before .before .before .before .before .before .before .before .label-count .ensures ∙ laws.label-count-is r in
+    let s = c .before .before .before .before .before .before .before .before .before .before .before .before .before .before .before .before .before .before .before .before .before .before .before .label-sets in
     let front = s .last .1 .1 .1 .0 in
-    let left = ap (λ (w : List ℕ). member w 0) (c .before .before .before .before .before .before .before .before .before .before .before .before .before .before .before .before .before .before .before .before .before .before .before .load .ensures) ∙ r .left-are in
-    let (many, held) = laws.local-counted r front (s .result) _ left (s .ensures _ _ _ (r .seen .rules) n) _ (c .before .before .before .before .before .before .before .before .before .before .before .before .before .before .before .before .before .count .given .1) in
+    let left = ap (λ (w : List ℕ). member w 0) (c .before .before .before .before .before .before .before .before .before .before .before .before .before .before .before .before .before .before .before .before .before .before .before .before .before .load .ensures) ∙ r .left-are in
+    let (many, held) = laws.local-counted r front (s .result) _ left (s .ensures _ _ _ (r .seen .rules) n) _ (c .before .before .before .before .before .before .before .before .before .before .before .before .before .before .before .before .before .before .before .count .given .1) in
     let fits-same = s .kept .1 .1 .1 .0 in
     let same : length front ≡ length (take setsEnd (start .args .words .now)) = search needs in
-    let fits-long = c .before .before .before .before .before .before .before .before .before .before .before .before .start-numbers .kept .1 .1 .0 in
-    let long : length (c .before .before .before .before .before .before .before .before .before .before .before .before .start-numbers .last .1 .1 .0) ≡ length (front ++ drop setsEnd (start .args .words .now)) = search needs in
-    laws.local-drafted r front _ many held (c .before .before .before .before .before .before .before .before .before .before .before .before .before .before .label-numbers .result .of) (c .before .before .before .before .before .before .before .before .before .before .before .before .before .before .before .before .before .before .before .before .before .before .before .before .before .label-count .result) n _ _ left
+    let types = c .before .before .before .before .before .before .before .before .before .before .before .before .before .before .start-numbers in
+    let fits-long = types .kept .1 .1 .0 in
+    let long : length (types .last .1 .1 .0) ≡ length (front ++ drop setsEnd (start .args .words .now)) = search needs in
+    laws.local-drafted r front _ many held (c .before .before .before .before .before .before .before .before .before .before .before .before .before .before .before .before .label-numbers .result .of) (c .before .before .before .before .before .before .before .before .before .before .before .before .before .before .before .before .before .before .before .before .before .before .before .before .before .before .before .label-count .result) n _ _ left
     (laws.reduced-stay r room front same .starts-are)
-    (c .before .before .before .before .before .before .before .before .before .before .before .before .before .before .label-numbers .ensures .0 _ _ _ (localSets (unite standard g h)) (r .seen .rules) (laws.sets-held (start .args .words .now) room front same held) many)
-    _ (c .before .before .before .before .before .before .before .before .before .before .before .before .start-numbers .ensures .0) _ _ _ _ (c .told .ensures)
-    (c .before .before .before .before .before .before .put-result .ensures (laws.result-after r local room front same _ held many _ (c .before .before .before .before .before .before .before .before .before .before .before .before .start-numbers .ensures .1) long))
+    (c .before .before .before .before .before .before .before .before .before .before .before .before .before .before .before .before .label-numbers .ensures .0 _ _ _ (localSets (unite standard g h)) (r .seen .rules) (laws.sets-held (start .args .words .now) room front same held) many)
+    _ (c .before .before .before .before .before .before .before .before .before .before .before .before .before .before .start-numbers .ensures .0) _ _ _ _ (c .told .ensures)
+    (c .before .before .before .before .before .before .put-result .ensures (laws.result-after r Local room front same _ held many _ (types .ensures .1) long _ n))
 
 pub widen-local-spec : {M : Type 1} → statement M
 widen-local-spec =
