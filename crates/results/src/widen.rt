@@ -93,21 +93,19 @@ fn widen_local(
             let mut scratch = [0u8; SCRATCH];
             let plan = Plan {
                 union: v,
-                labels: labels,
-                lists: lists,
-                count: count,
+                labels,
+                lists,
+                count,
                 kind: Kind::Local,
             };
-            let olds = union.old_names;
-            let news = union.new_names;
             told(put_result(
                 draft,
                 &mut scratch,
                 old,
                 add,
                 plan,
-                olds,
-                news,
+                union.old_names,
+                union.new_names,
                 words,
             ))
         }
@@ -140,21 +138,19 @@ fn widen_from_starts(
             let mut scratch = [0u8; SCRATCH];
             let plan = Plan {
                 union: v,
-                labels: labels,
-                lists: lists,
-                count: count,
+                labels,
+                lists,
+                count,
                 kind: Kind::SingleType,
             };
-            let olds = union.old_names;
-            let news = union.new_names;
             told(put_result(
                 draft,
                 &mut scratch,
                 old,
                 add,
                 plan,
-                olds,
-                news,
+                union.old_names,
+                union.new_names,
                 words,
             ))
         }

@@ -27,12 +27,12 @@ returns c = (
 
 returns-2 : tie.Need-returns-2
 unfolding kindOf
-returns-2 c = (
+returns-2 c = let met = c .met-set in (
   λ u s x l y z.
-      c .met-set .ensures .0 u x l
+      met .ensures .0 u x l
       ∙ ap {B = ℕ → Bool} (λ (t : ℕ → Bool) (p : ℕ). isIn p (metIn u t)) z
       ∙ sym (ap (λ (k : Kind). pairsWithin (kindOf k) u s) (c .before .enum-told2 .given .1)),
-  c .met-set .ensures .1,
+  met .ensures .1,
 )
 
 pub pairs-within-spec : {M : Type 1} → statement M

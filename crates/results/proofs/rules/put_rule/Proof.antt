@@ -83,10 +83,11 @@ cast-scratch-2 c =
     let s = start .pre .4 .rules .in-words in
     let i = start .args .i in
     let h = start .pre .3 in
+    let loaded = c .before .before .before .before .before .before .before .before .before .before .load in
     let label = c .before .before .before .before .before .before .before .before .set-label in
     let small =
     label-small s i h (label .result)
-    (label .ensures _ _ (s .table) _ (s .views) (set-held s i h _ (c .before .before .before .before .before .before .before .before .before .before .load .ensures)) (set-ascending s i h) (set-some s i h)) in
+    (label .ensures _ _ (s .table) _ (s .views) (set-held s i h _ (loaded .ensures)) (set-ascending s i h) (set-some s i h)) in
     let few = c .before .before .before .before .before .before .before .label-place .ensures .1 in
     omega arith
 
@@ -95,13 +96,15 @@ slice-write-scratch-2 c =
     let start = c .before .before .before .before .before .before .before .before .before .before .before .before .before .before .before .before in
     let long = start .pre .2 in
     let before = start .args .scratch .now in
-    scratch-long before (c .before .before .before .before .before .set-content .last .0) (drop (length before - 2) (drop 2 before)) (start .args .i) (omega arith)
+    let content = c .before .before .before .before .before .set-content in
+    scratch-long before (content .last .0) (drop (length before - 2) (drop 2 before)) (start .args .i) (omega arith)
 
 add-stop : tie.Need-add-stop
 add-stop c =
     let start = c .before .before .before .before .before .before .before .before .before .before .before .before .before .before .before .before in
+    let content = c .before .before .before .before .before .set-content in
     let q = start .pre .4 .rules in
-    let small = made-stored _ (ruleFrom q (start .args .i) .content) _ (c .before .before .before .before .before .set-content .ensures q) (c .before .end .given .1) .small in
+    let small = made-stored _ (ruleFrom q (start .args .i) .content) _ (content .ensures q) (c .before .end .given .1) .small in
     omega arith
 
 sub-put-field : tie.Need-sub-put-field
@@ -114,11 +117,12 @@ part-put-field-end : tie.Need-part-put-field-end
 part-put-field-end c =
     let start = c .before .before .before .before .before .before .before .before .before .before .before .before .before .before .before .before .before .before in
     let content = c .before .before .before .before .before .before .before .set-content in
+    let placed = c .before .before .before .before .before .before .before .before .before .label-place in
     let q = start .pre .4 .rules in
     let long = start .pre .2 in
     let before = start .args .scratch .now in
     let made = made-stored _ (ruleFrom q (start .args .i) .content) _ (content .ensures q) (c .before .before .before .end .given .1) in
-    scratch-room before (content .last .0) (drop (length before - 2) (drop 2 before)) (start .args .i) (c .before .before .before .before .before .before .before .before .before .label-place .result) _ (omega arith)
+    scratch-room before (content .last .0) (drop (length before - 2) (drop 2 before)) (start .args .i) (placed .result) _ (omega arith)
     (made .inside)
 
 put-field-requires : tie.Need-put-field-requires
@@ -130,8 +134,9 @@ same-length c = search needs
 returns : tie.Need-returns
 returns c =
     let start = c .before .before .before .before .before .before .before .before .before .before .before .before .before .before .before in
+    let content = c .before .before .before .before .set-content in
     λ q.
-    inl (made-over _ (ruleFrom (q .rules) (start .args .i) .content) _ (c .before .before .before .before .set-content .ensures (q .rules)) (c .enum-told .given .1))
+    inl (made-over _ (ruleFrom (q .rules) (start .args .i) .content) _ (content .ensures (q .rules)) (c .enum-told .given .1))
 
 same-length-2 : tie.Need-same-length-2
 same-length-2 c = search needs
@@ -142,9 +147,12 @@ same-length-3 c = search needs
 returns-2 : tie.Need-returns-2
 returns-2 c =
     let start = c .before .before .before .before .before .before .before .before .before .before .before .before .before .before .before .before .before .before .before .before .before .before in
+    let loaded = c .before .before .before .before .before .before .before .before .before .before .before .before .before .before .before .before .load in
+    let marks = c .before .before .before .before .before .before .before .before .before .before .before .before .before .before .before .load2 in
     let labelled = c .before .before .before .before .before .before .before .before .before .before .before .before .before .before .set-label in
     let place-of = c .before .before .before .before .before .before .before .before .before .before .before .before .before .label-place in
     let content = c .before .before .before .before .before .before .before .before .before .before .before .set-content in
+    let end = c .before .before .before .before .before .before .before .end in
     let field = c .before .before .put-field in
     let a = start .args in
     λ q.
@@ -152,11 +160,11 @@ returns-2 c =
     let i = a .i in
     let h = start .pre .3 in
     let long = start .pre .2 in
-    let on = member (c .before .before .before .before .before .before .before .before .before .before .before .before .before .before .before .load2 .result .words) 0 in
-    let used = ap (λ (w : List ℕ). member w 0) (c .before .before .before .before .before .before .before .before .before .before .before .before .before .before .before .load2 .ensures) ∙ q .used-are in
-    let made = made-stored _ (ruleFrom (q .rules) i .content) _ (content .ensures (q .rules)) (c .before .before .before .before .before .before .before .end .given .1) in
+    let on = member (marks .result .words) 0 in
+    let used = ap (λ (w : List ℕ). member w 0) (marks .ensures) ∙ q .used-are in
+    let made = made-stored _ (ruleFrom (q .rules) i .content) _ (content .ensures (q .rules)) (end .given .1) in
     let label : labelled .result ≡ _ =
-    labelled .ensures _ _ (s .table) _ (s .views) (set-held s i h _ (c .before .before .before .before .before .before .before .before .before .before .before .before .before .before .before .before .load .ensures)) (set-ascending s i h) (set-some s i h) in
+    labelled .ensures _ _ (s .table) _ (s .views) (set-held s i h _ (loaded .ensures)) (set-ascending s i h) (set-some s i h) in
     let below = set-labelled s i h in
     let placed =
     place-of .ensures .0 (length (s .table .labels)) (omega arith) (label-used s i h on (labelled .result) used label)

@@ -46,10 +46,11 @@ loop-holds c =
 
 put-rule-requires : tie.Need-put-rule-requires Inv-loop μ-loop
 put-rule-requires c κs =
+    let start = c .before .before .before .before .before .before .before .before .before .before in
     let l = c .before .before .before .before .loop in
     let x = l .inv .2 in
     let y = l .inv .3 in
-    (l .inv .1, omega arith, omega arith, c .before .before .if1 .taken, c .before .before .before .before .before .before .before .before .before .before .pre .3)
+    (l .inv .1, omega arith, omega arith, c .before .before .if1 .taken, start .pre .3)
 
 enum-told : tie.Need-enum-told Inv-loop μ-loop
 enum-told c = search needs
@@ -65,10 +66,11 @@ returns c =
     let l = c .before .before .before .before .before .before .before .before .before .before .before .loop in
     let rule = c .before .before .before .before .before .before .put-rule in
     let a = c .before .before .before .before .before .before .before .before .before .before .before .before .before .before .before .before .before .args in
+    let below = c .before .before .before .before .before .before .before .before .before .if1 .taken in
     λ q.
     rules-stop (ruleFrom (q .rules)) (l .i) (l .inv .4 q) (rule .last .0) (rule .result) (rule .ensures q) (c .enum-told .given .1)
     (a .plan .count)
-    (c .before .before .before .before .before .before .before .before .before .if1 .taken)
+    below
 
 enum-known-more : tie.Need-enum-known-more Inv-loop μ-loop
 enum-known-more c = search needs
@@ -88,16 +90,17 @@ loop-again c =
     let start = c .before .before .before .before .before .before .before .before .before .before .before .before .before .before .before .before .before .before in
     let l = c .before .before .before .before .before .before .before .before .before .before .before .before .loop in
     let rule = c .before .before .before .before .before .before .before .put-rule in
+    let next = c .before .more .given .1 in
     let p = start .pre .3 in
     let below = c .before .before .before .before .before .before .before .before .before .before .if1 .taken in (
       omega arith,
-      rules-more (ruleFrom (p .rules)) (l .i) (l .inv .4 p) (rule .last .0) (rule .result) (rule .ensures p) (c .before .more .given .1) .1,
+      rules-more (ruleFrom (p .rules)) (l .i) (l .inv .4 p) (rule .last .0) (rule .result) (rule .ensures p) next .1,
       search needs,
       search needs,
-      λ q. rules-more (ruleFrom (q .rules)) (l .i) (l .inv .4 q) (rule .last .0) (rule .result) (rule .ensures q) (c .before .more .given .1) .0,
+      λ q. rules-more (ruleFrom (q .rules)) (l .i) (l .inv .4 q) (rule .last .0) (rule .result) (rule .ensures q) next .0,
       λ q.
           below-more (λ j. contentTooLarge standard (ruleFrom (q .rules) j .content) ≡ false) (l .i) (l .inv .5 q)
-          (rules-more (ruleFrom (q .rules)) (l .i) (l .inv .4 q) (rule .last .0) (rule .result) (rule .ensures q) (c .before .more .given .1) .2),
+          (rules-more (ruleFrom (q .rules)) (l .i) (l .inv .4 q) (rule .last .0) (rule .result) (rule .ensures q) next .2),
     )
 
 same-length-3 : tie.Need-same-length-3 Inv-loop μ-loop

@@ -68,12 +68,14 @@ content-of-set-requires c κs =
     let counted = c .before .before .before .label-numbers in
     let results = c .before .before .result-lists in
     let types = c .before .types-listed in
+    let loaded = c .before .before .before .before .before .load in
     let q = start .pre .3 in
     let s = q .in-words in
     let within = member (pairs .result .words) 0 in
+    let left = ap (λ (w : List ℕ). member w 0) (loaded .ensures) ∙ q .left-is in
     let numbers = counted .ensures .0 _ _ (s .table) (s .sets) (s .views) (s .held) (s .count-is) in
     let listed =
-    results .ensures _ _ (s .table) (s .sets) within (s .views) (q .lists-are) (ap (λ (w : List ℕ). member w 0) (c .before .before .before .before .before .load .ensures) ∙ q .left-is) (s .labelled)
+    results .ensures _ _ (s .table) (s .sets) within (s .views) (q .lists-are) left (s .labelled)
     (all-labels q (λ l. place sameNumbers (pairsLabelled (s .table) within l) (s .sets)) (counted .result .of) numbers) in
     (merged q within (types .result) (results .result) listed (types .ensures .1) (types .ensures .0), start .pre .0)
 
@@ -88,12 +90,13 @@ returns c =
     let results = c .before .before .before .before .before .result-lists in
     let types = c .before .before .before .before .types-listed in
     let content = c .before .before .content-of-set in
+    let loaded = c .before .before .before .before .before .before .before .before .load in
     λ q.
     let s = q .in-words in
     let within = member (pairs .result .words) 0 in
     let i = start .args .i in
     let kind = kindOf (start .args .plan .kind) in
-    let left = ap (λ (w : List ℕ). member w 0) (c .before .before .before .before .before .before .before .before .load .ensures) ∙ q .left-is in
+    let left = ap (λ (w : List ℕ). member w 0) (loaded .ensures) ∙ q .left-is in
     let numbers = counted .ensures .0 _ _ (s .table) (s .sets) (s .views) (s .held) (s .count-is) in
     let listed =
     results .ensures _ _ (s .table) (s .sets) within (s .views) (q .lists-are) left (s .labelled)

@@ -31,28 +31,33 @@ more-sets-requires c κs =
 first-numbers-requires : tie.Need-first-numbers-requires
 first-numbers-requires c κs =
     let start = c .before .before .before .before .before .before .before .before .before .before .before .before .before .before in
+    let s = c .before .before .before .before .before .before .more-sets in
     let q = start .pre .0 in
     let few = q .held .few in
     let many = q .many in
-    let front = c .before .before .before .before .before .before .more-sets .last .1 .1 .1 .1 .0 in
-    let fits-same = c .before .before .before .before .before .before .more-sets .kept .1 .1 .1 .1 .0 in
+    let front = s .last .1 .1 .1 .1 .0 in
+    let fits-same = s .kept .1 .1 .1 .1 .0 in
     let same : length front ≡ length (take setsEnd (start .args .words .now)) = search needs in
     (omega arith, laws.room-stays (start .args .words .now) (start .pre .1) front same)
 
 put-result-requires : tie.Need-put-result-requires
 unfolding kindOf
 put-result-requires c κs =
-    let start = c .before .before .before .before .before .before .before .before .before .before .before .before .before .before .before .before .before .before .before .before .before .before in
+    let start = c .before .before .before .before .before .before .before .before .before .before .before .before .before .before .before .before .before .before .before .before in
+    let counted = c .before .before .before .before .before .before .before .before .before .before .before .before .before .before .label-count in
+    let s = c .before .before .before .before .before .before .before .before .before .before .before .before .more-sets in
+    let count = c .before .before .before .before .before .before .before .before .count in
+    let types = c .before .before .before .before .before .first-numbers in
     let q = start .pre .0 in
     let room = start .pre .1 in
     let r = q .reduced in
-    let s = c .before .before .before .before .before .before .before .before .before .before .before .before .before .before .more-sets in
+    let n = counted .ensures ∙ laws.label-count-is r in
     let front = s .last .1 .1 .1 .1 .0 in
-    let (many, held) = laws.single-type-counted r front (s .result) (s .ensures _ (r .seen .rules) (r .lists-are) (laws.sets-lent (start .args .words .now) room (q .held)) (q .many)) _ (c .before .before .before .before .before .before .before .before .before .before .count .given .1) in
+    let first-held = laws.sets-lent (start .args .words .now) room (q .held) in
+    let (many, held) =
+    laws.single-type-counted r front (s .result) (s .ensures _ (r .seen .rules) (r .lists-are) first-held (q .many)) _ (count .given .1) in
     let fits-same = s .kept .1 .1 .1 .1 .0 in
     let same : length front ≡ length (take setsEnd (start .args .words .now)) = search needs in
-    let types = c .before .before .before .before .before .before .before .first-numbers in
-    let n = c .before .before .before .before .before .before .before .before .before .before .before .before .before .before .before .before .label-count .ensures ∙ laws.label-count-is r in
     let fits-long = types .kept .1 .0 in
     let long : length (types .last .1 .0) ≡ length (front ++ drop setsEnd (start .args .words .now)) = search needs in
     (start .pre .2, omega arith, laws.result-after r SingleType room front same _ held many _ (types .ensures .1) long _ n)
@@ -61,24 +66,30 @@ returns : tie.Need-returns
 returns c g h r held many =
     let start = c .before .before .before .before .before .before .before .before .before .before .before .before in
     let s = c .before .before .before .before .more-sets in
-    laws.single-type-over r _ (s .result) (s .ensures _ (r .seen .rules) (r .lists-are) (laws.sets-lent (start .args .words .now) (start .pre .1) held) many) (c .enum-told .given .1) _ _
+    let first-held = laws.sets-lent (start .args .words .now) (start .pre .1) held in
+    laws.single-type-over r _ (s .result) (s .ensures _ (r .seen .rules) (r .lists-are) first-held many) (c .enum-told .given .1) _ _
 
 returns-2 : tie.Need-returns-2
 unfolding kindOf
 returns-2 c g h r start-held start-many =
-    let start = c .before .before .before .before .before .before .before .before .before .before .before .before .before .before .before .before .before .before .before .before .before .before .before .before .before .before .before .before .before in
+    let start = c .before .before .before .before .before .before .before .before .before .before .before .before .before .before .before .before .before .before .before .before .before .before .before .before .before .before .before in
+    let counted = c .before .before .before .before .before .before .before .before .before .before .before .before .before .before .before .before .before .before .before .before .before .label-count in
+    let s = c .before .before .before .before .before .before .before .before .before .before .before .before .before .before .before .before .before .before .before .more-sets in
+    let count = c .before .before .before .before .before .before .before .before .before .before .before .before .before .before .before .count in
+    let types = c .before .before .before .before .before .before .before .before .before .before .before .before .first-numbers in
+    let put = c .before .before .before .before .before .before .put-result in
     let room = start .pre .1 in
-    let s = c .before .before .before .before .before .before .before .before .before .before .before .before .before .before .before .before .before .before .before .before .before .more-sets in
+    let n = counted .ensures ∙ laws.label-count-is r in
     let front = s .last .1 .1 .1 .1 .0 in
-    let (many, held) = laws.single-type-counted r front (s .result) (s .ensures _ (r .seen .rules) (r .lists-are) (laws.sets-lent (start .args .words .now) room start-held) start-many) _ (c .before .before .before .before .before .before .before .before .before .before .before .before .before .before .before .before .before .count .given .1) in
+    let first-held = laws.sets-lent (start .args .words .now) room start-held in
+    let (many, held) =
+    laws.single-type-counted r front (s .result) (s .ensures _ (r .seen .rules) (r .lists-are) first-held start-many) _ (count .given .1) in
     let fits-same = s .kept .1 .1 .1 .1 .0 in
     let same : length front ≡ length (take setsEnd (start .args .words .now)) = search needs in
-    let types = c .before .before .before .before .before .before .before .before .before .before .before .before .before .before .first-numbers in
-    let n = c .before .before .before .before .before .before .before .before .before .before .before .before .before .before .before .before .before .before .before .before .before .before .before .label-count .ensures ∙ laws.label-count-is r in
     let fits-long = types .kept .1 .0 in
     let long : length (types .last .1 .0) ≡ length (front ++ drop setsEnd (start .args .words .now)) = search needs in
     laws.single-type-drafted r front _ many held _ start-many _ (types .ensures .0) _ _ _ _ (c .told .ensures)
-    (c .before .before .before .before .before .before .put-result .ensures (laws.result-after r SingleType room front same _ held many _ (types .ensures .1) long _ n))
+    (put .ensures (laws.result-after r SingleType room front same _ held many _ (types .ensures .1) long _ n))
 
 pub widen-from-starts-spec : {M : Type 1} → statement M
 widen-from-starts-spec =

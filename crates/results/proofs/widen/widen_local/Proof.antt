@@ -49,28 +49,32 @@ label-sets-requires c κs =
 label-numbers-requires : tie.Need-label-numbers-requires
 label-numbers-requires c κs =
     let start = c .before .before .before .before .before .before .before .before .before .before .before .before .before .before .before .before in
+    let loaded = c .before .before .before .before .before .before .before .before .load in
+    let counted = c .before .before .before .before .before .before .before .before .before .before .label-count in
+    let s = c .before .before .before .before .before .before .label-sets in
     let r = start .pre .0 .reduced in
     let room = start .pre .1 in
-    let n = c .before .before .before .before .before .before .before .before .before .before .label-count .ensures ∙ laws.label-count-is r in
+    let n = counted .ensures ∙ laws.label-count-is r in
     let few = laws.labels-few r in
-    let s = c .before .before .before .before .before .before .label-sets in
     let front = s .last .1 .1 .1 .0 in
-    let (many, held) = laws.local-counted r front (s .result) _ (ap (λ (w : List ℕ). member w 0) (c .before .before .before .before .before .before .before .before .load .ensures) ∙ r .left-are) (s .ensures _ _ _ (r .seen .rules) n) _ (c .before .before .count .given .1) in
+    let left = ap (λ (w : List ℕ). member w 0) (loaded .ensures) ∙ r .left-are in
+    let (many, held) = laws.local-counted r front (s .result) _ left (s .ensures _ _ _ (r .seen .rules) n) _ (c .before .before .count .given .1) in
     let h = held .few in
     let fits-same = s .kept .1 .1 .1 .0 in
     let same : length front ≡ length (take setsEnd (start .args .words .now)) = search needs in
     let all = laws.room-stays (start .args .words .now) room front same in (
       views-sized (r .seen .rules),
       omega arith,
-      record { few = omega arith; room = omega arith; four = ap length (c .before .before .before .before .before .before .before .before .load .ensures) ∙ length-words _ leftAt 4 (omega arith) },
+      record { few = omega arith; room = omega arith; four = ap length (loaded .ensures) ∙ length-words _ leftAt 4 (omega arith) },
     )
 
 start-numbers-requires : tie.Need-start-numbers-requires
 start-numbers-requires c κs =
     let start = c .before .before .before .before .before .before .before .before .before .before .before .before .before .before .before .before .before .before in
+    let s = c .before .before .before .before .before .before .before .before .label-sets in
     let r = start .pre .0 .reduced in
-    let front = c .before .before .before .before .before .before .before .before .label-sets .last .1 .1 .1 .0 in
-    let fits-same = c .before .before .before .before .before .before .before .before .label-sets .kept .1 .1 .1 .0 in
+    let front = s .last .1 .1 .1 .0 in
+    let fits-same = s .kept .1 .1 .1 .0 in
     let same : length front ≡ length (take setsEnd (start .args .words .now)) = search needs in (
       views-sized (r .seen .rules),
       labels-sized (r .seen .rules) (laws.fit r .labelled) (laws.labels-few r),
@@ -81,45 +85,57 @@ start-numbers-requires c κs =
 put-result-requires : tie.Need-put-result-requires
 unfolding kindOf
 put-result-requires c κs =
-    let start = c .before .before .before .before .before .before .before .before .before .before .before .before .before .before .before .before .before .before .before .before .before .before .before .before .before .before in
+    let start = c .before .before .before .before .before .before .before .before .before .before .before .before .before .before .before .before .before .before .before .before .before .before .before .before in
+    let loaded = c .before .before .before .before .before .before .before .before .before .before .before .before .before .before .before .before .load in
+    let counted = c .before .before .before .before .before .before .before .before .before .before .before .before .before .before .before .before .before .before .label-count in
+    let s = c .before .before .before .before .before .before .before .before .before .before .before .before .before .before .label-sets in
+    let count = c .before .before .before .before .before .before .before .before .before .before .count in
+    let types = c .before .before .before .before .before .start-numbers in
     let r = start .pre .0 .reduced in
-    let n = c .before .before .before .before .before .before .before .before .before .before .before .before .before .before .before .before .before .before .before .before .label-count .ensures ∙ laws.label-count-is r in
-    let s = c .before .before .before .before .before .before .before .before .before .before .before .before .before .before .before .before .label-sets in
+    let n = counted .ensures ∙ laws.label-count-is r in
     let front = s .last .1 .1 .1 .0 in
-    let (many, held) = laws.local-counted r front (s .result) _ (ap (λ (w : List ℕ). member w 0) (c .before .before .before .before .before .before .before .before .before .before .before .before .before .before .before .before .before .before .load .ensures) ∙ r .left-are) (s .ensures _ _ _ (r .seen .rules) n) _ (c .before .before .before .before .before .before .before .before .before .before .before .before .count .given .1) in
+    let left = ap (λ (w : List ℕ). member w 0) (loaded .ensures) ∙ r .left-are in
+    let (many, held) = laws.local-counted r front (s .result) _ left (s .ensures _ _ _ (r .seen .rules) n) _ (count .given .1) in
     let fits-same = s .kept .1 .1 .1 .0 in
     let same : length front ≡ length (take setsEnd (start .args .words .now)) = search needs in
-    let types = c .before .before .before .before .before .before .before .start-numbers in
     let fits-long = types .kept .1 .1 .0 in
     let long : length (types .last .1 .1 .0) ≡ length (front ++ drop setsEnd (start .args .words .now)) = search needs in
     (start .pre .2, omega arith, laws.result-after r Local (start .pre .1) front same _ held many _ (types .ensures .1) long _ n)
 
 returns : tie.Need-returns
 returns c g h r =
-    let n = c .before .before .before .before .before .before .before .before .label-count .ensures ∙ laws.label-count-is r in
+    let loaded = c .before .before .before .before .before .before .load in
+    let counted = c .before .before .before .before .before .before .before .before .label-count in
     let s = c .before .before .before .before .label-sets in
-    laws.local-over r _ (s .result) _ (ap (λ (w : List ℕ). member w 0) (c .before .before .before .before .before .before .load .ensures) ∙ r .left-are) (s .ensures _ _ _ (r .seen .rules) n) (c .enum-told .given .1) _ _
+    let n = counted .ensures ∙ laws.label-count-is r in
+    let left = ap (λ (w : List ℕ). member w 0) (loaded .ensures) ∙ r .left-are in
+    laws.local-over r _ (s .result) _ left (s .ensures _ _ _ (r .seen .rules) n) (c .enum-told .given .1) _ _
 
 returns-2 : tie.Need-returns-2
 unfolding setsOf kindOf
 returns-2 c g h r =
-    let start = c .before .before .before .before .before .before .before .before .before .before .before .before .before .before .before .before .before .before .before .before .before .before .before .before .before .before .before .before .before .before .before .before .before in
+    let start = c .before .before .before .before .before .before .before .before .before .before .before .before .before .before .before .before .before .before .before .before .before .before .before .before .before .before .before .before .before .before .before in
+    let loaded = c .before .before .before .before .before .before .before .before .before .before .before .before .before .before .before .before .before .before .before .before .before .before .before .load in
+    let counted = c .before .before .before .before .before .before .before .before .before .before .before .before .before .before .before .before .before .before .before .before .before .before .before .before .before .label-count in
+    let s = c .before .before .before .before .before .before .before .before .before .before .before .before .before .before .before .before .before .before .before .before .before .label-sets in
+    let count = c .before .before .before .before .before .before .before .before .before .before .before .before .before .before .before .before .before .count in
+    let numbers = c .before .before .before .before .before .before .before .before .before .before .before .before .before .before .label-numbers in
+    let types = c .before .before .before .before .before .before .before .before .before .before .before .before .start-numbers in
+    let put = c .before .before .before .before .before .before .put-result in
     let room = start .pre .1 in
-    let n = c .before .before .before .before .before .before .before .before .before .before .before .before .before .before .before .before .before .before .before .before .before .before .before .before .before .before .before .label-count .ensures ∙ laws.label-count-is r in
-    let s = c .before .before .before .before .before .before .before .before .before .before .before .before .before .before .before .before .before .before .before .before .before .before .before .label-sets in
+    let n = counted .ensures ∙ laws.label-count-is r in
     let front = s .last .1 .1 .1 .0 in
-    let left = ap (λ (w : List ℕ). member w 0) (c .before .before .before .before .before .before .before .before .before .before .before .before .before .before .before .before .before .before .before .before .before .before .before .before .before .load .ensures) ∙ r .left-are in
-    let (many, held) = laws.local-counted r front (s .result) _ left (s .ensures _ _ _ (r .seen .rules) n) _ (c .before .before .before .before .before .before .before .before .before .before .before .before .before .before .before .before .before .before .before .count .given .1) in
+    let left = ap (λ (w : List ℕ). member w 0) (loaded .ensures) ∙ r .left-are in
+    let (many, held) = laws.local-counted r front (s .result) _ left (s .ensures _ _ _ (r .seen .rules) n) _ (count .given .1) in
     let fits-same = s .kept .1 .1 .1 .0 in
     let same : length front ≡ length (take setsEnd (start .args .words .now)) = search needs in
-    let types = c .before .before .before .before .before .before .before .before .before .before .before .before .before .before .start-numbers in
     let fits-long = types .kept .1 .1 .0 in
     let long : length (types .last .1 .1 .0) ≡ length (front ++ drop setsEnd (start .args .words .now)) = search needs in
-    laws.local-drafted r front _ many held (c .before .before .before .before .before .before .before .before .before .before .before .before .before .before .before .before .label-numbers .result .of) (c .before .before .before .before .before .before .before .before .before .before .before .before .before .before .before .before .before .before .before .before .before .before .before .before .before .before .before .label-count .result) n _ _ left
+    laws.local-drafted r front _ many held (numbers .result .of) (counted .result) n _ _ left
     (laws.reduced-stay r room front same .starts-are)
-    (c .before .before .before .before .before .before .before .before .before .before .before .before .before .before .before .before .label-numbers .ensures .0 _ _ _ (localSets (unite standard g h)) (r .seen .rules) (laws.sets-held (start .args .words .now) room front same held) many)
-    _ (c .before .before .before .before .before .before .before .before .before .before .before .before .before .before .start-numbers .ensures .0) _ _ _ _ (c .told .ensures)
-    (c .before .before .before .before .before .before .put-result .ensures (laws.result-after r Local room front same _ held many _ (types .ensures .1) long _ n))
+    (numbers .ensures .0 _ _ _ (localSets (unite standard g h)) (r .seen .rules) (laws.sets-held (start .args .words .now) room front same held) many)
+    _ (types .ensures .0) _ _ _ _ (c .told .ensures)
+    (put .ensures (laws.result-after r Local room front same _ held many _ (types .ensures .1) long _ n))
 
 pub widen-local-spec : {M : Type 1} → statement M
 widen-local-spec =
