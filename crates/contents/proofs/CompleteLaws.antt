@@ -13,7 +13,7 @@ use lib.ListN.{length, take, drop}
 use lib.Seq.{take-take}
 use lib.Dec.{ltb}
 use borrow.Author.Tests.{lt-ltb, le-ltb, ltb-true, ltb-false}
-use Rattle.grammar.specs.Limits.{Limits, standard}
+use Rattle.grammar.specs.Limits.{Limits, standard, contentLimit, operandLimit, nestingLimit}
 use Rattle.grammar.specs.Content.{
   Content,
   none,
@@ -84,20 +84,20 @@ module _ (d : List ℕ) (c : Content) (last : ℕ) (stands : exprAt d 0 ≡ just
   pub made-inside : last ≤ length d
   made-inside = expr-forward d 0 c last stands .1
 
-  pub made-long : 1024 < last → contentTooLarge standard c ≡ true
+  pub made-long : contentLimit < last → contentTooLarge standard c ≡ true
   made-long h =
       let w = expr-written d 0 c last stands in
-      unfit-large c (one-long 1024 c (omega arith))
+      unfit-large c (one-long contentLimit c (omega arith))
 
   pub made-improper : Regular c → properAt standard part 0 ≡ Nowhere → contentTooLarge standard c ≡ true
   unfolding standard
-  made-improper r e = go (passes-or-fails (ltb 255 (widestChoice c)))
+  made-improper r e = go (passes-or-fails (ltb operandLimit (widestChoice c)))
     where
-      go : (ltb 255 (widestChoice c) ≡ true) ⊎ (ltb 255 (widestChoice c) ≡ false) → contentTooLarge standard c ≡ true
-      go (inl t) = unfit-large c (one-wide 1024 c (ltb-true 255 (widestChoice c) t))
+      go : (ltb operandLimit (widestChoice c) ≡ true) ⊎ (ltb operandLimit (widestChoice c) ≡ false) → contentTooLarge standard c ≡ true
+      go (inl t) = unfit-large c (one-wide contentLimit c (ltb-true operandLimit (widestChoice c) t))
       go (inr t) =
           absurd
-          (not-both (counted-proper c standard (r .counted) (ltb-false 255 (widestChoice c) t) (r .below))
+          (not-both (counted-proper c standard (r .counted) (ltb-false operandLimit (widestChoice c) t) (r .below))
           (proper-no standard part 0 e c last part-stands))
 
   found : (next n : ℕ) → properAt standard part 0 ≡ Upto next n → (isProper standard c ≡ true) × (nesting c ≡ n)
@@ -110,10 +110,10 @@ module _ (d : List ℕ) (c : Content) (last : ℕ) (stands : exprAt d 0 ≡ just
   unfolding contentTooLarge standard
   made-deep next n e h =
       let f = found next n e in
-      or-left (ltb 1024 (length (contentBytes c)) || ltb 32 (nesting c)) (ltb 255 (widestChoice c))
-      (or-right (ltb 1024 (length (contentBytes c))) (ltb 32 (nesting c)) (lt-ltb 32 (nesting c) (omega arith)))
+      or-left (ltb contentLimit (length (contentBytes c)) || ltb nestingLimit (nesting c)) (ltb operandLimit (widestChoice c))
+      (or-right (ltb contentLimit (length (contentBytes c))) (ltb nestingLimit (nesting c)) (lt-ltb nestingLimit (nesting c) (omega arith)))
 
-  pub made-fine : (next n : ℕ) → properAt standard part 0 ≡ Upto next n → n ≤ 32 → last ≤ 1024 → Stored d c last
+  pub made-fine : (next n : ℕ) → properAt standard part 0 ≡ Upto next n → n ≤ nestingLimit → last ≤ contentLimit → Stored d c last
   unfolding contentTooLarge standard
   made-fine next n e h l =
       let f = found next n e in
@@ -123,10 +123,10 @@ module _ (d : List ℕ) (c : Content) (last : ℕ) (stands : exprAt d 0 ≡ just
       record {
         bytes = sym part-is ∙ expr-bytes d 0 c last stands;
         fits =
-            or-none (ltb 1024 (length (contentBytes c)) || ltb 32 (nesting c)) (ltb 255 (widestChoice c))
-            (or-none (ltb 1024 (length (contentBytes c))) (ltb 32 (nesting c)) (le-ltb 1024 (length (contentBytes c)) (omega arith))
-            (le-ltb 32 (nesting c) (omega arith)))
-            (le-ltb 255 (widestChoice c) narrow);
+            or-none (ltb contentLimit (length (contentBytes c)) || ltb nestingLimit (nesting c)) (ltb operandLimit (widestChoice c))
+            (or-none (ltb contentLimit (length (contentBytes c))) (ltb nestingLimit (nesting c)) (le-ltb contentLimit (length (contentBytes c)) (omega arith))
+            (le-ltb nestingLimit (nesting c) (omega arith)))
+            (le-ltb operandLimit (widestChoice c) narrow);
         small = l;
         inside = made-inside;
       }

@@ -18,11 +18,12 @@ use Rattle.theory.proofs.emission.GatheringLaws.{gather-nothing, gather-more}
 use Rattle.reader.specs.ExprAt.{_upTo_, exprAt}
 use Rattle.reader.proofs.ExprLaws.{exprs-kept}
 use Rattle.union.specs.Walks.{listOfType}
+use Rattle.contents.specs.declared.drafts.OperandRow.{OperandRow}
 use Rattle.contents.specs.declared.drafts.Gathering.{Gathering}
 use Rattle.contents.specs.declared.drafts.Gathering.the-variants.{TooLarge, Upto}
 use Rattle.contents.specs.Drafts.{Row, Kept, Newest, TooWide, OperandsAdded, Gathers, GathersWith}
 use Rattle.contents.proofs.WideLaws.{wide-gathered}
-use Rattle.contents.proofs.MarkLaws.{no-upto}
+use Rattle.contents.proofs.NoteLaws.{no-upto}
 
 pub kept-row : (d d' : List ℕ) (base count end : ℕ) (ds : List Content) → take end d' ≡ take end d → length d' ≡ length d
     → Row d base count ds end → Row d' base count ds end
@@ -39,10 +40,10 @@ abbrev pub kept-of : (d d' : List ℕ) (base count end : ℕ) → take end d' �
     → Kept d base count end → Kept d' base count end
 kept-of d d' base count end e l k = record { list = k .list; row = kept-row d d' base count end (k .list) e l (k .row) }
 
-abbrev pub newest-of : (d d' : List ℕ) (base count end fresh : ℕ) (x : Content) → take end d' ≡ take end d → length d' ≡ length d
-    → Kept d base count end → exprAt d' end ≡ just (x upTo fresh) → Newest d' base count end fresh
-newest-of d d' base count end fresh x e l k s =
-    record { kept = kept-of d d' base count end e l k; newest = x; stands = s }
+abbrev pub newest-of : (d d' : List ℕ) (row : OperandRow) (fresh : ℕ) (x : Content) → take (row .end) d' ≡ take (row .end) d
+    → length d' ≡ length d → Kept d (row .base) (row .count) (row .end) → exprAt d' (row .end) ≡ just (x upTo fresh) → Newest d' row fresh
+newest-of d d' row fresh x e l k s =
+    record { kept = kept-of d d' (row .base) (row .count) (row .end) e l k; newest = x; stands = s }
 
 pub gathers-from : (d d' d'' : List ℕ) (base old limit next : ℕ) (ds : List Content) (r : Gathering) → take old d' ≡ take old d
     → Gathers d' d'' base old limit next ds r → Gathers d d'' base old limit next ds r
@@ -157,28 +158,28 @@ large-told d d' base old limit next ds h = h
 
 -- the same answers with what is noted of the operands
 module _ {Holds : List Content → Type 0} where
-  pub with-as : {d d' : List ℕ} {base old limit n next : ℕ} {r : Gathering} (ds xs ys : List Content) → n ≡ next → xs ≡ ys
-      → GathersWith Holds d d' base old limit n (gathered ds xs) r → GathersWith Holds d d' base old limit next (gathered ds ys) r
-  with-as {d} {d'} {base} {old} {limit} {n} {next} {r} ds xs ys e f g =
+  pub with-as : {d d' : List ℕ} {row : OperandRow} {n next : ℕ} {r : Gathering} (ds xs ys : List Content) → n ≡ next → xs ≡ ys
+      → GathersWith Holds d d' row n (gathered ds xs) r → GathersWith Holds d d' row next (gathered ds ys) r
+  with-as {d} {d'} {row} {n} {next} {r} ds xs ys e f g =
       record {
-        gathers = gathers-as d d' base old limit n next ds xs ys r e f (g .gathers);
+        gathers = gathers-as d d' (row .base) (row .end) (row .limit) n next ds xs ys r e f (g .gathers);
         noted = λ u. subst (λ (l : List Content). Holds (gathered ds l)) f (g .noted u);
       }
 
-  pub with-from : {d d' d'' : List ℕ} {base old limit next : ℕ} {r : Gathering} (ds : List Content) → take old d' ≡ take old d
-      → GathersWith Holds d' d'' base old limit next ds r → GathersWith Holds d d'' base old limit next ds r
-  with-from {d} {d'} {d''} {base} {old} {limit} {next} {r} ds e g =
-      record { gathers = gathers-from d d' d'' base old limit next ds r e (g .gathers); noted = g .noted }
+  pub with-from : {d d' d'' : List ℕ} {row : OperandRow} {next : ℕ} {r : Gathering} (ds : List Content) → take (row .end) d' ≡ take (row .end) d
+      → GathersWith Holds d' d'' row next ds r → GathersWith Holds d d'' row next ds r
+  with-from {d} {d'} {d''} {row} {next} {r} ds e g =
+      record { gathers = gathers-from d d' d'' (row .base) (row .end) (row .limit) next ds r e (g .gathers); noted = g .noted }
 
-  pub with-none : {d : List ℕ} {base count end limit n next : ℕ} (k : Kept d base count end) (xs : List Content) → n ≡ next
-      → end ≤ limit → xs ≡ [] → Holds (k .list) → GathersWith Holds d d base end limit next (gathered (k .list) xs) (Upto n count end)
-  with-none {d} {base} {count} {end} {limit} {n} {next} k xs e h none y =
+  pub with-none : {d : List ℕ} {row : OperandRow} {n next : ℕ} (k : Kept d (row .base) (row .count) (row .end)) (xs : List Content) → n ≡ next
+      → row .end ≤ row .limit → xs ≡ [] → Holds (k .list) → GathersWith Holds d d row next (gathered (k .list) xs) (Upto n (row .count) (row .end))
+  with-none {d} {row} {n} {next} k xs e h none y =
       record {
-        gathers = nothing-added d base count end limit n next k xs e h none;
+        gathers = nothing-added d (row .base) (row .count) (row .end) (row .limit) n next k xs e h none;
         noted = λ u. subst Holds (sym (ap (gathered (k .list)) none ∙ gather-nothing (k .list) (k .row .apart))) y;
       }
 
-  pub with-large : {d d' : List ℕ} {base old limit next : ℕ} (ds : List Content) → TooWide (limit - base) ds
-      → GathersWith Holds d d' base old limit next ds TooLarge
-  with-large {d} {d'} {base} {old} {limit} {next} ds h =
-      record { gathers = large-told d d' base old limit next ds h; noted = λ u. no-upto u }
+  pub with-large : {d d' : List ℕ} {row : OperandRow} {next : ℕ} (ds : List Content) → TooWide (row .limit - row .base) ds
+      → GathersWith Holds d d' row next ds TooLarge
+  with-large {d} {d'} {row} {next} ds h =
+      record { gathers = large-told d d' (row .base) (row .end) (row .limit) next ds h; noted = λ u. no-upto u }

@@ -1,6 +1,6 @@
 -- One more expression after the operands kept so far:
 --   same-there : byte for byte the same at two places, as far as the one reaches, is the same content at both
---   old-row, more-row, more-marked : after the question, the operands without it or with it; too-long, too-many : or they do not fit
+--   old-row, more-row, more-noted : after the question, the operands without it or with it; too-long, too-many : or they do not fit
 use Prim.Native.Nat.{ℕ, _+_, _-_, _*_, _≤_, _<_}
 use native.Mathlib.Omega.{arith}
 use mathlib.Core.Bool.{Bool, true, false}
@@ -9,6 +9,7 @@ use mathlib.Core.Logic.{_↔_}
 use mathlib.Core.Option.{some as just}
 use mathlib.Core.Path.{_≡_, refl, sym, _∙_, ap, ap₂, subst}
 use lib.ListN.{length, take, drop, set, take-append-drop}
+use Rattle.grammar.specs.Limits.{operandLimit}
 use Rattle.grammar.specs.Lists.{anyPass}
 use Rattle.grammar.specs.Content.{Content, operands}
 use Rattle.grammar.specs.ReadContent.{contentBytes, operandBytes, sameContent}
@@ -19,10 +20,11 @@ use Rattle.theory.proofs.emission.GatheringLaws.{gathered-so, gather-old, gathe
 use Rattle.theory.proofs.bytes.SampleWithin.{operands-count}
 use Rattle.reader.specs.ExprAt.{_upTo_, exprAt, exprsAt}
 use Rattle.reader.proofs.ExprLaws.{same-placed, expr-written, expr-of, expr-bytes, expr-forward, exprs-written}
+use Rattle.contents.specs.declared.drafts.OperandRow.{OperandRow}
 use Rattle.contents.specs.Drafts.{Row, long, TooWide, unfit, many, OperandsAdded, Newest}
-use Rattle.contents.specs.Marks.{fingerprint, mark, Marked}
+use Rattle.contents.specs.Notes.{prints, fingerprint, note, Noted}
 use Rattle.contents.proofs.RowLaws.{exprs-one-more}
-use Rattle.contents.proofs.MarkLaws.{marked-more}
+use Rattle.contents.proofs.NoteLaws.{noted-more}
 
 module _ (s : List ℕ) (i middle end fresh : ℕ) (x y : Content) (e : exprAt s end ≡ just (x upTo fresh)) (f : exprAt s i ≡ just (y upTo middle)) where
   pub equal-bytes : take (fresh - end) (drop i s) ≡ take (fresh - end) (drop end s) → x ≡ y
@@ -56,17 +58,17 @@ row-count d base count end ds r =
     let w = exprs-written d base count (operands ds) end (omega arith) (r .stand) in
     (w .0 ∙ operands-count ds, w .1 .next-is)
 
-module _ (d : List ℕ) (base count end fresh limit : ℕ) (q : Newest d base count end fresh) (fits : end ≤ limit) where
+module _ (d : List ℕ) (row : OperandRow) (fresh : ℕ) (q : Newest d row fresh) (fits : row .end ≤ row .limit) where
   abbrev ds : List Content
   ds = q .kept .list
 
   abbrev x : Content
   x = q .newest
 
-  pub old-row : anyPass (sameContent x) ds ≡ true → OperandsAdded d d base end (gathered ds (x ∷ [])) limit count end
+  pub old-row : anyPass (sameContent x) ds ≡ true → OperandsAdded d d (row .base) (row .end) (gathered ds (x ∷ [])) (row .limit) (row .count) (row .end)
   old-row t =
       record {
-        row = subst (λ (l : List Content). Row d base count l end) (sym (gather-old ds (q .kept .row .apart) x t)) (q .kept .row);
+        row = subst (λ (l : List Content). Row d (row .base) (row .count) l (row .end)) (sym (gather-old ds (q .kept .row .apart) x t)) (q .kept .row);
         fits = fits;
         grows = omega arith;
         keeps = refl;
@@ -76,14 +78,14 @@ module _ (d : List ℕ) (base count end fresh limit : ℕ) (q : Newest d base co
     is-more : ds ++ (x ∷ []) ≡ gathered ds (x ∷ [])
     is-more = sym (gather-new ds (q .kept .row .apart) x t)
 
-    more-stand : exprsAt d base (count + 1) ≡ just (operands (gathered ds (x ∷ [])) upTo fresh)
+    more-stand : exprsAt d (row .base) (row .count + 1) ≡ just (operands (gathered ds (x ∷ [])) upTo fresh)
     more-stand =
-        exprs-one-more d count base end fresh ds x (q .kept .row .stand) (q .stands)
+        exprs-one-more d (row .count) (row .base) (row .end) fresh ds x (q .kept .row .stand) (q .stands)
         ∙ ap (λ (l : List Content). just (operands l upTo fresh)) is-more
 
-    pub more-row : fresh ≤ limit → count < 255 → OperandsAdded d d base end (gathered ds (x ∷ [])) limit (count + 1) fresh
+    pub more-row : fresh ≤ row .limit → row .count < operandLimit → OperandsAdded d d (row .base) (row .end) (gathered ds (x ∷ [])) (row .limit) (row .count + 1) fresh
     more-row h k =
-        let f = expr-forward d end x fresh (q .stands) in
+        let f = expr-forward d (row .end) x fresh (q .stands) in
         let r = q .kept .row in
         record {
           row =
@@ -99,29 +101,29 @@ module _ (d : List ℕ) (base count end fresh limit : ℕ) (q : Newest d base co
           keeps = refl;
         }
 
-    more-count : (count + 1 ≡ length (gathered ds (x ∷ []))) × (fresh ≡ base + length (operandBytes (operands (gathered ds (x ∷ [])))))
+    more-count : (row .count + 1 ≡ length (gathered ds (x ∷ []))) × (fresh ≡ (row .base) + length (operandBytes (operands (gathered ds (x ∷ [])))))
     more-count =
         let r = q .kept .row in
-        let w = exprs-written d base (count + 1) (operands (gathered ds (x ∷ []))) fresh (omega arith) more-stand in
+        let w = exprs-written d (row .base) (row .count + 1) (operands (gathered ds (x ∷ []))) fresh (omega arith) more-stand in
         (w .0 ∙ operands-count (gathered ds (x ∷ [])), w .1 .next-is)
 
-    pub more-marked : {marks : List ℕ} {print : ℕ} → Marked marks ds → count < 255 → print ≡ fingerprint (take (fresh - end) (drop end d))
-        → Marked (set marks count (print * 65536 + (end - base))) (gathered ds (x ∷ []))
-    unfolding mark
-    more-marked {marks} {print} m h p =
-        let r = row-count d base count end ds (q .kept .row) in
-        let z : end - base ≡ length (operandBytes (operands ds)) = omega arith in
-        subst (Marked (set marks count (print * 65536 + (end - base)))) is-more
-        (marked-more marks ds m count (print * 65536 + (end - base)) x (r .0) h
-        (ap₂ (λ (f before : ℕ). f * 65536 + before) (p ∙ ap fingerprint (expr-bytes d end x fresh (q .stands))) z))
+    pub more-noted : {notes : List ℕ} {print : ℕ} → Noted notes ds → row .count < operandLimit → print ≡ fingerprint (take (fresh - row .end) (drop (row .end) d))
+        → Noted (set notes (row .count) (print * prints + (row .end - row .base))) (gathered ds (x ∷ []))
+    unfolding note
+    more-noted {notes} {print} m h p =
+        let r = row-count d (row .base) (row .count) (row .end) ds (q .kept .row) in
+        let z : row .end - row .base ≡ length (operandBytes (operands ds)) = omega arith in
+        subst (Noted (set notes (row .count) (print * prints + (row .end - row .base)))) is-more
+        (noted-more notes ds m (row .count) (print * prints + (row .end - row .base)) x (r .0) h
+        (ap₂ (λ (f before : ℕ). f * prints + before) (p ∙ ap fingerprint (expr-bytes d (row .end) x fresh (q .stands))) z))
 
-    pub too-long : limit < fresh → TooWide (limit - base) (gathered ds (x ∷ []))
+    pub too-long : row .limit < fresh → TooWide (row .limit - row .base) (gathered ds (x ∷ []))
     too-long h =
         let m = more-count in
         let r = q .kept .row in
         unfit (long (omega arith))
 
-    pub too-many : 255 ≤ count → TooWide (limit - base) (gathered ds (x ∷ []))
+    pub too-many : operandLimit ≤ row .count → TooWide (row .limit - row .base) (gathered ds (x ∷ []))
     too-many h =
         let m = more-count in
         many (omega arith)

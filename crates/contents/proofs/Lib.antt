@@ -1,5 +1,5 @@
 pub mod RowLaws
-pub mod MarkLaws
+pub mod NoteLaws
 pub mod KeptLaws
 pub mod AmongLaws
 pub mod FinishLaws

@@ -1,10 +1,10 @@
 -- Alternatives gathered number by number, for what the numbers below n give.
---   given-on, given-off, given-as   what a number gives only if it is asked for
---   so-far-none, so-far-next        no number yet; one number more; ready-for : and the draft is ready for the next
+--   given-on, given-off, given-as   what is asked for, and what is not
+--   so-far-none, so-far-next        no number yet; one number more; so-far-skip : one that gives nothing; ready-for : ready for the next
 --   so-far-wide, so-far-all         what one number gives does not fit, so all do not; all numbers
 --   pair-gives, set-gives           what the contents of a pair give, by its rules; of a set, by its pairs
 --   made-wide, made-kept, made-so   the content of all: too large, or made of the operands that stand in the draft
-use Prim.Native.Nat.{ℕ, suc, _+_, _-_, _≤_, _<_}
+use Prim.Native.Nat.{ℕ, suc, _+_, _-_, _*_, _≤_, _<_}
 use native.Mathlib.Omega.{arith}
 use mathlib.Core.Bool.{Bool, true, false}
 use mathlib.Core.List.{List, [], _∷_, _++_, append-assoc, append-nil}
@@ -12,7 +12,7 @@ use mathlib.Core.Path.{_≡_, refl, sym, _∙_, ap, subst}
 use lib.ListN.{length}
 use lib.Dec.{eqb}
 use Rattle.grammar.specs.Lists.{keep, joinedOf, numbersFrom, numbersBelow}
-use Rattle.grammar.specs.Limits.{standard}
+use Rattle.grammar.specs.Limits.{standard, contentLimit, nestingLimit}
 use Rattle.grammar.specs.Content.{Content, choiceOf}
 use Rattle.grammar.specs.Size.{contentTooLarge}
 use Rattle.grammar.specs.Table.{Table}
@@ -24,52 +24,41 @@ use Rattle.theory.proofs.emission.EmittedContent.{joined-map, joined-twice}
 use Rattle.theory.proofs.emission.GatheringLaws.{gather-nothing, gather-more, written-gathered}
 use Rattle.union.specs.Rounds.{contentOfRule}
 use Rattle.union.specs.PairNumbers.{ruleNumbered, contentsOfPair, contentsIn}
+use Rattle.contents.specs.declared.drafts.OperandRow.{OperandRow}
 use Rattle.contents.specs.declared.drafts.Gathering.{Gathering}
 use Rattle.contents.specs.declared.drafts.Gathering.the-variants.{TooLarge, Upto}
 use Rattle.contents.specs.declared.completing.ContentMade.{ContentMade}
 use Rattle.contents.specs.declared.completing.ContentMade.the-variants as made
-use Rattle.contents.specs.Drafts.{draftLength, Row, Kept, TooWide}
-use Rattle.contents.specs.Marks.{marksLength}
-use Rattle.contents.specs.Emitting.{Noted}
+use Rattle.contents.specs.Drafts.{headedLength, reaching, Row, Kept, TooWide, GathersIn}
+use Rattle.contents.specs.Notes.{Registered, registerLength}
 use Rattle.contents.specs.Completing.{Made}
 use Rattle.contents.proofs.WideLaws.{wide-gathered, too-large}
-use Rattle.contents.proofs.MarkLaws.{no-upto}
-use Rattle.contents.specs.Joining.{Ready, GathersInContent, GathersKept}
+use Rattle.contents.proofs.NoteLaws.{no-upto}
+use Rattle.contents.specs.Joining.{Ready, contentRow, GathersRegistered}
 
 -- what is asked for, and what is not
-pub given-on : (draft set marks : List ℕ) (ds xs : List Content) (r : Gathering) (on : Bool) → on ≡ true
-    → GathersKept draft set marks (gathered ds xs) r
-    → GathersKept draft set marks (gathered ds (onlyIf on xs)) r
+pub given-on : (xs : List Content) (on : Bool) → on ≡ true → onlyIf on xs ≡ xs
 unfolding onlyIf
-given-on draft set marks ds xs r on e g = subst (λ (b : Bool). GathersKept draft set marks (gathered ds (onlyIf b xs)) r) (sym e) g
+given-on xs on e = ap (λ (b : Bool). onlyIf b xs) e
 
-pub given-off : (draft set marks : List ℕ) (count end : ℕ) (xs : List Content) (on : Bool) → on ≡ false
-    → (k : Ready draft set marks count end)
-    → GathersKept draft set marks (gathered (k .kept .list) (onlyIf on xs)) (Upto 0 count end)
-unfolding onlyIf GathersInContent
-given-off draft set marks count end xs on e k =
-    let ds = k .kept .list in
-    let same : ds ≡ gathered ds (onlyIf on xs) =
-    sym (ap (λ (b : Bool). gathered ds (onlyIf b xs)) e ∙ gather-nothing ds (k .kept .row .apart)) in
-    record {
-      gathers = (subst (λ (l : List Content). Row draft 2 count l end) same (k .kept .row), k .fits);
-      noted = λ u. subst (Noted set marks) same (k .noted);
-    }
+pub given-off : (xs : List Content) (on : Bool) → on ≡ false → onlyIf on xs ≡ []
+unfolding onlyIf
+given-off xs on e = ap (λ (b : Bool). onlyIf b xs) e
 
-pub given-as : (draft set marks : List ℕ) (ds xs : List Content) (r : Gathering) (on on′ : Bool) → on ≡ on′
-    → GathersKept draft set marks (gathered ds (onlyIf on xs)) r → GathersKept draft set marks (gathered ds (onlyIf on′ xs)) r
-given-as draft set marks ds xs r on on′ e g = subst (λ (b : Bool). GathersKept draft set marks (gathered ds (onlyIf b xs)) r) e g
+pub given-as : {draft register : List ℕ} {row : OperandRow} {r : Gathering} (ds xs ys : List Content) → xs ≡ ys
+    → GathersRegistered draft register row (gathered ds xs) r → GathersRegistered draft register row (gathered ds ys) r
+given-as {draft} {register} {row} {r} ds xs ys e g = subst (λ (l : List Content). GathersRegistered draft register row (gathered ds l) r) e g
 
 -- Operands stand in the draft that were kept before or that the numbers below i give.
-module _ (give : ℕ → List Content) (n : ℕ) where
+module _ (give : ℕ → List Content) (n : ℕ) (row : OperandRow) where
   abbrev pub restFrom : ℕ → List Content
   restFrom i = joinedOf give (numbersFrom i (n - i))
 
-  pub record MergedSoFar (ds : List Content) (draft set marks : List ℕ) (count end i : ℕ) : Type 0 where
+  pub record MergedSoFar (ds : List Content) (draft register : List ℕ) (count end i : ℕ) : Type 0 where
     pub list : List Content
-    pub noted : Noted set marks (gathered ds list)
-    pub row : Row draft 2 count (gathered ds list) end
-    pub fits : end ≤ 1026
+    pub registered : Registered register (gathered ds list)
+    pub stand : Row draft (row .base) count (gathered ds list) end
+    pub fits : end ≤ row .limit
     pub rest : list ++ restFrom i ≡ joinedOf give (numbersBelow n)
 
   rest-next : (i : ℕ) → i < n → restFrom i ≡ give i ++ restFrom (i + 1)
@@ -84,38 +73,54 @@ module _ (give : ℕ → List Content) (n : ℕ) where
   unfolding joinedOf numbersFrom
   rest-none = let z : n - n ≡ 0 = omega arith in ap (λ (m : ℕ). joinedOf give (numbersFrom n m)) z
 
-  pub so-far-none : {draft set marks : List ℕ} {count end : ℕ} (k : Ready draft set marks count end)
-      → MergedSoFar (k .kept .list) draft set marks count end 0
+  pub so-far-none : {draft register : List ℕ} (k : Ready draft register row)
+      → MergedSoFar (k .kept .list) draft register (row .count) (row .end) 0
   unfolding numbersBelow
-  so-far-none {draft} {set} {marks} {count} {end} k =
+  so-far-none {draft} {register} k =
       let same = sym (gather-nothing (k .kept .list) (k .kept .row .apart)) in
       record {
         list = [];
-        noted = subst (Noted set marks) same (k .noted);
-        row = subst (λ (l : List Content). Row draft 2 count l end) same (k .kept .row);
+        registered = subst (Registered register) same (k .registered);
+        stand = subst (λ (l : List Content). Row draft (row .base) (row .count) l (row .end)) same (k .kept .row);
         fits = k .fits;
         rest = let z : n - 0 ≡ n = omega arith in ap (λ (m : ℕ). joinedOf give (numbersFrom 0 m)) z;
       }
 
-  module _ {ds : List Content} {draft set marks : List ℕ} {count end i : ℕ} (s : MergedSoFar ds draft set marks count end i) where
+  module _ {ds : List Content} {draft register : List ℕ} {count end i : ℕ} (s : MergedSoFar ds draft register count end i) where
     -- ready for the next number
-    abbrev pub ready-for : draftLength ≤ length draft → marksLength ≤ length marks → Ready draft set marks count end
-    ready-for room deep =
+    abbrev pub ready-for : row .limit ≤ row .base + contentLimit → row .limit + headedLength * nestingLimit ≤ length draft
+        → registerLength ≤ length register → Ready draft register (reaching row count end)
+    ready-for small room deep =
         record {
-          kept = record { list = gathered ds (s .list); row = s .row };
-          noted = s .noted;
+          kept = record { list = gathered ds (s .list); row = s .stand };
+          registered = s .registered;
           fits = s .fits;
+          small = small;
           room = room;
           deep = deep;
         }
 
-    module _ (h : i < n) (after set′ marks′ : List ℕ) (r : Gathering)
-        (g : GathersKept after set′ marks′ (gathered (gathered ds (s .list)) (give i)) r) where
+    -- a number that gives nothing
+    pub so-far-skip : i < n → give i ≡ [] → MergedSoFar ds draft register count end (i + 1)
+    so-far-skip h none =
+        record {
+          list = s .list;
+          registered = s .registered;
+          stand = s .stand;
+          fits = s .fits;
+          rest =
+              ap (λ (l : List Content). s .list ++ (l ++ restFrom (i + 1))) (sym none)
+              ∙ ap (λ (l : List Content). s .list ++ l) (sym (rest-next i h))
+              ∙ s .rest;
+        }
+
+    module _ (h : i < n) (after register′ : List ℕ) (r : Gathering)
+        (g : GathersRegistered after register′ (reaching row count end) (gathered (gathered ds (s .list)) (give i)) r) where
       abbrev next-list : List Content
       next-list = s .list ++ give i
 
-      next-gathers : GathersInContent after (gathered ds next-list) r
-      next-gathers = subst (λ (l : List Content). GathersInContent after l r) (gather-more ds (s .list) (give i)) (g .gathers)
+      next-gathers : GathersIn after (reaching row count end) (gathered ds next-list) r
+      next-gathers = subst (λ (l : List Content). GathersIn after (reaching row count end) l r) (gather-more ds (s .list) (give i)) (g .gathers)
 
       next-rest : next-list ++ restFrom (i + 1) ≡ joinedOf give (numbersBelow n)
       next-rest =
@@ -123,38 +128,38 @@ module _ (give : ℕ → List Content) (n : ℕ) where
           ∙ ap (λ (l : List Content). s .list ++ l) (sym (rest-next i h))
           ∙ s .rest
 
-      pub so-far-wide : r ≡ TooLarge → (last set″ marks″ : List ℕ) (all : List Content) → joinedOf give (numbersBelow n) ≡ all
-          → GathersKept last set″ marks″ (gathered ds all) TooLarge
-      unfolding GathersInContent
-      so-far-wide e last set″ marks″ all whole =
+      pub so-far-wide : r ≡ TooLarge → (last register″ : List ℕ) (all : List Content) → joinedOf give (numbersBelow n) ≡ all
+          → GathersRegistered last register″ row (gathered ds all) TooLarge
+      unfolding GathersIn
+      so-far-wide e last register″ all whole =
           record {
             gathers =
-                subst (λ (l : List Content). TooWide 1024 (gathered ds l)) (next-rest ∙ whole)
-                (wide-gathered 1024 ds next-list (restFrom (i + 1))
-                (subst (λ (x : Gathering). GathersInContent after (gathered ds next-list) x) e next-gathers));
-            noted = λ u. no-upto u;
+                subst (λ (l : List Content). TooWide (row .limit - row .base) (gathered ds l)) (next-rest ∙ whole)
+                (wide-gathered (row .limit - row .base) ds next-list (restFrom (i + 1))
+                (subst (λ (x : Gathering). GathersIn after (reaching row count end) (gathered ds next-list) x) e next-gathers));
+            registered = λ u. no-upto u;
           }
 
-      pub so-far-next : {m c stop : ℕ} → r ≡ Upto m c stop → MergedSoFar ds after set′ marks′ c stop (i + 1)
-      unfolding GathersInContent
+      pub so-far-next : {m c stop : ℕ} → r ≡ Upto m c stop → MergedSoFar ds after register′ c stop (i + 1)
+      unfolding GathersIn
       so-far-next {m} {c} {stop} e =
-          let t : Row after 2 c (gathered ds next-list) stop × (stop ≤ 1026) =
-          subst (λ (x : Gathering). GathersInContent after (gathered ds next-list) x) e next-gathers in
+          let t : Row after (row .base) c (gathered ds next-list) stop × (stop ≤ row .limit) =
+          subst (λ (x : Gathering). GathersIn after (reaching row count end) (gathered ds next-list) x) e next-gathers in
           record {
             list = next-list;
-            noted = subst (Noted set′ marks′) (gather-more ds (s .list) (give i)) (g .noted e);
-            row = t .0;
+            registered = subst (Registered register′) (gather-more ds (s .list) (give i)) (g .registered e);
+            stand = t .0;
             fits = t .1;
             rest = next-rest;
           }
 
     pub so-far-all : i ≡ n → (all : List Content) → joinedOf give (numbersBelow n) ≡ all
-        → GathersKept draft set marks (gathered ds all) (Upto 0 count end)
-    unfolding GathersInContent
+        → GathersRegistered draft register row (gathered ds all) (Upto 0 count end)
+    unfolding GathersIn
     so-far-all e all whole =
-        subst (λ (l : List Content). GathersKept draft set marks (gathered ds l) (Upto 0 count end))
+        subst (λ (l : List Content). GathersRegistered draft register row (gathered ds l) (Upto 0 count end))
         (sym (append-nil (s .list)) ∙ ap (λ (l : List Content). s .list ++ l) (sym (ap restFrom e ∙ rest-none)) ∙ s .rest ∙ whole)
-        (record { gathers = (s .row, s .fits); noted = λ u. s .noted })
+        (record { gathers = (s .stand, s .fits); registered = λ u. s .registered })
 
 -- what some elements give, by all of them
 joined-kept : {A B : Type 0} (f : A → List B) (test : A → Bool) (xs : List A)
@@ -175,7 +180,7 @@ joined-kept {A} {B} f test (x ∷ xs) = go (test x) refl (joined-kept f test xs)
     go false e ih = ap (joinedOf f) (keep-no test x xs e) ∙ ih ∙ ap (λ (b : Bool). onlyIf b (f x) ++ rest) (sym e)
 
 module _ (of : ℕ → List ℕ) (u : Table) where
-  -- what a rule gives to a pair, and a pair to a set
+  -- what a rule gives to a pair, and a pair to a set; it gives nothing to another
   abbrev pub ruleGives : (p i : ℕ) → List Content
   ruleGives p i = onlyIf (eqb (pairOf u (ruleNumbered u i)) p) (alts of (contentOfRule u i))
 
@@ -199,17 +204,17 @@ module _ (of : ℕ → List ℕ) (u : Table) where
       ∙ sym (joined-twice (alts of) (contentsOfPair u) (keep set (numbersBelow (length (u .rules)))))
 
 -- the content of all
-module _ (draft : List ℕ) (xs : List Content) (r : Gathering) (g : GathersInContent draft (gathered [] xs) r) where
+module _ (draft : List ℕ) (xs : List Content) (r : Gathering) (g : GathersIn draft contentRow (gathered [] xs) r) where
   pub made-wide : r ≡ TooLarge → (after : List ℕ) → Made after (oneContent xs) made.TooLarge
-  unfolding GathersInContent Made
+  unfolding GathersIn Made
   made-wide e after =
       ap (λ (l : List Content). contentTooLarge standard (oneContent l)) (sym (append-nil xs))
-      ∙ too-large xs [] (subst (λ (x : Gathering). GathersInContent draft (gathered [] xs) x) e g)
+      ∙ too-large xs [] (subst (λ (x : Gathering). GathersIn draft contentRow (gathered [] xs) x) e g)
 
   pub made-row : {m count end : ℕ} → r ≡ Upto m count end → Row draft 2 count (gathered [] xs) end
-  unfolding GathersInContent
+  unfolding GathersIn
   made-row {m} {count} {end} e =
-      let t : Row draft 2 count (gathered [] xs) end × (end ≤ 1026) = subst (λ (x : Gathering). GathersInContent draft (gathered [] xs) x) e g in
+      let t : Row draft 2 count (gathered [] xs) end × (end ≤ headedLength) = subst (λ (x : Gathering). GathersIn draft contentRow (gathered [] xs) x) e g in
       t .0
 
   abbrev pub made-kept : {m count end : ℕ} → r ≡ Upto m count end → Kept draft 2 count end

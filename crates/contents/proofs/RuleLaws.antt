@@ -9,7 +9,7 @@ use mathlib.Core.List.{List}
 use mathlib.Core.Path.{_≡_, sym, _∙_, ap, ap₂, subst}
 use lib.ListN.{length, getD, take, drop, length-take, length-drop}
 use lib.Seq.{getD-take, getD-drop}
-use Rattle.grammar.specs.Limits.{standard}
+use Rattle.grammar.specs.Limits.{standard, nestingLimit}
 use Rattle.grammar.specs.Content.{Content, none, nesting}
 use Rattle.grammar.specs.Table.{Rule, Table}
 use Rattle.grammar.specs.Unite.{shifted}
@@ -18,19 +18,20 @@ use Rattle.theory.specs.Alternatives.{alts, someLeft, gathered}
 use Rattle.theory.proofs.lists.ListLaws.{at-mem, at-else}
 use Rattle.theory.proofs.emission.AlternativeLaws.{alts-renamed}
 use Rattle.sets.specs.Sets.{bitOf, member}
-use Rattle.sets.specs.declared.four.Set4.{Set4}
-use Rattle.union.specs.declared.lists.TypeLists.{TypeLists}
 use Rattle.union.specs.declared.united.United.{United}
 use Rattle.union.specs.View.{SourceContent, FromAddition, Views, fromIn, toIn, firstIn}
 use Rattle.union.specs.Walks.{listOfType}
 use Rattle.union.specs.Rounds.{contentOfRule}
 use Rattle.union.specs.PairNumbers.{ruleNumbered}
 use Rattle.union.proofs.ViewLaws.{content-is, seen}
+use Rattle.contents.specs.declared.joining.ResultTypes.{ResultTypes}
+use Rattle.contents.specs.declared.drafts.OperandRow.{OperandRow}
 use Rattle.contents.specs.declared.drafts.Gathering.{Gathering}
 use Rattle.contents.specs.declared.drafts.Gathering.the-variants.{TooLarge, Upto}
-use Rattle.contents.specs.Drafts.{Gathers, GathersWith}
-use Rattle.contents.specs.Emitting.{Maps, Source, Noted}
-use Rattle.contents.specs.Joining.{Joining, Ready, GathersInContent, GathersKept}
+use Rattle.contents.specs.Drafts.{Gathers, GathersWith, GathersIn}
+use Rattle.contents.specs.Notes.{Registered}
+use Rattle.contents.specs.Emitting.{Maps, Source}
+use Rattle.contents.specs.Joining.{Joining, Ready, GathersRegistered}
 use Rattle.contents.proofs.AgreeLaws.{alts-agree, nesting-renamed}
 
 pub first-is : {old add : List ℕ} {v : United} {u : Table} → Views old add v u → (i : ℕ) → i < v .rules
@@ -57,18 +58,20 @@ part-long words e =
     let b = length-take (4 - 2) (drop 2 words) in
     omega arith
 
--- an answer of the emitter from the third byte on
-gathers-in : (d d' : List ℕ) (old next : ℕ) (ds : List Content) (r : Gathering) → Gathers d d' 2 old 1026 next ds r → GathersInContent d' ds r
-unfolding Gathers GathersInContent
-gathers-in d d' old next ds TooLarge g = g
-gathers-in d d' old next ds (Upto m count end) g = (g .1 .row, g .1 .fits)
+-- an answer of the emitter
+gathers-in : (d d' : List ℕ) (row : OperandRow) (next : ℕ) (ds : List Content) (r : Gathering)
+    → Gathers d d' (row .base) (row .end) (row .limit) next ds r → GathersIn d' row ds r
+unfolding Gathers GathersIn
+gathers-in d d' row next ds TooLarge g = g
+gathers-in d d' row next ds (Upto m count end) g = (g .1 .row, g .1 .fits)
 
-pub gathers-kept : (d d' : List ℕ) (old next : ℕ) (set marks : List ℕ) (ds : List Content) (r : Gathering)
-    → GathersWith (Noted set marks) d d' 2 old 1026 next ds r → GathersKept d' set marks ds r
-gathers-kept d d' old next set marks ds r g = record { gathers = gathers-in d d' old next ds r (g .gathers); noted = g .noted }
+pub gathers-registered : {d d' : List ℕ} {row : OperandRow} {next : ℕ} {register : List ℕ} {ds : List Content} {r : Gathering}
+    → GathersWith (Registered register) d d' row next ds r → GathersRegistered d' register row ds r
+gathers-registered {d} {d'} {row} {next} {ds = ds} {r = r} g =
+    record { gathers = gathers-in d d' row next ds r (g .gathers); registered = g .noted }
 
-module _ {old add : List ℕ} {v : United} {types : Set4} {results : TypeLists} (q : Joining old add v types results) where
-  pub maps-old : Maps (types .words) (results .old .from) (results .old .numbers)
+module _ {old add : List ℕ} {v : United} {results : ResultTypes} (q : Joining old add v results) where
+  pub maps-old : Maps (results .types .words) (results .lists .old .from) (results .lists .old .numbers)
   unfolding someLeft
   maps-old =
       let l = q .words in
@@ -77,14 +80,14 @@ module _ {old add : List ℕ} {v : United} {types : Set4} {results : TypeLists} 
         agree = λ k h. q .typed k (omega arith) ∙ ap (λ (l : List ℕ). someLeft (λ j. l) k) (sym (q .lists .old k h));
       }
 
-  pub maps-added : Maps (take (4 - 2) (drop 2 (types .words))) (results .addition .from) (results .addition .numbers)
+  pub maps-added : Maps (take (4 - 2) (drop 2 (results .types .words))) (results .lists .addition .from) (results .lists .addition .numbers)
   unfolding someLeft shifted standard
   maps-added =
       record {
-        words = part-long (types .words) (q .words);
+        words = part-long (results .types .words) (q .words);
         agree =
             λ k h.
-            added-member (types .words) k h
+            added-member (results .types .words) k h
             ∙ q .typed (64 + k) (omega arith)
             ∙ ap (λ (l : List ℕ). someLeft (λ j. l) k) (sym (q .lists .added k h));
       }
@@ -93,39 +96,39 @@ module _ {old add : List ℕ} {v : United} {types : Set4} {results : TypeLists} 
     abbrev pub rule : Rule
     rule = seen (q .views) i h .0
 
-    pub deep : nesting (rule .content) ≤ 32
+    pub deep : nesting (rule .content) ≤ nestingLimit
     deep = q .shallow rule (at-mem (q .table .rules) i (seen (q .views) i h .1))
 
     rule-content : contentOfRule (q .table) i ≡ rule .content
     rule-content = content-is (q .table) i rule (seen (q .views) i h .1)
 
-    module _ {draft set marks : List ℕ} {count end : ℕ} (k : Ready draft set marks count end) where
+    module _ {draft register : List ℕ} {row : OperandRow} (k : Ready draft register row) where
       -- a rule of the old table
       module _ (is-old : i < v .«old_rules») where
         pub old-part : SourceContent old (fromIn v i) (toIn v i) (rule .content)
         old-part = seen (q .views) i h .2 .in-old is-old
 
-        abbrev pub old-source : Source (take (toIn v i - fromIn v i) (drop (fromIn v i) old)) 0 (types .words) (results .old .from) (results .old .numbers)
-            draft 2 count end 1026 (length marks)
+        abbrev pub old-source : Source (take (toIn v i - fromIn v i) (drop (fromIn v i) old)) 0 (results .types .words) (results .lists .old .from) (results .lists .old .numbers)
+            draft row (length register)
         old-source =
             record {
               there = record { content = rule .content; next = toIn v i - fromIn v i; stands = old-part .stands; proper = old-part .proper };
               maps = maps-old;
               kept = k .kept;
               fits = k .fits;
-              small = omega arith;
+              small = k .small;
               room = let d = deep in let r = k .room in omega arith;
               deep = let d = deep in let w = k .deep in omega arith;
             }
 
-        pub old-gives : (after set′ marks′ : List ℕ) (r : Gathering)
-            → GathersKept after set′ marks′
-            (gathered (k .kept .list) (alts (listOfType (results .old .from) (results .old .numbers)) (rule .content))) r
-            → GathersKept after set′ marks′ (gathered (k .kept .list) (alts (q .of) (contentOfRule (q .table) i))) r
+        pub old-gives : (after register′ : List ℕ) (r : Gathering)
+            → GathersRegistered after register′ row
+            (gathered (k .kept .list) (alts (listOfType (results .lists .old .from) (results .lists .old .numbers)) (rule .content))) r
+            → GathersRegistered after register′ row (gathered (k .kept .list) (alts (q .of) (contentOfRule (q .table) i))) r
         unfolding standard
-        old-gives after set′ marks′ r g =
-            subst (λ (l : List Content). GathersKept after set′ marks′ (gathered (k .kept .list) l) r)
-            (alts-agree standard (listOfType (results .old .from) (results .old .numbers)) (q .of) (q .lists .old) (rule .content) (old-part .proper)
+        old-gives after register′ r g =
+            subst (λ (l : List Content). GathersRegistered after register′ row (gathered (k .kept .list) l) r)
+            (alts-agree standard (listOfType (results .lists .old .from) (results .lists .old .numbers)) (q .of) (q .lists .old) (rule .content) (old-part .proper)
             ∙ ap (alts (q .of)) (sym rule-content))
             g
 
@@ -134,12 +137,12 @@ module _ {old add : List ℕ} {v : United} {types : Set4} {results : TypeLists} 
         abbrev pub added-part : FromAddition add v i (rule .content)
         added-part = seen (q .views) i h .2 .in-addition is-added
 
-        pub source-deep : nesting (added-part .source) ≤ 32
+        pub source-deep : nesting (added-part .source) ≤ nestingLimit
         source-deep =
-            subst (λ (d : ℕ). d ≤ 32) (ap nesting (added-part .same) ∙ nesting-renamed (shifted standard) (added-part .source)) deep
+            subst (λ (d : ℕ). d ≤ nestingLimit) (ap nesting (added-part .same) ∙ nesting-renamed (shifted standard) (added-part .source)) deep
 
-        abbrev pub added-source : Source (take (toIn v i - fromIn v i) (drop (fromIn v i) add)) 0 (take (4 - 2) (drop 2 (types .words)))
-            (results .addition .from) (results .addition .numbers) draft 2 count end 1026 (length marks)
+        abbrev pub added-source : Source (take (toIn v i - fromIn v i) (drop (fromIn v i) add)) 0 (take (4 - 2) (drop 2 (results .types .words)))
+            (results .lists .addition .from) (results .lists .addition .numbers) draft row (length register)
         added-source =
             record {
               there =
@@ -152,19 +155,19 @@ module _ {old add : List ℕ} {v : United} {types : Set4} {results : TypeLists} 
               maps = maps-added;
               kept = k .kept;
               fits = k .fits;
-              small = omega arith;
+              small = k .small;
               room = let d = source-deep in let r = k .room in omega arith;
               deep = let d = source-deep in let w = k .deep in omega arith;
             }
 
-        pub added-gives : (after set′ marks′ : List ℕ) (r : Gathering)
-            → GathersKept after set′ marks′
-            (gathered (k .kept .list) (alts (listOfType (results .addition .from) (results .addition .numbers)) (added-part .source))) r
-            → GathersKept after set′ marks′ (gathered (k .kept .list) (alts (q .of) (contentOfRule (q .table) i))) r
+        pub added-gives : (after register′ : List ℕ) (r : Gathering)
+            → GathersRegistered after register′ row
+            (gathered (k .kept .list) (alts (listOfType (results .lists .addition .from) (results .lists .addition .numbers)) (added-part .source))) r
+            → GathersRegistered after register′ row (gathered (k .kept .list) (alts (q .of) (contentOfRule (q .table) i))) r
         unfolding standard
-        added-gives after set′ marks′ r g =
-            subst (λ (l : List Content). GathersKept after set′ marks′ (gathered (k .kept .list) l) r)
-            (alts-agree standard (listOfType (results .addition .from) (results .addition .numbers)) (λ j. q .of (shifted standard j)) (q .lists .added)
+        added-gives after register′ r g =
+            subst (λ (l : List Content). GathersRegistered after register′ row (gathered (k .kept .list) l) r)
+            (alts-agree standard (listOfType (results .lists .addition .from) (results .lists .addition .numbers)) (λ j. q .of (shifted standard j)) (q .lists .added)
             (added-part .source)
             (added-part .stands .proper)
             ∙ sym (alts-renamed (shifted standard) (q .of) (added-part .source))

@@ -13,7 +13,7 @@ use lib.ListN.{length, length-append}
 use lib.Dec.{ltb}
 use borrow.Author.Tests.{lt-ltb}
 use Rattle.grammar.specs.Lists.{distinct}
-use Rattle.grammar.specs.Limits.{standard}
+use Rattle.grammar.specs.Limits.{standard, contentLimit, operandLimit, nestingLimit}
 use Rattle.grammar.specs.Content.{Content, sequence, anyNumber, oneOrMore, optional, Contents, []ᶜ, _∷ᶜ_, nesting, operands, choiceOf}
 use Rattle.grammar.specs.ReadContent.{contentBytes, operandBytes, sameContent}
 use Rattle.grammar.specs.Size.{widestChoice, widestOf, contentTooLarge}
@@ -108,7 +108,7 @@ choice-wide [] = omega arith
 choice-wide (x ∷ []) = omega arith
 choice-wide (x ∷ y ∷ ys) = omega arith
 
-choice-many : (xs : List Content) → 255 < length xs → 255 < widestChoice (choiceOf xs)
+choice-many : (xs : List Content) → operandLimit < length xs → operandLimit < widestChoice (choiceOf xs)
 unfolding choiceOf operands widestChoice
 choice-many [] h = absurd (omega arith)
 choice-many (x ∷ []) h = absurd (omega arith)
@@ -118,7 +118,7 @@ pub one-long : (room : ℕ) (c : Content) → room < length (contentBytes c) →
 unfolding operandBytes
 one-long room c h = let l = length-append (contentBytes c) [] in long (omega arith)
 
-pub one-wide : (room : ℕ) (c : Content) → 255 < widestChoice c → Unfit room (c ∷ᶜ []ᶜ)
+pub one-wide : (room : ℕ) (c : Content) → operandLimit < widestChoice c → Unfit room (c ∷ᶜ []ᶜ)
 unfolding widestOf
 one-wide room c h = wide (omega arith)
 
@@ -187,18 +187,18 @@ pub wide-single : (room less : ℕ) (ds : List Content) (f : Content → Content
 wide-single room less ds f c a e h = wide-one room ds (f c) (unfit-single room less f c a e h)
 
 -- so the finished content is too large
-pub unfit-large : (c : Content) → Unfit 1024 (c ∷ᶜ []ᶜ) → contentTooLarge standard c ≡ true
+pub unfit-large : (c : Content) → Unfit contentLimit (c ∷ᶜ []ᶜ) → contentTooLarge standard c ≡ true
 unfolding contentTooLarge standard operandBytes widestOf
 unfit-large c (long h) =
     let l = length-append (contentBytes c) [] in
-    or-left (ltb 1024 (length (contentBytes c)) || ltb 32 (nesting c)) (ltb 255 (widestChoice c))
-    (or-left (ltb 1024 (length (contentBytes c))) (ltb 32 (nesting c)) (lt-ltb 1024 (length (contentBytes c)) (omega arith)))
+    or-left (ltb contentLimit (length (contentBytes c)) || ltb nestingLimit (nesting c)) (ltb operandLimit (widestChoice c))
+    (or-left (ltb contentLimit (length (contentBytes c))) (ltb nestingLimit (nesting c)) (lt-ltb contentLimit (length (contentBytes c)) (omega arith)))
 unfit-large c (wide h) =
-    or-right (ltb 1024 (length (contentBytes c)) || ltb 32 (nesting c)) (ltb 255 (widestChoice c))
-    (lt-ltb 255 (widestChoice c) (omega arith))
+    or-right (ltb contentLimit (length (contentBytes c)) || ltb nestingLimit (nesting c)) (ltb operandLimit (widestChoice c))
+    (lt-ltb operandLimit (widestChoice c) (omega arith))
 
-pub too-large : (xs ys : List Content) → TooWide 1024 (gathered [] xs) → contentTooLarge standard (oneContent (xs ++ ys)) ≡ true
+pub too-large : (xs ys : List Content) → TooWide contentLimit (gathered [] xs) → contentTooLarge standard (oneContent (xs ++ ys)) ≡ true
 too-large xs ys h =
     unfit-large (oneContent (xs ++ ys))
-    (subst (λ (c : Content). Unfit 1024 (c ∷ᶜ []ᶜ)) (sym (written-gathered (xs ++ ys)))
-    (wide-choice 1024 (gathered [] (xs ++ ys)) (wide-gathered 1024 [] xs ys h)))
+    (subst (λ (c : Content). Unfit contentLimit (c ∷ᶜ []ᶜ)) (sym (written-gathered (xs ++ ys)))
+    (wide-choice contentLimit (gathered [] (xs ++ ys)) (wide-gathered contentLimit [] xs ys h)))

@@ -4,7 +4,7 @@ use mathlib.Core.Bool.{true, false}
 use mathlib.Core.List.{List}
 use mathlib.Core.Path.{_≡_}
 use lib.ListN.{length, take}
-use Rattle.grammar.specs.Limits.{standard}
+use Rattle.grammar.specs.Limits.{standard, contentLimit}
 use Rattle.grammar.specs.Content.{Content}
 use Rattle.grammar.specs.ReadContent.{contentBytes}
 use Rattle.grammar.specs.Size.{contentTooLarge}
@@ -15,7 +15,7 @@ use Rattle.contents.specs.declared.completing.ContentMade.the-variants.{
 pub record Stored (draft : List ℕ) (c : Content) (end : ℕ) : Type 0 where
   pub bytes : take end draft ≡ contentBytes c
   pub fits : contentTooLarge standard c ≡ false
-  pub small : end ≤ 1024
+  pub small : end ≤ contentLimit
   pub inside : end ≤ length draft
 
 unfoldable pub Made : List ℕ → Content → ContentMade → Type 0

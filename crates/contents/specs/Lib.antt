@@ -1,5 +1,5 @@
 pub mod Drafts
-pub mod Marks
+pub mod Notes
 pub mod Emitting
 pub mod Completing
 pub mod Joining

@@ -1,6 +1,8 @@
 // The draft in which a content is made: a list of operands that stand in it one after the other, no two byte-equal.
+use crate::limits::FOLD;
 use crate::limits::OPERANDS;
 use crate::limits::PRINTED;
+use crate::limits::PRINTS;
 use reader::numbers::wide;
 ghost use Prim.Native.Nat.{_+_, _-_, _/_, _%_, _≤_};
 ghost use mathlib.Core.Bool.{true, false};
@@ -9,12 +11,13 @@ ghost use mathlib.Core.Logic.{_↔_};
 ghost use mathlib.Core.Path.{_≡_};
 ghost use lib.ListN.{length, take, drop};
 ghost use lib.Seq.{paste};
+ghost use Rattle.grammar.specs.Limits.{contentLimit};
 ghost use Rattle.grammar.specs.Lists.{anyPass};
 ghost use Rattle.grammar.specs.Content.{choiceOf};
 ghost use Rattle.grammar.specs.ReadContent.{sameContent};
 ghost use Rattle.theory.specs.Alternatives.{gathered};
 ghost use Rattle.contents.specs.Drafts.{Kept, Newest, Finished, GathersWith};
-ghost use Rattle.contents.specs.Marks.{folded, fingerprint, Marked};
+ghost use Rattle.contents.specs.Notes.{prints, folded, fingerprint, Noted};
 
 // The operands after gathering, and where the source goes on; or they do not fit.
 pub enum Gathering {
@@ -24,6 +27,14 @@ pub enum Gathering {
         count: usize,
         end: usize,
     },
+}
+
+// The operands of an expression: where the first begins in the draft, how many there are, where they end, and where they must end.
+pub struct OperandRow {
+    pub base: usize,
+    pub count: usize,
+    pub end: usize,
+    pub limit: usize,
 }
 
 // The same bytes at two places.
@@ -41,7 +52,7 @@ fn same_bytes(draft: &[u8], a: usize, b: usize, n: usize) -> bool
     true
 }
 
-// Bytes folded into a number below 65536.
+// Bytes folded into a fingerprint.
 fn fold_bytes(draft: &[u8], from: usize, to: usize) -> usize
     requires { ⌜ (from ≤ to) × (to ≤ length (now draft)) ⌝ }
     ensures { λ r. ⌜ r ≡ folded 0 (take (to - from) (drop from (now (draft .entry)))) ⌝ }
@@ -49,7 +60,7 @@ fn fold_bytes(draft: &[u8], from: usize, to: usize) -> usize
     let mut print = 0usize;
     let mut i = from;
     while i < to {
-        print = (print * 31 + wide(draft[i])) % 65536;
+        print = (print * FOLD + wide(draft[i])) % PRINTS;
         i += 1;
     }
     print
@@ -66,38 +77,31 @@ fn print_of(draft: &[u8], from: usize, to: usize) -> usize
     fold_bytes(draft, from, from + PRINTED)
 }
 
-// Whether the operand of a mark is the expression after the operands, by their fingerprints and then by their bytes.
-fn is_same(draft: &[u8], base: usize, mark: u32, end: usize, fresh: usize, print: usize) -> bool
-    requires { ⌜ (base + mark % 65536 ≤ end) × (end ≤ fresh) × (fresh ≤ length (now draft)) ⌝ }
-    ensures { λ r. ⌜ (r ≡ true) ↔ ((mark / 65536 ≡ print)
-        × (take (fresh - end) (drop (base + mark % 65536) (now (draft .entry)))
+// Whether the operand of a note is the expression after the operands, by their fingerprints and then by their bytes.
+fn is_same(draft: &[u8], base: usize, note: u32, end: usize, fresh: usize, print: usize) -> bool
+    requires { ⌜ (base + note % prints ≤ end) × (end ≤ fresh) × (fresh ≤ length (now draft)) ⌝ }
+    ensures { λ r. ⌜ (r ≡ true) ↔ ((note / prints ≡ print)
+        × (take (fresh - end) (drop (base + note % prints) (now (draft .entry)))
         ≡ take (fresh - end) (drop end (now (draft .entry))))) ⌝ }
 {
-    let word = mark as usize;
-    if word / 65536 != print {
+    let word = note as usize;
+    if word / PRINTS != print {
         return false;
     }
-    same_bytes(draft, base + word % 65536, end, fresh - end)
+    same_bytes(draft, base + word % PRINTS, end, fresh - end)
 }
 
 // Whether the expression after the operands, of this fingerprint, is one of them.
-fn is_there(
-    draft: &[u8],
-    base: usize,
-    count: usize,
-    end: usize,
-    fresh: usize,
-    print: usize,
-    marks: &[u32],
-) -> bool
-    requires { ⌜ ((q : Newest (now draft) base count end fresh) × Marked (now marks) (q .kept .list)) × (end ≤ base + 1024)
-        × (print ≡ fingerprint (take (fresh - end) (drop end (now draft)))) ⌝ }
-    ensures { λ r. ⌜ ((q : Newest (now (draft .entry)) base count end fresh) → Marked (now (marks .entry)) (q .kept .list)
+fn is_there(draft: &[u8], row: OperandRow, fresh: usize, print: usize, notes: &[u32]) -> bool
+    requires { ⌜ ((q : Newest (now draft) row fresh) × Noted (now notes) (q .kept .list)) × (row .end ≤ row .base + contentLimit)
+        × (print ≡ fingerprint (take (fresh - row .end) (drop (row .end) (now draft)))) ⌝ }
+    ensures { λ r. ⌜ ((q : Newest (now (draft .entry)) row fresh) → Noted (now (notes .entry)) (q .kept .list)
         → r ≡ anyPass (sameContent (q .newest)) (q .kept .list)) ⌝ }
 {
+    let count = row.count;
     let mut k = 0usize;
     while k < count {
-        if is_same(draft, base, marks[k], end, fresh, print) {
+        if is_same(draft, row.base, notes[k], row.end, fresh, print) {
             return true;
         }
         k += 1;
@@ -105,33 +109,31 @@ fn is_there(
     false
 }
 
-// Keeps the expression after the operands, which is not one of them, as one more operand, with its mark.
+// Keeps the expression after the operands, which is not one of them, as one more operand, with its note.
 pub fn keep(
     draft: &[u8],
-    base: usize,
-    count: usize,
-    end: usize,
+    row: OperandRow,
     fresh: usize,
-    limit: usize,
     next: usize,
     print: usize,
-    marks: &mut [u32],
+    notes: &mut [u32],
 ) -> Gathering
-    requires { ⌜ ((q : Newest (now draft) base count end fresh) × (anyPass (sameContent (q .newest)) (q .kept .list) ≡ false)
-        × Marked (now marks) (q .kept .list)) × (end ≤ limit) × (limit ≤ base + 1024)
-        × (print ≡ fingerprint (take (fresh - end) (drop end (now draft)))) ⌝ }
-    ensures { λ r. ⌜ ((q : Newest (now (draft .entry)) base count end fresh) → anyPass (sameContent (q .newest)) (q .kept .list) ≡ false
-        → Marked (now (marks .entry)) (q .kept .list)
-        → GathersWith (Marked (now (marks .exit))) (now (draft .entry)) (now (draft .entry)) base end limit next
+    requires { ⌜ ((q : Newest (now draft) row fresh) × (anyPass (sameContent (q .newest)) (q .kept .list) ≡ false)
+        × Noted (now notes) (q .kept .list)) × (row .end ≤ row .limit) × (row .limit ≤ row .base + contentLimit)
+        × (print ≡ fingerprint (take (fresh - row .end) (drop (row .end) (now draft)))) ⌝ }
+    ensures { λ r. ⌜ ((q : Newest (now (draft .entry)) row fresh) → anyPass (sameContent (q .newest)) (q .kept .list) ≡ false
+        → Noted (now (notes .entry)) (q .kept .list)
+        → GathersWith (Noted (now (notes .exit))) (now (draft .entry)) (now (draft .entry)) row next
         (gathered (q .kept .list) (q .newest ∷ [])) r) ⌝ }
 {
-    if limit < fresh {
+    if row.limit < fresh {
         return Gathering::TooLarge;
     }
+    let count = row.count;
     if OPERANDS <= count {
         return Gathering::TooLarge;
     }
-    marks[count] = (print * 65536 + (end - base)) as u32;
+    notes[count] = (print * PRINTS + (row.end - row.base)) as u32;
     Gathering::Upto {
         next,
         count: count + 1,
@@ -142,25 +144,26 @@ pub fn keep(
 // The same, or drops it if it is one of them.
 pub fn settle(
     draft: &[u8],
-    base: usize,
-    count: usize,
-    end: usize,
+    row: OperandRow,
     fresh: usize,
-    limit: usize,
     next: usize,
-    marks: &mut [u32],
+    notes: &mut [u32],
 ) -> Gathering
-    requires { ⌜ ((q : Newest (now draft) base count end fresh) × Marked (now marks) (q .kept .list)) × (end ≤ limit)
-        × (limit ≤ base + 1024) ⌝ }
-    ensures { λ r. ⌜ ((q : Newest (now (draft .entry)) base count end fresh) → Marked (now (marks .entry)) (q .kept .list)
-        → GathersWith (Marked (now (marks .exit))) (now (draft .entry)) (now (draft .entry)) base end limit next
+    requires { ⌜ ((q : Newest (now draft) row fresh) × Noted (now notes) (q .kept .list)) × (row .end ≤ row .limit)
+        × (row .limit ≤ row .base + contentLimit) ⌝ }
+    ensures { λ r. ⌜ ((q : Newest (now (draft .entry)) row fresh) → Noted (now (notes .entry)) (q .kept .list)
+        → GathersWith (Noted (now (notes .exit))) (now (draft .entry)) (now (draft .entry)) row next
         (gathered (q .kept .list) (q .newest ∷ [])) r) ⌝ }
 {
-    let print = print_of(draft, end, fresh);
-    if is_there(draft, base, count, end, fresh, print, marks) {
-        return Gathering::Upto { next, count, end };
+    let print = print_of(draft, row.end, fresh);
+    if is_there(draft, row, fresh, print, notes) {
+        return Gathering::Upto {
+            next,
+            count: row.count,
+            end: row.end,
+        };
     }
-    keep(draft, base, count, end, fresh, limit, next, print, marks)
+    keep(draft, row, fresh, next, print, notes)
 }
 
 // The bytes up to `end`, from two places after `start` on, moved down to `start`.

@@ -1,15 +1,19 @@
 // From a source content to the tidied content of the result. The alternatives that the source content gives are gathered in the
 // draft, each once; their choice is the content. `types` is the set of the source types that have result types, and `from` and
-// `results` give the result types of each. `marks` has the marks of the operands, and after those of a row there is room for the
-// marks of the rows within.
+// `results` give the result types of each. `register` is that of the operands kept: the set of the result types among them and
+// their notes, and after these there is room for the registers of the rows within.
 use crate::drafts::Gathering;
+use crate::drafts::OperandRow;
 use crate::drafts::finish;
 use crate::drafts::keep;
 use crate::drafts::settle;
+use crate::limits::FOLD;
 use crate::limits::HEADED;
 use crate::limits::OPERANDS;
+use crate::limits::TYPE_WORDS;
 use reader::limits::CONTENT;
 use reader::numbers::wide;
+use reader::work::clear;
 use sets::words::has;
 use sets::words::put;
 use union::productive::content_has;
@@ -23,8 +27,8 @@ ghost use Rattle.grammar.specs.Content.{empty, type, operands};
 ghost use Rattle.theory.specs.Alternatives.{alts, altsOfEach, oneContent, gathered};
 ghost use Rattle.union.specs.Walks.{listOfType};
 ghost use Rattle.contents.specs.Drafts.{GathersWith};
-ghost use Rattle.contents.specs.Marks.{Marked};
-ghost use Rattle.contents.specs.Emitting.{RoomForMore, Source, Sources, Noted, Operands, Emits};
+ghost use Rattle.contents.specs.Notes.{Noted, typeWords, Registered};
+ghost use Rattle.contents.specs.Emitting.{RoomForMore, Source, Sources, Operands, Emits};
 
 // Where the operands of an expression end in the draft, and where the source goes on; or they do not fit.
 pub enum Emitted {
@@ -43,60 +47,51 @@ fn byte_or_zero(bytes: &[u8], i: usize) -> usize
 }
 
 // The empty content as an alternative.
-fn gather_empty(
-    draft: &mut [u8],
-    base: usize,
-    count: usize,
-    end: usize,
-    limit: usize,
-    next: usize,
-    marks: &mut [u32],
-) -> Gathering
-    requires { ⌜ ((q : RoomForMore (now draft) base count end limit) × Marked (now marks) (q .kept .list)) ⌝ }
-    ensures { λ r. ⌜ ((q : RoomForMore (now (draft .entry)) base count end limit) → Marked (now (marks .entry)) (q .kept .list)
-        → GathersWith (Marked (now (marks .exit))) (now (draft .entry)) (now (draft .exit)) base end limit next
+fn gather_empty(draft: &mut [u8], row: OperandRow, next: usize, notes: &mut [u32]) -> Gathering
+    requires { ⌜ ((q : RoomForMore (now draft) row) × Noted (now notes) (q .kept .list)) ⌝ }
+    ensures { λ r. ⌜ ((q : RoomForMore (now (draft .entry)) row) → Noted (now (notes .entry)) (q .kept .list)
+        → GathersWith (Noted (now (notes .exit))) (now (draft .entry)) (now (draft .exit)) row next
         (gathered (q .kept .list) (empty ∷ [])) r) ⌝ }
 {
+    let end = row.end;
     draft[end] = 1;
-    settle(draft, base, count, end, end + 1, limit, next, marks)
+    settle(draft, row, end + 1, next, notes)
 }
 
-// A result type as an alternative. `kept` is the set of the result types that are among the operands. Its two bytes, 2 and its number,
-// fold into 2 * 31 and its number: its fingerprint.
+// A result type as an alternative. Its two bytes, 2 and its number, fold into its fingerprint.
 fn gather_result(
     result: u8,
     draft: &mut [u8],
-    base: usize,
-    count: usize,
-    end: usize,
-    limit: usize,
+    row: OperandRow,
     next: usize,
-    kept: &mut [u32],
-    marks: &mut [u32],
+    register: &mut [u32],
 ) -> Gathering
-    requires { ⌜ ((q : RoomForMore (now draft) base count end limit) × Noted (now kept) (now marks) (q .kept .list)) ⌝ }
-    ensures { λ r. ⌜ ((q : RoomForMore (now (draft .entry)) base count end limit)
-        → Noted (now (kept .entry)) (now (marks .entry)) (q .kept .list)
-        → GathersWith (Noted (now (kept .exit)) (now (marks .exit))) (now (draft .entry)) (now (draft .exit)) base end limit next
+    requires { ⌜ ((q : RoomForMore (now draft) row) × Registered (now register) (q .kept .list)) ⌝ }
+    ensures { λ r. ⌜ ((q : RoomForMore (now (draft .entry)) row)
+        → Registered (now (register .entry)) (q .kept .list)
+        → GathersWith (Registered (now (register .exit))) (now (draft .entry)) (now (draft .exit)) row next
         (gathered (q .kept .list) (type result ∷ [])) r) ⌝ }
 {
     let number = wide(result);
-    if has(kept, 0, number) {
-        return Gathering::Upto { next, count, end };
+    let end = row.end;
+    if has(register, 0, number) {
+        return Gathering::Upto {
+            next,
+            count: row.count,
+            end,
+        };
     }
-    put(kept, 0, number);
+    put(register, 0, number);
     draft[end] = 2;
     draft[end + 1] = result;
+    let print = 2 * FOLD + number;
     keep(
         draft,
-        base,
-        count,
-        end,
+        row,
         end + 2,
-        limit,
         next,
-        62 + number,
-        marks,
+        print,
+        &mut register[TYPE_WORDS..],
     )
 }
 
@@ -106,38 +101,30 @@ fn gather_types(
     first: usize,
     stop: usize,
     draft: &mut [u8],
-    base: usize,
-    count: usize,
-    end: usize,
-    limit: usize,
+    row: OperandRow,
     next: usize,
-    kept: &mut [u32],
-    marks: &mut [u32],
+    register: &mut [u32],
 ) -> Gathering
-    requires { ⌜ ((q : RoomForMore (now draft) base count end limit) × Noted (now kept) (now marks) (q .kept .list)) ⌝ }
-    ensures { λ r. ⌜ ((q : RoomForMore (now (draft .entry)) base count end limit)
-        → Noted (now (kept .entry)) (now (marks .entry)) (q .kept .list)
-        → GathersWith (Noted (now (kept .exit)) (now (marks .exit))) (now (draft .entry)) (now (draft .exit)) base end limit next
+    requires { ⌜ ((q : RoomForMore (now draft) row) × Registered (now register) (q .kept .list)) ⌝ }
+    ensures { λ r. ⌜ ((q : RoomForMore (now (draft .entry)) row)
+        → Registered (now (register .entry)) (q .kept .list)
+        → GathersWith (Registered (now (register .exit))) (now (draft .entry)) (now (draft .exit)) row next
         (gathered (q .kept .list) (map type (take (stop - first) (drop first (now (results .entry)))))) r) ⌝ }
 {
-    let mut count = count;
-    let mut end = end;
+    let mut count = row.count;
+    let mut end = row.end;
     let mut i = first;
     while i < stop {
         if results.len() <= i {
             return Gathering::Upto { next, count, end };
         }
-        match gather_result(
-            results[i],
-            draft,
-            base,
+        let so_far = OperandRow {
+            base: row.base,
             count,
             end,
-            limit,
-            next,
-            kept,
-            marks,
-        ) {
+            limit: row.limit,
+        };
+        match gather_result(results[i], draft, so_far, next, register) {
             Gathering::TooLarge => {
                 return Gathering::TooLarge;
             }
@@ -161,35 +148,19 @@ fn gather_type(
     from: &[u8],
     results: &[u8],
     draft: &mut [u8],
-    base: usize,
-    count: usize,
-    end: usize,
-    limit: usize,
+    row: OperandRow,
     next: usize,
-    kept: &mut [u32],
-    marks: &mut [u32],
+    register: &mut [u32],
 ) -> Gathering
-    requires { ⌜ (k < 64) × ((q : RoomForMore (now draft) base count end limit) × Noted (now kept) (now marks) (q .kept .list)) ⌝ }
-    ensures { λ r. ⌜ ((q : RoomForMore (now (draft .entry)) base count end limit)
-        → Noted (now (kept .entry)) (now (marks .entry)) (q .kept .list)
-        → GathersWith (Noted (now (kept .exit)) (now (marks .exit))) (now (draft .entry)) (now (draft .exit)) base end limit next
+    requires { ⌜ (k < 64) × ((q : RoomForMore (now draft) row) × Registered (now register) (q .kept .list)) ⌝ }
+    ensures { λ r. ⌜ ((q : RoomForMore (now (draft .entry)) row)
+        → Registered (now (register .entry)) (q .kept .list)
+        → GathersWith (Registered (now (register .exit))) (now (draft .entry)) (now (draft .exit)) row next
         (gathered (q .kept .list) (map type (listOfType (now (from .entry)) (now (results .entry)) k))) r) ⌝ }
 {
     let first = byte_or_zero(from, k);
     let stop = byte_or_zero(from, k + 1);
-    gather_types(
-        results,
-        first,
-        stop,
-        draft,
-        base,
-        count,
-        end,
-        limit,
-        next,
-        kept,
-        marks,
-    )
+    gather_types(results, first, stop, draft, row, next, register)
 }
 
 // The alternatives that a sequence gives: one, or none if an operand has none.
@@ -200,24 +171,22 @@ fn gather_sequence(
     from: &[u8],
     results: &[u8],
     draft: &mut [u8],
-    base: usize,
-    count: usize,
-    end: usize,
-    limit: usize,
-    marks: &mut [u32],
+    row: OperandRow,
+    notes: &mut [u32],
 ) -> Gathering
     requires { ⌜ (getD (now content) at 0 ≡ 3)
-        × ((q : Source (now content) at (now types) (now from) (now results) (now draft) base count end limit (length (now marks)))
-        × Marked (now marks) (q .kept .list)) ⌝ }
+        × ((q : Source (now content) at (now types) (now from) (now results) (now draft) row (typeWords + length (now notes)))
+        × Noted (now notes) (q .kept .list)) ⌝ }
     ensures { λ r. ⌜ ((q : Source (now (content .entry)) at (now (types .entry)) (now (from .entry)) (now (results .entry))
-        (now (draft .entry)) base count end limit (length (now (marks .entry))))
-        → Marked (now (marks .entry)) (q .kept .list)
-        → GathersWith (Marked (now (marks .exit))) (now (draft .entry)) (now (draft .exit)) base end limit (q .there .next)
+        (now (draft .entry)) row (typeWords + length (now (notes .entry))))
+        → Noted (now (notes .entry)) (q .kept .list)
+        → GathersWith (Noted (now (notes .exit))) (now (draft .entry)) (now (draft .exit)) row (q .there .next)
         (gathered (q .kept .list) (alts (listOfType (now (from .entry)) (now (results .entry))) (q .there .content))) r) ⌝ }
 {
     let n = wide(content[at + 1]);
     let asked = row_has(content, at + 2, n, types, 0);
     if asked.all {
+        let end = row.end;
         draft[end] = 3;
         draft[end + 1] = content[at + 1];
         return match emit_row(
@@ -230,25 +199,16 @@ fn gather_sequence(
             draft,
             end,
             end + 2,
-            &mut marks[OPERANDS..],
+            &mut notes[OPERANDS..],
         ) {
             Emitted::TooLarge => Gathering::TooLarge,
-            Emitted::Upto { next, end: fresh } => settle(
-                draft,
-                base,
-                count,
-                end,
-                fresh,
-                limit,
-                next,
-                marks,
-            ),
+            Emitted::Upto { next, end: fresh } => settle(draft, row, fresh, next, notes),
         };
     }
     Gathering::Upto {
         next: asked.next,
-        count,
-        end,
+        count: row.count,
+        end: row.end,
     }
 }
 
@@ -260,24 +220,22 @@ fn gather_around(
     from: &[u8],
     results: &[u8],
     draft: &mut [u8],
-    base: usize,
-    count: usize,
-    end: usize,
-    limit: usize,
-    marks: &mut [u32],
+    row: OperandRow,
+    notes: &mut [u32],
 ) -> Gathering
     requires { ⌜ (5 ≤ getD (now content) at 0)
-        × ((q : Source (now content) at (now types) (now from) (now results) (now draft) base count end limit (length (now marks)))
-        × Marked (now marks) (q .kept .list)) ⌝ }
+        × ((q : Source (now content) at (now types) (now from) (now results) (now draft) row (typeWords + length (now notes)))
+        × Noted (now notes) (q .kept .list)) ⌝ }
     ensures { λ r. ⌜ ((q : Source (now (content .entry)) at (now (types .entry)) (now (from .entry)) (now (results .entry))
-        (now (draft .entry)) base count end limit (length (now (marks .entry))))
-        → Marked (now (marks .entry)) (q .kept .list)
-        → GathersWith (Marked (now (marks .exit))) (now (draft .entry)) (now (draft .exit)) base end limit (q .there .next)
+        (now (draft .entry)) row (typeWords + length (now (notes .entry))))
+        → Noted (now (notes .entry)) (q .kept .list)
+        → GathersWith (Noted (now (notes .exit))) (now (draft .entry)) (now (draft .exit)) row (q .there .next)
         (gathered (q .kept .list) (alts (listOfType (now (from .entry)) (now (results .entry))) (q .there .content))) r) ⌝ }
 {
     let operator = content[at];
     let asked = content_has(content, at + 1, types, 0);
     if asked.has {
+        let end = row.end;
         draft[end] = operator;
         return match emit_row(
             content,
@@ -289,29 +247,20 @@ fn gather_around(
             draft,
             end,
             end + 1,
-            &mut marks[OPERANDS..],
+            &mut notes[OPERANDS..],
         ) {
             Emitted::TooLarge => Gathering::TooLarge,
-            Emitted::Upto { next, end: fresh } => settle(
-                draft,
-                base,
-                count,
-                end,
-                fresh,
-                limit,
-                next,
-                marks,
-            ),
+            Emitted::Upto { next, end: fresh } => settle(draft, row, fresh, next, notes),
         };
     }
     if operator == 6 {
         return Gathering::Upto {
             next: asked.next,
-            count,
-            end,
+            count: row.count,
+            end: row.end,
         };
     }
-    gather_empty(draft, base, count, end, limit, asked.next, marks)
+    gather_empty(draft, row, asked.next, notes)
 }
 
 // The alternatives that a sequence or an operator of one operand gives.
@@ -322,49 +271,22 @@ fn gather_one(
     from: &[u8],
     results: &[u8],
     draft: &mut [u8],
-    base: usize,
-    count: usize,
-    end: usize,
-    limit: usize,
-    marks: &mut [u32],
+    row: OperandRow,
+    notes: &mut [u32],
 ) -> Gathering
     requires { ⌜ (3 ≤ getD (now content) at 0) × (getD (now content) at 0 ≡ 4 → ⊥)
-        × ((q : Source (now content) at (now types) (now from) (now results) (now draft) base count end limit (length (now marks)))
-        × Marked (now marks) (q .kept .list)) ⌝ }
+        × ((q : Source (now content) at (now types) (now from) (now results) (now draft) row (typeWords + length (now notes)))
+        × Noted (now notes) (q .kept .list)) ⌝ }
     ensures { λ r. ⌜ ((q : Source (now (content .entry)) at (now (types .entry)) (now (from .entry)) (now (results .entry))
-        (now (draft .entry)) base count end limit (length (now (marks .entry))))
-        → Marked (now (marks .entry)) (q .kept .list)
-        → GathersWith (Marked (now (marks .exit))) (now (draft .entry)) (now (draft .exit)) base end limit (q .there .next)
+        (now (draft .entry)) row (typeWords + length (now (notes .entry))))
+        → Noted (now (notes .entry)) (q .kept .list)
+        → GathersWith (Noted (now (notes .exit))) (now (draft .entry)) (now (draft .exit)) row (q .there .next)
         (gathered (q .kept .list) (alts (listOfType (now (from .entry)) (now (results .entry))) (q .there .content))) r) ⌝ }
 {
     if wide(content[at]) == 3 {
-        return gather_sequence(
-            content,
-            at,
-            types,
-            from,
-            results,
-            draft,
-            base,
-            count,
-            end,
-            limit,
-            marks,
-        );
+        return gather_sequence(content, at, types, from, results, draft, row, notes);
     }
-    gather_around(
-        content,
-        at,
-        types,
-        from,
-        results,
-        draft,
-        base,
-        count,
-        end,
-        limit,
-        marks,
-    )
+    gather_around(content, at, types, from, results, draft, row, notes)
 }
 
 // The alternatives that a content with operands gives: a sequence, a choice, or an operator of one operand.
@@ -375,38 +297,31 @@ fn gather_compound(
     from: &[u8],
     results: &[u8],
     draft: &mut [u8],
-    base: usize,
-    count: usize,
-    end: usize,
-    limit: usize,
-    kept: &mut [u32],
-    marks: &mut [u32],
+    row: OperandRow,
+    register: &mut [u32],
 ) -> Gathering
     requires { ⌜ (3 ≤ getD (now content) at 0)
-        × ((q : Source (now content) at (now types) (now from) (now results) (now draft) base count end limit (length (now marks)))
-        × Noted (now kept) (now marks) (q .kept .list)) ⌝ }
+        × ((q : Source (now content) at (now types) (now from) (now results) (now draft) row (length (now register)))
+        × Registered (now register) (q .kept .list)) ⌝ }
     ensures { λ r. ⌜ ((q : Source (now (content .entry)) at (now (types .entry)) (now (from .entry)) (now (results .entry))
-        (now (draft .entry)) base count end limit (length (now (marks .entry))))
-        → Noted (now (kept .entry)) (now (marks .entry)) (q .kept .list)
-        → GathersWith (Noted (now (kept .exit)) (now (marks .exit))) (now (draft .entry)) (now (draft .exit)) base end limit
+        (now (draft .entry)) row (length (now (register .entry))))
+        → Registered (now (register .entry)) (q .kept .list)
+        → GathersWith (Registered (now (register .exit))) (now (draft .entry)) (now (draft .exit)) row
         (q .there .next)
         (gathered (q .kept .list) (alts (listOfType (now (from .entry)) (now (results .entry))) (q .there .content))) r) ⌝ }
 {
     if wide(content[at]) == 4 {
+        let n = wide(content[at + 1]);
         return gather_row(
             content,
             at + 2,
-            wide(content[at + 1]),
+            n,
             types,
             from,
             results,
             draft,
-            base,
-            count,
-            end,
-            limit,
-            kept,
-            marks,
+            row,
+            register,
         );
     }
     gather_one(
@@ -416,16 +331,12 @@ fn gather_compound(
         from,
         results,
         draft,
-        base,
-        count,
-        end,
-        limit,
-        marks,
+        row,
+        &mut register[TYPE_WORDS..],
     )
 }
 
-// Adds to the operands in the draft the alternatives that the source content at a place gives. `kept` is the set of the result types
-// that are among the operands.
+// Adds to the operands in the draft the alternatives that the source content at a place gives.
 pub fn gather(
     content: &[u8],
     at: usize,
@@ -433,19 +344,15 @@ pub fn gather(
     from: &[u8],
     results: &[u8],
     draft: &mut [u8],
-    base: usize,
-    count: usize,
-    end: usize,
-    limit: usize,
-    kept: &mut [u32],
-    marks: &mut [u32],
+    row: OperandRow,
+    register: &mut [u32],
 ) -> Gathering
-    requires { ⌜ ((q : Source (now content) at (now types) (now from) (now results) (now draft) base count end limit (length (now marks)))
-        × Noted (now kept) (now marks) (q .kept .list)) ⌝ }
+    requires { ⌜ ((q : Source (now content) at (now types) (now from) (now results) (now draft) row (length (now register)))
+        × Registered (now register) (q .kept .list)) ⌝ }
     ensures { λ r. ⌜ ((q : Source (now (content .entry)) at (now (types .entry)) (now (from .entry)) (now (results .entry))
-        (now (draft .entry)) base count end limit (length (now (marks .entry))))
-        → Noted (now (kept .entry)) (now (marks .entry)) (q .kept .list)
-        → GathersWith (Noted (now (kept .exit)) (now (marks .exit))) (now (draft .entry)) (now (draft .exit)) base end limit
+        (now (draft .entry)) row (length (now (register .entry))))
+        → Registered (now (register .entry)) (q .kept .list)
+        → GathersWith (Registered (now (register .exit))) (now (draft .entry)) (now (draft .exit)) row
         (q .there .next)
         (gathered (q .kept .list) (alts (listOfType (now (from .entry)) (now (results .entry))) (q .there .content))) r) ⌝ }
 {
@@ -453,40 +360,15 @@ pub fn gather(
     match operator {
         0 => Gathering::Upto {
             next: at + 1,
-            count,
-            end,
+            count: row.count,
+            end: row.end,
         },
-        1 => gather_empty(draft, base, count, end, limit, at + 1, marks),
+        1 => gather_empty(draft, row, at + 1, &mut register[TYPE_WORDS..]),
         2 => {
             let k = wide(content[at + 1]);
-            gather_type(
-                k,
-                from,
-                results,
-                draft,
-                base,
-                count,
-                end,
-                limit,
-                at + 2,
-                kept,
-                marks,
-            )
+            gather_type(k, from, results, draft, row, at + 2, register)
         }
-        _ => gather_compound(
-            content,
-            at,
-            types,
-            from,
-            results,
-            draft,
-            base,
-            count,
-            end,
-            limit,
-            kept,
-            marks,
-        ),
+        _ => gather_compound(content, at, types, from, results, draft, row, register),
     }
 }
 
@@ -499,43 +381,32 @@ pub fn gather_row(
     from: &[u8],
     results: &[u8],
     draft: &mut [u8],
-    base: usize,
-    count: usize,
-    end: usize,
-    limit: usize,
-    kept: &mut [u32],
-    marks: &mut [u32],
+    row: OperandRow,
+    register: &mut [u32],
 ) -> Gathering
-    requires { ⌜ ((q : Sources (now content) at n (now types) (now from) (now results) (now draft) base count end limit
-        (length (now marks)))
-        × Noted (now kept) (now marks) (q .kept .list)) ⌝ }
+    requires { ⌜ ((q : Sources (now content) at n (now types) (now from) (now results) (now draft) row
+        (length (now register)))
+        × Registered (now register) (q .kept .list)) ⌝ }
     ensures { λ r. ⌜ ((q : Sources (now (content .entry)) at n (now (types .entry)) (now (from .entry)) (now (results .entry))
-        (now (draft .entry)) base count end limit (length (now (marks .entry))))
-        → Noted (now (kept .entry)) (now (marks .entry)) (q .kept .list)
-        → GathersWith (Noted (now (kept .exit)) (now (marks .exit))) (now (draft .entry)) (now (draft .exit)) base end limit
+        (now (draft .entry)) row (length (now (register .entry))))
+        → Registered (now (register .entry)) (q .kept .list)
+        → GathersWith (Registered (now (register .exit))) (now (draft .entry)) (now (draft .exit)) row
         (q .there .next)
         (gathered (q .kept .list)
         (joinedOf (λ xs. xs) (altsOfEach (listOfType (now (from .entry)) (now (results .entry))) (q .there .contents)))) r) ⌝ }
 {
     let mut at = at;
-    let mut count = count;
-    let mut end = end;
+    let mut count = row.count;
+    let mut end = row.end;
     let mut left = n;
     while 0 < left {
-        match gather(
-            content,
-            at,
-            types,
-            from,
-            results,
-            draft,
-            base,
+        let so_far = OperandRow {
+            base: row.base,
             count,
             end,
-            limit,
-            kept,
-            marks,
-        ) {
+            limit: row.limit,
+        };
+        match gather(content, at, types, from, results, draft, so_far, register) {
             Gathering::TooLarge => {
                 return Gathering::TooLarge;
             }
@@ -566,11 +437,11 @@ fn emit_row(
     draft: &mut [u8],
     start: usize,
     place: usize,
-    marks: &mut [u32],
+    register: &mut [u32],
 ) -> Emitted
-    requires { ⌜ Operands (now content) at n (now types) (now from) (now results) (now draft) start place (length (now marks)) ⌝ }
+    requires { ⌜ Operands (now content) at n (now types) (now from) (now results) (now draft) start place (length (now register)) ⌝ }
     ensures { λ r. ⌜ ((q : Operands (now (content .entry)) at n (now (types .entry)) (now (from .entry)) (now (results .entry))
-        (now (draft .entry)) start place (length (now (marks .entry))))
+        (now (draft .entry)) start place (length (now (register .entry))))
         → Emits (now (draft .entry)) (now (draft .exit)) start place n (q .there .next)
         (operands (map oneContent (altsOfEach (listOfType (now (from .entry)) (now (results .entry))) (q .there .contents)))) r) ⌝ }
 {
@@ -578,21 +449,14 @@ fn emit_row(
     let mut place = place;
     let mut left = n;
     while 0 < left {
-        let mut kept = [0u32; 8];
-        match gather(
-            content,
-            at,
-            types,
-            from,
-            results,
-            draft,
-            place + 2,
-            0,
-            place + 2,
-            start + HEADED,
-            &mut kept,
-            marks,
-        ) {
+        clear(&mut register[0..TYPE_WORDS]);
+        let row = OperandRow {
+            base: place + 2,
+            count: 0,
+            end: place + 2,
+            limit: start + HEADED,
+        };
+        match gather(content, at, types, from, results, draft, row, register) {
             Gathering::TooLarge => {
                 return Emitted::TooLarge;
             }

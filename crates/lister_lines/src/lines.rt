@@ -27,7 +27,8 @@ ghost use Rattle.lister_lines.specs.Printing.{TextPut};
 // A label's name.
 fn put_name(table: &[u8], index: TableIndex, label: usize, text: &mut [u8], at: usize) -> usize
     requires { ⌜ SomeHeld standard asciiClasses (now table) index × (label < index .labels) × (at + nameLimit ≤ length (now text)) ⌝ }
-    ensures { λ r. ⌜ TextPut (now (table .entry)) index (λ g. getD (g .labels) label []) nameLimit (now (text .entry)) at (now (text .exit)) r ⌝ }
+    ensures { λ r. ⌜ TextPut (now (table .entry)) index (λ g. getD (g .labels) label []) nameLimit (now (text .entry)) at
+        (now (text .exit)) r ⌝ }
 {
     let label_from = index.label_from;
     let label_to = index.label_to;

@@ -176,7 +176,8 @@ fn read_fields(
     children: &mut [u16],
 ) -> NodesRead
     requires { ⌜ now classes ≡ asciiClasses ⌝ }
-    requires { ⌜ (length (now s) ≤ inputLimit) × (1024 ≤ length (now names)) × (1024 ≤ length (now sizes)) × (1024 ≤ length (now children)) ⌝ }
+    requires { ⌜ (length (now s) ≤ inputLimit) × (1024 ≤ length (now names)) × (1024 ≤ length (now sizes))
+        × (1024 ≤ length (now children)) ⌝ }
     ensures answer { λ r. ⌜ restOf nothingRead (fieldsOf (now (s .entry)))
         ≡ outcomeOf (r .answer) (firstNodes (now (s .entry)) (now (names .exit)) (now (sizes .exit)) (now (children .exit)) (r .nodes)) ⌝ }
     ensures index { λ r. ⌜ NodesIndexed (now (s .entry)) (now (names .exit)) (now (sizes .exit)) (now (children .exit)) (r .nodes) ⌝ }

@@ -29,7 +29,7 @@ module _ {old add : List ℕ} {plan : Plan} {words : List ℕ} (q : RulesFrom ol
 
   abbrev pub merged : (within : ℕ → Bool) (types : Set4) (results : TypeLists) → ListsOf (resultsIn within) results → length (types .words) ≡ 4
       → ((of : ℕ → List ℕ) → ListsOf of results → (k : ℕ) → k < 128 → member (types .words) 0 k ≡ someLeft of k)
-      → Joining old add (plan .union) types results
+      → Joining old add (plan .union) (record { types = types; lists = results })
   merged within types results x l t =
       record {
         table = q .in-words .table;

@@ -12,6 +12,7 @@ use mathlib.Core.Path.{_≡_, refl, sym, _∙_, ap, subst, fun-ext}
 use lib.Dec.{eqb}
 use lib.ListN.{length, length-append, getD}
 use borrow.Author.Tests.{eqb-true, eq-eqb}
+use Rattle.grammar.specs.Limits.{inputLimit}
 use Rattle.grammar.specs.Lists.{anyPass, keep, place, numbersBelow}
 use Rattle.grammar.specs.Table.{Table}
 use Rattle.grammar.specs.SingleTypeForm.{TypeSet}
@@ -98,6 +99,6 @@ module _ (before : List ℕ) (at : ℕ) (bytes : List ℕ) (on : Bool) where
   unfolding onlyIf
   put-on after r e p = subst (λ (b : Bool). Puts before at (onlyIf b bytes) after r) (sym e) p
 
-  pub put-off : on ≡ false → at ≤ 32768 → at ≤ length before → Puts before at (onlyIf on bytes) before (Length at)
+  pub put-off : on ≡ false → at ≤ inputLimit → at ≤ length before → Puts before at (onlyIf on bytes) before (Length at)
   unfolding onlyIf
   put-off e h k = subst (λ (b : Bool). Puts before at (onlyIf b bytes) before (Length at)) (sym e) (put-none before at k, h)

@@ -4,7 +4,7 @@ use mathlib.Core.Bool.{true}
 use mathlib.Core.List.{List, _++_}
 use mathlib.Core.Path.{_≡_}
 use lib.ListN.{length, drop}
-use Rattle.grammar.specs.Limits.{standard}
+use Rattle.grammar.specs.Limits.{standard, inputLimit}
 use Rattle.grammar.specs.Names.{asciiClasses}
 use Rattle.grammar.specs.Table.{Table}
 use Rattle.grammar.specs.Kinds as kinds
@@ -40,7 +40,7 @@ pub record ResultDrafted (kind : kinds.Kind) (g h : Table) (before after : List 
   pub result : Table
   pub widened : widenByTable standard kind g h ≡ given result
   pub size : n ≡ length (tableBytes result)
-  pub small : n ≤ 32768
+  pub small : n ≤ inputLimit
   pub bytes : after ≡ tableBytes result ++ drop n before
 
 unfoldable pub Widens : kinds.Kind → (g h : Table) → (before after : List ℕ) → Made → Type 0

@@ -16,6 +16,7 @@ ghost use mathlib.Core.List.{List, [], _++_};
 ghost use mathlib.Core.Path.{_≡_};
 ghost use lib.Dec.{eqb};
 ghost use lib.ListN.{length, getD};
+ghost use Rattle.grammar.specs.Limits.{inputLimit};
 ghost use Rattle.grammar.specs.Lists.{keep, place, numbersBelow};
 ghost use Rattle.grammar.specs.Fields.{fieldBytes};
 ghost use Rattle.grammar.specs.ReadTable.{labelTag};
@@ -80,7 +81,7 @@ fn put_name(
     news: Names,
     label: usize,
 ) -> Drafted
-    requires { ⌜ (at ≤ 32768) × (32768 ≤ length (now draft)) × (label < olds .count + news .count)
+    requires { ⌜ (at ≤ inputLimit) × (inputLimit ≤ length (now draft)) × (label < olds .count + news .count)
         × LabelsIn (now old) (now add) olds news ⌝ }
     ensures { λ r. ⌜ ((q : LabelsIn (now (old .entry)) (now (add .entry)) olds news)
         → Puts (now (draft .entry)) at (fieldBytes labelTag (getD (q .first ++ q .second) label [])) (now (draft .exit)) r) ⌝ }
@@ -107,7 +108,7 @@ fn put_label(
     label: usize,
     on: bool,
 ) -> Drafted
-    requires { ⌜ (at ≤ 32768) × (32768 ≤ length (now draft)) × (label < olds .count + news .count)
+    requires { ⌜ (at ≤ inputLimit) × (inputLimit ≤ length (now draft)) × (label < olds .count + news .count)
         × LabelsIn (now old) (now add) olds news ⌝ }
     ensures { λ r. ⌜ ((q : LabelsIn (now (old .entry)) (now (add .entry)) olds news)
         → Puts (now (draft .entry)) at (onlyIf on (fieldBytes labelTag (getD (q .first ++ q .second) label []))) (now (draft .exit)) r) ⌝ }
@@ -127,7 +128,7 @@ pub fn put_labels(
     news: Names,
     words: &[u32],
 ) -> Drafted
-    requires { ⌜ (32768 ≤ length (now draft)) × (16384 ≤ length (now words)) × LabelsIn (now old) (now add) olds news ⌝ }
+    requires { ⌜ (inputLimit ≤ length (now draft)) × (16384 ≤ length (now words)) × LabelsIn (now old) (now add) olds news ⌝ }
     ensures { λ r. ⌜ ((q : LabelsIn (now (old .entry)) (now (add .entry)) olds news)
         → Puts (now (draft .entry)) 0 (labelsBytes (q .first ++ q .second) (setAt (now (words .entry)) usedAt)) (now (draft .exit)) r) ⌝ }
 {

@@ -8,6 +8,7 @@ use union::labels::Names;
 use writer::writing::Drafted;
 ghost use Prim.Native.Nat.{_+_, _≤_};
 ghost use lib.ListN.{length};
+ghost use Rattle.grammar.specs.Limits.{inputLimit};
 ghost use Rattle.grammar.specs.Lists.{keep, numbersBelow};
 ghost use Rattle.grammar.specs.WriteTable.{tableBytes};
 ghost use Rattle.sets.specs.Sets.{setAt};
@@ -28,7 +29,7 @@ fn put_body(
     plan: Plan,
     words: &[u32],
 ) -> Drafted
-    requires { ⌜ (at ≤ 32768) × (32768 ≤ length (now draft)) × (2 + draftLength ≤ length (now scratch))
+    requires { ⌜ (at ≤ inputLimit) × (inputLimit ≤ length (now draft)) × (2 + draftLength ≤ length (now scratch))
         × RulesWith (now old) (now add) plan (now words) ⌝ }
     ensures { λ r. ⌜ ((q : RulesWith (now (old .entry)) (now (add .entry)) plan (now (words .entry)))
         → TablePut (now (draft .entry)) at (ruleFrom (q .rules)) (plan .count)
@@ -51,7 +52,7 @@ pub fn put_result(
     news: Names,
     words: &mut [u32],
 ) -> Drafted
-    requires { ⌜ (32768 ≤ length (now draft)) × (2 + draftLength ≤ length (now scratch))
+    requires { ⌜ (inputLimit ≤ length (now draft)) × (2 + draftLength ≤ length (now scratch))
         × ResultFrom (now old) (now add) plan olds news (now words) ⌝ }
     ensures { λ r. ⌜ ((q : ResultFrom (now (old .entry)) (now (add .entry)) plan olds news (now (words .entry)))
         → TablePut (now (draft .entry)) 0 (ruleFrom (q .rules)) (plan .count)

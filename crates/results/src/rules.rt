@@ -3,6 +3,7 @@ use crate::labels_used::label_place;
 use crate::plan::Plan;
 use crate::widen::Kind;
 use contents::completing::ContentMade;
+use contents::joining::ResultTypes;
 use contents::joining::content_of_set;
 use contents::limits::DRAFT;
 use forms::label_sets::label_numbers;
@@ -21,6 +22,7 @@ use writer::writing::put_field;
 ghost use Prim.Native.Nat.{_+_, _*_, _≤_, _<_};
 ghost use mathlib.Core.Path.{_≡_};
 ghost use lib.ListN.{length};
+ghost use Rattle.grammar.specs.Limits.{inputLimit};
 ghost use Rattle.grammar.specs.Lists.{isIn};
 ghost use Rattle.grammar.specs.Table.{Table};
 ghost use Rattle.grammar.specs.SingleTypeForm.{TypeSet};
@@ -72,9 +74,9 @@ fn set_content(
     let left = load(words, LEFT);
     let within = pairs_within(old, add, plan, left, set);
     let numbers = label_numbers(v, plan.labels, within, words, plan.count);
-    let results = result_lists(v, plan.lists, left, numbers);
-    let types = types_listed(results);
-    content_of_set(old, add, v, set, types, results, scratch)
+    let lists = result_lists(v, plan.lists, left, numbers);
+    let types = types_listed(lists);
+    content_of_set(old, add, v, set, ResultTypes { types, lists }, scratch)
 }
 
 // Writes the rule of the set of a number.
@@ -88,7 +90,7 @@ fn put_rule(
     words: &[u32],
     i: usize,
 ) -> Drafted
-    requires { ⌜ (at ≤ 32768) × (32768 ≤ length (now draft)) × (2 + draftLength ≤ length (now scratch)) × (i < plan .count)
+    requires { ⌜ (at ≤ inputLimit) × (inputLimit ≤ length (now draft)) × (2 + draftLength ≤ length (now scratch)) × (i < plan .count)
         × RulesWith (now old) (now add) plan (now words) ⌝ }
     ensures { λ r. ⌜ ((q : RulesWith (now (old .entry)) (now (add .entry)) plan (now (words .entry)))
         → RulePuts (now (draft .entry)) at (ruleFrom (q .rules) i) (now (draft .exit)) r) ⌝ }
@@ -117,7 +119,7 @@ fn put_rules(
     plan: Plan,
     words: &[u32],
 ) -> Drafted
-    requires { ⌜ (at ≤ 32768) × (32768 ≤ length (now draft)) × (2 + draftLength ≤ length (now scratch))
+    requires { ⌜ (at ≤ inputLimit) × (inputLimit ≤ length (now draft)) × (2 + draftLength ≤ length (now scratch))
         × RulesWith (now old) (now add) plan (now words) ⌝ }
     ensures { λ r. ⌜ ((q : RulesWith (now (old .entry)) (now (add .entry)) plan (now (words .entry)))
         → RulesPut (now (draft .entry)) at (ruleFrom (q .rules)) (plan .count) (now (draft .exit)) r) ⌝ }
@@ -148,7 +150,7 @@ pub fn put_rest(
     plan: Plan,
     words: &[u32],
 ) -> Drafted
-    requires { ⌜ (at ≤ 32768) × (32768 ≤ length (now draft)) × (2 + draftLength ≤ length (now scratch))
+    requires { ⌜ (at ≤ inputLimit) × (inputLimit ≤ length (now draft)) × (2 + draftLength ≤ length (now scratch))
         × RulesWith (now old) (now add) plan (now words) ⌝ }
     ensures { λ r. ⌜ ((q : RulesWith (now (old .entry)) (now (add .entry)) plan (now (words .entry)))
         → TablePut (now (draft .entry)) at (ruleFrom (q .rules)) (plan .count)

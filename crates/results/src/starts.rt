@@ -7,6 +7,7 @@ use writer::writing::put_field;
 ghost use Prim.Native.Nat.{_≤_, _<_};
 ghost use mathlib.Core.List.{[], _∷_};
 ghost use lib.ListN.{length};
+ghost use Rattle.grammar.specs.Limits.{inputLimit};
 ghost use Rattle.grammar.specs.Fields.{fieldBytes};
 ghost use Rattle.grammar.specs.ReadTable.{startTag};
 ghost use Rattle.theory.specs.Alternatives.{onlyIf};
@@ -17,7 +18,7 @@ ghost use Rattle.results.specs.Results.{startsBytes};
 
 // Writes a type as a start, if it is one.
 fn put_start(draft: &mut [u8], at: usize, ty: usize, on: bool) -> Drafted
-    requires { ⌜ (at ≤ 32768) × (32768 ≤ length (now draft)) × (ty < 256) ⌝ }
+    requires { ⌜ (at ≤ inputLimit) × (inputLimit ≤ length (now draft)) × (ty < 256) ⌝ }
     ensures { λ r. ⌜ Puts (now (draft .entry)) at (onlyIf on (fieldBytes startTag (ty ∷ []))) (now (draft .exit)) r ⌝ }
 {
     if on {
@@ -29,7 +30,7 @@ fn put_start(draft: &mut [u8], at: usize, ty: usize, on: bool) -> Drafted
 
 // Writes the starts, ascending.
 pub fn put_starts(draft: &mut [u8], at: usize, words: &[u32], count: usize) -> Drafted
-    requires { ⌜ (at ≤ 32768) × (32768 ≤ length (now draft)) × (16384 ≤ length (now words)) × (count ≤ 128) ⌝ }
+    requires { ⌜ (at ≤ inputLimit) × (inputLimit ≤ length (now draft)) × (16384 ≤ length (now words)) × (count ≤ 128) ⌝ }
     ensures { λ r. ⌜ Puts (now (draft .entry)) at (startsBytes (setAt (now (words .entry)) startTypesAt) count) (now (draft .exit)) r ⌝ }
 {
     let starts = load(words, START_TYPES);

@@ -25,7 +25,7 @@ use writer::writing::Drafted;
 ghost use mathlib.Core.Path.{_≡_};
 ghost use Prim.Native.Nat.{_+_, _≤_};
 ghost use lib.ListN.{length};
-ghost use Rattle.grammar.specs.Limits.{standard};
+ghost use Rattle.grammar.specs.Limits.{standard, inputLimit};
 ghost use Rattle.grammar.specs.Names.{asciiClasses};
 ghost use Rattle.grammar.specs.Table.{Table};
 ghost use Rattle.grammar.specs.Unite.{unite};
@@ -78,7 +78,7 @@ fn widen_local(
     draft: &mut [u8],
 ) -> Made
     requires { ⌜ (SomeReduced (now old) (now add) union lists (now words)) × (16384 ≤ length (now words))
-        × (32768 ≤ length (now draft)) ⌝ }
+        × (inputLimit ≤ length (now draft)) ⌝ }
     ensures { λ r. ⌜ ((g h : Table) → UnionReduced (now (old .entry)) (now (add .entry)) union lists (now (words .entry)) g h
         → Widens local g h (now (draft .entry)) (now (draft .exit)) r) ⌝ }
 {
@@ -123,7 +123,7 @@ fn widen_from_starts(
     draft: &mut [u8],
 ) -> Made
     requires { ⌜ (StartSetsHeld (now old) (now add) union lists (now words) first) × (16384 ≤ length (now words))
-        × (32768 ≤ length (now draft)) ⌝ }
+        × (inputLimit ≤ length (now draft)) ⌝ }
     ensures { λ r. ⌜ ((g h : Table) → UnionReduced (now (old .entry)) (now (add .entry)) union lists (now (words .entry)) g h
         → SetsHeld (now (words .entry)) (labelSets (unite standard g h) (isStart (unite standard g h)))
         → first ≡ length (labelSets (unite standard g h) (isStart (unite standard g h)))
@@ -167,7 +167,7 @@ fn widen_single_type(
     draft: &mut [u8],
 ) -> Made
     requires { ⌜ (SomeReduced (now old) (now add) union lists (now words)) × (16384 ≤ length (now words))
-        × (32768 ≤ length (now draft)) ⌝ }
+        × (inputLimit ≤ length (now draft)) ⌝ }
     ensures { λ r. ⌜ ((g h : Table) → UnionReduced (now (old .entry)) (now (add .entry)) union lists (now (words .entry)) g h
         → Widens singleType g h (now (draft .entry)) (now (draft .exit)) r) ⌝ }
 {
@@ -191,7 +191,7 @@ pub fn widen_tables(
     draft: &mut [u8],
 ) -> Made
     requires { ⌜ (SomeHeld standard asciiClasses (now old) index) × (SomeHeld standard asciiClasses (now add) addition)
-        × (16384 ≤ length (now words)) × (32768 ≤ length (now draft)) ⌝ }
+        × (16384 ≤ length (now words)) × (inputLimit ≤ length (now draft)) ⌝ }
     ensures { λ r. ⌜ ((g h : Table) → Held standard asciiClasses (now (old .entry)) index g
         → Held standard asciiClasses (now (add .entry)) addition h
         → Widens (kindOf kind) g h (now (draft .entry)) (now (draft .exit)) r) ⌝ }

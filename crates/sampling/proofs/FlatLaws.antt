@@ -9,7 +9,7 @@ use lib.Dec.{eqb, ltb}
 use borrow.Author.Tests.{lt-ltb, le-ltb}
 use lib.ListN.{length, getD}
 use Rattle.grammar.specs.Lists.{keep, numbersBelow}
-use Rattle.grammar.specs.Limits.{standard}
+use Rattle.grammar.specs.Limits.{standard, contentLimit, operandLimit, nestingLimit}
 use Rattle.grammar.specs.Content.{Content, type, operands, choiceOf, nesting, deepest}
 use Rattle.grammar.specs.ReadContent.{contentBytes, sameContent}
 use Rattle.grammar.specs.Size.{widestChoice, widestOf, contentTooLarge}
@@ -76,7 +76,7 @@ module _ (parents types : List ℕ) (n k : ℕ) where
       subst Flat e (sequence-flat _)
 
   -- few enough bytes, and few enough operands
-  pub content-fits : {d : List ℕ} {c end : ℕ} → Row d 4 c (gathered [] among) end → length (contentBytes (contentIn parents types n k)) ≤ 1024
+  pub content-fits : {d : List ℕ} {c end : ℕ} → Row d 4 c (gathered [] among) end → length (contentBytes (contentIn parents types n k)) ≤ contentLimit
       → contentTooLarge standard (contentIn parents types n k) ≡ false
   unfolding contentTooLarge standard
   content-fits {d} {c} {end} r h =
@@ -84,18 +84,18 @@ module _ (parents types : List ℕ) (n k : ℕ) where
       let m = row-count d 4 c end (gathered [] among) r .0 in
       let few = r .few in
       let x = contentIn parents types n k in
-      or-none (ltb 1024 (length (contentBytes x)) || ltb 32 (nesting x)) (ltb 255 (widestChoice x))
-      (or-none (ltb 1024 (length (contentBytes x))) (ltb 32 (nesting x)) (le-ltb 1024 (length (contentBytes x)) h) (le-ltb 32 (nesting x) (omega arith)))
-      (le-ltb 255 (widestChoice x) (omega arith))
+      or-none (ltb contentLimit (length (contentBytes x)) || ltb nestingLimit (nesting x)) (ltb operandLimit (widestChoice x))
+      (or-none (ltb contentLimit (length (contentBytes x))) (ltb nestingLimit (nesting x)) (le-ltb contentLimit (length (contentBytes x)) h) (le-ltb nestingLimit (nesting x) (omega arith)))
+      (le-ltb operandLimit (widestChoice x) (omega arith))
 
-  pub content-over : 1024 < length (contentBytes (contentIn parents types n k)) → contentTooLarge standard (contentIn parents types n k) ≡ true
+  pub content-over : contentLimit < length (contentBytes (contentIn parents types n k)) → contentTooLarge standard (contentIn parents types n k) ≡ true
   unfolding contentTooLarge standard
   content-over h =
       let x = contentIn parents types n k in
-      or-left (ltb 1024 (length (contentBytes x)) || ltb 32 (nesting x)) (ltb 255 (widestChoice x))
-      (or-left (ltb 1024 (length (contentBytes x))) (ltb 32 (nesting x)) (lt-ltb 1024 (length (contentBytes x)) h))
+      or-left (ltb contentLimit (length (contentBytes x)) || ltb nestingLimit (nesting x)) (ltb operandLimit (widestChoice x))
+      (or-left (ltb contentLimit (length (contentBytes x))) (ltb nestingLimit (nesting x)) (lt-ltb contentLimit (length (contentBytes x)) h))
 
-  pub content-wide : TooWide 1024 (gathered [] among) → contentTooLarge standard (contentIn parents types n k) ≡ true
+  pub content-wide : TooWide contentLimit (gathered [] among) → contentTooLarge standard (contentIn parents types n k) ≡ true
   content-wide w =
       subst (λ (x : Content). contentTooLarge standard x ≡ true) (written-gathered among)
       (subst (λ (xs : List Content). contentTooLarge standard (oneContent xs) ≡ true) (append-nil among) (too-large among [] w))

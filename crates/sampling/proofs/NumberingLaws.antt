@@ -3,7 +3,7 @@
 --   number-new, number-old : one more element is new where its place is past the end, else the distinct ones stay
 --   number-stays   : the place found then is the place in the end
 --   place-map, place-agree : numbers of images, and by tests that agree
-use Prim.Native.Nat.{ℕ, suc, _+_, _-_, _≤_, _<_}
+use Prim.Native.Nat.{ℕ, _+_, _-_, _≤_, _<_}
 use native.Mathlib.Omega.{arith}
 use native.Mathlib.Numerals.{add-one}
 use mathlib.Core.Bool.{Bool, true, false}

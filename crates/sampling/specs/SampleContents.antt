@@ -9,10 +9,7 @@ use Rattle.grammar.specs.Limits.{contentLimit, childLimit}
 use Rattle.grammar.specs.Lists.{keep, numbersFrom}
 use Rattle.grammar.specs.Content.{Content}
 use Rattle.grammar.specs.Sample.{sequenceOf}
-use Rattle.contents.specs.declared.drafts.Gathering.{Gathering}
-use Rattle.contents.specs.declared.drafts.Gathering.the-variants.{TooLarge, Upto}
-use Rattle.contents.specs.Drafts.{Row, TooWide}
-use Rattle.contents.specs.Marks.{Marked}
+use Rattle.contents.specs.declared.drafts.OperandRow.{OperandRow}
 
 -- A content is made in scratch bytes: where its operands end at most, where it ends, and how many bytes are lent.
 abbrev pub operandsEnd : ℕ
@@ -56,12 +53,9 @@ sequenceIn parents types n i = sequenceOf (kidTypes parents types n i)
 abbrev pub sequencesAmong : (parents types : List ℕ) → ℕ → ℕ → List ℕ → List Content
 sequencesAmong parents types n k nodes = map (sequenceIn parents types n) (keep (λ (j : ℕ). eqb (getD types j 0) k) nodes)
 
--- these operands stand in a draft from the fourth place on; or they are too large for a content
-abbrev pub GathersInRule : List ℕ → List Content → Gathering → Type 0
-GathersInRule draft ds TooLarge = TooWide contentLimit ds
-GathersInRule draft ds (Upto next count end) = Row draft 4 count ds end × (end ≤ operandsEnd)
+-- the operands of a content, after the type and the label of its rule and two bytes for a choice: so many up to here, and none yet
+abbrev pub sequenceRow : (count end : ℕ) → OperandRow
+sequenceRow count end = record { base = 4; count = count; end = end; limit = operandsEnd }
 
--- and they are marked
-pub record GathersMarked (draft marks : List ℕ) (ds : List Content) (r : Gathering) : Type 0 where
-  pub gathers : GathersInRule draft ds r
-  pub marked : {next count end : ℕ} → r ≡ Upto next count end → Marked marks ds
+abbrev pub noSequences : OperandRow
+noSequences = sequenceRow 0 4

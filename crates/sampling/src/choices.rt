@@ -3,49 +3,19 @@ use crate::limits::OPERANDS_END;
 use crate::limits::RULE;
 use crate::sequences::put_sequence;
 use contents::drafts::Gathering;
+use contents::drafts::OperandRow;
 use contents::drafts::finish;
 use contents::drafts::settle;
 use contents::limits::OPERANDS;
 use writer::writing::Drafted;
 ghost use Prim.Native.Nat.{ℕ, _≤_, _<_};
-ghost use mathlib.Core.List.{[], _∷_};
+ghost use mathlib.Core.List.{[]};
 ghost use lib.ListN.{length, getD};
 ghost use Rattle.grammar.specs.Lists.{numbersBelow};
 ghost use Rattle.theory.specs.Alternatives.{gathered};
-ghost use Rattle.contents.specs.Drafts.{Kept};
-ghost use Rattle.contents.specs.Marks.{Marked};
+ghost use Rattle.contents.specs.Drafts.{GathersIn};
 ghost use Rattle.sampling.specs.SampleTable.{contentIn, ContentMade, NodesHeld};
-ghost use Rattle.sampling.specs.SampleContents.{Kids, sequencesAmong, GathersInRule, GathersMarked, operandsEnd, scratchBytes};
-
-// Gathers the child sequence of a node, if it is of the type `k`, among those that stand in the draft.
-fn one_more(
-    scratch: &mut [u8],
-    parents: &[usize],
-    types: &[usize],
-    nodes: usize,
-    kids: usize,
-    k: usize,
-    i: usize,
-    count: usize,
-    end: usize,
-    marks: &mut [u32],
-) -> Gathering
-    requires { ⌜ Kids (now parents) (now types) nodes i kids × ((q : Kept (now scratch) 4 count end) × Marked (now marks) (q .list))
-        × (end ≤ operandsEnd) × (scratchBytes ≤ length (now scratch)) ⌝ }
-    ensures { λ r. ⌜ ((q : Kept (now (scratch .entry)) 4 count end) → Marked (now (marks .entry)) (q .list)
-        → GathersMarked (now (scratch .exit)) (now (marks .exit))
-        (gathered (q .list) (sequencesAmong (now (parents .entry)) (now (types .entry)) nodes k (i ∷ []))) r) ⌝ }
-{
-    if types[i] != k {
-        return Gathering::Upto {
-            next: 0,
-            count,
-            end,
-        };
-    }
-    let fresh = put_sequence(scratch, end, parents, types, nodes, i, kids);
-    settle(scratch, 4, count, end, fresh, OPERANDS_END, 0, marks)
-}
+ghost use Rattle.sampling.specs.SampleContents.{Kids, sequencesAmong, noSequences, scratchBytes};
 
 // Gathers the child sequences of the nodes of a type.
 fn gather(
@@ -58,37 +28,37 @@ fn gather(
 ) -> Gathering
     requires { ⌜ (scratchBytes ≤ length (now scratch)) × (nodes ≤ length (now children))
         × ((i : ℕ) → i < nodes → Kids (now parents) (now types) nodes i (getD (now children) i 0)) ⌝ }
-    ensures { λ r. ⌜ GathersInRule (now (scratch .exit))
+    ensures { λ r. ⌜ GathersIn (now (scratch .exit)) noSequences
         (gathered [] (sequencesAmong (now (parents .entry)) (now (types .entry)) nodes k (numbersBelow nodes))) r ⌝ }
 {
-    let mut marks = [0u32; OPERANDS];
+    let mut notes = [0u32; OPERANDS];
     let mut count: usize = 0;
     let mut end: usize = 4;
     let mut i: usize = 0;
     while i < nodes {
+        if types[i] != k {
+            i += 1;
+            continue;
+        }
         let kids = children[i] as usize;
-        match one_more(
-            scratch,
-            parents,
-            types,
-            nodes,
-            kids,
-            k,
-            i,
+        let fresh = put_sequence(scratch, end, parents, types, nodes, i, kids);
+        let row = OperandRow {
+            base: 4,
             count,
             end,
-            &mut marks,
-        ) {
+            limit: OPERANDS_END,
+        };
+        match settle(scratch, row, fresh, 0, &mut notes) {
             Gathering::TooLarge => {
                 return Gathering::TooLarge;
             }
             Gathering::Upto {
-                next,
+                next: _,
                 count: more,
-                end: fresh,
+                end: last,
             } => {
                 count = more;
-                end = fresh;
+                end = last;
             }
         }
         i += 1;

@@ -4,8 +4,8 @@ use native.Mathlib.Omega.{arith}
 use mathlib.Core.Path.{_≡_, refl, sym, _∙_, ap}
 use lib.ListN.{take, drop}
 use borrow.Author.Needs.{needs}
-use Rattle.contents.specs.Marks.{folded}
-use Rattle.contents.proofs.MarkLaws.{fold-next, fold-done}
+use Rattle.contents.specs.Notes.{folded}
+use Rattle.contents.proofs.NoteLaws.{fold-next, fold-done}
 use Rattle.contents.proofs.drafts.fold_bytes.Statement.{statement}
 use Rattle.contents.proofs.drafts.fold_bytes.Tie as tie
 

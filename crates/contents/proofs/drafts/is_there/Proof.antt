@@ -1,5 +1,5 @@
 -- `is_there` meets its contract. The loop's invariant: an equal one is among all operands just where it is among those from the
--- next mark on.
+-- next note on.
 use Prim.Native.Nat.{ℕ, _-_, _≤_, _<_}
 use native.Mathlib.Omega.{arith}
 use mathlib.Core.List.{List}
@@ -7,30 +7,31 @@ use mathlib.Core.Path.{_≡_, sym, _∙_, ap}
 use lib.ListN.{take, drop}
 use Rattle.grammar.specs.ReadContent.{contentBytes}
 use Rattle.reader.proofs.ExprLaws.{expr-bytes, expr-forward}
+use Rattle.contents.specs.declared.drafts.OperandRow.{OperandRow}
 use Rattle.contents.specs.Drafts.{Newest}
-use Rattle.contents.specs.Marks.{fingerprint, Marked}
-use Rattle.contents.proofs.MarkLaws.{mark-before}
-use Rattle.contents.proofs.AmongLaws.{StillAmong, FirstAmong, among-all, among-first, among-none, same-marked}
+use Rattle.contents.specs.Notes.{fingerprint, Noted}
+use Rattle.contents.proofs.NoteLaws.{note-before}
+use Rattle.contents.proofs.AmongLaws.{StillAmong, FirstAmong, among-all, among-first, among-none, same-noted}
 use Rattle.contents.proofs.drafts.is_there.Statement.{statement}
 use Rattle.contents.proofs.drafts.is_there.Tie as tie
 
 abbrev Inv-loop : tie.InvT-loop
-Inv-loop draft base count end fresh print marks k₀ k =
-    (k ≤ count)
-    × ((q : Newest draft base count end fresh) → Marked marks (q .kept .list)
-    → StillAmong draft marks base k (count - k) end (q .newest) (q .kept .list))
+Inv-loop draft row fresh print notes total k₀ k =
+    (k ≤ row .count)
+    × ((q : Newest draft row fresh) → Noted notes (q .kept .list)
+    → StillAmong draft notes (row .base) k (row .count - k) (row .end) (q .newest) (q .kept .list))
 
 abbrev μ-loop : tie.MeasureT-loop
-μ-loop draft base count end fresh print marks k₀ k = count - k
+μ-loop draft row fresh print notes total k₀ k = row .count - k
 
 loop-holds : tie.Need-loop-holds Inv-loop μ-loop
 loop-holds c = (omega arith, λ q m. among-all (q .kept .row) m)
 
-abbrev first : {d marks : List ℕ} {base count end fresh k : ℕ} (q : Newest d base count end fresh) → k < count
-    → StillAmong d marks base k (count - k) end (q .newest) (q .kept .list)
-    → FirstAmong d marks base k (count - k) end (q .newest) (q .kept .list)
-first {d} {marks} {base} {count} {end} {k = k} q h a =
-    among-first d marks base k (count - k) end (q .newest) (q .kept .list) (omega arith) (q .kept .row .inside) a
+abbrev first : {d notes : List ℕ} {row : OperandRow} {fresh k : ℕ} (q : Newest d row fresh) → k < row .count
+    → StillAmong d notes (row .base) k (row .count - k) (row .end) (q .newest) (q .kept .list)
+    → FirstAmong d notes (row .base) k (row .count - k) (row .end) (q .newest) (q .kept .list)
+first {d} {notes} {row} {k = k} q h a =
+    among-first d notes (row .base) k (row .count - k) (row .end) (q .newest) (q .kept .list) (omega arith) (q .kept .row .inside) a
 
 mul-is-same : tie.Need-mul-is-same Inv-loop μ-loop
 mul-is-same c = let few = c .before .before .before .before .pre .0 .0 .kept .row .few in omega arith
@@ -48,14 +49,14 @@ is-same-requires c κs =
     let q = p .0 .0 in
     let f = first q (c .before .loop-test .taken) (c .before .before .loop .inv .1 q (p .0 .1)) in
     let i = f .inside in
-    let at = mark-before _ (f .before) _ (f .mark-is) (omega arith) in
+    let at = note-before _ (f .before) _ (f .note-is) (omega arith) in
     let e = expr-forward _ _ (q .newest) _ (q .stands) in
     (omega arith, omega arith, omega arith)
 
 -- what is asked of an operand is answered for the operand
-asked : {d : List ℕ} {base count end fresh print : ℕ} (q : Newest d base count end fresh)
-    → print ≡ fingerprint (take (fresh - end) (drop end d)) → print ≡ fingerprint (contentBytes (q .newest))
-asked {d} {end = end} {fresh = fresh} q p = p ∙ ap fingerprint (expr-bytes d end (q .newest) fresh (q .stands))
+asked : {d : List ℕ} {row : OperandRow} {fresh print : ℕ} (q : Newest d row fresh)
+    → print ≡ fingerprint (take (fresh - row .end) (drop (row .end) d)) → print ≡ fingerprint (contentBytes (q .newest))
+asked {d} {row} {fresh} q p = p ∙ ap fingerprint (expr-bytes d (row .end) (q .newest) fresh (q .stands))
 
 returns : tie.Need-returns Inv-loop μ-loop
 returns c =
@@ -63,7 +64,7 @@ returns c =
     λ q m.
     let f = first q (c .before .before .before .loop-test .taken) (c .before .before .before .before .loop .inv .1 q m) in
     f .here
-    (sym (same-marked _ _ _ _ _ _ _ _ (q .newest) _ _ (q .stands) (asked q (p .2)) (p .1) f (c .before .is-same .ensures)) ∙ c .if1 .taken)
+    (sym (same-noted _ _ _ _ _ _ _ _ (q .newest) _ _ (q .stands) (asked q (p .2)) (p .1) f (c .before .is-same .ensures)) ∙ c .if1 .taken)
 
 add-k : tie.Need-add-k Inv-loop μ-loop
 add-k c = omega arith
@@ -78,7 +79,7 @@ loop-again c =
       λ q m.
           let f = first q (c .before .before .before .loop-test .taken) (c .before .before .before .before .loop .inv .1 q m) in
           f .later
-          (sym (same-marked _ _ _ _ _ _ _ _ (q .newest) _ _ (q .stands) (asked q (p .2)) (p .1) f (c .before .is-same .ensures)) ∙ c .if1 .left) _
+          (sym (same-noted _ _ _ _ _ _ _ _ (q .newest) _ _ (q .stands) (asked q (p .2)) (p .1) f (c .before .is-same .ensures)) ∙ c .if1 .left) _
           (omega arith),
     )
 

@@ -4,7 +4,7 @@ use Prim.Native.Nat.{_+_, _-_}
 use mathlib.Core.Path.{_∙_}
 use lib.ListN.{drop}
 use borrow.Author.Needs.{needs}
-use Rattle.contents.proofs.MarkLaws.{print-short, print-long}
+use Rattle.contents.proofs.NoteLaws.{print-short, print-long}
 use Rattle.contents.proofs.drafts.print_of.Statement.{statement}
 use Rattle.contents.proofs.drafts.print_of.Tie as tie
 

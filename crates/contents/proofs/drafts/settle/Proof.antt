@@ -5,7 +5,7 @@ use borrow.Author.Needs.{needs}
 use Rattle.reader.proofs.ExprLaws.{expr-forward}
 use Rattle.theory.proofs.emission.GatheringLaws.{gather-old}
 use Rattle.contents.specs.Drafts.{Gathers}
-use Rattle.contents.specs.Marks.{Marked}
+use Rattle.contents.specs.Notes.{Noted}
 use Rattle.contents.proofs.KeptLaws.{old-row}
 use Rattle.contents.proofs.drafts.settle.Statement.{statement}
 use Rattle.contents.proofs.drafts.settle.Tie as tie
@@ -26,8 +26,8 @@ returns c =
     λ q m.
     let t = sym (c .before .is-there .ensures q m) ∙ c .if1 .taken in
     record {
-      gathers = (refl, old-row _ _ _ _ _ _ q (p .1) t);
-      noted = λ u. subst (Marked (c .before .before .before .before .before .before .args .marks .now)) (sym (gather-old (q .kept .list) (q .kept .row .apart) (q .newest) t)) m;
+      gathers = (refl, old-row _ _ _ q (p .1) t);
+      noted = λ u. subst (Noted (c .before .before .before .before .before .before .args .notes .now)) (sym (gather-old (q .kept .list) (q .kept .row .apart) (q .newest) t)) m;
     }
 
 keep-requires : tie.Need-keep-requires

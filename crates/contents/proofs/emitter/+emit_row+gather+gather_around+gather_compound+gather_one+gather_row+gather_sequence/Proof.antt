@@ -5,13 +5,17 @@ use native.Mathlib.Omega.{arith}
 use mathlib.Core.List.{List}
 use mathlib.Core.Path.{_≡_, refl, sym, _∙_, ap}
 use lib.ListN.{length, getD, getElem?, length-set}
+use lib.Seq.{length-front}
 use borrow.Author.Needs.{needs}
-use Rattle.grammar.specs.Limits.{standard}
+use Rattle.grammar.specs.Limits.{standard, operandLimit}
 use Rattle.grammar.specs.Content.{sequence, choice}
 use Rattle.grammar.specs.ReadContent.{operators}
 use Rattle.reader.proofs.ExprLaws.{operator-sequence, operator-choice}
-use Rattle.contents.specs.Emitting.{Source, Sources, Noted, Operands}
-use Rattle.contents.proofs.MarkLaws.{part-words, part-long}
+use Rattle.contents.specs.declared.drafts.OperandRow.{OperandRow}
+use Rattle.contents.specs.Notes.{typeWords, Registered, rowWords}
+use Rattle.contents.specs.Emitting.{Source, Sources, Operands}
+use Rattle.contents.proofs.NoteLaws.{partFrom, part-words, part-long}
+use Rattle.contents.proofs.TypesKeptLaws.{noted-part}
 use Rattle.reader.proofs.ContentAtLaws.{content-inside, type-there, count-there}
 use Rattle.contents.proofs.SourceLaws.{CountedThere, counted-of, single-of, content-found, row-found}
 use Rattle.contents.proofs.EmitLaws.{
@@ -24,7 +28,8 @@ use Rattle.contents.proofs.EmitLaws.{
   row-then,
   no-operands,
   first-operand,
-  operand-noted,
+  operand-words,
+  operand-registered,
   operand-wide,
   operand-kept,
   goes-on',
@@ -46,7 +51,8 @@ use Rattle.contents.proofs.EmitLaws.{
   around-newest,
   around-settled,
   source-room,
-  source-marked,
+  source-as,
+  source-noted,
   plain-gives,
   none-gives,
   empty-gives,
@@ -83,6 +89,7 @@ use Rattle.contents.proofs.drafts.settle.Reads as settle-reads
 use Rattle.contents.proofs.emitter.gather_empty.Reads as gather-empty-reads
 use Rattle.contents.proofs.emitter.gather_type.Reads as gather-type-reads
 use Rattle.reader.proofs.numbers.wide.Reads as wide-reads
+use Rattle.reader.proofs.work.clear.Reads as clear-reads
 use Rattle.union.proofs.productive.content_has.Reads as content-has-reads
 use Rattle.union.proofs.productive.row_has.Reads as row-has-reads
 use Rattle.union.specs.Walks.{listOfType}
@@ -96,19 +103,19 @@ use Rattle.contents.proofs.emitter.+emit_row+gather+gather_around+gathe
 abbrev μ-emit-row : Measures 6 emit-row-kinds.ps ℕ
 μ-emit-row κs a = 5 * (length (a .0 .now) - a .1 .0) + 4
 
-abbrev μ-gather : Measures 7 gather-kinds.ps ℕ
+abbrev μ-gather : Measures 6 gather-kinds.ps ℕ
 μ-gather κs a = 5 * (length (a .0 .now) - a .1 .0) + 3
 
 abbrev μ-gather-around : Measures 6 gather-around-kinds.ps ℕ
 μ-gather-around κs a = 5 * (length (a .0 .now) - a .1 .0)
 
-abbrev μ-gather-compound : Measures 7 gather-compound-kinds.ps ℕ
+abbrev μ-gather-compound : Measures 6 gather-compound-kinds.ps ℕ
 μ-gather-compound κs a = 5 * (length (a .0 .now) - a .1 .0) + 2
 
 abbrev μ-gather-one : Measures 6 gather-one-kinds.ps ℕ
 μ-gather-one κs a = 5 * (length (a .0 .now) - a .1 .0) + 1
 
-abbrev μ-gather-row : Measures 7 gather-row-kinds.ps ℕ
+abbrev μ-gather-row : Measures 6 gather-row-kinds.ps ℕ
 μ-gather-row κs a = 5 * (length (a .0 .now) - a .1 .0) + 4
 
 abbrev μ-gather-sequence : Measures 6 gather-sequence-kinds.ps ℕ
@@ -121,11 +128,11 @@ abbrev emit-row-below : ℕ → In 6 emit-row-kinds.ps
 emit-row-below t =
     and 6 emit-row-kinds.ps (falls 6 emit-row-kinds.ps _<_ μ-emit-row t) emit-row.Pre
 
-abbrev gather-at : ℕ → In 7 gather-kinds.ps
-gather-at t = and 7 gather-kinds.ps (is 7 gather-kinds.ps μ-gather t) gather.Pre
+abbrev gather-at : ℕ → In 6 gather-kinds.ps
+gather-at t = and 6 gather-kinds.ps (is 6 gather-kinds.ps μ-gather t) gather.Pre
 
-abbrev gather-below : ℕ → In 7 gather-kinds.ps
-gather-below t = and 7 gather-kinds.ps (falls 7 gather-kinds.ps _<_ μ-gather t) gather.Pre
+abbrev gather-below : ℕ → In 6 gather-kinds.ps
+gather-below t = and 6 gather-kinds.ps (falls 6 gather-kinds.ps _<_ μ-gather t) gather.Pre
 
 abbrev gather-around-at : ℕ → In 6 gather-around-kinds.ps
 gather-around-at t =
@@ -139,20 +146,20 @@ gather-around-below t =
     (falls 6 gather-around-kinds.ps _<_ μ-gather-around t)
     gather-around.Pre
 
-abbrev gather-compound-at : ℕ → In 7 gather-compound-kinds.ps
+abbrev gather-compound-at : ℕ → In 6 gather-compound-kinds.ps
 gather-compound-at t =
     and
-    7
+    6
     gather-compound-kinds.ps
-    (is 7 gather-compound-kinds.ps μ-gather-compound t)
+    (is 6 gather-compound-kinds.ps μ-gather-compound t)
     gather-compound.Pre
 
-abbrev gather-compound-below : ℕ → In 7 gather-compound-kinds.ps
+abbrev gather-compound-below : ℕ → In 6 gather-compound-kinds.ps
 gather-compound-below t =
     and
-    7
+    6
     gather-compound-kinds.ps
-    (falls 7 gather-compound-kinds.ps _<_ μ-gather-compound t)
+    (falls 6 gather-compound-kinds.ps _<_ μ-gather-compound t)
     gather-compound.Pre
 
 abbrev gather-one-at : ℕ → In 6 gather-one-kinds.ps
@@ -163,13 +170,13 @@ abbrev gather-one-below : ℕ → In 6 gather-one-kinds.ps
 gather-one-below t =
     and 6 gather-one-kinds.ps (falls 6 gather-one-kinds.ps _<_ μ-gather-one t) gather-one.Pre
 
-abbrev gather-row-at : ℕ → In 7 gather-row-kinds.ps
+abbrev gather-row-at : ℕ → In 6 gather-row-kinds.ps
 gather-row-at t =
-    and 7 gather-row-kinds.ps (is 7 gather-row-kinds.ps μ-gather-row t) gather-row.Pre
+    and 6 gather-row-kinds.ps (is 6 gather-row-kinds.ps μ-gather-row t) gather-row.Pre
 
-abbrev gather-row-below : ℕ → In 7 gather-row-kinds.ps
+abbrev gather-row-below : ℕ → In 6 gather-row-kinds.ps
 gather-row-below t =
-    and 7 gather-row-kinds.ps (falls 7 gather-row-kinds.ps _<_ μ-gather-row t) gather-row.Pre
+    and 6 gather-row-kinds.ps (falls 6 gather-row-kinds.ps _<_ μ-gather-row t) gather-row.Pre
 
 abbrev gather-sequence-at : ℕ → In 6 gather-sequence-kinds.ps
 gather-sequence-at t =
@@ -189,6 +196,8 @@ gather-sequence-below t =
 
 abbrev emit-row-calls : ℕ → emit-row-lts.Claims
 emit-row-calls t = (
+  clear-reads.Asked,
+  clear-reads.Learnt,
   gather-below t,
   gather.Post,
   finish-reads.Asked,
@@ -255,8 +264,8 @@ gather-sequence-calls t = (
 )
 
 -- the operands of a sequence and of a choice
-module _ {s : List ℕ} {at n : ℕ} {types from results d : List ℕ} {base count end limit words : ℕ}
-    (q : Source s at types from results d base count end limit words) where
+module _ {s : List ℕ} {at n : ℕ} {types from results d : List ℕ} {row : OperandRow} {words : ℕ}
+    (q : Source s at types from results d row words) where
   operands-of : getD s at 0 ≡ 3 → n ≡ getD s (at + 1) 0 → CountedThere standard s at n (q .there) sequence
   operands-of b e =
       counted-of standard s at n (q .there) sequence e (omega arith) (omega arith) (ap (getElem? operators) b ∙ operator-sequence)
@@ -265,124 +274,156 @@ module _ {s : List ℕ} {at n : ℕ} {types from results d : List ℕ} {base cou
   choices-of b e =
       counted-of standard s at n (q .there) choice e (omega arith) (omega arith) (ap (getElem? operators) b ∙ operator-choice)
 
+-- the words lent for the rows within
+rows-within : (notes : List ℕ) → operandLimit ≤ length notes → length (partFrom operandLimit notes) ≡ typeWords + length notes - rowWords
+rows-within notes h = let p = part-words operandLimit notes h in omega arith
+
+notes-within : (register : List ℕ) → typeWords ≤ length register → typeWords + length (partFrom typeWords register) ≡ length register
+notes-within register h = let p = part-words typeWords register h in omega arith
+
 some-left : {n : ℕ} → 0 < n → n ≡ 0 → ⊥
 some-left h z = omega arith
 
 -- what is left of the row is written, and the place in the source only goes on
 abbrev emit-row-Inv-loop : emit-row-lts.InvT-loop
-emit-row-Inv-loop content at n types from results draft₀ start place marks₀ at₀ place₀ left₀ draft marks at' place' left =
+emit-row-Inv-loop content at n types from results draft₀ start place register₀ at₀ place₀ left₀ draft register at' place' left =
     (at ≤ at')
     × (length draft ≡ length draft₀)
-    × (length marks ≡ length marks₀)
-    × ((q : Operands content at n types from results draft₀ start place (length marks₀))
-    → RowRest q (listOfType from results) draft at' left place' (length marks))
+    × (length register ≡ length register₀)
+    × ((q : Operands content at n types from results draft₀ start place (length register₀))
+    → RowRest q (listOfType from results) draft at' left place' (length register))
 
 abbrev emit-row-μ-loop : emit-row-lts.MeasureT-loop
-emit-row-μ-loop content at n types from results draft₀ start place marks₀ at₀ place₀ left₀ draft marks at' place' left = left
+emit-row-μ-loop content at n types from results draft₀ start place register₀ at₀ place₀ left₀ draft register at' place' left = left
 
 emit-row-loop-holds : (t : ℕ) → emit-row-lts.Need-loop-holds (emit-row-calls t) (emit-row-at t) emit-row.Post emit-row-Inv-loop emit-row-μ-loop
 emit-row-loop-holds t c = (omega arith, refl, refl, λ q. record { rest = q; whole = λ d o g. g })
 
-emit-row-add-gather : (t : ℕ) → emit-row-lts.Need-add-gather (emit-row-calls t) (emit-row-at t) emit-row.Post emit-row-Inv-loop emit-row-μ-loop
-emit-row-add-gather t c =
-    let r = c .before .before .loop .inv .3 (c .before .before .before .before .before .before .before .before .before .pre .1) .rest in
+emit-row-sub-clear : (t : ℕ) → emit-row-lts.Need-sub-clear (emit-row-calls t) (emit-row-at t) emit-row.Post emit-row-Inv-loop emit-row-μ-loop
+emit-row-sub-clear t c =
+    let a = c .before .before .before .before .before .before .before .before .args in
+    let some = some-left (c .loop-test .taken) in
+    let r = c .before .loop .inv .3 (c .before .before .before .before .before .before .before .before .pre .1) .rest in
+    let w = operand-words r (listOfType (a .from .now) (a .results .now)) some in
     omega arith
 
-emit-row-add-gather-2 : (t : ℕ) → emit-row-lts.Need-add-gather-2 (emit-row-calls t) (emit-row-at t) emit-row.Post emit-row-Inv-loop emit-row-μ-loop
-emit-row-add-gather-2 t c =
-    let r = c .before .before .loop .inv .3 (c .before .before .before .before .before .before .before .before .before .pre .1) .rest in
+emit-row-part-clear-start : (t : ℕ) → emit-row-lts.Need-part-clear-start (emit-row-calls t) (emit-row-at t) emit-row.Post emit-row-Inv-loop emit-row-μ-loop
+emit-row-part-clear-start t c = search needs
+
+emit-row-part-clear-end : (t : ℕ) → emit-row-lts.Need-part-clear-end (emit-row-calls t) (emit-row-at t) emit-row.Post emit-row-Inv-loop emit-row-μ-loop
+emit-row-part-clear-end t c =
+    let a = c .before .before .before .before .before .before .before .before .args in
+    let some = some-left (c .loop-test .taken) in
+    let r = c .before .loop .inv .3 (c .before .before .before .before .before .before .before .before .pre .1) .rest in
+    let w = operand-words r (listOfType (a .from .now) (a .results .now)) some in
     omega arith
 
-emit-row-add-gather-3 : (t : ℕ) → emit-row-lts.Need-add-gather-3 (emit-row-calls t) (emit-row-at t) emit-row.Post emit-row-Inv-loop emit-row-μ-loop
-emit-row-add-gather-3 t c =
-    let r = c .before .before .loop .inv .3 (c .before .before .before .before .before .before .before .before .before .pre .1) .rest in
+emit-row-add-if1 : (t : ℕ) → emit-row-lts.Need-add-if1 (emit-row-calls t) (emit-row-at t) emit-row.Post emit-row-Inv-loop emit-row-μ-loop
+emit-row-add-if1 t c =
+    let r = c .before .before .before .before .before .loop .inv .3 (c .before .before .before .before .before .before .before .before .before .before .before .before .pre .1) .rest in
+    omega arith
+
+emit-row-add-t25 : (t : ℕ) → emit-row-lts.Need-add-t25 (emit-row-calls t) (emit-row-at t) emit-row.Post emit-row-Inv-loop emit-row-μ-loop
+emit-row-add-t25 t c =
+    let r = c .before .before .before .before .before .loop .inv .3 (c .before .before .before .before .before .before .before .before .before .before .before .before .pre .1) .rest in
+    omega arith
+
+emit-row-add-t26 : (t : ℕ) → emit-row-lts.Need-add-t26 (emit-row-calls t) (emit-row-at t) emit-row.Post emit-row-Inv-loop emit-row-μ-loop
+emit-row-add-t26 t c =
+    let r = c .before .before .before .before .before .loop .inv .3 (c .before .before .before .before .before .before .before .before .before .before .before .before .pre .1) .rest in
     omega arith
 
 emit-row-gather-requires : (t : ℕ) → emit-row-lts.Need-gather-requires (emit-row-calls t) (emit-row-at t) emit-row.Post emit-row-Inv-loop emit-row-μ-loop
 emit-row-gather-requires t c κs =
-    let a = c .before .before .before .before .before .before .before .before .before .before .before .args in
+    let cleared = length-front (c .before .before .before .before .before .before .before .loop .register) (c .before .before .before .before .clear .last .0) typeWords (c .before .before .before .before .clear .kept .0) in
+    let a = c .before .before .before .before .before .before .before .before .before .before .before .before .before .before .args in
     let res = listOfType (a .from .now) (a .results .now) in
-    let some = some-left (c .before .before .before .loop-test .taken) in
-    let q = c .before .before .before .before .before .before .before .before .before .before .before .pre .1 in
-    let m = c .before .before .before .before .before .before .before .before .before .before .before .pre .0 in
-    let on = c .before .before .before .before .loop .inv .0 in
-    let x = c .before .before .before .before .loop .inv .3 q in
+    let some = some-left (c .before .before .before .before .before .before .loop-test .taken) in
+    let q = c .before .before .before .before .before .before .before .before .before .before .before .before .before .before .pre .1 in
+    let m = c .before .before .before .before .before .before .before .before .before .before .before .before .before .before .pre .0 in
+    let on = c .before .before .before .before .before .before .before .loop .inv .0 in
+    let x = c .before .before .before .before .before .before .before .loop .inv .3 q in
     let r = x .rest in
-    (omega arith, (first-operand r res some, operand-noted r res some (c .before .before .before .before .loop .marks) refl))
+    (omega arith, (first-operand r res some _ cleared, operand-registered r res some (c .before .before .before .before .clear .last .0) (c .before .before .before .before .before .before .before .loop .register) refl (c .before .before .before .before .clear .ensures)))
 
 emit-row-returns : (t : ℕ) → emit-row-lts.Need-returns (emit-row-calls t) (emit-row-at t) emit-row.Post emit-row-Inv-loop emit-row-μ-loop
 emit-row-returns t c =
-    let a = c .before .before .before .before .before .before .before .before .before .before .before .before .before .before .before .before .before .before .before .args in
+    let cleared = length-front (c .before .before .before .before .before .before .before .before .before .before .before .before .before .before .loop .register) (c .before .before .before .before .before .before .before .before .before .before .before .clear .last .0) typeWords (c .before .before .before .before .before .before .before .before .before .before .before .clear .kept .0) in
+    let a = c .before .before .before .before .before .before .before .before .before .before .before .before .before .before .before .before .before .before .before .before .before .args in
     let res = listOfType (a .from .now) (a .results .now) in
-    let some = some-left (c .before .before .before .before .before .before .before .before .before .before .before .loop-test .taken) in
+    let some = some-left (c .before .before .before .before .before .before .before .before .before .before .before .before .before .loop-test .taken) in
     λ q.
-    let x = c .before .before .before .before .before .before .before .before .before .before .before .before .loop .inv .3 q in
+    let x = c .before .before .before .before .before .before .before .before .before .before .before .before .before .before .loop .inv .3 q in
     let r = x .rest in
-    let g = c .before .before .before .before .before .before .before .gather .ensures (first-operand r res some) (operand-noted r res some (c .before .before .before .before .before .before .before .before .before .before .before .before .loop .marks) refl) .gathers in
+    let g = c .before .before .before .before .before .before .gather .ensures (first-operand r res some _ cleared) (operand-registered r res some (c .before .before .before .before .before .before .before .before .before .before .before .clear .last .0) (c .before .before .before .before .before .before .before .before .before .before .before .before .before .before .loop .register) refl (c .before .before .before .before .before .before .before .before .before .before .before .clear .ensures)) .gathers in
     x .whole _ _ (operand-wide r res some _ _ g (c .enum-told .given .1))
 
 emit-row-finish-requires : (t : ℕ) → emit-row-lts.Need-finish-requires (emit-row-calls t) (emit-row-at t) emit-row.Post emit-row-Inv-loop emit-row-μ-loop
 emit-row-finish-requires t c κs =
-    let a = c .before .before .before .before .before .before .before .before .before .before .before .before .before .before .before .before .before .before .before .before .before .args in
+    let cleared = length-front (c .before .before .before .before .before .before .before .before .before .before .before .before .before .before .before .before .loop .register) (c .before .before .before .before .before .before .before .before .before .before .before .before .before .clear .last .0) typeWords (c .before .before .before .before .before .before .before .before .before .before .before .before .before .clear .kept .0) in
+    let a = c .before .before .before .before .before .before .before .before .before .before .before .before .before .before .before .before .before .before .before .before .before .before .before .args in
     let res = listOfType (a .from .now) (a .results .now) in
-    let some = some-left (c .before .before .before .before .before .before .before .before .before .before .before .before .before .loop-test .taken) in
-    let q = c .before .before .before .before .before .before .before .before .before .before .before .before .before .before .before .before .before .before .before .before .before .pre .1 in
-    let x = c .before .before .before .before .before .before .before .before .before .before .before .before .before .before .loop .inv .3 q in
+    let some = some-left (c .before .before .before .before .before .before .before .before .before .before .before .before .before .before .before .loop-test .taken) in
+    let q = c .before .before .before .before .before .before .before .before .before .before .before .before .before .before .before .before .before .before .before .before .before .before .before .pre .1 in
+    let x = c .before .before .before .before .before .before .before .before .before .before .before .before .before .before .before .before .loop .inv .3 q in
     let r = x .rest in
-    let g = c .before .before .before .before .before .before .before .before .before .gather .ensures (first-operand r res some) (operand-noted r res some (c .before .before .before .before .before .before .before .before .before .before .before .before .before .before .loop .marks) refl) .gathers in
-    operand-kept r res some _ _ g (c .before .before .next .given .1) (c .before .before .before .before .before .before .before .before .before .gather .kept .1 .1 .1 .1 .1 .0)
+    let g = c .before .before .before .before .before .before .before .before .gather .ensures (first-operand r res some _ cleared) (operand-registered r res some (c .before .before .before .before .before .before .before .before .before .before .before .before .before .clear .last .0) (c .before .before .before .before .before .before .before .before .before .before .before .before .before .before .before .before .loop .register) refl (c .before .before .before .before .before .before .before .before .before .before .before .before .before .clear .ensures)) .gathers in
+    operand-kept r res some _ _ g (c .before .before .next .given .1) (c .before .before .before .before .before .before .before .before .gather .kept .1 .1 .1 .1 .1 .0)
 
-emit-row-add-if1 : (t : ℕ) → emit-row-lts.Need-add-if1 (emit-row-calls t) (emit-row-at t) emit-row.Post emit-row-Inv-loop emit-row-μ-loop
-emit-row-add-if1 t c =
-    let q = c .before .before .before .before .before .before .before .before .before .before .before .before .before .before .before .before .before .before .before .before .before .before .before .before .pre .1 in
-    omega (arith, c .before .before .before .before .before .before .before .before .before .before .before .before .before .before .before .before .before .before .before .before .before .before .before .before .good .1 .1 .1 .1 .1 .1 .0)
+emit-row-add-if1-2 : (t : ℕ) → emit-row-lts.Need-add-if1-2 (emit-row-calls t) (emit-row-at t) emit-row.Post emit-row-Inv-loop emit-row-μ-loop
+emit-row-add-if1-2 t c =
+    let q = c .before .before .before .before .before .before .before .before .before .before .before .before .before .before .before .before .before .before .before .before .before .before .before .before .before .before .pre .1 in
+    omega (arith, c .before .before .before .before .before .before .before .before .before .before .before .before .before .before .before .before .before .before .before .before .before .before .before .before .before .before .good .1 .1 .1 .1 .1 .1 .0)
 
 emit-row-same-length-3 : (t : ℕ) → emit-row-lts.Need-same-length-3 (emit-row-calls t) (emit-row-at t) emit-row.Post emit-row-Inv-loop emit-row-μ-loop
-emit-row-same-length-3 t c = c .before .before .before .finish .kept .0 ∙ c .before .before .before .before .before .before .before .before .before .before .before .before .before .gather .kept .1 .1 .1 .1 .1 .0 ∙ c .before .before .before .before .before .before .before .before .before .before .before .before .before .before .before .before .before .before .loop .inv .1
+emit-row-same-length-3 t c = c .before .before .before .finish .kept .0 ∙ c .before .before .before .before .before .before .before .before .before .before .before .before .gather .kept .1 .1 .1 .1 .1 .0 ∙ c .before .before .before .before .before .before .before .before .before .before .before .before .before .before .before .before .before .before .before .before .loop .inv .1
 
 emit-row-same-length-4 : (t : ℕ) → emit-row-lts.Need-same-length-4 (emit-row-calls t) (emit-row-at t) emit-row.Post emit-row-Inv-loop emit-row-μ-loop
-emit-row-same-length-4 t c = c .before .before .before .before .before .before .before .before .before .before .before .before .before .gather .kept .1 .1 .1 .1 .1 .1 .1 .1 .1 .1 .1 .0 ∙ c .before .before .before .before .before .before .before .before .before .before .before .before .before .before .before .before .before .before .loop .inv .2
+emit-row-same-length-4 t c =
+    c .before .before .before .before .before .before .before .before .before .before .before .before .gather .kept .1 .1 .1 .1 .1 .1 .1 .0 ∙ length-front (c .before .before .before .before .before .before .before .before .before .before .before .before .before .before .before .before .before .before .before .before .loop .register) (c .before .before .before .before .before .before .before .before .before .before .before .before .before .before .before .before .before .clear .last .0) typeWords (c .before .before .before .before .before .before .before .before .before .before .before .before .before .before .before .before .before .clear .kept .0) ∙ c .before .before .before .before .before .before .before .before .before .before .before .before .before .before .before .before .before .before .before .before .loop .inv .2
 
 emit-row-returns-2 : (t : ℕ) → emit-row-lts.Need-returns-2 (emit-row-calls t) (emit-row-at t) emit-row.Post emit-row-Inv-loop emit-row-μ-loop
 emit-row-returns-2 t c =
-    let a = c .before .before .before .before .before .before .before .before .before .before .before .before .before .before .before .before .before .before .before .before .before .before .before .before .before .args in
+    let cleared = length-front (c .before .before .before .before .before .before .before .before .before .before .before .before .before .before .before .before .before .before .before .before .loop .register) (c .before .before .before .before .before .before .before .before .before .before .before .before .before .before .before .before .before .clear .last .0) typeWords (c .before .before .before .before .before .before .before .before .before .before .before .before .before .before .before .before .before .clear .kept .0) in
+    let a = c .before .before .before .before .before .before .before .before .before .before .before .before .before .before .before .before .before .before .before .before .before .before .before .before .before .before .before .args in
     let res = listOfType (a .from .now) (a .results .now) in
-    let some = some-left (c .before .before .before .before .before .before .before .before .before .before .before .before .before .before .before .before .before .loop-test .taken) in
+    let some = some-left (c .before .before .before .before .before .before .before .before .before .before .before .before .before .before .before .before .before .before .before .loop-test .taken) in
     let e = c .before .before .before .before .before .before .next .given .1 in
-    let l = c .before .before .before .before .before .before .before .before .before .before .before .before .before .gather .kept .1 .1 .1 .1 .1 .0 in
+    let l = c .before .before .before .before .before .before .before .before .before .before .before .before .gather .kept .1 .1 .1 .1 .1 .0 in
     λ q.
-    let x = c .before .before .before .before .before .before .before .before .before .before .before .before .before .before .before .before .before .before .loop .inv .3 q in
+    let x = c .before .before .before .before .before .before .before .before .before .before .before .before .before .before .before .before .before .before .before .before .loop .inv .3 q in
     let r = x .rest in
-    let g = c .before .before .before .before .before .before .before .before .before .before .before .before .before .gather .ensures (first-operand r res some) (operand-noted r res some (c .before .before .before .before .before .before .before .before .before .before .before .before .before .before .before .before .before .before .loop .marks) refl) .gathers in
+    let g = c .before .before .before .before .before .before .before .before .before .before .before .before .gather .ensures (first-operand r res some _ cleared) (operand-registered r res some (c .before .before .before .before .before .before .before .before .before .before .before .before .before .before .before .before .before .clear .last .0) (c .before .before .before .before .before .before .before .before .before .before .before .before .before .before .before .before .before .before .before .before .loop .register) refl (c .before .before .before .before .before .before .before .before .before .before .before .before .before .before .before .before .before .clear .ensures)) .gathers in
     let f = c .before .before .before .finish .ensures (operand-kept r res some _ _ g e l) in
     let l' = c .before .before .before .finish .kept .0 in
     x .whole _ _ (operand-long r res some _ _ g e l f l' (c .if1 .taken))
 
 emit-row-loop-again : (t : ℕ) → emit-row-lts.Need-loop-again (emit-row-calls t) (emit-row-at t) emit-row.Post emit-row-Inv-loop emit-row-μ-loop
 emit-row-loop-again t c =
-    let a = c .before .before .before .before .before .before .before .before .before .before .before .before .before .before .before .before .before .before .before .before .before .before .before .before .before .args in
+    let cleared = length-front (c .before .before .before .before .before .before .before .before .before .before .before .before .before .before .before .before .before .before .before .before .loop .register) (c .before .before .before .before .before .before .before .before .before .before .before .before .before .before .before .before .before .clear .last .0) typeWords (c .before .before .before .before .before .before .before .before .before .before .before .before .before .before .before .before .before .clear .kept .0) in
+    let a = c .before .before .before .before .before .before .before .before .before .before .before .before .before .before .before .before .before .before .before .before .before .before .before .before .before .before .before .args in
     let res = listOfType (a .from .now) (a .results .now) in
-    let some = some-left (c .before .before .before .before .before .before .before .before .before .before .before .before .before .before .before .before .before .loop-test .taken) in
+    let some = some-left (c .before .before .before .before .before .before .before .before .before .before .before .before .before .before .before .before .before .before .before .loop-test .taken) in
     let e = c .before .before .before .before .before .before .next .given .1 in
-    let l = c .before .before .before .before .before .before .before .before .before .before .before .before .before .gather .kept .1 .1 .1 .1 .1 .0 in
+    let l = c .before .before .before .before .before .before .before .before .before .before .before .before .gather .kept .1 .1 .1 .1 .1 .0 in
     let on =
-    let q = c .before .before .before .before .before .before .before .before .before .before .before .before .before .before .before .before .before .before .before .before .before .before .before .before .before .pre .1 in
-    let x = c .before .before .before .before .before .before .before .before .before .before .before .before .before .before .before .before .before .before .loop .inv .3 q in
+    let q = c .before .before .before .before .before .before .before .before .before .before .before .before .before .before .before .before .before .before .before .before .before .before .before .before .before .before .before .pre .1 in
+    let x = c .before .before .before .before .before .before .before .before .before .before .before .before .before .before .before .before .before .before .before .before .loop .inv .3 q in
     let r = x .rest in
-    let g = c .before .before .before .before .before .before .before .before .before .before .before .before .before .gather .ensures (first-operand r res some) (operand-noted r res some (c .before .before .before .before .before .before .before .before .before .before .before .before .before .before .before .before .before .before .loop .marks) refl) .gathers in
+    let g = c .before .before .before .before .before .before .before .before .before .before .before .before .gather .ensures (first-operand r res some _ cleared) (operand-registered r res some (c .before .before .before .before .before .before .before .before .before .before .before .before .before .before .before .before .before .clear .last .0) (c .before .before .before .before .before .before .before .before .before .before .before .before .before .before .before .before .before .before .before .before .loop .register) refl (c .before .before .before .before .before .before .before .before .before .before .before .before .before .before .before .before .before .clear .ensures)) .gathers in
     goes-on' r res some _ _ g e l in
-    let was = c .before .before .before .before .before .before .before .before .before .before .before .before .before .before .before .before .before .before .loop .inv .0 in (
+    let was = c .before .before .before .before .before .before .before .before .before .before .before .before .before .before .before .before .before .before .before .before .loop .inv .0 in (
       omega arith,
-      c .before .before .before .finish .kept .0 ∙ l ∙ c .before .before .before .before .before .before .before .before .before .before .before .before .before .before .before .before .before .before .loop .inv .1,
-      c .before .before .before .before .before .before .before .before .before .before .before .before .before .gather .kept .1 .1 .1 .1 .1 .1 .1 .1 .1 .1 .1 .0 ∙ c .before .before .before .before .before .before .before .before .before .before .before .before .before .before .before .before .before .before .loop .inv .2,
+      c .before .before .before .finish .kept .0 ∙ l ∙ c .before .before .before .before .before .before .before .before .before .before .before .before .before .before .before .before .before .before .before .before .loop .inv .1,
+      c .before .before .before .before .before .before .before .before .before .before .before .before .gather .kept .1 .1 .1 .1 .1 .1 .1 .0 ∙ cleared ∙ c .before .before .before .before .before .before .before .before .before .before .before .before .before .before .before .before .before .before .before .before .loop .inv .2,
       λ q.
-          let x = c .before .before .before .before .before .before .before .before .before .before .before .before .before .before .before .before .before .before .loop .inv .3 q in
+          let x = c .before .before .before .before .before .before .before .before .before .before .before .before .before .before .before .before .before .before .before .before .loop .inv .3 q in
           let r = x .rest in
-          let g = c .before .before .before .before .before .before .before .before .before .before .before .before .before .gather .ensures (first-operand r res some) (operand-noted r res some (c .before .before .before .before .before .before .before .before .before .before .before .before .before .before .before .before .before .before .loop .marks) refl) .gathers in
+          let g = c .before .before .before .before .before .before .before .before .before .before .before .before .gather .ensures (first-operand r res some _ cleared) (operand-registered r res some (c .before .before .before .before .before .before .before .before .before .before .before .before .before .before .before .before .before .clear .last .0) (c .before .before .before .before .before .before .before .before .before .before .before .before .before .before .before .before .before .before .before .before .loop .register) refl (c .before .before .before .before .before .before .before .before .before .before .before .before .before .before .before .before .before .clear .ensures)) .gathers in
           let f = c .before .before .before .finish .ensures (operand-kept r res some _ _ g e l) in
           let l' = c .before .before .before .finish .kept .0 in
           record {
-            rest = other-operands r res some _ _ g e l f l' (c .if1 .left) _ (c .before .before .before .before .before .before .before .before .before .before .before .before .before .gather .kept .1 .1 .1 .1 .1 .1 .1 .1 .1 .1 .1 .0);
+            rest = other-operands r res some _ _ g e l f l' (c .if1 .left) _ (c .before .before .before .before .before .before .before .before .before .before .before .before .gather .kept .1 .1 .1 .1 .1 .1 .1 .0 ∙ cleared);
             whole = λ d o h. x .whole d o (row-on r res some _ _ g e l f l' (c .if1 .left) d o h);
           },
     )
@@ -396,57 +437,72 @@ emit-row-returns-3 t c =
 
 gather-shared-slice-read-wide : (t : ℕ) → gather-lts.Need-shared-slice-read-wide (gather-calls t) (gather-at t) gather.Post
 gather-shared-slice-read-wide t c =
-    let q = c .before .before .before .before .before .before .before .before .pre .1 .0 in
+    let q = c .before .before .before .before .before .before .before .pre .1 .0 in
     content-inside standard _ _ (q .there) .0
 
-gather-add-t18 : (t : ℕ) → gather-lts.Need-add-t18 (gather-calls t) (gather-at t) gather.Post
-gather-add-t18 t c =
-    let q = c .before .before .before .before .before .before .before .before .before .before .pre .1 .0 in
+gather-add-t14 : (t : ℕ) → gather-lts.Need-add-t14 (gather-calls t) (gather-at t) gather.Post
+gather-add-t14 t c =
+    let q = c .before .before .before .before .before .before .before .before .before .pre .1 .0 in
     let i = content-inside standard _ _ (q .there) in
     omega arith
 
 gather-add-gather-empty : (t : ℕ) → gather-lts.Need-add-gather-empty (gather-calls t) (gather-at t) gather.Post
 gather-add-gather-empty t c =
-    let q = c .before .before .before .before .before .before .before .before .before .before .before .pre .1 .0 in
-    let i = content-inside standard _ _ (q .there) in
-    omega arith
-
-gather-gather-empty-requires : (t : ℕ) → gather-lts.Need-gather-empty-requires (gather-calls t) (gather-at t) gather.Post
-gather-gather-empty-requires t c κs = (source-room (c .before .before .before .before .before .before .before .before .before .before .before .before .pre .1 .0), c .before .before .before .before .before .before .before .before .before .before .before .before .pre .1 .1 .marked)
-
-gather-add-wide : (t : ℕ) → gather-lts.Need-add-wide (gather-calls t) (gather-at t) gather.Post
-gather-add-wide t c =
     let q = c .before .before .before .before .before .before .before .before .before .before .pre .1 .0 in
     let i = content-inside standard _ _ (q .there) in
     omega arith
 
+gather-sub-gather-empty : (t : ℕ) → gather-lts.Need-sub-gather-empty (gather-calls t) (gather-at t) gather.Post
+gather-sub-gather-empty t c =
+    let room = c .before .before .before .before .before .before .before .before .before .before .pre .1 .1 .types .room in
+    omega arith
+
+gather-part-gather-empty-start : (t : ℕ) → gather-lts.Need-part-gather-empty-start (gather-calls t) (gather-at t) gather.Post
+gather-part-gather-empty-start t c =
+    let room = c .before .before .before .before .before .before .before .before .before .before .pre .1 .1 .types .room in
+    omega arith
+
+gather-part-gather-empty-end : (t : ℕ) → gather-lts.Need-part-gather-empty-end (gather-calls t) (gather-at t) gather.Post
+gather-part-gather-empty-end t c =
+    let room = c .before .before .before .before .before .before .before .before .before .before .pre .1 .1 .types .room in
+    omega arith
+
+gather-gather-empty-requires : (t : ℕ) → gather-lts.Need-gather-empty-requires (gather-calls t) (gather-at t) gather.Post
+gather-gather-empty-requires t c κs = (source-room (c .before .before .before .before .before .before .before .before .before .before .before .pre .1 .0), noted-part (c .before .before .before .before .before .before .before .before .before .before .before .pre .1 .1))
+
+gather-add-wide : (t : ℕ) → gather-lts.Need-add-wide (gather-calls t) (gather-at t) gather.Post
+gather-add-wide t c =
+    let q = c .before .before .before .before .before .before .before .before .before .pre .1 .0 in
+    let i = content-inside standard _ _ (q .there) in
+    omega arith
+
 gather-shared-slice-read-wide-2 : (t : ℕ) → gather-lts.Need-shared-slice-read-wide-2 (gather-calls t) (gather-at t) gather.Post
-gather-shared-slice-read-wide-2 t c = type-there standard _ _ (c .before .before .before .before .before .before .before .before .before .before .before .pre .1 .0 .there) (sym (c .before .before .wide .ensures .0) ∙ c .before .match .keys3) .0
+gather-shared-slice-read-wide-2 t c = type-there standard _ _ (c .before .before .before .before .before .before .before .before .before .before .pre .1 .0 .there) (sym (c .before .before .wide .ensures .0) ∙ c .before .match .keys3) .0
 
 gather-add-gather-type : (t : ℕ) → gather-lts.Need-add-gather-type (gather-calls t) (gather-at t) gather.Post
 gather-add-gather-type t c =
     let b = sym (c .before .before .before .before .wide .ensures .0) ∙ c .before .before .before .match .keys3 in
-    let i = type-there standard _ _ (c .before .before .before .before .before .before .before .before .before .before .before .before .before .pre .1 .0 .there) b in
+    let i = type-there standard _ _ (c .before .before .before .before .before .before .before .before .before .before .before .before .pre .1 .0 .there) b in
     omega arith
 
 gather-gather-type-requires : (t : ℕ) → gather-lts.Need-gather-type-requires (gather-calls t) (gather-at t) gather.Post
 unfolding standard
 gather-gather-type-requires t c κs =
-    let q = c .before .before .before .before .before .before .before .before .before .before .before .before .before .before .before .pre .1 .0 in
-    let b = sym (c .before .before .before .before .before .before .wide .ensures .0) ∙ c .before .before .before .before .before .match .keys3 in
-    let k = c .before .before .before .wide2 .ensures .0 in
+    let q = c .before .before .before .before .before .before .before .before .before .before .before .before .before .pre .1 .0 in
+    let b = sym (c .before .before .before .before .before .wide .ensures .0) ∙ c .before .before .before .before .match .keys3 in
+    let k = c .before .before .wide2 .ensures .0 in
     let i = type-there standard _ _ (q .there) b in
-    (omega arith, (source-room q, c .before .before .before .before .before .before .before .before .before .before .before .before .before .before .before .pre .1 .1))
+    (omega arith, (source-room q, c .before .before .before .before .before .before .before .before .before .before .before .before .before .pre .1 .1))
 
 gather-gather-compound-requires : (t : ℕ) → gather-lts.Need-gather-compound-requires (gather-calls t) (gather-at t) gather.Post
 gather-gather-compound-requires t c κs =
-    let m = c .before .before .before .before .before .before .before .before .before .before .before .before .before .pre .0 in
-    let w = c .before .before .before .before .wide .ensures .0 in
-    let r = c .before .before .before .match .rest in
+    let m = c .before .before .before .before .before .before .before .before .before .before .before .pre .0 in
+    let w = c .before .before .before .wide .ensures .0 in
+    let r = c .before .before .match .rest in
     let n2 = r .1 in
     let n1 = r .0 .1 in
     let n0 = r .0 .0 .1 in
-    (omega arith, (omega arith, c .before .before .before .before .before .before .before .before .before .before .before .before .before .pre .1))
+    (omega arith, (omega arith, c .before .before .before .before .before .before .before .before .before .before .before .pre .1))
 
 gather-returns : (t : ℕ) → gather-lts.Need-returns (gather-calls t) (gather-at t) gather.Post
 gather-returns t c =
@@ -457,13 +513,14 @@ gather-returns-2 : (t : ℕ) → gather-lts.Need-returns-2 (gather-calls t) (gat
 gather-returns-2 t c =
     let b = sym (c .before .before .before .before .before .before .before .before .wide .ensures .0) ∙ c .before .before .before .before .before .before .before .match .keys2 in
     λ q s. plain-gives q _ (λ z. omega arith) (λ z. omega arith)
-    (s .types)
-    (empty-gives q _ b _ _ (c .before .before .before .before .gather-empty .ensures (source-room q) (s .marked)))
+    s
+    (c .before .before .before .before .gather-empty .kept .1 .1 .1 .0)
+    (empty-gives q _ b _ _ (c .before .before .before .before .gather-empty .ensures (source-room q) (noted-part s)))
 
 gather-returns-3 : (t : ℕ) → gather-lts.Need-returns-3 (gather-calls t) (gather-at t) gather.Post
 gather-returns-3 t c =
-    let b = sym (c .before .before .before .before .before .before .before .before .before .before .before .before .before .wide .ensures .0) ∙ c .before .before .before .before .before .before .before .before .before .before .before .before .match .keys3 in
-    λ q s. type-gives q b _ (c .before .before .before .before .before .before .before .before .before .before .wide2 .ensures .0) _ _ (c .before .before .before .before .before .before .gather-type .ensures (source-room q) s)
+    let b = sym (c .before .before .before .before .before .before .before .before .before .before .wide .ensures .0) ∙ c .before .before .before .before .before .before .before .before .before .match .keys3 in
+    λ q s. type-gives q b _ (c .before .before .before .before .before .before .before .wide2 .ensures .0) _ _ (c .before .before .before .before .gather-type .ensures (source-room q) s)
 
 gather-around-shared-slice-read-operator : (t : ℕ) → gather-around-lts.Need-shared-slice-read-operator (gather-around-calls t) (gather-around-at t) gather-around.Post
 gather-around-shared-slice-read-operator t c =
@@ -531,7 +588,7 @@ gather-around-emit-row-requires t c κs =
     let q = c .before .before .before .before .before .before .before .before .before .before .before .pre .1 .1 .0 in
     let b = c .before .before .before .before .before .before .before .before .before .before .before .pre .1 .0 in
     let i = content-inside standard _ _ (q .there) in
-    (omega arith, around-operands q res (single-of standard _ _ (q .there) res b) _ (part-words (a .marks .now) (c .before .before .before .before .before .before .before .before .before .before .before .pre .1 .1 .1 .room)))
+    (omega arith, around-operands q res (single-of standard _ _ (q .there) res b) _ (rows-within (a .notes .now) (c .before .before .before .before .before .before .before .before .before .before .before .pre .1 .1 .1 .room)))
 
 gather-around-settle-requires : (t : ℕ) → gather-around-lts.Need-settle-requires (gather-around-calls t) (gather-around-at t) gather-around.Post
 gather-around-settle-requires t c κs =
@@ -543,11 +600,11 @@ gather-around-settle-requires t c κs =
     let one = single-of standard _ _ (q .there) res b in
     let found = content-found _ _ _ (q .maps) _ _ (one .operand) _ _ (c .before .before .before .before .before .before .before .before .before .before .before .before .before .content-has .ensures) in
     let has = sym (found .0) ∙ c .before .before .before .before .before .before .before .before .before .before .before .before .if1 .taken in
-    let g = c .before .before .before .before .before .before .before .before .before .emit-row .ensures (around-operands q res one _ (part-words (a .marks .now) (m .room))) in
-    ((around-newest q res one has _ _ g (c .before .before .before .next .given .1) (c .before .before .before .before .before .before .before .before .before .emit-row .kept .1 .1 .1 .1 .1 .1 .0), source-marked q m _), q .fits, q .small)
+    let g = c .before .before .before .before .before .before .before .before .before .emit-row .ensures (around-operands q res one _ (rows-within (a .notes .now) (m .room))) in
+    ((around-newest q res one has _ _ g (c .before .before .before .next .given .1) (c .before .before .before .before .before .before .before .before .before .emit-row .kept .1 .1 .1 .1 .1 .1 .0), source-noted q m _), q .fits, q .small)
 
 gather-around-same-length-2 : (t : ℕ) → gather-around-lts.Need-same-length-2 (gather-around-calls t) (gather-around-at t) gather-around.Post
-gather-around-same-length-2 t c = part-long (c .before .before .before .before .before .before .before .before .before .before .before .before .before .before .before .before .before .before .args .marks .now) (c .before .before .before .before .before .before .emit-row .last .1 .1 .1 .1 .1 .1 .1 .1 .1 .0) (c .before .before .before .before .before .before .before .before .before .before .before .before .before .before .before .before .before .before .pre .1 .1 .1 .room) (c .before .before .before .before .before .before .emit-row .kept .1 .1 .1 .1 .1 .1 .1 .1 .1 .0)
+gather-around-same-length-2 t c = part-long operandLimit (c .before .before .before .before .before .before .before .before .before .before .before .before .before .before .before .before .before .before .args .notes .now) (c .before .before .before .before .before .before .before .before .before .before .before .before .before .before .before .before .before .before .pre .1 .1 .1 .room) (c .before .before .before .before .before .before .emit-row .last .1 .1 .1 .1 .1 .1 .1 .1 .1 .0) (c .before .before .before .before .before .before .emit-row .kept .1 .1 .1 .1 .1 .1 .1 .1 .1 .0)
 
 gather-around-returns : (t : ℕ) → gather-around-lts.Need-returns (gather-around-calls t) (gather-around-at t) gather-around.Post
 gather-around-returns t c =
@@ -558,11 +615,11 @@ gather-around-returns t c =
     let one = single-of standard _ _ (q .there) res b in
     let found = content-found _ _ _ (q .maps) _ _ (one .operand) _ _ (c .before .before .before .before .before .before .before .before .before .before .content-has .ensures) in
     let has = sym (found .0) ∙ c .before .before .before .before .before .before .before .before .before .if1 .taken in
-    let g = c .before .before .before .before .before .before .emit-row .ensures (around-operands q res one _ (part-words (a .marks .now) (m .room))) in
+    let g = c .before .before .before .before .before .before .emit-row .ensures (around-operands q res one _ (rows-within (a .notes .now) (m .room))) in
     around-wide q res one has _ _ g (c .enum-told .given .1)
 
 gather-around-same-length-4 : (t : ℕ) → gather-around-lts.Need-same-length-4 (gather-around-calls t) (gather-around-at t) gather-around.Post
-gather-around-same-length-4 t c = c .before .before .settle .kept .1 .1 .1 .1 .1 .1 .1 .0 ∙ part-long (c .before .before .before .before .before .before .before .before .before .before .before .before .before .before .before .before .before .before .before .before .before .before .before .before .args .marks .now) (c .before .before .before .before .before .before .before .before .before .before .before .before .emit-row .last .1 .1 .1 .1 .1 .1 .1 .1 .1 .0) (c .before .before .before .before .before .before .before .before .before .before .before .before .before .before .before .before .before .before .before .before .before .before .before .before .pre .1 .1 .1 .room) (c .before .before .before .before .before .before .before .before .before .before .before .before .emit-row .kept .1 .1 .1 .1 .1 .1 .1 .1 .1 .0)
+gather-around-same-length-4 t c = c .before .before .settle .kept .1 .1 .1 .1 .0 ∙ part-long operandLimit (c .before .before .before .before .before .before .before .before .before .before .before .before .before .before .before .before .before .before .before .before .before .before .before .before .args .notes .now) (c .before .before .before .before .before .before .before .before .before .before .before .before .before .before .before .before .before .before .before .before .before .before .before .before .pre .1 .1 .1 .room) (c .before .before .before .before .before .before .before .before .before .before .before .before .emit-row .last .1 .1 .1 .1 .1 .1 .1 .1 .1 .0) (c .before .before .before .before .before .before .before .before .before .before .before .before .emit-row .kept .1 .1 .1 .1 .1 .1 .1 .1 .1 .0)
 
 gather-around-returns-2 : (t : ℕ) → gather-around-lts.Need-returns-2 (gather-around-calls t) (gather-around-at t) gather-around.Post
 gather-around-returns-2 t c =
@@ -575,8 +632,8 @@ gather-around-returns-2 t c =
     let one = single-of standard _ _ (q .there) res b in
     let found = content-found _ _ _ (q .maps) _ _ (one .operand) _ _ (c .before .before .before .before .before .before .before .before .before .before .before .before .before .before .before .before .content-has .ensures) in
     let has = sym (found .0) ∙ c .before .before .before .before .before .before .before .before .before .before .before .before .before .before .before .if1 .taken in
-    let g = c .before .before .before .before .before .before .before .before .before .before .before .before .emit-row .ensures (around-operands q res one _ (part-words (a .marks .now) (m .room))) in
-    around-settled q res one has _ _ g e l _ (c .before .before .settle .ensures (around-newest q res one has _ _ g e l) (source-marked q m _))
+    let g = c .before .before .before .before .before .before .before .before .before .before .before .before .emit-row .ensures (around-operands q res one _ (rows-within (a .notes .now) (m .room))) in
+    around-settled q res one has _ _ g e l _ (c .before .before .settle .ensures (around-newest q res one has _ _ g e l) (source-noted q m _))
 
 gather-around-returns-3 : (t : ℕ) → gather-around-lts.Need-returns-3 (gather-around-calls t) (gather-around-at t) gather-around.Post
 gather-around-returns-3 t c =
@@ -604,58 +661,76 @@ gather-around-returns-4 t c =
 
 gather-compound-shared-slice-read-wide : (t : ℕ) → gather-compound-lts.Need-shared-slice-read-wide (gather-compound-calls t) (gather-compound-at t) gather-compound.Post
 gather-compound-shared-slice-read-wide t c =
-    let q = c .before .before .before .before .before .before .before .before .pre .1 .1 .0 in
+    let q = c .before .before .before .before .before .before .before .pre .1 .1 .0 in
     content-inside standard _ _ (q .there) .0
 
 gather-compound-add-gather-row : (t : ℕ) → gather-compound-lts.Need-add-gather-row (gather-compound-calls t) (gather-compound-at t) gather-compound.Post
 gather-compound-add-gather-row t c =
-    let q = c .before .before .before .before .before .before .before .before .before .before .pre .1 .1 .0 in
-    let b = sym (c .before .wide .ensures .0) ∙ c .if1 .taken in
+    let q = c .before .before .before .before .before .before .before .before .before .before .before .pre .1 .1 .0 in
+    let b = sym (c .before .before .before .wide .ensures .0) ∙ c .before .before .if1 .taken in
     let i = count-there standard _ _ (q .there) (omega arith) (omega arith) in
     omega arith
 
 gather-compound-add-wide : (t : ℕ) → gather-compound-lts.Need-add-wide (gather-compound-calls t) (gather-compound-at t) gather-compound.Post
 gather-compound-add-wide t c =
-    let q = c .before .before .before .before .before .before .before .before .before .before .pre .1 .1 .0 in
+    let q = c .before .before .before .before .before .before .before .before .before .pre .1 .1 .0 in
     let i = content-inside standard _ _ (q .there) in
     omega arith
 
 gather-compound-shared-slice-read-wide-2 : (t : ℕ) → gather-compound-lts.Need-shared-slice-read-wide-2 (gather-compound-calls t) (gather-compound-at t) gather-compound.Post
 gather-compound-shared-slice-read-wide-2 t c =
-    let q = c .before .before .before .before .before .before .before .before .before .before .before .pre .1 .1 .0 in
+    let q = c .before .before .before .before .before .before .before .before .before .before .pre .1 .1 .0 in
     let b = sym (c .before .before .wide .ensures .0) ∙ c .before .if1 .taken in
     count-there standard _ _ (q .there) (omega arith) (omega arith)
 
 gather-compound-gather-row-requires : (t : ℕ) → gather-compound-lts.Need-gather-row-requires (gather-compound-calls t) (gather-compound-at t) gather-compound.Post
 gather-compound-gather-row-requires t c κs =
-    let a = c .before .before .before .before .before .before .before .before .before .before .before .before .before .before .before .args in
+    let a = c .before .before .before .before .before .before .before .before .before .before .before .before .before .args in
     let res = listOfType (a .from .now) (a .results .now) in
-    let m = c .before .before .before .before .before .before .before .before .before .before .before .before .before .before .before .pre .0 in
-    let q = c .before .before .before .before .before .before .before .before .before .before .before .before .before .before .before .pre .1 .1 .0 in
-    let b = sym (c .before .before .before .before .before .before .wide .ensures .0) ∙ c .before .before .before .before .before .if1 .taken in
+    let m = c .before .before .before .before .before .before .before .before .before .before .before .before .before .pre .0 in
+    let q = c .before .before .before .before .before .before .before .before .before .before .before .before .before .pre .1 .1 .0 in
+    let b = sym (c .before .before .before .before .before .wide .ensures .0) ∙ c .before .before .before .before .if1 .taken in
     let i = count-there standard _ _ (q .there) (omega arith) (omega arith) in
-    (omega arith, (choice-sources q res (choices-of q b (c .before .before .before .wide2 .ensures .0)), c .before .before .before .before .before .before .before .before .before .before .before .before .before .before .before .pre .1 .1 .1))
+    (omega arith, (choice-sources q res (choices-of q b (c .before .before .wide2 .ensures .0)), c .before .before .before .before .before .before .before .before .before .before .before .before .before .pre .1 .1 .1))
 
 gather-compound-returns : (t : ℕ) → gather-compound-lts.Need-returns (gather-compound-calls t) (gather-compound-at t) gather-compound.Post
 gather-compound-returns t c =
-    let a = c .before .before .before .before .before .before .before .before .before .before .before .before .before .before .before .before .before .before .before .before .before .before .args in
+    let a = c .before .before .before .before .before .before .before .before .before .before .before .before .before .before .before .before .before .before .args in
     let res = listOfType (a .from .now) (a .results .now) in
-    let b = sym (c .before .before .before .before .before .before .before .before .before .before .before .before .before .wide .ensures .0) ∙ c .before .before .before .before .before .before .before .before .before .before .before .before .if1 .taken in
+    let b = sym (c .before .before .before .before .before .before .before .before .before .before .wide .ensures .0) ∙ c .before .before .before .before .before .before .before .before .before .if1 .taken in
     λ q s.
-    let cs = choices-of q b (c .before .before .before .before .before .before .before .before .before .before .wide2 .ensures .0) in
-    choice-gives q res cs _ _ (c .before .before .before .before .before .before .gather-row .ensures (choice-sources q res cs) s)
+    let cs = choices-of q b (c .before .before .before .before .before .before .before .wide2 .ensures .0) in
+    choice-gives q res cs _ _ (c .before .before .before .before .gather-row .ensures (choice-sources q res cs) s)
+
+gather-compound-sub-gather-one : (t : ℕ) → gather-compound-lts.Need-sub-gather-one (gather-compound-calls t) (gather-compound-at t) gather-compound.Post
+gather-compound-sub-gather-one t c =
+    let room = c .before .before .before .before .before .before .before .before .before .before .pre .1 .1 .1 .types .room in
+    omega arith
+
+gather-compound-part-gather-one-start : (t : ℕ) → gather-compound-lts.Need-part-gather-one-start (gather-compound-calls t) (gather-compound-at t) gather-compound.Post
+gather-compound-part-gather-one-start t c =
+    let room = c .before .before .before .before .before .before .before .before .before .before .pre .1 .1 .1 .types .room in
+    omega arith
+
+gather-compound-part-gather-one-end : (t : ℕ) → gather-compound-lts.Need-part-gather-one-end (gather-compound-calls t) (gather-compound-at t) gather-compound.Post
+gather-compound-part-gather-one-end t c =
+    let room = c .before .before .before .before .before .before .before .before .before .before .pre .1 .1 .1 .types .room in
+    omega arith
 
 gather-compound-gather-one-requires : (t : ℕ) → gather-compound-lts.Need-gather-one-requires (gather-compound-calls t) (gather-compound-at t) gather-compound.Post
 gather-compound-gather-one-requires t c κs =
-    let m = c .before .before .before .before .before .before .before .before .before .before .before .before .pre .0 in
+    let m = c .before .before .before .before .before .before .before .before .before .before .before .pre .0 in
     let w = c .before .before .before .wide .ensures .0 in
-    (omega arith, (c .before .before .before .before .before .before .before .before .before .before .before .before .pre .1 .0, (λ z. c .before .before .if1 .left (w ∙ z)), (c .before .before .before .before .before .before .before .before .before .before .before .before .pre .1 .1 .0, c .before .before .before .before .before .before .before .before .before .before .before .before .pre .1 .1 .1 .marked)))
+    let q = c .before .before .before .before .before .before .before .before .before .before .before .pre .1 .1 .0 in
+    let y = c .before .before .before .before .before .before .before .before .before .before .before .pre .1 .1 .1 in
+    (omega arith, (c .before .before .before .before .before .before .before .before .before .before .before .pre .1 .0, (λ z. c .before .before .if1 .left (w ∙ z)), (source-as q _ (notes-within (c .before .before .before .before .before .before .before .before .before .before .before .args .register .now) (y .types .room)), noted-part y)))
 
 gather-compound-returns-2 : (t : ℕ) → gather-compound-lts.Need-returns-2 (gather-compound-calls t) (gather-compound-at t) gather-compound.Post
 gather-compound-returns-2 t c =
-    let low = c .before .before .before .before .before .before .before .before .before .before .before .before .before .before .before .before .before .pre .1 .0 in
+    let low = c .before .before .before .before .before .before .before .before .before .before .before .before .before .before .before .before .pre .1 .0 in
     let w = c .before .before .before .before .before .before .before .before .wide .ensures .0 in
-    λ q s. plain-gives q _ (λ z. omega arith) (λ z. c .before .before .before .before .before .before .before .if1 .left (w ∙ z)) (s .types) (c .before .before .before .before .gather-one .ensures q (s .marked))
+    λ q s. plain-gives q _ (λ z. omega arith) (λ z. c .before .before .before .before .before .before .before .if1 .left (w ∙ z)) s (c .before .before .before .before .gather-one .kept .1 .1 .1 .1 .1 .1 .1 .0)
+    (c .before .before .before .before .gather-one .ensures (source-as q _ (notes-within (c .before .before .before .before .before .before .before .before .before .before .before .before .before .before .before .before .args .register .now) (s .types .room))) (noted-part s))
 
 gather-one-shared-slice-read-wide : (t : ℕ) → gather-one-lts.Need-shared-slice-read-wide (gather-one-calls t) (gather-one-at t) gather-one.Post
 gather-one-shared-slice-read-wide t c = content-inside standard _ _ (c .before .before .before .before .before .before .before .pre .1 .2 .0 .there) .0
@@ -675,85 +750,80 @@ gather-one-gather-around-requires t c κs =
     (omega arith, (omega arith, c .before .before .before .before .before .before .before .before .before .before .before .pre .1 .2))
 
 abbrev gather-row-Inv-loop : gather-row-lts.InvT-loop
-gather-row-Inv-loop content at n types from results draft₀ base count end limit kept₀ marks₀ at₀ count₀ end₀ left₀ draft kept marks at' count' end' left =
+gather-row-Inv-loop content at n types from results draft₀ row register₀ at₀ count₀ end₀ left₀ draft register at' count' end' left =
     (at ≤ at')
     × (length draft ≡ length draft₀)
-    × (length kept ≡ length kept₀)
-    × (length marks ≡ length marks₀)
-    × ((q : Sources content at n types from results draft₀ base count end limit (length marks₀)) → Noted kept₀ marks₀ (q .kept .list)
-    → SourcesLeft q (listOfType from results) kept marks draft at' left count' end' (length marks))
+    × (length register ≡ length register₀)
+    × ((q : Sources content at n types from results draft₀ row (length register₀)) → Registered register₀ (q .kept .list)
+    → SourcesLeft q (listOfType from results) register draft at' left count' end' (length register))
 
 abbrev gather-row-μ-loop : gather-row-lts.MeasureT-loop
-gather-row-μ-loop content at n types from results draft₀ base count end limit kept₀ marks₀ at₀ count₀ end₀ left₀ draft kept marks at' count' end' left = left
+gather-row-μ-loop content at n types from results draft₀ row register₀ at₀ count₀ end₀ left₀ draft register at' count' end' left = left
 
 gather-row-loop-holds : (t : ℕ) → gather-row-lts.Need-loop-holds (gather-row-calls t) (gather-row-at t) gather-row.Post gather-row-Inv-loop gather-row-μ-loop
-gather-row-loop-holds t c = (omega arith, refl, refl, refl, λ q y. record { rest = q; noted = y; whole = λ kept marks d o g. g })
+gather-row-loop-holds t c = (omega arith, refl, refl, λ q y. record { rest = q; registered = y; whole = λ register d o g. g })
 
 gather-row-gather-requires : (t : ℕ) → gather-row-lts.Need-gather-requires (gather-row-calls t) (gather-row-at t) gather-row.Post gather-row-Inv-loop gather-row-μ-loop
 gather-row-gather-requires t c κs =
-    let a = c .before .before .before .before .before .before .before .before .before .before .before .before .args in
+    let a = c .before .before .before .before .before .before .before .before .before .before .args in
     let res = listOfType (a .from .now) (a .results .now) in
-    let some = some-left (c .before .before .before .loop-test .taken) in
-    let m = c .before .before .before .before .before .before .before .before .before .before .before .before .pre .0 in
-    let on = c .before .before .before .before .loop .inv .0 in
-    let q = c .before .before .before .before .before .before .before .before .before .before .before .before .pre .1 .0 in
-    let y = c .before .before .before .before .before .before .before .before .before .before .before .before .pre .1 .1 in
-    let x = c .before .before .before .before .loop .inv .4 q y in
+    let some = some-left (c .before .before .loop-test .taken) in
+    let m = c .before .before .before .before .before .before .before .before .before .before .pre .0 in
+    let on = c .before .before .before .loop .inv .0 in
+    let q = c .before .before .before .before .before .before .before .before .before .before .pre .1 .0 in
+    let y = c .before .before .before .before .before .before .before .before .before .before .pre .1 .1 in
+    let x = c .before .before .before .loop .inv .3 q y in
     let r = x .rest in
-    (omega arith, (first-source r res some, x .noted))
+    (omega arith, (first-source r res some, x .registered))
 
 gather-row-same-length-2 : (t : ℕ) → gather-row-lts.Need-same-length-2 (gather-row-calls t) (gather-row-at t) gather-row.Post gather-row-Inv-loop gather-row-μ-loop
-gather-row-same-length-2 t c = c .before .before .before .before .before .before .before .before .gather .kept .1 .1 .1 .1 .1 .1 .1 .1 .1 .1 .0 ∙ c .before .before .before .before .before .before .before .before .before .before .before .before .before .loop .inv .2
-
-gather-row-same-length-3 : (t : ℕ) → gather-row-lts.Need-same-length-3 (gather-row-calls t) (gather-row-at t) gather-row.Post gather-row-Inv-loop gather-row-μ-loop
-gather-row-same-length-3 t c = c .before .before .before .before .before .before .before .before .gather .kept .1 .1 .1 .1 .1 .1 .1 .1 .1 .1 .1 .0 ∙ c .before .before .before .before .before .before .before .before .before .before .before .before .before .loop .inv .3
+gather-row-same-length-2 t c = c .before .before .before .before .before .before .gather .kept .1 .1 .1 .1 .1 .1 .1 .0 ∙ c .before .before .before .before .before .before .before .before .before .before .loop .inv .2
 
 gather-row-returns : (t : ℕ) → gather-row-lts.Need-returns (gather-row-calls t) (gather-row-at t) gather-row.Post gather-row-Inv-loop gather-row-μ-loop
 gather-row-returns t c =
-    let a = c .before .before .before .before .before .before .before .before .before .before .before .before .before .before .before .before .before .before .before .before .before .args in
+    let a = c .before .before .before .before .before .before .before .before .before .before .before .before .before .before .before .before .before .args in
     let res = listOfType (a .from .now) (a .results .now) in
-    let some = some-left (c .before .before .before .before .before .before .before .before .before .before .before .before .loop-test .taken) in
+    let some = some-left (c .before .before .before .before .before .before .before .before .before .loop-test .taken) in
     λ q y.
-    let x = c .before .before .before .before .before .before .before .before .before .before .before .before .before .loop .inv .4 q y in
+    let x = c .before .before .before .before .before .before .before .before .before .before .loop .inv .3 q y in
     let r = x .rest in
-    x .whole _ _ _ _ (row-wide r res some _ _ (c .before .before .before .before .before .before .before .before .gather .ensures (first-source r res some) (x .noted)) (c .enum-told .given .1))
+    x .whole _ _ _ (row-wide r res some _ _ (c .before .before .before .before .before .before .gather .ensures (first-source r res some) (x .registered)) (c .enum-told .given .1))
 
 gather-row-loop-again : (t : ℕ) → gather-row-lts.Need-loop-again (gather-row-calls t) (gather-row-at t) gather-row.Post gather-row-Inv-loop gather-row-μ-loop
 gather-row-loop-again t c =
-    let a = c .before .before .before .before .before .before .before .before .before .before .before .before .before .before .before .before .before .before .before .before .before .before .args in
+    let a = c .before .before .before .before .before .before .before .before .before .before .before .before .before .before .before .before .before .before .args in
     let res = listOfType (a .from .now) (a .results .now) in
-    let some = some-left (c .before .before .before .before .before .before .before .before .before .before .before .before .before .loop-test .taken) in
+    let some = some-left (c .before .before .before .before .before .before .before .before .before .before .loop-test .taken) in
     let e = c .before .next .given .1 in
-    let l = c .before .before .before .before .before .before .before .before .before .gather .kept .1 .1 .1 .1 .1 .0 in
+    let l = c .before .before .before .before .before .before .before .gather .kept .1 .1 .1 .1 .1 .0 in
     let on =
-    let q = c .before .before .before .before .before .before .before .before .before .before .before .before .before .before .before .before .before .before .before .before .before .before .pre .1 .0 in
-    let y = c .before .before .before .before .before .before .before .before .before .before .before .before .before .before .before .before .before .before .before .before .before .before .pre .1 .1 in
-    let x = c .before .before .before .before .before .before .before .before .before .before .before .before .before .before .loop .inv .4 q y in
+    let q = c .before .before .before .before .before .before .before .before .before .before .before .before .before .before .before .before .before .before .pre .1 .0 in
+    let y = c .before .before .before .before .before .before .before .before .before .before .before .before .before .before .before .before .before .before .pre .1 .1 in
+    let x = c .before .before .before .before .before .before .before .before .before .before .before .loop .inv .3 q y in
     let r = x .rest in
-    let g = c .before .before .before .before .before .before .before .before .before .gather .ensures (first-source r res some) (x .noted) in
+    let g = c .before .before .before .before .before .before .before .gather .ensures (first-source r res some) (x .registered) in
     goes-on r res some _ _ g e l in
-    let was = c .before .before .before .before .before .before .before .before .before .before .before .before .before .before .loop .inv .0 in (
+    let was = c .before .before .before .before .before .before .before .before .before .before .before .loop .inv .0 in (
       omega arith,
-      l ∙ c .before .before .before .before .before .before .before .before .before .before .before .before .before .before .loop .inv .1,
-      c .before .before .before .before .before .before .before .before .before .gather .kept .1 .1 .1 .1 .1 .1 .1 .1 .1 .1 .0 ∙ c .before .before .before .before .before .before .before .before .before .before .before .before .before .before .loop .inv .2,
-      c .before .before .before .before .before .before .before .before .before .gather .kept .1 .1 .1 .1 .1 .1 .1 .1 .1 .1 .1 .0 ∙ c .before .before .before .before .before .before .before .before .before .before .before .before .before .before .loop .inv .3,
+      l ∙ c .before .before .before .before .before .before .before .before .before .before .before .loop .inv .1,
+      c .before .before .before .before .before .before .before .gather .kept .1 .1 .1 .1 .1 .1 .1 .0 ∙ c .before .before .before .before .before .before .before .before .before .before .before .loop .inv .2,
       λ q y.
-          let x = c .before .before .before .before .before .before .before .before .before .before .before .before .before .before .loop .inv .4 q y in
+          let x = c .before .before .before .before .before .before .before .before .before .before .before .loop .inv .3 q y in
           let r = x .rest in
-          let g = c .before .before .before .before .before .before .before .before .before .gather .ensures (first-source r res some) (x .noted) in
+          let g = c .before .before .before .before .before .before .before .gather .ensures (first-source r res some) (x .registered) in
           record {
-            rest = other-sources r res some _ _ g e l _ (c .before .before .before .before .before .before .before .before .before .gather .kept .1 .1 .1 .1 .1 .1 .1 .1 .1 .1 .1 .0);
-            noted = g .noted e;
-            whole = λ kept marks d o h. x .whole kept marks d o (row-then r res some _ _ g e l d o h);
+            rest = other-sources r res some _ _ g e l _ (c .before .before .before .before .before .before .before .gather .kept .1 .1 .1 .1 .1 .1 .1 .0);
+            registered = g .noted e;
+            whole = λ register d o h. x .whole register d o (row-then r res some _ _ g e l d o h);
           },
     )
 
 gather-row-returns-2 : (t : ℕ) → gather-row-lts.Need-returns-2 (gather-row-calls t) (gather-row-at t) gather-row.Post gather-row-Inv-loop gather-row-μ-loop
 gather-row-returns-2 t c =
     λ q y.
-    let x = c .before .loop .inv .4 q y in
+    let x = c .before .loop .inv .3 q y in
     let r = x .rest in
-    x .whole _ _ _ _ (no-sources r _ (omega arith) (x .noted))
+    x .whole _ _ _ (no-sources r _ (omega arith) (x .registered))
 
 gather-sequence-add-wide : (t : ℕ) → gather-sequence-lts.Need-add-wide (gather-sequence-calls t) (gather-sequence-at t) gather-sequence.Post
 gather-sequence-add-wide t c =
@@ -868,7 +938,7 @@ gather-sequence-emit-row-requires t c κs =
     let b = c .before .before .before .before .before .before .before .before .before .before .before .before .before .pre .1 .0 in
     let n = c .before .before .before .before .before .wide .ensures .0 in
     let i = count-there standard _ _ (q .there) (omega arith) (omega arith) in
-    (omega arith, sequence-operands q res (operands-of q b n) n _ (part-words (a .marks .now) (c .before .before .before .before .before .before .before .before .before .before .before .before .before .pre .1 .1 .1 .room)))
+    (omega arith, sequence-operands q res (operands-of q b n) n _ (rows-within (a .notes .now) (c .before .before .before .before .before .before .before .before .before .before .before .before .before .pre .1 .1 .1 .room)))
 
 gather-sequence-settle-requires : (t : ℕ) → gather-sequence-lts.Need-settle-requires (gather-sequence-calls t) (gather-sequence-at t) gather-sequence.Post
 gather-sequence-settle-requires t c κs =
@@ -881,11 +951,11 @@ gather-sequence-settle-requires t c κs =
     let cs = operands-of q b n in
     let found = row-found _ _ _ (q .maps) _ _ _ (cs .operands) _ _ _ (c .before .before .before .before .before .before .before .before .before .before .before .before .before .before .row-has .ensures) in
     let has = sym (found .0) ∙ c .before .before .before .before .before .before .before .before .before .before .before .before .before .if1 .taken in
-    let g = c .before .before .before .before .before .before .before .before .before .emit-row .ensures (sequence-operands q res cs n _ (part-words (a .marks .now) (m .room))) in
-    ((sequence-newest q res cs n has _ _ g (c .before .before .before .next .given .1) (c .before .before .before .before .before .before .before .before .before .emit-row .kept .1 .1 .1 .1 .1 .1 .0), source-marked q m _), q .fits, q .small)
+    let g = c .before .before .before .before .before .before .before .before .before .emit-row .ensures (sequence-operands q res cs n _ (rows-within (a .notes .now) (m .room))) in
+    ((sequence-newest q res cs n has _ _ g (c .before .before .before .next .given .1) (c .before .before .before .before .before .before .before .before .before .emit-row .kept .1 .1 .1 .1 .1 .1 .0), source-noted q m _), q .fits, q .small)
 
 gather-sequence-same-length-2 : (t : ℕ) → gather-sequence-lts.Need-same-length-2 (gather-sequence-calls t) (gather-sequence-at t) gather-sequence.Post
-gather-sequence-same-length-2 t c = part-long (c .before .before .before .before .before .before .before .before .before .before .before .before .before .before .before .before .before .before .before .before .args .marks .now) (c .before .before .before .before .before .before .emit-row .last .1 .1 .1 .1 .1 .1 .1 .1 .1 .0) (c .before .before .before .before .before .before .before .before .before .before .before .before .before .before .before .before .before .before .before .before .pre .1 .1 .1 .room) (c .before .before .before .before .before .before .emit-row .kept .1 .1 .1 .1 .1 .1 .1 .1 .1 .0)
+gather-sequence-same-length-2 t c = part-long operandLimit (c .before .before .before .before .before .before .before .before .before .before .before .before .before .before .before .before .before .before .before .before .args .notes .now) (c .before .before .before .before .before .before .before .before .before .before .before .before .before .before .before .before .before .before .before .before .pre .1 .1 .1 .room) (c .before .before .before .before .before .before .emit-row .last .1 .1 .1 .1 .1 .1 .1 .1 .1 .0) (c .before .before .before .before .before .before .emit-row .kept .1 .1 .1 .1 .1 .1 .1 .1 .1 .0)
 
 gather-sequence-returns : (t : ℕ) → gather-sequence-lts.Need-returns (gather-sequence-calls t) (gather-sequence-at t) gather-sequence.Post
 gather-sequence-returns t c =
@@ -897,11 +967,11 @@ gather-sequence-returns t c =
     let cs = operands-of q b n in
     let found = row-found _ _ _ (q .maps) _ _ _ (cs .operands) _ _ _ (c .before .before .before .before .before .before .before .before .before .before .before .row-has .ensures) in
     let has = sym (found .0) ∙ c .before .before .before .before .before .before .before .before .before .before .if1 .taken in
-    let g = c .before .before .before .before .before .before .emit-row .ensures (sequence-operands q res cs n _ (part-words (a .marks .now) (m .room))) in
+    let g = c .before .before .before .before .before .before .emit-row .ensures (sequence-operands q res cs n _ (rows-within (a .notes .now) (m .room))) in
     sequence-wide q res cs n has _ _ g (c .enum-told .given .1)
 
 gather-sequence-same-length-4 : (t : ℕ) → gather-sequence-lts.Need-same-length-4 (gather-sequence-calls t) (gather-sequence-at t) gather-sequence.Post
-gather-sequence-same-length-4 t c = c .before .before .settle .kept .1 .1 .1 .1 .1 .1 .1 .0 ∙ part-long (c .before .before .before .before .before .before .before .before .before .before .before .before .before .before .before .before .before .before .before .before .before .before .before .before .before .before .args .marks .now) (c .before .before .before .before .before .before .before .before .before .before .before .before .emit-row .last .1 .1 .1 .1 .1 .1 .1 .1 .1 .0) (c .before .before .before .before .before .before .before .before .before .before .before .before .before .before .before .before .before .before .before .before .before .before .before .before .before .before .pre .1 .1 .1 .room) (c .before .before .before .before .before .before .before .before .before .before .before .before .emit-row .kept .1 .1 .1 .1 .1 .1 .1 .1 .1 .0)
+gather-sequence-same-length-4 t c = c .before .before .settle .kept .1 .1 .1 .1 .0 ∙ part-long operandLimit (c .before .before .before .before .before .before .before .before .before .before .before .before .before .before .before .before .before .before .before .before .before .before .before .before .before .before .args .notes .now) (c .before .before .before .before .before .before .before .before .before .before .before .before .before .before .before .before .before .before .before .before .before .before .before .before .before .before .pre .1 .1 .1 .room) (c .before .before .before .before .before .before .before .before .before .before .before .before .emit-row .last .1 .1 .1 .1 .1 .1 .1 .1 .1 .0) (c .before .before .before .before .before .before .before .before .before .before .before .before .emit-row .kept .1 .1 .1 .1 .1 .1 .1 .1 .1 .0)
 
 gather-sequence-returns-2 : (t : ℕ) → gather-sequence-lts.Need-returns-2 (gather-sequence-calls t) (gather-sequence-at t) gather-sequence.Post
 gather-sequence-returns-2 t c =
@@ -915,8 +985,8 @@ gather-sequence-returns-2 t c =
     let cs = operands-of q b n in
     let found = row-found _ _ _ (q .maps) _ _ _ (cs .operands) _ _ _ (c .before .before .before .before .before .before .before .before .before .before .before .before .before .before .before .before .before .row-has .ensures) in
     let has = sym (found .0) ∙ c .before .before .before .before .before .before .before .before .before .before .before .before .before .before .before .before .if1 .taken in
-    let g = c .before .before .before .before .before .before .before .before .before .before .before .before .emit-row .ensures (sequence-operands q res cs n _ (part-words (a .marks .now) (m .room))) in
-    sequence-settled q res cs n has _ _ g e l _ (c .before .before .settle .ensures (sequence-newest q res cs n has _ _ g e l) (source-marked q m _))
+    let g = c .before .before .before .before .before .before .before .before .before .before .before .before .emit-row .ensures (sequence-operands q res cs n _ (rows-within (a .notes .now) (m .room))) in
+    sequence-settled q res cs n has _ _ g e l _ (c .before .before .settle .ensures (sequence-newest q res cs n has _ _ g e l) (source-noted q m _))
 
 gather-sequence-returns-3 : (t : ℕ) → gather-sequence-lts.Need-returns-3 (gather-sequence-calls t) (gather-sequence-at t) gather-sequence.Post
 gather-sequence-returns-3 t c =
@@ -928,6 +998,99 @@ gather-sequence-returns-3 t c =
     let cs = operands-of q b n in
     let found = row-found _ _ _ (q .maps) _ _ _ (cs .operands) _ _ _ (c .before .row-has .ensures) in
     sequence-blank q res cs n _ (found .1) (sym (found .0) ∙ c .if1 .left) m
+
+emit-row-same-length : (t : ℕ) → emit-row-lts.Need-same-length (emit-row-calls t) (emit-row-at t) emit-row.Post emit-row-Inv-loop emit-row-μ-loop
+emit-row-same-length t c = c .before .before .before .before .before .before .gather .kept .1 .1 .1 .1 .1 .0 ∙ c .before .before .before .before .before .before .before .before .before .before .before .before .before .before .loop .inv .1
+
+emit-row-same-length-2 : (t : ℕ) → emit-row-lts.Need-same-length-2 (emit-row-calls t) (emit-row-at t) emit-row.Post emit-row-Inv-loop emit-row-μ-loop
+emit-row-same-length-2 t c =
+    c .before .before .before .before .before .before .gather .kept .1 .1 .1 .1 .1 .1 .1 .0 ∙ length-front (c .before .before .before .before .before .before .before .before .before .before .before .before .before .before .loop .register) (c .before .before .before .before .before .before .before .before .before .before .before .clear .last .0) typeWords (c .before .before .before .before .before .before .before .before .before .before .before .clear .kept .0) ∙ c .before .before .before .before .before .before .before .before .before .before .before .before .before .before .loop .inv .2
+
+emit-row-same-length-5 : (t : ℕ) → emit-row-lts.Need-same-length-5 (emit-row-calls t) (emit-row-at t) emit-row.Post emit-row-Inv-loop emit-row-μ-loop
+emit-row-same-length-5 t c = c .before .loop .inv .1
+
+emit-row-same-length-6 : (t : ℕ) → emit-row-lts.Need-same-length-6 (emit-row-calls t) (emit-row-at t) emit-row.Post emit-row-Inv-loop emit-row-μ-loop
+emit-row-same-length-6 t c = c .before .loop .inv .2
+
+gather-same-length : (t : ℕ) → gather-lts.Need-same-length (gather-calls t) (gather-at t) gather.Post
+gather-same-length t c = c .before .before .before .before .gather-empty .kept .0
+
+gather-same-length-2 : (t : ℕ) → gather-lts.Need-same-length-2 (gather-calls t) (gather-at t) gather.Post
+gather-same-length-2 t c =
+    part-long typeWords (c .before .before .before .before .before .before .before .before .before .before .before .before .before .before .before .before .args .register .now) (c .before .before .before .before .before .before .before .before .before .before .before .before .before .before .before .before .pre .1 .1 .types .room) (c .before .before .before .before .gather-empty .last .1 .1 .1 .0) (c .before .before .before .before .gather-empty .kept .1 .1 .1 .0)
+
+gather-same-length-3 : (t : ℕ) → gather-lts.Need-same-length-3 (gather-calls t) (gather-at t) gather.Post
+gather-same-length-3 t c = c .before .before .before .before .gather-type .kept .1 .1 .1 .0
+
+gather-same-length-4 : (t : ℕ) → gather-lts.Need-same-length-4 (gather-calls t) (gather-at t) gather.Post
+gather-same-length-4 t c = c .before .before .before .before .gather-type .kept .1 .1 .1 .1 .1 .1 .0
+
+gather-same-length-5 : (t : ℕ) → gather-lts.Need-same-length-5 (gather-calls t) (gather-at t) gather.Post
+gather-same-length-5 t c = c .before .before .before .before .gather-compound .kept .1 .1 .1 .1 .1 .0
+
+gather-same-length-6 : (t : ℕ) → gather-lts.Need-same-length-6 (gather-calls t) (gather-at t) gather.Post
+gather-same-length-6 t c = c .before .before .before .before .gather-compound .kept .1 .1 .1 .1 .1 .1 .1 .0
+
+gather-returns-4 : (t : ℕ) → gather-lts.Need-returns-4 (gather-calls t) (gather-at t) gather.Post
+gather-returns-4 t c = c .before .before .before .before .gather-compound .ensures
+
+gather-around-same-length : (t : ℕ) → gather-around-lts.Need-same-length (gather-around-calls t) (gather-around-at t) gather-around.Post
+gather-around-same-length t c = c .before .before .before .before .before .before .emit-row .kept .1 .1 .1 .1 .1 .1 .0 ∙ simp length-set
+
+gather-around-same-length-3 : (t : ℕ) → gather-around-lts.Need-same-length-3 (gather-around-calls t) (gather-around-at t) gather-around.Post
+gather-around-same-length-3 t c = c .before .before .before .before .before .before .before .before .before .before .before .before .emit-row .kept .1 .1 .1 .1 .1 .1 .0 ∙ simp length-set
+
+gather-around-same-length-5 : (t : ℕ) → gather-around-lts.Need-same-length-5 (gather-around-calls t) (gather-around-at t) gather-around.Post
+gather-around-same-length-5 t c = c .before .before .before .before .gather-empty .kept .0
+
+gather-around-same-length-6 : (t : ℕ) → gather-around-lts.Need-same-length-6 (gather-around-calls t) (gather-around-at t) gather-around.Post
+gather-around-same-length-6 t c = c .before .before .before .before .gather-empty .kept .1 .1 .1 .0
+
+gather-compound-same-length : (t : ℕ) → gather-compound-lts.Need-same-length (gather-compound-calls t) (gather-compound-at t) gather-compound.Post
+gather-compound-same-length t c = c .before .before .before .before .gather-row .kept .1 .1 .1 .1 .1 .1 .0
+
+gather-compound-same-length-2 : (t : ℕ) → gather-compound-lts.Need-same-length-2 (gather-compound-calls t) (gather-compound-at t) gather-compound.Post
+gather-compound-same-length-2 t c = c .before .before .before .before .gather-row .kept .1 .1 .1 .1 .1 .1 .1 .1 .0
+
+gather-compound-same-length-3 : (t : ℕ) → gather-compound-lts.Need-same-length-3 (gather-compound-calls t) (gather-compound-at t) gather-compound.Post
+gather-compound-same-length-3 t c = c .before .before .before .before .gather-one .kept .1 .1 .1 .1 .1 .0
+
+gather-compound-same-length-4 : (t : ℕ) → gather-compound-lts.Need-same-length-4 (gather-compound-calls t) (gather-compound-at t) gather-compound.Post
+gather-compound-same-length-4 t c =
+    part-long typeWords (c .before .before .before .before .before .before .before .before .before .before .before .before .before .before .before .before .args .register .now) (c .before .before .before .before .before .before .before .before .before .before .before .before .before .before .before .before .pre .1 .1 .1 .types .room) (c .before .before .before .before .gather-one .last .1 .1 .1 .1 .1 .1 .1 .0) (c .before .before .before .before .gather-one .kept .1 .1 .1 .1 .1 .1 .1 .0)
+
+gather-one-same-length : (t : ℕ) → gather-one-lts.Need-same-length (gather-one-calls t) (gather-one-at t) gather-one.Post
+gather-one-same-length t c = c .before .before .before .before .gather-sequence .kept .1 .1 .1 .1 .1 .0
+
+gather-one-same-length-2 : (t : ℕ) → gather-one-lts.Need-same-length-2 (gather-one-calls t) (gather-one-at t) gather-one.Post
+gather-one-same-length-2 t c = c .before .before .before .before .gather-sequence .kept .1 .1 .1 .1 .1 .1 .1 .0
+
+gather-one-returns : (t : ℕ) → gather-one-lts.Need-returns (gather-one-calls t) (gather-one-at t) gather-one.Post
+gather-one-returns t c = c .before .before .before .before .gather-sequence .ensures
+
+gather-one-same-length-3 : (t : ℕ) → gather-one-lts.Need-same-length-3 (gather-one-calls t) (gather-one-at t) gather-one.Post
+gather-one-same-length-3 t c = c .before .before .before .before .gather-around .kept .1 .1 .1 .1 .1 .0
+
+gather-one-same-length-4 : (t : ℕ) → gather-one-lts.Need-same-length-4 (gather-one-calls t) (gather-one-at t) gather-one.Post
+gather-one-same-length-4 t c = c .before .before .before .before .gather-around .kept .1 .1 .1 .1 .1 .1 .1 .0
+
+gather-one-returns-2 : (t : ℕ) → gather-one-lts.Need-returns-2 (gather-one-calls t) (gather-one-at t) gather-one.Post
+gather-one-returns-2 t c = c .before .before .before .before .gather-around .ensures
+
+gather-row-same-length : (t : ℕ) → gather-row-lts.Need-same-length (gather-row-calls t) (gather-row-at t) gather-row.Post gather-row-Inv-loop gather-row-μ-loop
+gather-row-same-length t c = c .before .before .before .before .before .before .gather .kept .1 .1 .1 .1 .1 .0 ∙ c .before .before .before .before .before .before .before .before .before .before .loop .inv .1
+
+gather-row-same-length-3 : (t : ℕ) → gather-row-lts.Need-same-length-3 (gather-row-calls t) (gather-row-at t) gather-row.Post gather-row-Inv-loop gather-row-μ-loop
+gather-row-same-length-3 t c = c .before .loop .inv .1
+
+gather-row-same-length-4 : (t : ℕ) → gather-row-lts.Need-same-length-4 (gather-row-calls t) (gather-row-at t) gather-row.Post gather-row-Inv-loop gather-row-μ-loop
+gather-row-same-length-4 t c = c .before .loop .inv .2
+
+gather-sequence-same-length : (t : ℕ) → gather-sequence-lts.Need-same-length (gather-sequence-calls t) (gather-sequence-at t) gather-sequence.Post
+gather-sequence-same-length t c = c .before .before .before .before .before .before .emit-row .kept .1 .1 .1 .1 .1 .1 .0 ∙ simp length-set
+
+gather-sequence-same-length-3 : (t : ℕ) → gather-sequence-lts.Need-same-length-3 (gather-sequence-calls t) (gather-sequence-at t) gather-sequence.Post
+gather-sequence-same-length-3 t c = c .before .before .before .before .before .before .before .before .before .before .before .before .emit-row .kept .1 .1 .1 .1 .1 .1 .0 ∙ simp length-set
 
 pub +emit-row+gather+gather-around+gather-compound+gather-one+gather-row+gather-sequence-spec :
     {M : Type 1} → statement M
@@ -946,34 +1109,40 @@ pub +emit-row+gather+gather-around+gather-compound+gather-one+gather-row+gather-
     emit-row-Inv-loop
     emit-row-μ-loop
     (emit-row-loop-holds t)
-    (emit-row-add-gather t)
-    (emit-row-add-gather-2 t)
-    (emit-row-add-gather-3 t)
-    (λ c. refl)
+    (emit-row-sub-clear t)
+    (emit-row-part-clear-start t)
+    (emit-row-part-clear-end t)
+    (λ c κs. search needs)
+    (emit-row-add-if1 t)
+    (emit-row-add-t25 t)
+    (emit-row-add-t26 t)
     (emit-row-gather-requires t)
     (λ c. search needs)
-    (λ c. c .before .before .before .before .before .before .before .gather .kept .1 .1 .1 .1 .1 .0 ∙ c .before .before .before .before .before .before .before .before .before .before .before .before .loop .inv .1)
-    (λ c. c .before .before .before .before .before .before .before .gather .kept .1 .1 .1 .1 .1 .1 .1 .1 .1 .1 .1 .0 ∙ c .before .before .before .before .before .before .before .before .before .before .before .before .loop .inv .2)
+    (emit-row-same-length t)
+    (emit-row-same-length-2 t)
     (emit-row-returns t)
     (λ c. search needs)
     (emit-row-finish-requires t)
-    (emit-row-add-if1 t)
+    (emit-row-add-if1-2 t)
     (emit-row-same-length-3 t)
     (emit-row-same-length-4 t)
     (emit-row-returns-2 t)
     (λ c. omega arith)
     (λ c. omega arith)
     (emit-row-loop-again t)
-    (λ c. c .before .loop .inv .1)
-    (λ c. c .before .loop .inv .2)
+    (emit-row-same-length-5 t)
+    (emit-row-same-length-6 t)
     (emit-row-returns-3 t))
     (λ t. gather-lts.spec (gather-calls t)
     (gather-at t)
     gather.Post
     (gather-shared-slice-read-wide t)
     (λ c κs. search needs)
-    (gather-add-t18 t)
+    (gather-add-t14 t)
     (gather-add-gather-empty t)
+    (gather-sub-gather-empty t)
+    (gather-part-gather-empty-start t)
+    (gather-part-gather-empty-end t)
     (gather-gather-empty-requires t)
     (gather-add-wide t)
     (gather-shared-slice-read-wide-2 t)
@@ -982,17 +1151,15 @@ pub +emit-row+gather+gather-around+gather-compound+gather-one+gather-row+gather-
     (gather-gather-type-requires t)
     (gather-gather-compound-requires t)
     (gather-returns t)
-    (λ c. c .before .before .before .before .gather-empty .kept .0)
-    (λ c. c .before .before .before .before .gather-empty .kept .1 .1 .1 .1 .1 .1 .0)
+    (gather-same-length t)
+    (gather-same-length-2 t)
     (gather-returns-2 t)
-    (λ c. c .before .before .before .before .before .before .gather-type .kept .1 .1 .1 .0)
-    (λ c. c .before .before .before .before .before .before .gather-type .kept .1 .1 .1 .1 .1 .1 .1 .1 .1 .0)
-    (λ c. c .before .before .before .before .before .before .gather-type .kept .1 .1 .1 .1 .1 .1 .1 .1 .1 .1 .0)
+    (gather-same-length-3 t)
+    (gather-same-length-4 t)
     (gather-returns-3 t)
-    (λ c. c .before .before .before .before .before .before .gather-compound .kept .1 .1 .1 .1 .1 .0)
-    (λ c. c .before .before .before .before .before .before .gather-compound .kept .1 .1 .1 .1 .1 .1 .1 .1 .1 .1 .0)
-    (λ c. c .before .before .before .before .before .before .gather-compound .kept .1 .1 .1 .1 .1 .1 .1 .1 .1 .1 .1 .0)
-    (λ c. c .before .before .before .before .before .before .gather-compound .ensures))
+    (gather-same-length-5 t)
+    (gather-same-length-6 t)
+    (gather-returns-4 t))
     (λ t. gather-around-lts.spec (gather-around-calls t)
     (gather-around-at t)
     gather-around.Post
@@ -1009,34 +1176,36 @@ pub +emit-row+gather+gather-around+gather-compound+gather-one+gather-row+gather-
     (λ c. search needs)
     (λ c. search needs)
     (gather-around-settle-requires t)
-    (λ c. c .before .before .before .before .before .before .emit-row .kept .1 .1 .1 .1 .1 .1 .0 ∙ simp length-set)
+    (gather-around-same-length t)
     (gather-around-same-length-2 t)
     (gather-around-returns t)
-    (λ c. c .before .before .before .before .before .before .before .before .before .before .before .before .emit-row .kept .1 .1 .1 .1 .1 .1 .0 ∙ simp length-set)
+    (gather-around-same-length-3 t)
     (gather-around-same-length-4 t)
     (gather-around-returns-2 t)
     (gather-around-returns-3 t)
     (gather-around-gather-empty-requires t)
-    (λ c. c .before .before .before .before .gather-empty .kept .0)
-    (λ c. c .before .before .before .before .gather-empty .kept .1 .1 .1 .1 .1 .1 .0)
+    (gather-around-same-length-5 t)
+    (gather-around-same-length-6 t)
     (gather-around-returns-4 t))
     (λ t. gather-compound-lts.spec (gather-compound-calls t)
     (gather-compound-at t)
     gather-compound.Post
     (gather-compound-shared-slice-read-wide t)
     (λ c κs. search needs)
-    (gather-compound-add-gather-row t)
     (gather-compound-add-wide t)
     (gather-compound-shared-slice-read-wide-2 t)
     (λ c κs. search needs)
+    (gather-compound-add-gather-row t)
     (gather-compound-gather-row-requires t)
-    (λ c. c .before .before .before .before .before .before .gather-row .kept .1 .1 .1 .1 .1 .1 .0)
-    (λ c. c .before .before .before .before .before .before .gather-row .kept .1 .1 .1 .1 .1 .1 .1 .1 .1 .1 .1 .0)
-    (λ c. c .before .before .before .before .before .before .gather-row .kept .1 .1 .1 .1 .1 .1 .1 .1 .1 .1 .1 .1 .0)
+    (gather-compound-same-length t)
+    (gather-compound-same-length-2 t)
     (gather-compound-returns t)
+    (gather-compound-sub-gather-one t)
+    (gather-compound-part-gather-one-start t)
+    (gather-compound-part-gather-one-end t)
     (gather-compound-gather-one-requires t)
-    (λ c. c .before .before .before .before .gather-one .kept .1 .1 .1 .1 .1 .0)
-    (λ c. c .before .before .before .before .gather-one .kept .1 .1 .1 .1 .1 .1 .1 .1 .1 .1 .0)
+    (gather-compound-same-length-3 t)
+    (gather-compound-same-length-4 t)
     (gather-compound-returns-2 t))
     (λ t. gather-one-lts.spec (gather-one-calls t)
     (gather-one-at t)
@@ -1044,13 +1213,13 @@ pub +emit-row+gather+gather-around+gather-compound+gather-one+gather-row+gather-
     (gather-one-shared-slice-read-wide t)
     (λ c κs. search needs)
     (gather-one-gather-sequence-requires t)
-    (λ c. c .before .before .before .before .gather-sequence .kept .1 .1 .1 .1 .1 .0)
-    (λ c. c .before .before .before .before .gather-sequence .kept .1 .1 .1 .1 .1 .1 .1 .1 .1 .1 .0)
-    (λ c. c .before .before .before .before .gather-sequence .ensures)
+    (gather-one-same-length t)
+    (gather-one-same-length-2 t)
+    (gather-one-returns t)
     (gather-one-gather-around-requires t)
-    (λ c. c .before .before .before .before .gather-around .kept .1 .1 .1 .1 .1 .0)
-    (λ c. c .before .before .before .before .gather-around .kept .1 .1 .1 .1 .1 .1 .1 .1 .1 .1 .0)
-    (λ c. c .before .before .before .before .gather-around .ensures))
+    (gather-one-same-length-3 t)
+    (gather-one-same-length-4 t)
+    (gather-one-returns-2 t))
     (λ t. gather-row-lts.spec (gather-row-calls t)
     (gather-row-at t)
     gather-row.Post
@@ -1059,17 +1228,15 @@ pub +emit-row+gather+gather-around+gather-compound+gather-one+gather-row+gather-
     (gather-row-loop-holds t)
     (gather-row-gather-requires t)
     (λ c. search needs)
-    (λ c. c .before .before .before .before .before .before .before .before .gather .kept .1 .1 .1 .1 .1 .0 ∙ c .before .before .before .before .before .before .before .before .before .before .before .before .before .loop .inv .1)
+    (gather-row-same-length t)
     (gather-row-same-length-2 t)
-    (gather-row-same-length-3 t)
     (gather-row-returns t)
     (λ c. search needs)
     (λ c. omega arith)
     (λ c. omega arith)
     (gather-row-loop-again t)
-    (λ c. c .before .loop .inv .1)
-    (λ c. c .before .loop .inv .2)
-    (λ c. c .before .loop .inv .3)
+    (gather-row-same-length-3 t)
+    (gather-row-same-length-4 t)
     (gather-row-returns-2 t))
     λ t. gather-sequence-lts.spec (gather-sequence-calls t)
     (gather-sequence-at t)
@@ -1093,10 +1260,10 @@ pub +emit-row+gather+gather-around+gather-compound+gather-one+gather-row+gather-
     (λ c. search needs)
     (λ c. search needs)
     (gather-sequence-settle-requires t)
-    (λ c. c .before .before .before .before .before .before .emit-row .kept .1 .1 .1 .1 .1 .1 .0 ∙ simp length-set)
+    (gather-sequence-same-length t)
     (gather-sequence-same-length-2 t)
     (gather-sequence-returns t)
-    (λ c. c .before .before .before .before .before .before .before .before .before .before .before .before .emit-row .kept .1 .1 .1 .1 .1 .1 .0 ∙ simp length-set)
+    (gather-sequence-same-length-3 t)
     (gather-sequence-same-length-4 t)
     (gather-sequence-returns-2 t)
     (gather-sequence-returns-3 t)

@@ -11,6 +11,7 @@ use Rattle.grammar.specs.Content.{empty}
 use Rattle.theory.specs.Alternatives.{gathered}
 use Rattle.reader.specs.ExprAt.{_upTo_, exprAt}
 use Rattle.reader.proofs.ExprLaws.{operator-empty}
+use Rattle.contents.specs.declared.drafts.OperandRow.{OperandRow}
 use Rattle.contents.specs.Drafts.{Kept, Newest}
 use Rattle.contents.proofs.FinishLaws.{alone-stands}
 use Rattle.contents.proofs.GatherLaws.{newest-of, with-from}
@@ -23,22 +24,22 @@ slice-write-draft c = search needs
 add-settle : tie.Need-add-settle
 add-settle c = search needs
 
-module _ (d : List ℕ) (base count end : ℕ) (h : end < length d) where
-  same-before : take end (set d end 1) ≡ take end d
-  same-before = take-set-le end d end 1 (omega arith)
+module _ (d : List ℕ) (row : OperandRow) (h : row .end < length d) where
+  same-before : take (row .end) (set d (row .end) 1) ≡ take (row .end) d
+  same-before = take-set-le (row .end) d (row .end) 1 (omega arith)
 
-  empty-stands : exprAt (set d end 1) end ≡ just (empty upTo (end + 1))
+  empty-stands : exprAt (set d (row .end) 1) (row .end) ≡ just (empty upTo (row .end + 1))
   empty-stands =
-      let l = length-set d end 1 in
-      alone-stands (set d end 1) end 1 empty (omega arith) (getD-set-same d end 1 0 h) operator-empty
+      let l = length-set d (row .end) 1 in
+      alone-stands (set d (row .end) 1) (row .end) 1 empty (omega arith) (getD-set-same d (row .end) 1 0 h) operator-empty
 
-  abbrev newest : Kept d base count end → Newest (set d end 1) base count end (end + 1)
-  newest k = newest-of d (set d end 1) base count end (end + 1) empty same-before (length-set d end 1) k empty-stands
+  abbrev newest : Kept d (row .base) (row .count) (row .end) → Newest (set d (row .end) 1) row (row .end + 1)
+  newest k = newest-of d (set d (row .end) 1) row (row .end + 1) empty same-before (length-set d (row .end) 1) k empty-stands
 
 settle-requires : tie.Need-settle-requires
 settle-requires c κs =
     let p = c .before .before .before .before .pre in
-    ((newest _ _ _ _ (omega arith) (p .0 .kept), p .1), p .0 .fits, p .0 .small)
+    ((newest _ _ (omega arith) (p .0 .kept), p .1), p .0 .fits, p .0 .small)
 
 same-length : tie.Need-same-length
 same-length c = search needs
@@ -48,9 +49,11 @@ returns c =
     let a = c .before .before .before .before .before .before .before .args in
     let p = c .before .before .before .before .before .before .before .pre in
     λ q m.
-    let h : a .end < length (a .draft .now) = omega arith in
-    with-from (gathered (q .kept .list) (empty ∷ [])) (same-before (a .draft .now) (a .base) (a .count) (a .end) h)
-    (c .before .before .settle .ensures (newest (a .draft .now) (a .base) (a .count) (a .end) h (q .kept)) m)
+    let room = q .room in
+    let fits = q .fits in
+    let h : a .row .end < length (a .draft .now) = omega arith in
+    with-from (gathered (q .kept .list) (empty ∷ [])) (same-before (a .draft .now) (a .row) h)
+    (c .before .before .settle .ensures (newest (a .draft .now) (a .row) h (q .kept)) m)
 
 pub gather-empty-spec : {M : Type 1} → statement M
 gather-empty-spec =

@@ -1,11 +1,12 @@
 -- `gather_result` meets its contract: the two bytes after the operands are the result type, and the set tells whether it is there.
-use Prim.Native.Nat.{ℕ, _+_, _-_, _<_}
+use Prim.Native.Nat.{ℕ, _+_, _-_, _*_, _/_, _≤_, _<_}
 use native.Mathlib.Omega.{arith}
 use mathlib.Core.Bool.{Bool}
 use mathlib.Core.List.{List, [], _∷_}
 use mathlib.Core.Option.{some as just}
 use mathlib.Core.Path.{_≡_, refl, sym, _∙_, ap, subst}
 use lib.ListN.{length, getElem?, take, drop, set, length-set}
+use lib.Seq.{drop-set-lt}
 use borrow.Author.Needs.{needs}
 use Rattle.grammar.specs.Lists.{anyPass}
 use Rattle.grammar.specs.Content.{Content, type}
@@ -13,41 +14,54 @@ use Rattle.grammar.specs.ReadContent.{contentBytes, operators, sameContent}
 use Rattle.theory.specs.Alternatives.{gathered}
 use Rattle.theory.proofs.emission.GatheringLaws.{gather-old}
 use Rattle.sets.specs.Sets.{member, putAt}
+use Rattle.sets.proofs.SetLaws.{length-put}
 use Rattle.reader.specs.ExprAt.{_upTo_, exprAt}
 use Rattle.reader.proofs.ExprLaws.{operator-type, expr-bytes, expr-numbered}
+use Rattle.contents.specs.declared.drafts.OperandRow.{OperandRow}
 use Rattle.contents.specs.Drafts.{Kept, Newest}
-use Rattle.contents.specs.Marks.{folded, fingerprint}
-use Rattle.contents.specs.Emitting.{TypesKept, Noted}
+use Rattle.contents.specs.Notes.{folded, fingerprint, Noted, typeWords, TypesKept, Registered}
 use Rattle.contents.proofs.FinishLaws.{headed-first, headed-second, headed-length, headed-before}
 use Rattle.contents.proofs.GatherLaws.{newest-of, gathers-from, nothing-new}
-use Rattle.contents.proofs.TypesKeptLaws.{types-put}
+use Rattle.contents.proofs.TypesKeptLaws.{types-put, registered-part}
+use Rattle.contents.proofs.NoteLaws.{partFrom, part-is, part-long}
 use Rattle.contents.proofs.emitter.gather_result.Statement.{statement}
 use Rattle.contents.proofs.emitter.gather_result.Tie as tie
 
-type-fingerprint : (v : ℕ) → v < 256 → 62 + v ≡ fingerprint (contentBytes (type v))
+type-fingerprint : (v : ℕ) → v < 256 → 2 * 31 + v ≡ fingerprint (contentBytes (type v))
 unfolding fingerprint folded contentBytes
 type-fingerprint v h = omega arith
 
 -- the result type after the operands
-module _ (d : List ℕ) (v base count end : ℕ) (h : end + 1 < length d) where
+module _ (d : List ℕ) (v : ℕ) (row : OperandRow) (h : row .end + 1 < length d) where
   abbrev d' : List ℕ
-  d' = set (set d end 2) (end + 1) v
+  d' = set (set d (row .end) 2) (row .end + 1) v
 
-  type-stands : exprAt d' end ≡ just (type v upTo (end + 2))
+  type-stands : exprAt d' (row .end) ≡ just (type v upTo (row .end + 2))
   type-stands =
-      let l = headed-length d end 2 v h in
-      expr-numbered d' end (omega arith) type (ap (getElem? operators) (headed-first d end 2 v h) ∙ operator-type)
-      ∙ ap (λ (k : ℕ). just (type k upTo (end + 2))) (headed-second d end 2 v h)
+      let l = headed-length d (row .end) 2 v h in
+      expr-numbered d' (row .end) (omega arith) type (ap (getElem? operators) (headed-first d (row .end) 2 v h) ∙ operator-type)
+      ∙ ap (λ (k : ℕ). just (type k upTo (row .end + 2))) (headed-second d (row .end) 2 v h)
 
-  abbrev newest : Kept d base count end → Newest d' base count end (end + 2)
+  abbrev newest : Kept d (row .base) (row .count) (row .end) → Newest d' row (row .end + 2)
   newest k =
-      newest-of d d' base count end (end + 2) (type v) (headed-before d end 2 v h) (headed-length d end 2 v h) k type-stands
+      newest-of d d' row (row .end + 2) (type v) (headed-before d (row .end) 2 v h) (headed-length d (row .end) 2 v h) k type-stands
 
-  type-print : (print : ℕ) → print ≡ v → v < 256 → 62 + print ≡ fingerprint (take (end + 2 - end) (drop end d'))
+  type-print : (print : ℕ) → print ≡ v → v < 256 → 2 * 31 + print ≡ fingerprint (take (row .end + 2 - row .end) (drop (row .end) d'))
   type-print print e small =
-      ap (λ (k : ℕ). 62 + k) e
+      ap (λ (k : ℕ). 2 * 31 + k) e
       ∙ type-fingerprint v small
-      ∙ ap fingerprint (sym (expr-bytes d' end (type v) (end + 2) type-stands))
+      ∙ ap fingerprint (sym (expr-bytes d' (row .end) (type v) (row .end + 2) type-stands))
+
+-- the notes lent after it is put into the set
+noted-put : {register after : List ℕ} {ds : List Content} {n : ℕ} → Registered register ds → n < 256 → after ≡ putAt register 0 n
+    → Noted (partFrom typeWords after) ds
+unfolding putAt
+noted-put {register} {after} {ds} {n} s h e =
+    let room = s .types .room in
+    let l : length after ≡ length register = ap length e ∙ length-put register 0 n in
+    subst (λ (w : List ℕ). Noted w ds)
+    (sym (part-is typeWords after (omega arith) ∙ ap (drop typeWords) e ∙ drop-set-lt typeWords register (0 + n / 32) _ (omega arith)))
+    (s .noted)
 
 -- the set tells whether it is there
 is-there : {kept : List ℕ} {ds : List Content} {n v : ℕ} {b : Bool} → TypesKept kept ds → n ≡ v → n < 256 → member kept 0 n ≡ b
@@ -56,77 +70,132 @@ is-there {ds = ds} s e h m = sym (s .there _ h ∙ ap (λ (k : ℕ). anyPass (sa
 
 returns : tie.Need-returns
 returns c =
-    let a = c .before .before .before .before .before .before .before .args in
+    let a = c .before .before .before .before .before .before .args in
     let w = c .before .before .before .wide .ensures in
     λ q s.
     let same = gather-old (q .kept .list) (q .kept .row .apart) (type (a .result)) (is-there (s .types) (w .0) (w .1) (sym (c .before .has .ensures) ∙ c .if1 .taken)) in
     record {
       gathers = nothing-new _ _ _ _ _ _ _ (q .kept) (type (a .result) ∷ []) refl (q .fits) same;
-      noted = λ u. subst (Noted (a .kept .now) (a .marks .now)) (sym same) s;
+      noted = λ u. subst (Registered (a .register .now)) (sym same) s;
     }
-
-slice-write-draft-2 : tie.Need-slice-write-draft-2
-slice-write-draft-2 c = simp length-set (omega arith)
 
 keep-requires : tie.Need-keep-requires
 keep-requires c κs =
-    let a = c .before .before .before .before .before .before .before .before .before .before .before .before .before .args in
-    let p = c .before .before .before .before .before .before .before .before .before .before .before .before .before .pre in
+    let a = c .before .before .before .before .before .before .before .before .before .before .before .before .args in
+    let p = c .before .before .before .before .before .before .before .before .before .before .before .before .pre in
     let q = p .0 in
-    let h : a .end + 1 < length (a .draft .now) = omega arith in
+    let room = q .room in
+    let fits = q .fits in
+    let h : a .row .end + 1 < length (a .draft .now) = omega arith in
     let w = c .before .before .before .before .before .before .before .before .before .wide .ensures in (
       (
-        newest (a .draft .now) (a .result) (a .base) (a .count) (a .end) h (q .kept),
+        newest (a .draft .now) (a .result) (a .row) h (q .kept),
         is-there (p .1 .types) (w .0) (w .1) (sym (c .before .before .before .before .before .before .before .has .ensures) ∙ c .before .before .before .before .before .before .if1 .left),
-        p .1 .marked,
+        noted-put (p .1) (w .1) (c .before .before .before .before .put .ensures),
       ),
       q .fits,
       q .small,
-      type-print (a .draft .now) (a .result) (a .base) (a .count) (a .end) h _ (w .0) (omega arith),
+      type-print (a .draft .now) (a .result) (a .row) h _ (w .0) (omega arith),
     )
 
 returns-2 : tie.Need-returns-2
 returns-2 c =
-    let a = c .before .before .before .before .before .before .before .before .before .before .before .before .before .before .before .before .args in
-    let p = c .before .before .before .before .before .before .before .before .before .before .before .before .before .before .before .before .pre .0 in
-    let h : a .end + 1 < length (a .draft .now) = omega arith in
+    let a = c .before .before .before .before .before .before .before .before .before .before .before .before .before .before .before .args in
     let w = c .before .before .before .before .before .before .before .before .before .before .before .before .wide .ensures in
     λ q s.
+    let room = q .room in
+    let fits = q .fits in
+    let h : a .row .end + 1 < length (a .draft .now) = omega arith in
     let g =
-    c .before .before .keep .ensures (newest (a .draft .now) (a .result) (a .base) (a .count) (a .end) h (q .kept))
+    c .before .before .keep .ensures (newest (a .draft .now) (a .result) (a .row) h (q .kept))
     (is-there (s .types) (w .0) (w .1) (sym (c .before .before .before .before .before .before .before .before .before .before .has .ensures) ∙ c .before .before .before .before .before .before .before .before .before .if1 .left))
-    (s .marked) in
+    (noted-put s (w .1) (c .before .before .before .before .before .before .before .put .ensures)) in
     record {
       gathers =
-          gathers-from _ _ _ _ _ _ _ (gathered (q .kept .list) (type (a .result) ∷ [])) _ (headed-before (a .draft .now) (a .end) 2 (a .result) h)
+          gathers-from _ _ _ _ _ _ _ (gathered (q .kept .list) (type (a .result) ∷ [])) _ (headed-before (a .draft .now) (a .row .end) 2 (a .result) h)
           (g .gathers);
       noted =
           λ u.
-          record {
-            types = types-put (s .types) (a .result) (omega arith) (c .before .before .before .before .before .before .before .put .ensures ∙ ap (putAt (a .kept .now) 0) (w .0));
-            marked = g .noted u;
-          };
+          registered-part (types-put (s .types) (a .result) (omega arith) (c .before .before .before .before .before .before .before .put .ensures ∙ ap (putAt (a .register .now) 0) (w .0))) (c .before .before .keep .kept .1 .1 .1 .1 .1 .0)
+          (g .noted u);
     }
 
-add-keep-2 : tie.Need-add-keep-2
-add-keep-2 c = let w = c .before .before .before .before .before .before .before .before .wide .ensures in omega arith
+has-requires : tie.Need-has-requires
+has-requires c κs =
+    let w = c .before .wide .ensures .1 in
+    let room = c .before .before .before .before .pre .1 .types .room in
+    omega arith
+
+put-requires : tie.Need-put-requires
+put-requires c κs =
+    let w = c .before .before .before .before .wide .ensures .1 in
+    let room = c .before .before .before .before .before .before .before .pre .1 .types .room in
+    omega arith
+
+slice-write-draft : tie.Need-slice-write-draft
+slice-write-draft c =
+    let room = c .before .before .before .before .before .before .before .before .before .before .pre .0 .room in
+    let fits = c .before .before .before .before .before .before .before .before .before .before .pre .0 .fits in
+    omega arith
+
+add-draft : tie.Need-add-draft
+add-draft c = search needs
+
+slice-write-draft-2 : tie.Need-slice-write-draft-2
+slice-write-draft-2 c =
+    let room = c .before .before .before .before .before .before .before .before .before .before .pre .0 .room in
+    let fits = c .before .before .before .before .before .before .before .before .before .before .pre .0 .fits in
+    simp length-set (omega arith)
+
+add-print : tie.Need-add-print
+add-print c =
+    let w = c .before .before .before .before .before .before .before .wide .ensures .1 in
+    omega arith
+
+sub-keep : tie.Need-sub-keep
+sub-keep c =
+    let room = c .before .before .before .before .before .before .before .before .before .before .before .pre .1 .types .room in
+    let l = c .before .before .before .put .kept .0 in
+    omega arith
+
+part-keep-start : tie.Need-part-keep-start
+part-keep-start c =
+    let room = c .before .before .before .before .before .before .before .before .before .before .before .pre .1 .types .room in
+    let l = c .before .before .before .put .kept .0 in
+    omega arith
+
+part-keep-end : tie.Need-part-keep-end
+part-keep-end c =
+    let room = c .before .before .before .before .before .before .before .before .before .before .before .pre .1 .types .room in
+    let l = c .before .before .before .put .kept .0 in
+    omega arith
+
+same-length-3 : tie.Need-same-length-3
+same-length-3 c =
+    let room = c .before .before .before .before .before .before .before .before .before .before .before .before .before .before .before .pre .1 .types .room in
+    let l = c .before .before .before .before .before .before .before .put .kept .0 in
+    let h : typeWords ≤ length (c .before .before .before .before .before .before .before .put .last .0) = omega arith in
+    part-long typeWords (c .before .before .before .before .before .before .before .put .last .0) h (c .before .before .keep .last .1 .1 .1 .1 .1 .0) (c .before .before .keep .kept .1 .1 .1 .1 .1 .0) ∙ l
 
 pub gather-result-spec : {M : Type 1} → statement M
 gather-result-spec =
     tie.close
     (tie.spec
     (λ c κs. search needs)
-    (λ c κs. search needs)
+    has-requires
     (λ c. search needs)
     returns
-    (λ c κs. search needs)
-    (λ c. search needs)
-    (λ c. search needs)
+    put-requires
+    slice-write-draft
+    add-draft
     slice-write-draft-2
     (λ c. search needs)
-    add-keep-2
+    add-print
+    (λ c. search needs)
+    sub-keep
+    part-keep-start
+    part-keep-end
     keep-requires
     (λ c. search needs)
-    (λ c. search needs)
-    (λ c. search needs)
+    same-length-3
     returns-2)

@@ -7,10 +7,10 @@ use Rattle.contents.proofs.emitter.gather_type.Tie as tie
 
 returns : tie.Need-returns
 returns c =
-    let a = c .before .before .before .before .before .before .before .before .before .before .before .before .before .before .before .before .before .args in
+    let a = c .before .before .before .before .before .before .before .before .before .before .before .before .before .args in
     λ q s.
-    with-as _ _ _ refl (types-of (a .from .now) (a .results .now) (a .k) _ _ (c .before .before .before .before .before .before .before .before .before .before .before .byte-or-zero .ensures) (c .before .before .before .before .before .before .before .before .before .before .byte-or-zero2 .ensures))
-    (c .before .before .before .before .before .before .gather-types .ensures q s)
+    with-as _ _ _ refl (types-of (a .from .now) (a .results .now) (a .k) _ _ (c .before .before .before .before .before .before .before .before .byte-or-zero .ensures) (c .before .before .before .before .before .before .before .byte-or-zero2 .ensures))
+    (c .before .before .before .before .gather-types .ensures q s)
 
 pub gather-type-spec : {M : Type 1} → statement M
 gather-type-spec =
@@ -20,7 +20,6 @@ gather-type-spec =
     (λ c. search needs)
     (λ c κs. search needs)
     (λ c κs. search needs)
-    (λ c. search needs)
     (λ c. search needs)
     (λ c. search needs)
     returns)

@@ -4,40 +4,40 @@ use native.Mathlib.Omega.{arith}
 use mathlib.Core.Path.{_≡_, refl}
 use lib.ListN.{length}
 use borrow.Author.Needs.{needs}
-use Rattle.contents.specs.Emitting.{RoomForMore, Noted}
+use Rattle.contents.specs.Notes.{Registered}
+use Rattle.contents.specs.Emitting.{RoomForMore}
 use Rattle.contents.proofs.GatherLaws.{types-none, types-past}
 use Rattle.contents.proofs.TypesKeptLaws.{TypesSoFar, types-start, room-for, types-all, types-wide, types-next}
 use Rattle.contents.proofs.emitter.gather_types.Statement.{statement}
 use Rattle.contents.proofs.emitter.gather_types.Tie as tie
 
 abbrev Inv-loop : tie.InvT-loop
-Inv-loop results first stop draft₀ base count end limit next kept₀ marks₀ total₀ last₀ i₀ draft kept marks total last i =
+Inv-loop results first stop draft₀ row next register₀ total₀ last₀ i₀ draft register total last i =
     (length draft ≡ length draft₀)
-    × (length kept ≡ length kept₀)
-    × (length marks ≡ length marks₀)
-    × ((q : RoomForMore draft₀ base count end limit) → Noted kept₀ marks₀ (q .kept .list)
-    → TypesSoFar results first stop base limit (q .kept .list) draft₀ end draft kept marks total last i)
+    × (length register ≡ length register₀)
+    × ((q : RoomForMore draft₀ row) → Registered register₀ (q .kept .list)
+    → TypesSoFar results first stop row (q .kept .list) draft₀ draft register total last i)
 
 abbrev μ-loop : tie.MeasureT-loop
-μ-loop results first stop draft₀ base count end limit next kept₀ marks₀ total₀ last₀ i₀ draft kept marks total last i = stop - i
+μ-loop results first stop draft₀ row next register₀ total₀ last₀ i₀ draft register total last i = stop - i
 
 loop-holds : tie.Need-loop-holds Inv-loop μ-loop
-loop-holds c = (refl, refl, refl, λ q s. types-start _ _ _ _ q s)
+loop-holds c = (refl, refl, λ q s. types-start _ _ _ q s)
 
 returns : tie.Need-returns Inv-loop μ-loop
 returns c =
-    λ q s. types-all _ _ _ _ _ _ _ _ (c .before .before .loop .inv .3 q s) _ (types-past (c .before .before .before .before .before .before .before .args .results .now) _ _ (c .if1 .taken))
+    λ q s. types-all _ _ _ _ _ _ (c .before .before .loop .inv .2 q s) _ (types-past (c .before .before .before .before .before .before .args .results .now) _ _ (c .if1 .taken))
 
 shared-slice-read-gather-result : tie.Need-shared-slice-read-gather-result Inv-loop μ-loop
 shared-slice-read-gather-result c = search needs
 
 gather-result-requires : tie.Need-gather-result-requires Inv-loop μ-loop
 gather-result-requires c κs =
-    let p = c .before .before .before .before .before .before .before .before .before .before .before .pre in
-    let same = c .before .before .before .before .before .before .loop .inv .0 in
+    let p = c .before .before .before .before .before .before .before .before .before .pre in
+    let same = c .before .before .before .before .before .loop .inv .0 in
     let room = p .0 .room in
-    let so = c .before .before .before .before .before .before .loop .inv .3 (p .0) (p .1) in
-    (room-for _ _ _ _ _ _ _ _ so (p .0 .small) (omega arith), so .noted)
+    let so = c .before .before .before .before .before .loop .inv .2 (p .0) (p .1) in
+    (room-for _ _ _ _ _ _ so (p .0 .small) (omega arith), so .registered)
 
 enum-told : tie.Need-enum-told Inv-loop μ-loop
 enum-told c = search needs
@@ -45,11 +45,11 @@ enum-told c = search needs
 returns-2 : tie.Need-returns-2 Inv-loop μ-loop
 returns-2 c =
     λ q s.
-    let same = c .before .before .before .before .before .before .before .before .before .before .before .before .before .before .before .loop .inv .0 in
+    let same = c .before .before .before .before .before .before .before .before .before .before .before .before .loop .inv .0 in
     let room = q .room in
-    let so = c .before .before .before .before .before .before .before .before .before .before .before .before .before .before .before .loop .inv .3 q s in
-    types-wide _ _ _ _ _ _ _ _ so (c .before .before .before .before .before .before .before .before .before .before .before .before .before .before .loop-test .taken) (c .before .before .before .before .before .before .before .before .before .before .before .before .before .if1 .left) _ _ _ _ _
-    (c .before .before .before .before .before .before .before .before .gather-result .ensures (room-for _ _ _ _ _ _ _ _ so (q .small) (omega arith)) (so .noted))
+    let so = c .before .before .before .before .before .before .before .before .before .before .before .before .loop .inv .2 q s in
+    types-wide _ _ _ _ _ _ so (c .before .before .before .before .before .before .before .before .before .before .before .loop-test .taken) (c .before .before .before .before .before .before .before .before .before .before .if1 .left) _ _ _ _
+    (c .before .before .before .before .before .before .gather-result .ensures (room-for _ _ _ _ _ _ so (q .small) (omega arith)) (so .registered))
     (c .enum-told .given .1)
 
 enum-known-more : tie.Need-enum-known-more Inv-loop μ-loop
@@ -65,18 +65,17 @@ loop-again : tie.Need-loop-again Inv-loop μ-loop
 loop-again c = (
   search needs,
   search needs,
-  search needs,
   λ q s.
-      let same = c .before .before .before .before .before .before .before .before .before .before .before .before .before .before .before .before .loop .inv .0 in
+      let same = c .before .before .before .before .before .before .before .before .before .before .before .before .before .loop .inv .0 in
       let room = q .room in
-      let so = c .before .before .before .before .before .before .before .before .before .before .before .before .before .before .before .before .loop .inv .3 q s in
-      types-next _ _ _ _ _ _ _ _ so (c .before .before .before .before .before .before .before .before .before .before .before .before .before .before .before .loop-test .taken) (c .before .before .before .before .before .before .before .before .before .before .before .before .before .before .if1 .left) _ _ _ _ _
-      (c .before .before .before .before .before .before .before .before .before .gather-result .ensures (room-for _ _ _ _ _ _ _ _ so (q .small) (omega arith)) (so .noted))
+      let so = c .before .before .before .before .before .before .before .before .before .before .before .before .before .loop .inv .2 q s in
+      types-next _ _ _ _ _ _ so (c .before .before .before .before .before .before .before .before .before .before .before .before .loop-test .taken) (c .before .before .before .before .before .before .before .before .before .before .before .if1 .left) _ _ _ _
+      (c .before .before .before .before .before .before .before .gather-result .ensures (room-for _ _ _ _ _ _ so (q .small) (omega arith)) (so .registered))
       (c .before .more .given .1),
 )
 
 returns-3 : tie.Need-returns-3 Inv-loop μ-loop
-returns-3 c = λ q s. types-all _ _ _ _ _ _ _ _ (c .before .loop .inv .3 q s) _ (types-none _ _ _ (c .loop-test .left))
+returns-3 c = λ q s. types-all _ _ _ _ _ _ (c .before .loop .inv .2 q s) _ (types-none _ _ _ (c .loop-test .left))
 
 pub gather-types-spec : {M : Type 1} → statement M
 gather-types-spec =
@@ -87,12 +86,10 @@ gather-types-spec =
     loop-holds
     (λ c. search needs)
     (λ c. search needs)
-    (λ c. search needs)
     returns
     shared-slice-read-gather-result
     gather-result-requires
     enum-told
-    (λ c. search needs)
     (λ c. search needs)
     (λ c. search needs)
     returns-2
@@ -100,7 +97,6 @@ gather-types-spec =
     add-i
     loop-less
     loop-again
-    (λ c. search needs)
     (λ c. search needs)
     (λ c. search needs)
     returns-3)

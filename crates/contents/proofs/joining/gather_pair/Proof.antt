@@ -1,18 +1,29 @@
 -- `gather_pair` meets its contract. The loop's invariant: what the pair's rules before `i` give stands in the draft.
-use Prim.Native.Nat.{ℕ, _-_, _≤_}
+use Prim.Native.Nat.{ℕ, _-_, _≤_, _<_}
 use native.Mathlib.Omega.{arith}
-use mathlib.Core.Path.{_≡_, refl, ap}
+use mathlib.Core.Bool.{true, false}
+use mathlib.Core.List.{List}
+use mathlib.Core.Path.{_≡_, refl, sym, _∙_}
 use lib.ListN.{length}
 use lib.Dec.{eqb}
 use borrow.Author.Needs.{needs}
+use borrow.Author.Tests.{eq-eqb, ne-eqb}
+use Rattle.grammar.specs.Table.{Table}
+use Rattle.grammar.specs.Normalise.{pairOf}
+use Rattle.union.specs.declared.united.United.{United}
+use Rattle.union.specs.View.{Views, firstIn}
+use Rattle.union.specs.PairNumbers.{ruleNumbered}
 use Rattle.contents.specs.Joining.{Joining, Ready}
 use Rattle.contents.proofs.RuleLaws.{first-is}
 use Rattle.contents.proofs.joining.gather_pair.Statement.{statement}
 use Rattle.contents.proofs.joining.gather_pair.Tie as tie
 use Rattle.contents.proofs.LoopLaws.{
+  given-on,
+  given-off,
   given-as,
   MergedSoFar,
   so-far-none,
+  so-far-skip,
   ready-for,
   so-far-wide,
   so-far-next,
@@ -22,86 +33,105 @@ use Rattle.contents.proofs.LoopLaws.{
 }
 
 abbrev Inv-loop : tie.InvT-loop
-Inv-loop old add v p types results draft₀ count end kept₀ marks₀ firsts rules total₀ last₀ i₀ draft kept marks total last i =
+Inv-loop old add v p results draft₀ row register₀ firsts rules total₀ last₀ i₀ draft register total last i =
     (i ≤ rules)
     × (length draft ≡ length draft₀)
-    × (length kept ≡ length kept₀)
-    × (length marks ≡ length marks₀)
-    × ((q : Joining old add v types results) (k : Ready draft₀ kept₀ marks₀ count end)
-    → MergedSoFar (ruleGives (q .of) (q .table) p) rules (k .kept .list) draft kept marks total last i)
+    × (length register ≡ length register₀)
+    × ((q : Joining old add v results) (k : Ready draft₀ register₀ row)
+    → MergedSoFar (ruleGives (q .of) (q .table) p) rules row (k .kept .list) draft register total last i)
 
 abbrev μ-loop : tie.MeasureT-loop
-μ-loop old add v p types results draft₀ count end kept₀ marks₀ firsts rules total₀ last₀ i₀ draft kept marks total last i = rules - i
+μ-loop old add v p results draft₀ row register₀ firsts rules total₀ last₀ i₀ draft register total last i = rules - i
 
 loop-holds : tie.Need-loop-holds Inv-loop μ-loop
-loop-holds c = (omega arith, refl, refl, refl, λ q k. so-far-none _ _ k)
+loop-holds c = (omega arith, refl, refl, λ q k. so-far-none _ _ _ k)
 
-mul-first : tie.Need-mul-first Inv-loop μ-loop
-mul-first c = let h = c .before .before .before .before .before .before .before .before .pre .0 .views .few in omega arith
+mul-if1 : tie.Need-mul-if1 Inv-loop μ-loop
+mul-if1 c = let h = c .before .before .before .before .before .before .before .pre .0 .views .few in omega arith
 
-array-read-first : tie.Need-array-read-first Inv-loop μ-loop
-array-read-first c = let h = c .before .before .before .before .before .before .before .before .pre .0 .views .few in omega arith
+array-read-if1 : tie.Need-array-read-if1 Inv-loop μ-loop
+array-read-if1 c = let h = c .before .before .before .before .before .before .before .pre .0 .views .few in omega arith
 
-gather-rule-if-requires : tie.Need-gather-rule-if-requires Inv-loop μ-loop
-gather-rule-if-requires c κs =
-    let start = c .before .before .before .before .before .before .before .before .before .before .before in
+add-i : tie.Need-add-i Inv-loop μ-loop
+add-i c = let h = c .before .before .before .before .before .before .before .before .pre .0 .views .few in omega arith
+
+-- the rule is of the pair, or it is of another
+of-pair : {old add : List ℕ} {v : United} {u : Table} {i p : ℕ} → Views old add v u → i < v .rules → firstIn v i ≡ p
+    → eqb (pairOf u (ruleNumbered u i)) p ≡ true
+of-pair {u = u} {i = i} {p = p} views h e = eq-eqb (pairOf u (ruleNumbered u i)) p (sym (first-is views i h) ∙ e)
+
+of-another : {old add : List ℕ} {v : United} {u : Table} {i p : ℕ} → Views old add v u → i < v .rules → (firstIn v i ≡ p → ⊥)
+    → eqb (pairOf u (ruleNumbered u i)) p ≡ false
+of-another {u = u} {i = i} {p = p} views h e = ne-eqb (pairOf u (ruleNumbered u i)) p (λ z. e (first-is views i h ∙ z))
+
+loop-again : tie.Need-loop-again Inv-loop μ-loop
+loop-again c = (
+  omega arith,
+  c .before .before .loop .inv .1,
+  c .before .before .loop .inv .2,
+  λ q k.
+      let h = c .before .loop-test .taken in
+      so-far-skip _ _ _ (c .before .before .loop .inv .3 q k) h (given-off _ _ (of-another (q .views) h (c .if1 .taken))),
+)
+
+gather-rule-requires : tie.Need-gather-rule-requires Inv-loop μ-loop
+gather-rule-requires c κs =
+    let start = c .before .before .before .before .before .before .before .before .before .before in
     let l = c .before .before .before .before .loop .inv in
     let same = l .1 in
-    let same-marks = l .3 in
+    let same-words = l .2 in
     let room = start .pre .1 .room in
     let deep = start .pre .1 .deep in
-    (start .pre .0, c .before .before .before .loop-test .taken, ready-for _ _ (l .4 (start .pre .0) (start .pre .1)) (omega arith) (omega arith))
+    (start .pre .0, c .before .before .before .loop-test .taken, ready-for _ _ _ (l .3 (start .pre .0) (start .pre .1)) (start .pre .1 .small) (omega arith) (omega arith))
 
 returns : tie.Need-returns Inv-loop μ-loop
 returns c =
     λ q k.
-    let a = c .before .before .before .before .before .before .before .before .before .before .before .before .before .before .before .before .before .before .before .before .args in
-    let l = c .before .before .before .before .before .before .before .before .before .before .before .before .before .loop in
-    let h = c .before .before .before .before .before .before .before .before .before .before .before .before .loop-test .taken in
+    let a = c .before .before .before .before .before .before .before .before .before .before .before .before .before .before .before .before .before .args in
+    let l = c .before .before .before .before .before .before .before .before .before .before .before .loop in
+    let h = c .before .before .before .before .before .before .before .before .before .before .loop-test .taken in
     let same = l .inv .1 in
-    let same-marks = l .inv .3 in
+    let same-words = l .inv .2 in
     let room = k .room in
     let deep = k .deep in
-    let s = l .inv .4 q k in
-    so-far-wide _ _ s h _ _ _ _
-    (given-as _ _ _ _ _ _ _ _ (ap (λ (f : ℕ). eqb f (a .p)) (first-is (q .views) (l .i) h))
-    (c .before .before .before .before .before .before .before .before .gather-rule-if .ensures q (ready-for _ _ s (omega arith) (omega arith))))
+    let s = l .inv .3 q k in
+    so-far-wide _ _ _ s h _ _ _
+    (given-as _ _ _ (sym (given-on _ _ (of-pair (q .views) h (c .before .before .before .before .before .before .before .before .before .if1 .left))))
+    (c .before .before .before .before .before .before .gather-rule .ensures q (ready-for _ _ _ s (k .small) (omega arith) (omega arith))))
     (c .enum-told .given .1)
-    _
     _
     _
     _
     (pair-gives (q .of) (q .table) (a .p) (a .v .rules) (q .views .rules))
 
-add-i : tie.Need-add-i Inv-loop μ-loop
-add-i c = let h = c .before .before .before .before .before .before .before .before .before .before .before .before .before .before .before .before .before .before .before .before .before .pre .0 .views .few in omega arith
+add-i-2 : tie.Need-add-i-2 Inv-loop μ-loop
+add-i-2 c = let h = c .before .before .before .before .before .before .before .before .before .before .before .before .before .before .before .before .before .before .pre .0 .views .few in omega arith
 
-loop-again : tie.Need-loop-again Inv-loop μ-loop
-loop-again c = (
+loop-again-2 : tie.Need-loop-again-2 Inv-loop μ-loop
+loop-again-2 c = (
   omega arith,
   search needs,
   search needs,
-  search needs,
   λ q k.
-      let l = c .before .before .before .before .before .before .before .before .before .before .before .before .before .before .loop in
-      let h = c .before .before .before .before .before .before .before .before .before .before .before .before .before .loop-test .taken in
+      let l = c .before .before .before .before .before .before .before .before .before .before .before .before .loop in
+      let h = c .before .before .before .before .before .before .before .before .before .before .before .loop-test .taken in
       let same = l .inv .1 in
-      let same-marks = l .inv .3 in
+      let same-words = l .inv .2 in
       let room = k .room in
       let deep = k .deep in
-      let s = l .inv .4 q k in
-      so-far-next _ _ s h _ _ _ _
-      (given-as _ _ _ _ _ _ _ _ (ap (λ (f : ℕ). eqb f (c .before .before .before .before .before .before .before .before .before .before .before .before .before .before .before .before .before .before .before .before .before .args .p)) (first-is (q .views) (l .i) h))
-      (c .before .before .before .before .before .before .before .before .before .gather-rule-if .ensures q (ready-for _ _ s (omega arith) (omega arith))))
+      let s = l .inv .3 q k in
+      so-far-next _ _ _ s h _ _ _
+      (given-as _ _ _ (sym (given-on _ _ (of-pair (q .views) h (c .before .before .before .before .before .before .before .before .before .before .if1 .left))))
+      (c .before .before .before .before .before .before .before .gather-rule .ensures q (ready-for _ _ _ s (k .small) (omega arith) (omega arith))))
       (c .before .more .given .1),
 )
 
 returns-2 : tie.Need-returns-2 Inv-loop μ-loop
 returns-2 c =
     λ q k.
-    let a = c .before .before .before .before .before .before .before .before .args in
+    let a = c .before .before .before .before .before .before .before .args in
     let l = c .before .loop in
-    so-far-all _ _ (l .inv .4 q k) (omega arith) _ (pair-gives (q .of) (q .table) (a .p) (a .v .rules) (q .views .rules))
+    so-far-all _ _ _ (l .inv .3 q k) (omega arith) _ (pair-gives (q .of) (q .table) (a .p) (a .v .rules) (q .views .rules))
 
 pub gather-pair-spec : {M : Type 1} → statement M
 gather-pair-spec =
@@ -110,19 +140,20 @@ gather-pair-spec =
     Inv-loop
     μ-loop
     loop-holds
-    mul-first
-    array-read-first
-    gather-rule-if-requires
-    (λ c. search needs)
+    mul-if1
+    array-read-if1
+    add-i
+    (λ c. omega arith)
+    loop-again
+    gather-rule-requires
     (λ c. search needs)
     (λ c. search needs)
     (λ c. search needs)
     returns
     (λ c. search needs)
-    add-i
+    add-i-2
     (λ c. omega arith)
-    loop-again
-    (λ c. search needs)
+    loop-again-2
     (λ c. search needs)
     (λ c. search needs)
     returns-2)

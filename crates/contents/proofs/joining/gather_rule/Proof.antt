@@ -6,43 +6,43 @@ use Rattle.contents.proofs.joining.gather_rule.Tie as tie
 
 sub-gather-content : tie.Need-sub-gather-content
 sub-gather-content c =
-    old-part (c .before .before .before .before .before .before .before .before .before .before .before .pre .0) (c .before .before .before .before .before .before .before .before .before .before .before .args .i) (c .before .before .before .before .before .before .before .before .before .before .before .pre .1) (c .before .before .before .before .before .before .before .before .before .before .before .pre .2) (c .before .if1 .taken) .order
+    old-part (c .before .before .before .before .before .before .before .before .before .before .pre .0) (c .before .before .before .before .before .before .before .before .before .before .args .i) (c .before .before .before .before .before .before .before .before .before .before .pre .1) (c .before .before .before .before .before .before .before .before .before .before .pre .2) (c .if1 .taken) .order
 
 part-gather-content-end : tie.Need-part-gather-content-end
 part-gather-content-end c =
-    old-part (c .before .before .before .before .before .before .before .before .before .before .before .pre .0) (c .before .before .before .before .before .before .before .before .before .before .before .args .i) (c .before .before .before .before .before .before .before .before .before .before .before .pre .1) (c .before .before .before .before .before .before .before .before .before .before .before .pre .2) (c .before .if1 .taken) .within
+    old-part (c .before .before .before .before .before .before .before .before .before .before .pre .0) (c .before .before .before .before .before .before .before .before .before .before .args .i) (c .before .before .before .before .before .before .before .before .before .before .pre .1) (c .before .before .before .before .before .before .before .before .before .before .pre .2) (c .if1 .taken) .within
 
 gather-content-requires : tie.Need-gather-content-requires
 gather-content-requires c κs =
-    let k = c .before .before .before .before .before .before .before .before .before .before .before .before .before .before .before .before .pre .2 in
-    (old-source (c .before .before .before .before .before .before .before .before .before .before .before .before .before .before .before .before .pre .0) (c .before .before .before .before .before .before .before .before .before .before .before .before .before .before .before .before .args .i) (c .before .before .before .before .before .before .before .before .before .before .before .before .before .before .before .before .pre .1) k (c .before .before .before .before .before .before .if1 .taken), k .noted)
+    let k = c .before .before .before .before .before .before .before .before .before .before .before .before .before .before .pre .2 in
+    (old-source (c .before .before .before .before .before .before .before .before .before .before .before .before .before .before .pre .0) (c .before .before .before .before .before .before .before .before .before .before .before .before .before .before .args .i) (c .before .before .before .before .before .before .before .before .before .before .before .before .before .before .pre .1) k (c .before .before .before .before .if1 .taken), k .registered)
 
 returns : tie.Need-returns
 returns c =
     λ q k.
-    let h = c .before .before .before .before .before .before .before .before .before .before .before .before .before .before .before .before .before .before .before .before .before .before .before .pre .1 in
-    let is-old = c .before .before .before .before .before .before .before .before .before .before .before .before .before .if1 .taken in
-    old-gives q _ h k is-old _ _ _ _ (c .before .before .before .before .before .before .gather-content .ensures (old-source q _ h k is-old) (k .noted))
+    let h = c .before .before .before .before .before .before .before .before .before .before .before .before .before .before .before .before .before .before .before .pre .1 in
+    let is-old = c .before .before .before .before .before .before .before .before .before .if1 .taken in
+    old-gives q _ h k is-old _ _ _ (c .before .before .before .before .gather-content .ensures (old-source q _ h k is-old) (k .registered))
 
 sub-gather-content-2 : tie.Need-sub-gather-content-2
 sub-gather-content-2 c =
-    added-part (c .before .before .before .before .before .before .before .before .before .before .before .pre .0) (c .before .before .before .before .before .before .before .before .before .before .before .args .i) (c .before .before .before .before .before .before .before .before .before .before .before .pre .1) (c .before .before .before .before .before .before .before .before .before .before .before .pre .2) (c .before .if1 .left) .stands .order
+    added-part (c .before .before .before .before .before .before .before .before .before .before .pre .0) (c .before .before .before .before .before .before .before .before .before .before .args .i) (c .before .before .before .before .before .before .before .before .before .before .pre .1) (c .before .before .before .before .before .before .before .before .before .before .pre .2) (c .if1 .left) .stands .order
 
 part-gather-content-end-2 : tie.Need-part-gather-content-end-2
 part-gather-content-end-2 c =
-    added-part (c .before .before .before .before .before .before .before .before .before .before .before .pre .0) (c .before .before .before .before .before .before .before .before .before .before .before .args .i) (c .before .before .before .before .before .before .before .before .before .before .before .pre .1) (c .before .before .before .before .before .before .before .before .before .before .before .pre .2) (c .before .if1 .left) .stands .within
+    added-part (c .before .before .before .before .before .before .before .before .before .before .pre .0) (c .before .before .before .before .before .before .before .before .before .before .args .i) (c .before .before .before .before .before .before .before .before .before .before .pre .1) (c .before .before .before .before .before .before .before .before .before .before .pre .2) (c .if1 .left) .stands .within
 
 gather-content-requires-2 : tie.Need-gather-content-requires-2
 gather-content-requires-2 c κs =
-    let k = c .before .before .before .before .before .before .before .before .before .before .before .before .before .before .before .before .before .pre .2 in
-    (added-source (c .before .before .before .before .before .before .before .before .before .before .before .before .before .before .before .before .before .pre .0) (c .before .before .before .before .before .before .before .before .before .before .before .before .before .before .before .before .before .args .i) (c .before .before .before .before .before .before .before .before .before .before .before .before .before .before .before .before .before .pre .1) k (c .before .before .before .before .before .before .before .if1 .left), k .noted)
+    let k = c .before .before .before .before .before .before .before .before .before .before .before .before .before .before .before .pre .2 in
+    (added-source (c .before .before .before .before .before .before .before .before .before .before .before .before .before .before .before .pre .0) (c .before .before .before .before .before .before .before .before .before .before .before .before .before .before .before .args .i) (c .before .before .before .before .before .before .before .before .before .before .before .before .before .before .before .pre .1) k (c .before .before .before .before .before .if1 .left), k .registered)
 
 returns-2 : tie.Need-returns-2
 returns-2 c =
     λ q k.
-    let h = c .before .before .before .before .before .before .before .before .before .before .before .before .before .before .before .before .before .before .before .before .before .before .before .before .pre .1 in
-    let is-added = c .before .before .before .before .before .before .before .before .before .before .before .before .before .before .if1 .left in
-    added-gives q _ h k is-added _ _ _ _ (c .before .before .before .before .before .before .gather-content2 .ensures (added-source q _ h k is-added) (k .noted))
+    let h = c .before .before .before .before .before .before .before .before .before .before .before .before .before .before .before .before .before .before .before .before .pre .1 in
+    let is-added = c .before .before .before .before .before .before .before .before .before .before .if1 .left in
+    added-gives q _ h k is-added _ _ _ (c .before .before .before .before .gather-content2 .ensures (added-source q _ h k is-added) (k .registered))
 
 pub gather-rule-spec : {M : Type 1} → statement M
 gather-rule-spec =
@@ -59,7 +59,6 @@ gather-rule-spec =
     gather-content-requires
     (λ c. search needs)
     (λ c. search needs)
-    (λ c. search needs)
     returns
     sub-gather-content-2
     sub-gather-content-2
@@ -68,7 +67,6 @@ gather-rule-spec =
     (λ c. search needs)
     (λ c. search needs)
     gather-content-requires-2
-    (λ c. search needs)
     (λ c. search needs)
     (λ c. search needs)
     returns-2)

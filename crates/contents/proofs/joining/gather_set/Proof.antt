@@ -2,21 +2,24 @@
 use Prim.Native.Nat.{ℕ, _-_, _≤_}
 use native.Mathlib.Omega.{arith}
 use mathlib.Core.List.{[]}
-use mathlib.Core.Path.{_≡_, refl, sym}
+use mathlib.Core.Path.{_≡_, refl, sym, _∙_}
 use lib.ListN.{length, length-replicate}
 use borrow.Author.Needs.{needs}
+use borrow.Author.Tests.{not-true, not-false}
 use Rattle.sets.specs.Sets.{member}
 use Rattle.contents.proofs.CompleteLaws.{start-kept}
-use Rattle.contents.specs.Marks.{marksLength}
-use Rattle.contents.proofs.TypesKeptLaws.{no-types}
-use Rattle.contents.proofs.MarkLaws.{marked-none}
-use Rattle.contents.specs.Joining.{Joining}
+use Rattle.contents.specs.Notes.{registerLength}
+use Rattle.contents.specs.Joining.{Joining, contentRow}
+use Rattle.contents.proofs.TypesKeptLaws.{registered-zeros}
 use Rattle.contents.proofs.joining.gather_set.Statement.{statement}
 use Rattle.contents.proofs.joining.gather_set.Tie as tie
 use Rattle.contents.proofs.LoopLaws.{
+  given-on,
+  given-off,
   given-as,
   MergedSoFar,
   so-far-none,
+  so-far-skip,
   ready-for,
   so-far-wide,
   so-far-next,
@@ -26,31 +29,30 @@ use Rattle.contents.proofs.LoopLaws.{
 }
 
 abbrev Inv-loop : tie.InvT-loop
-Inv-loop old add v set types results draft₀ rules kept₀ marks₀ total₀ last₀ p₀ draft kept marks total last p =
+Inv-loop old add v set results draft₀ rules register₀ total₀ last₀ p₀ draft register total last p =
     (p ≤ rules)
     × (length draft ≡ length draft₀)
-    × (length kept ≡ 8)
-    × (length marks ≡ marksLength)
-    × ((q : Joining old add v types results)
-    → MergedSoFar (pairGives (q .of) (q .table) (member (set .words) 0)) rules [] draft kept marks total last p)
+    × (length register ≡ registerLength)
+    × ((q : Joining old add v results)
+    → MergedSoFar (pairGives (q .of) (q .table) (member (set .words) 0)) rules contentRow [] draft register total last p)
 
 abbrev μ-loop : tie.MeasureT-loop
-μ-loop old add v set types results draft₀ rules kept₀ marks₀ total₀ last₀ p₀ draft kept marks total last p = rules - p
+μ-loop old add v set results draft₀ rules register₀ total₀ last₀ p₀ draft register total last p = rules - p
 
 loop-holds : tie.Need-loop-holds Inv-loop μ-loop
 loop-holds c =
     let room = c .before .before .before .pre .1 in
-    let long = length-replicate {A = ℕ} marksLength 0 in (
+    let long = length-replicate {A = ℕ} registerLength 0 in (
       omega arith,
-      refl,
       refl,
       long,
       λ q.
-          so-far-none _ _
+          so-far-none _ _ _
           (record {
             kept = start-kept _ (omega arith);
-            noted = record { types = no-types; marked = marked-none _ (omega arith) };
+            registered = registered-zeros registerLength (omega arith);
             fits = omega arith;
+            small = omega arith;
             room = room;
             deep = omega arith;
           }),
@@ -59,51 +61,65 @@ loop-holds c =
 has-requires : tie.Need-has-requires Inv-loop μ-loop
 has-requires c κs = let h = c .before .before .before .before .before .pre .0 .views .few in omega arith
 
-gather-pair-if-requires : tie.Need-gather-pair-if-requires Inv-loop μ-loop
-gather-pair-if-requires c κs =
+add-p : tie.Need-add-p Inv-loop μ-loop
+add-p c = let h = c .before .before .before .before .before .before .before .pre .0 .views .few in omega arith
+
+loop-again : tie.Need-loop-again Inv-loop μ-loop
+loop-again c = (
+  omega arith,
+  c .before .before .before .loop .inv .1,
+  c .before .before .before .loop .inv .2,
+  λ q. so-far-skip _ _ _ (c .before .before .before .loop .inv .3 q) (c .before .before .loop-test .taken) (given-off _ _ (sym (c .before .has .ensures) ∙ not-true _ (c .if1 .taken))),
+)
+
+slice-aggregate-gather-pair : tie.Need-slice-aggregate-gather-pair Inv-loop μ-loop
+slice-aggregate-gather-pair c = sym (c .before .before .before .before .before .loop .inv .2)
+
+gather-pair-requires : tie.Need-gather-pair-requires Inv-loop μ-loop
+gather-pair-requires c κs =
     let start = c .before .before .before .before .before .before .before .before .before in
     let l = c .before .before .before .before .before .loop .inv in
     let same = l .1 in
-    let long = l .3 in
+    let long = l .2 in
     let room = start .pre .1 in
-    (start .pre .0, ready-for _ _ (l .4 (start .pre .0)) (omega arith) (omega arith))
+    (start .pre .0, ready-for _ _ _ (l .3 (start .pre .0)) (omega arith) (omega arith) (omega arith))
 
 returns : tie.Need-returns Inv-loop μ-loop
 returns c =
     λ q.
-    let start = c .before .before .before .before .before .before .before .before .before .before .before .before .before .before .before .before in
-    let l = c .before .before .before .before .before .before .before .before .before .before .before .before .loop in
+    let start = c .before .before .before .before .before .before .before .before .before .before .before .before .before .before .before in
+    let l = c .before .before .before .before .before .before .before .before .before .before .before .loop in
     let same = l .inv .1 in
-    let long = l .inv .3 in
+    let long = l .inv .2 in
     let room = start .pre .1 in
-    let s = l .inv .4 q in
-    so-far-wide _ _ s (c .before .before .before .before .before .before .before .before .before .before .before .loop-test .taken) _ _ _ _
-    (given-as _ _ _ _ _ _ _ _ (c .before .before .before .before .before .before .before .before .before .before .has .ensures) (c .before .before .before .before .before .before .gather-pair-if .ensures q (ready-for _ _ s (omega arith) (omega arith))))
+    let s = l .inv .3 q in
+    so-far-wide _ _ _ s (c .before .before .before .before .before .before .before .before .before .before .loop-test .taken) _ _ _
+    (given-as _ _ _ (sym (given-on _ _ (sym (c .before .before .before .before .before .before .before .before .before .has .ensures) ∙ not-false _ (c .before .before .before .before .before .before .before .before .if1 .left))))
+    (c .before .before .before .before .before .gather-pair .ensures q (ready-for _ _ _ s (omega arith) (omega arith) (omega arith))))
     (c .enum-told .given .1)
     _
-    []
     []
     _
     (set-gives (q .of) (q .table) (member (start .args .set .words) 0) (start .args .v .rules) (q .views .rules))
     .gathers
 
-add-p : tie.Need-add-p Inv-loop μ-loop
-add-p c = let h = c .before .before .before .before .before .before .before .before .before .before .before .before .before .before .before .before .before .pre .0 .views .few in omega arith
+add-p-2 : tie.Need-add-p-2 Inv-loop μ-loop
+add-p-2 c = let h = c .before .before .before .before .before .before .before .before .before .before .before .before .before .before .before .before .pre .0 .views .few in omega arith
 
-loop-again : tie.Need-loop-again Inv-loop μ-loop
-loop-again c = (
+loop-again-2 : tie.Need-loop-again-2 Inv-loop μ-loop
+loop-again-2 c = (
   omega arith,
   search needs,
   search needs,
-  search needs,
   λ q.
-      let l = c .before .before .before .before .before .before .before .before .before .before .before .before .before .loop in
+      let l = c .before .before .before .before .before .before .before .before .before .before .before .before .loop in
       let same = l .inv .1 in
-      let long = l .inv .3 in
-      let room = c .before .before .before .before .before .before .before .before .before .before .before .before .before .before .before .before .before .pre .1 in
-      let s = l .inv .4 q in
-      so-far-next _ _ s (c .before .before .before .before .before .before .before .before .before .before .before .before .loop-test .taken) _ _ _ _
-      (given-as _ _ _ _ _ _ _ _ (c .before .before .before .before .before .before .before .before .before .before .before .has .ensures) (c .before .before .before .before .before .before .before .gather-pair-if .ensures q (ready-for _ _ s (omega arith) (omega arith))))
+      let long = l .inv .2 in
+      let room = c .before .before .before .before .before .before .before .before .before .before .before .before .before .before .before .before .pre .1 in
+      let s = l .inv .3 q in
+      so-far-next _ _ _ s (c .before .before .before .before .before .before .before .before .before .before .before .loop-test .taken) _ _ _
+      (given-as _ _ _ (sym (given-on _ _ (sym (c .before .before .before .before .before .before .before .before .before .before .has .ensures) ∙ not-false _ (c .before .before .before .before .before .before .before .before .before .if1 .left))))
+      (c .before .before .before .before .before .before .gather-pair .ensures q (ready-for _ _ _ s (omega arith) (omega arith) (omega arith))))
       (c .before .more .given .1),
 )
 
@@ -111,7 +127,7 @@ returns-2 : tie.Need-returns-2 Inv-loop μ-loop
 returns-2 c =
     λ q.
     let a = c .before .before .before .before .before .args in
-    so-far-all _ _ (c .before .loop .inv .4 q) (omega arith) _
+    so-far-all _ _ _ (c .before .loop .inv .3 q) (omega arith) _
     (set-gives (q .of) (q .table) (member (a .set .words) 0) (a .v .rules) (q .views .rules))
     .gathers
 
@@ -123,15 +139,17 @@ gather-set-spec =
     μ-loop
     loop-holds
     has-requires
-    (λ c. sym (c .before .before .before .before .loop .inv .2))
-    (λ c. sym (c .before .before .before .before .before .loop .inv .3))
-    gather-pair-if-requires
+    add-p
+    (λ c. omega arith)
+    loop-again
+    slice-aggregate-gather-pair
+    gather-pair-requires
     (λ c. search needs)
     (λ c. search needs)
     returns
     (λ c. search needs)
-    add-p
+    add-p-2
     (λ c. omega arith)
-    loop-again
+    loop-again-2
     (λ c. search needs)
     returns-2)

@@ -6,6 +6,7 @@ use mathlib.Core.List.{List, [], _++_}
 use mathlib.Core.Path.{_≡_, refl, _∙_, ap, subst}
 use lib.ListN.{length, getD}
 use borrow.Author.Needs.{needs}
+use Rattle.grammar.specs.Limits.{inputLimit}
 use Rattle.grammar.specs.Lists.{joinedOf, numbersBelow}
 use Rattle.grammar.specs.Fields.{fieldBytes}
 use Rattle.theory.specs.Alternatives.{onlyIf}
@@ -20,7 +21,7 @@ use Rattle.results.proofs.labels_used.put_labels.Tie as tie
 abbrev Inv-loop : tie.InvT-loop
 Inv-loop draft₀ old add olds news words used labels end₀ l₀ draft end l =
     (l ≤ labels)
-    × (end ≤ 32768)
+    × (end ≤ inputLimit)
     × (length draft ≡ length draft₀)
     × ((q : LabelsIn old add olds news) → Put draft₀ 0 (joinedOf (nameField q (member (used .words) 0)) (numbersBelow l)) draft end)
 
@@ -75,7 +76,7 @@ returns c =
     (c .enum-told .given .1)
     _
     (c .before .before .before .before .before .before .before .loop-test .taken) in
-    subst (λ (b : List ℕ). 32768 < 0 + length b)
+    subst (λ (b : List ℕ). inputLimit < 0 + length b)
     (labels-joined q on ∙ ap (labelsBytes (q .first ++ q .second)) (ap (λ (w : List ℕ). member w 0) (c .before .before .before .before .before .before .before .before .before .before .before .load .ensures)))
     over
 

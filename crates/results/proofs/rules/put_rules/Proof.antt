@@ -7,7 +7,7 @@ use lib.ListN.{length}
 use borrow.Author.Count.{below-more}
 use borrow.Author.Needs.{needs}
 use Rattle.grammar.specs.Lists.{joinedOf, numbersBelow}
-use Rattle.grammar.specs.Limits.{standard}
+use Rattle.grammar.specs.Limits.{standard, inputLimit}
 use Rattle.grammar.specs.Size.{contentTooLarge}
 use Rattle.writer.specs.Writing.{Put}
 use Rattle.writer.specs.Tables.{ruleField}
@@ -19,7 +19,7 @@ use Rattle.results.proofs.rules.put_rules.Tie as tie
 abbrev Inv-loop : tie.InvT-loop
 Inv-loop draft₀ at scratch₀ old add plan words end₀ i₀ draft scratch end i =
     (i ≤ plan .count)
-    × (end ≤ 32768)
+    × (end ≤ inputLimit)
     × (length draft ≡ length draft₀)
     × (length scratch ≡ length scratch₀)
     × ((q : RulesWith old add plan words)

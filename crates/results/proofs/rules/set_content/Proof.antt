@@ -106,7 +106,7 @@ returns c =
     content-is (s .table) (s .sets) kind i (member (start .args .set .words) 0) within held
     (pairs .ensures .0 (s .table) _ (s .views) (q .lists-are) left held) in
     let from = merged q within (types .result) (results .result) listed (types .ensures .1) (types .ensures .0) in
-    subst (λ (d : Content). Made (content .last .1 .1 .1 .1 .1 .1 .0) d (content .result)) same
+    subst (λ (d : Content). Made (content .last .1 .1 .1 .1 .1 .0) d (content .result)) same
     (content .ensures from (subst Regular (sym same) (q .regular i (start .pre .1))))
 
 pub set-content-spec : {M : Type 1} → statement M

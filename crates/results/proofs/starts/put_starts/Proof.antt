@@ -6,6 +6,7 @@ use mathlib.Core.List.{List, [], _∷_}
 use mathlib.Core.Path.{_≡_, refl, _∙_, ap, subst}
 use lib.ListN.{length}
 use borrow.Author.Needs.{needs}
+use Rattle.grammar.specs.Limits.{inputLimit}
 use Rattle.grammar.specs.Lists.{joinedOf, numbersBelow}
 use Rattle.grammar.specs.Fields.{fieldBytes}
 use Rattle.theory.specs.Alternatives.{onlyIf}
@@ -23,7 +24,7 @@ startField on k = onlyIf (on k) (fieldBytes 0x11 (k ∷ []))
 abbrev Inv-loop : tie.InvT-loop
 Inv-loop draft₀ at words count starts end₀ t₀ draft end t =
     (t ≤ count)
-    × (end ≤ 32768)
+    × (end ≤ inputLimit)
     × (length draft ≡ length draft₀)
     × Put draft₀ at (joinedOf (startField (member (starts .words) 0)) (numbersBelow t)) draft end
 
@@ -62,7 +63,7 @@ returns : tie.Need-returns Inv-loop μ-loop
 returns c =
     let start = c .before .before .before .before .before .before .before .before .before .before .before .before in
     let on = member (c .before .before .before .before .before .before .before .before .before .load .result .words) 0 in
-    subst (λ (b : List ℕ). 32768 < start .args .at + length b)
+    subst (λ (b : List ℕ). inputLimit < start .args .at + length b)
     (joined-only on (λ k. fieldBytes 0x11 (k ∷ [])) (numbersBelow (start .args .count))
     ∙ ap (λ (t : ℕ → Bool). startsBytes t (start .args .count)) (ap (λ (w : List ℕ). member w 0) (c .before .before .before .before .before .before .before .before .before .load .ensures)))
     (step-stop (startField on) (c .before .before .before .before .before .before .before .before .loop .t) (c .before .before .before .before .before .before .before .before .loop .inv .3) _ (c .before .before .before .before .put-start .last .0) (c .before .before .before .before .put-start .result)
