@@ -4,6 +4,8 @@ use crate::limits::OPERANDS;
 use crate::limits::PRINTED;
 use crate::limits::PRINTS;
 use reader::numbers::wide;
+use reader::operators::CHOICE_BYTE;
+use reader::operators::NONE_BYTE;
 ghost use Prim.Native.Nat.{_+_, _-_, _/_, _%_, _≤_};
 ghost use mathlib.Core.Bool.{true, false};
 ghost use mathlib.Core.List.{[], _∷_};
@@ -186,14 +188,14 @@ pub fn finish(draft: &mut [u8], start: usize, count: usize, end: usize) -> usize
         → Finished (now (draft .entry)) (now (draft .exit)) start (choiceOf (q .list)) r) ⌝ }
 {
     if count == 0 {
-        draft[start] = 0;
+        draft[start] = NONE_BYTE;
         return start + 1;
     }
     if count == 1 {
         move_down(draft, start, end);
         return end - 2;
     }
-    draft[start] = 4;
+    draft[start] = CHOICE_BYTE;
     draft[start + 1] = count as u8;
     end
 }

@@ -13,6 +13,15 @@ use crate::limits::OPERANDS;
 use crate::limits::TYPE_WORDS;
 use reader::limits::CONTENT;
 use reader::numbers::wide;
+use reader::operators::CHOICE;
+use reader::operators::EMPTY;
+use reader::operators::EMPTY_BYTE;
+use reader::operators::NONE;
+use reader::operators::ONE_OR_MORE_BYTE;
+use reader::operators::SEQUENCE;
+use reader::operators::SEQUENCE_BYTE;
+use reader::operators::TYPE;
+use reader::operators::TYPE_BYTE;
 use reader::work::clear;
 use sets::words::has;
 use sets::words::put;
@@ -54,7 +63,7 @@ fn gather_empty(draft: &mut [u8], row: OperandRow, next: usize, notes: &mut [u32
         (gathered (q .kept .list) (empty ∷ [])) r) ⌝ }
 {
     let end = row.end;
-    draft[end] = 1;
+    draft[end] = EMPTY_BYTE;
     settle(draft, row, end + 1, next, notes)
 }
 
@@ -82,9 +91,9 @@ fn gather_result(
         };
     }
     put(register, 0, number);
-    draft[end] = 2;
+    draft[end] = TYPE_BYTE;
     draft[end + 1] = result;
-    let print = 2 * FOLD + number;
+    let print = TYPE * FOLD + number;
     keep(
         draft,
         row,
@@ -187,7 +196,7 @@ fn gather_sequence(
     let asked = row_has(content, at + 2, n, types, 0);
     if asked.all {
         let end = row.end;
-        draft[end] = 3;
+        draft[end] = SEQUENCE_BYTE;
         draft[end + 1] = content[at + 1];
         return match emit_row(
             content,
@@ -253,7 +262,7 @@ fn gather_around(
             Emitted::Upto { next, end: fresh } => settle(draft, row, fresh, next, notes),
         };
     }
-    if operator == 6 {
+    if operator == ONE_OR_MORE_BYTE {
         return Gathering::Upto {
             next: asked.next,
             count: row.count,
@@ -283,7 +292,7 @@ fn gather_one(
         → GathersWith (Noted (now (notes .exit))) (now (draft .entry)) (now (draft .exit)) row (q .there .next)
         (gathered (q .kept .list) (alts (listOfType (now (from .entry)) (now (results .entry))) (q .there .content))) r) ⌝ }
 {
-    if wide(content[at]) == 3 {
+    if wide(content[at]) == SEQUENCE {
         return gather_sequence(content, at, types, from, results, draft, row, notes);
     }
     gather_around(content, at, types, from, results, draft, row, notes)
@@ -310,7 +319,7 @@ fn gather_compound(
         (q .there .next)
         (gathered (q .kept .list) (alts (listOfType (now (from .entry)) (now (results .entry))) (q .there .content))) r) ⌝ }
 {
-    if wide(content[at]) == 4 {
+    if wide(content[at]) == CHOICE {
         let n = wide(content[at + 1]);
         return gather_row(
             content,
@@ -358,13 +367,13 @@ pub fn gather(
 {
     let operator = wide(content[at]);
     match operator {
-        0 => Gathering::Upto {
+        NONE => Gathering::Upto {
             next: at + 1,
             count: row.count,
             end: row.end,
         },
-        1 => gather_empty(draft, row, at + 1, &mut register[TYPE_WORDS..]),
-        2 => {
+        EMPTY => gather_empty(draft, row, at + 1, &mut register[TYPE_WORDS..]),
+        TYPE => {
             let k = wide(content[at + 1]);
             gather_type(k, from, results, draft, row, at + 2, register)
         }

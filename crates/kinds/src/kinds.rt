@@ -2,6 +2,9 @@
 //
 // The types of one content, or the starts, are a set at the front of the lent words. Eight words have a bit for each value of a byte.
 use reader::numbers::wide;
+use reader::operators::CHOICE;
+use reader::operators::SEQUENCE;
+use reader::operators::TYPE;
 use reader::tables::TableIndex;
 use reader::work::clear;
 use sets::words::has;
@@ -109,12 +112,12 @@ fn content_types(content: &[u8], words: &mut [u32])
     while at < content.len() {
         let operator = wide(content[at]);
         match operator {
-            2 => {
+            TYPE => {
                 let k = wide(content[at + 1]);
                 put(words, 0, k);
                 at += 2;
             }
-            3..=4 => {
+            SEQUENCE..=CHOICE => {
                 at += 2;
             }
             _ => {

@@ -3,6 +3,11 @@ use crate::pieces::put_byte;
 use crate::pieces::put_bytes;
 use crate::pieces::put_type;
 use reader::numbers::wide;
+use reader::operators::CHOICE;
+use reader::operators::EMPTY;
+use reader::operators::NONE;
+use reader::operators::SEQUENCE;
+use reader::operators::TYPE;
 ghost use Prim.Native.Nat.{_<_};
 ghost use mathlib.Core.List.{[], _∷_};
 ghost use mathlib.Core.Path.{_≡_};
@@ -46,28 +51,28 @@ pub fn put_content(content: &[u8], at: usize, text: &mut [u8], end: usize) -> En
 {
     let operator = wide(content[at]);
     match operator {
-        0 => {
+        NONE => {
             let last = put_byte(text, end, b'!');
             Ends {
                 content: at + 1,
                 text: last,
             }
         }
-        1 => {
+        EMPTY => {
             let last = put_bytes(text, end, b"()");
             Ends {
                 content: at + 1,
                 text: last,
             }
         }
-        2 => {
+        TYPE => {
             let last = put_type(text, end, wide(content[at + 1]));
             Ends {
                 content: at + 2,
                 text: last,
             }
         }
-        3..=4 => {
+        SEQUENCE..=CHOICE => {
             let n = wide(content[at + 1]);
             let mark = mark_of(operator);
             let row = put_row(content, at + 2, n, b'(', mark, text, end);

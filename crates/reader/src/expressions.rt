@@ -2,6 +2,13 @@
 use crate::limits::NESTING;
 use crate::limits::TYPES;
 use crate::numbers::wide;
+use crate::operators::ANY_NUMBER;
+use crate::operators::CHOICE;
+use crate::operators::EMPTY;
+use crate::operators::NONE;
+use crate::operators::OPTIONAL;
+use crate::operators::SEQUENCE;
+use crate::operators::TYPE;
 use grammar::Refusal;
 ghost use mathlib.Core.Path.{_≡_};
 ghost use Prim.Native.Nat.{_≤_};
@@ -79,12 +86,12 @@ pub fn expression(content: &[u8], at: usize) -> Extent
     }
     let operator = wide(content[at]);
     match operator {
-        0..=1 => Extent::Upto {
+        NONE..=EMPTY => Extent::Upto {
             next: at + 1,
             nesting: 1,
         },
-        2 => type_number(content, at + 1),
-        3..=4 => {
+        TYPE => type_number(content, at + 1),
+        SEQUENCE..=CHOICE => {
             if content.len() <= at + 1 {
                 return Extent::Nowhere;
             }
@@ -94,7 +101,7 @@ pub fn expression(content: &[u8], at: usize) -> Extent
             }
             deeper(operands(content, at + 2, count))
         }
-        5..=7 => deeper(expression(content, at + 1)),
+        ANY_NUMBER..=OPTIONAL => deeper(expression(content, at + 1)),
         _ => Extent::Nowhere,
     }
 }

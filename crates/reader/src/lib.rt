@@ -8,6 +8,7 @@ pub mod labels;
 pub mod limits;
 pub mod names;
 pub mod numbers;
+pub mod operators;
 pub mod refusals;
 pub mod rules;
 pub mod starts;

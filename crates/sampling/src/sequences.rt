@@ -1,4 +1,7 @@
 // The child sequence of a node, as a content.
+use reader::operators::EMPTY_BYTE;
+use reader::operators::SEQUENCE_BYTE;
+use reader::operators::TYPE_BYTE;
 ghost use Prim.Native.Nat.{suc, _+_, _-_, _*_, _≤_, _<_};
 ghost use mathlib.Core.Path.{_≡_};
 ghost use lib.Dec.{eqb};
@@ -15,7 +18,7 @@ fn put_kid(scratch: &mut [u8], at: usize, parent: usize, i: usize, ty: usize) ->
     if parent != i {
         return at;
     }
-    scratch[at] = 2;
+    scratch[at] = TYPE_BYTE;
     scratch[at + 1] = ty as u8;
     at + 2
 }
@@ -58,13 +61,13 @@ pub fn put_sequence(
         (now (scratch .exit)) r ⌝ }
 {
     if kids == 0 {
-        scratch[at] = 1;
+        scratch[at] = EMPTY_BYTE;
         return at + 1;
     }
     if kids == 1 {
         return put_kids(scratch, at, parents, types, nodes, i, kids);
     }
-    scratch[at] = 3;
+    scratch[at] = SEQUENCE_BYTE;
     scratch[at + 1] = kids as u8;
     put_kids(scratch, at + 2, parents, types, nodes, i, kids)
 }

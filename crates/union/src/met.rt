@@ -3,6 +3,12 @@
 use crate::productive::both;
 use crate::productive::either;
 use reader::numbers::wide;
+use reader::operators::CHOICE;
+use reader::operators::EMPTY;
+use reader::operators::NONE;
+use reader::operators::ONE_OR_MORE;
+use reader::operators::SEQUENCE;
+use reader::operators::TYPE;
 use sets::four::Set4;
 ghost use mathlib.Core.Path.{_≡_};
 ghost use mathlib.Core.List.{[], _∷_};
@@ -153,18 +159,18 @@ pub fn met(
 {
     let operator = wide(content[at]);
     match operator {
-        0 => met_none(false, count, at + 1, seen),
-        1 => met_none(true, count, at + 1, seen),
-        2 => {
+        NONE => met_none(false, count, at + 1, seen),
+        EMPTY => met_none(true, count, at + 1, seen),
+        TYPE => {
             let k = wide(content[at + 1]);
             met_type(k, from, pairs, list, count, at + 2, seen)
         }
-        3 => {
+        SEQUENCE => {
             let n = wide(content[at + 1]);
             let row = met_row(content, at + 2, n, from, pairs, list, count, seen);
             met_sequence(row, count, seen)
         }
-        4 => {
+        CHOICE => {
             let n = wide(content[at + 1]);
             let row = met_row(content, at + 2, n, from, pairs, list, count, seen);
             let more = row.seen;
@@ -175,7 +181,7 @@ pub fn met(
                 seen: more,
             }
         }
-        6 => met(content, at + 1, from, pairs, list, count, seen),
+        ONE_OR_MORE => met(content, at + 1, from, pairs, list, count, seen),
         _ => {
             let operand = met(content, at + 1, from, pairs, list, count, seen);
             let more = operand.seen;

@@ -1,6 +1,12 @@
 // Whether a content has alternatives: whether anything is left of it once the types that give nothing are gone. `types` from
 // `base` on is the set of the types that give something.
 use reader::numbers::wide;
+use reader::operators::CHOICE;
+use reader::operators::EMPTY;
+use reader::operators::NONE;
+use reader::operators::ONE_OR_MORE;
+use reader::operators::SEQUENCE;
+use reader::operators::TYPE;
 use sets::words::has;
 ghost use mathlib.Core.Path.{_≡_};
 ghost use mathlib.Core.Bool.{_&&_, _||_};
@@ -66,16 +72,16 @@ pub fn content_has(content: &[u8], at: usize, types: &[u32], base: usize) -> Pro
 {
     let operator = wide(content[at]);
     match operator {
-        0 => Productive {
+        NONE => Productive {
             has: false,
             next: at + 1,
         },
-        1 => Productive {
+        EMPTY => Productive {
             has: true,
             next: at + 1,
         },
-        2 => type_has(content, at, types, base),
-        3 => {
+        TYPE => type_has(content, at, types, base),
+        SEQUENCE => {
             let n = wide(content[at + 1]);
             let row = row_has(content, at + 2, n, types, base);
             Productive {
@@ -83,7 +89,7 @@ pub fn content_has(content: &[u8], at: usize, types: &[u32], base: usize) -> Pro
                 next: row.next,
             }
         }
-        4 => {
+        CHOICE => {
             let n = wide(content[at + 1]);
             let row = row_has(content, at + 2, n, types, base);
             Productive {
@@ -91,7 +97,7 @@ pub fn content_has(content: &[u8], at: usize, types: &[u32], base: usize) -> Pro
                 next: row.next,
             }
         }
-        6 => content_has(content, at + 1, types, base),
+        ONE_OR_MORE => content_has(content, at + 1, types, base),
         _ => {
             let operand = content_has(content, at + 1, types, base);
             Productive {

@@ -3,6 +3,15 @@
 // One walk over the content for each child. The marks have one number for each byte of the content: at the first byte of an
 // expression 1 where the children so far can end that expression, else 0.
 use reader::numbers::wide;
+use reader::operators::ANY_NUMBER;
+use reader::operators::CHOICE;
+use reader::operators::EMPTY;
+use reader::operators::NONE;
+use reader::operators::ONE_OR_MORE;
+use reader::operators::OPTIONAL_BYTE;
+use reader::operators::SEQUENCE;
+use reader::operators::TYPE;
+use reader::operators::TYPE_BYTE;
 use sets::words::has;
 ghost use mathlib.Core.Bool.{_&&_, _||_, true, false};
 ghost use mathlib.Core.List.{_++_};
@@ -128,33 +137,33 @@ pub fn pass(
 {
     let operator = wide(content[at]);
     match operator {
-        0 => Passed {
+        NONE => Passed {
             next: at + 1,
             nullable: false,
             ends: false,
         },
-        1 => Passed {
+        EMPTY => Passed {
             next: at + 1,
             nullable: true,
             ends: false,
         },
-        2 => typed(content, at, marks, incoming, words, base),
-        3 => {
+        TYPE => typed(content, at, marks, incoming, words, base),
+        SEQUENCE => {
             let count = wide(content[at + 1]);
             let all = in_turn(content, count, at + 2, marks, incoming, words, base);
             sealed(marks, at, all)
         }
-        4 => {
+        CHOICE => {
             let count = wide(content[at + 1]);
             let one = each(content, count, at + 2, marks, incoming, words, base);
             sealed(marks, at, one)
         }
-        5 => {
+        ANY_NUMBER => {
             let begins = either(incoming, marks[at + 1] == 1);
             let part = operand(content, at + 1, marks, begins, words, base);
             sealed(marks, at, or_none(part))
         }
-        6 => {
+        ONE_OR_MORE => {
             let begins = either(incoming, marks[at + 1] == 1);
             let part = operand(content, at + 1, marks, begins, words, base);
             sealed(marks, at, part)
@@ -179,7 +188,7 @@ fn operand(
     ensures { λ r. ⌜ walked (now (marks .exit)) r
         ≡ walkAt (now (content .entry)) at (now (marks .entry)) incoming (setAt (now (words .entry)) base) ⌝ }
 {
-    if content[at] == 2 {
+    if content[at] == TYPE_BYTE {
         return typed(content, at, marks, incoming, words, base);
     }
     pass(content, at, marks, incoming, words, base)
@@ -193,7 +202,7 @@ fn is_around_type(content: &[u8], at: usize) -> bool
     if content[at] < 5 {
         return false;
     }
-    content[at + 1] == 2
+    content[at + 1] == TYPE_BYTE
 }
 
 // One child's walk over a type under one operator.
@@ -211,7 +220,7 @@ fn around_type(
         ≡ walkAt (now (content .entry)) at (now (marks .entry)) incoming (setAt (now (words .entry)) base) ⌝ }
 {
     let operator = content[at];
-    let again = both(operator != 7, marks[at + 1] == 1);
+    let again = both(operator != OPTIONAL_BYTE, marks[at + 1] == 1);
     let begins = either(incoming, again);
     let part = typed(content, at + 1, marks, begins, words, base);
     let all = Passed {
