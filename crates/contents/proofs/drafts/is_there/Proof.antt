@@ -34,18 +34,22 @@ first {d} {notes} {row} {k = k} q h a =
     among-first d notes (row .base) k (row .count - k) (row .end) (q .newest) (q .kept .list) (omega arith) (q .kept .row .inside) a
 
 mul-is-same : tie.Need-mul-is-same Inv-loop μ-loop
-mul-is-same c = let few = c .before .before .before .before .pre .0 .0 .kept .row .few in omega arith
+mul-is-same c =
+    let start = c .before .before .before .before in
+    let few = start .pre .0 .0 .kept .row .few in omega arith
 
 shared-slice-read-is-same : tie.Need-shared-slice-read-is-same Inv-loop μ-loop
 shared-slice-read-is-same c =
-    let q = c .before .before .before .before .before .pre .0 .0 in
+    let start = c .before .before .before .before .before in
+    let q = start .pre .0 .0 in
     let few = q .kept .row .few in
-    let room = c .before .before .before .before .before .pre .0 .1 .room in
+    let room = start .pre .0 .1 .room in
     omega arith
 
 is-same-requires : tie.Need-is-same-requires Inv-loop μ-loop
 is-same-requires c κs =
-    let p = c .before .before .before .before .before .pre in
+    let start = c .before .before .before .before .before in
+    let p = start .pre in
     let q = p .0 .0 in
     let f = first q (c .before .loop-test .taken) (c .before .before .loop .inv .1 q (p .0 .1)) in
     let i = f .inside in
@@ -60,9 +64,12 @@ asked {d} {row} {fresh} q p = p ∙ ap fingerprint (expr-bytes d (row .end) (q .
 
 returns : tie.Need-returns Inv-loop μ-loop
 returns c =
-    let p = c .before .before .before .before .before .before .before .pre in
+    let start = c .before .before .before .before .before .before .before in
+    let at-loop = c .before .before .before .before .loop in
+    let at-loop-test = c .before .before .before .loop-test in
+    let p = start .pre in
     λ q m.
-    let f = first q (c .before .before .before .loop-test .taken) (c .before .before .before .before .loop .inv .1 q m) in
+    let f = first q (at-loop-test .taken) (at-loop .inv .1 q m) in
     f .here
     (sym (same-noted _ _ _ _ _ _ _ _ (q .newest) _ _ (q .stands) (asked q (p .2)) (p .1) f (c .before .is-same .ensures)) ∙ c .if1 .taken)
 
@@ -74,10 +81,13 @@ loop-less c = omega arith
 
 loop-again : tie.Need-loop-again Inv-loop μ-loop
 loop-again c =
-    let p = c .before .before .before .before .before .before .before .pre in (
+    let start = c .before .before .before .before .before .before .before in
+    let at-loop = c .before .before .before .before .loop in
+    let at-loop-test = c .before .before .before .loop-test in
+    let p = start .pre in (
       omega arith,
       λ q m.
-          let f = first q (c .before .before .before .loop-test .taken) (c .before .before .before .before .loop .inv .1 q m) in
+          let f = first q (at-loop-test .taken) (at-loop .inv .1 q m) in
           f .later
           (sym (same-noted _ _ _ _ _ _ _ _ (q .newest) _ _ (q .stands) (asked q (p .2)) (p .1) f (c .before .is-same .ensures)) ∙ c .if1 .left) _
           (omega arith),

@@ -16,30 +16,44 @@ returns c =
 returns-2 : tie.Need-returns-2
 unfolding Gathers
 returns-2 c =
-    λ q t m. record { gathers = too-many _ _ _ q (c .before .before .before .pre .1) t (c .if2 .taken); noted = λ u. no-upto u }
+    let start = c .before .before .before in
+    λ q t m. record { gathers = too-many _ _ _ q (start .pre .1) t (c .if2 .taken); noted = λ u. no-upto u }
 
 mul-notes : tie.Need-mul-notes
-mul-notes c = let p = print-small _ _ (c .before .before .before .pre .3) in omega arith
+mul-notes c =
+    let start = c .before .before .before in
+    let p = print-small _ _ (start .pre .3) in omega arith
 
 sub-notes : tie.Need-sub-notes
-sub-notes c = let r = c .before .before .before .before .pre .0 .0 .kept .row .forward in omega arith
+sub-notes c =
+    let start = c .before .before .before .before in
+    let r = start .pre .0 .0 .kept .row .forward in omega arith
 
 add-notes : tie.Need-add-notes
-add-notes c = let p = print-small _ _ (c .before .before .before .before .pre .3) in omega arith
+add-notes c =
+    let start = c .before .before .before .before in
+    let p = print-small _ _ (start .pre .3) in omega arith
 
 cast-notes : tie.Need-cast-notes
-cast-notes c = let p = print-small _ _ (c .before .before .before .before .pre .3) in omega arith
+cast-notes c =
+    let start = c .before .before .before .before in
+    let p = print-small _ _ (start .pre .3) in omega arith
 
 mul-notes-2 : tie.Need-mul-notes-2
-mul-notes-2 c = let p = print-small _ _ (c .before .before .before .before .pre .3) in omega arith
+mul-notes-2 c =
+    let start = c .before .before .before .before in
+    let p = print-small _ _ (start .pre .3) in omega arith
 
 slice-write-notes : tie.Need-slice-write-notes
-slice-write-notes c = let m = c .before .before .before .before .pre .0 .2 .room in omega arith
+slice-write-notes c =
+    let start = c .before .before .before .before in
+    let m = start .pre .0 .2 .room in omega arith
 
 returns-3 : tie.Need-returns-3
 unfolding Gathers
 returns-3 c =
-    let p = c .before .before .before .before .pre in
+    let start = c .before .before .before .before in
+    let p = start .pre in
     λ q t m.
     record {
       gathers = (refl, more-row _ _ _ q (p .1) t (c .before .before .if1 .left) (c .before .if2 .left));

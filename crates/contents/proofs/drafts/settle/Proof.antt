@@ -17,27 +17,35 @@ print-of-requires c κs =
     (omega arith, omega arith)
 
 is-there-requires : tie.Need-is-there-requires
-is-there-requires c κs = let p = c .before .before .before .before .pre in (p .0, omega arith, c .before .print-of .ensures)
+is-there-requires c κs =
+    let start = c .before .before .before .before in
+    let p = start .pre in (p .0, omega arith, c .before .print-of .ensures)
 
 returns : tie.Need-returns
 unfolding Gathers
 returns c =
-    let p = c .before .before .before .before .before .before .pre in
+    let start = c .before .before .before .before .before .before in
+    let p = start .pre in
     λ q m.
     let t = sym (c .before .is-there .ensures q m) ∙ c .if1 .taken in
     record {
       gathers = (refl, old-row _ _ _ q (p .1) t);
-      noted = λ u. subst (Noted (c .before .before .before .before .before .before .args .notes .now)) (sym (gather-old (q .kept .list) (q .kept .row .apart) (q .newest) t)) m;
+      noted = λ u. subst (Noted (start .args .notes .now)) (sym (gather-old (q .kept .list) (q .kept .row .apart) (q .newest) t)) m;
     }
 
 keep-requires : tie.Need-keep-requires
 keep-requires c κs =
-    let p = c .before .before .before .before .before .before .before .pre in
+    let start = c .before .before .before .before .before .before .before in
+    let at-print-of = c .before .before .before .before .print-of in
+    let p = start .pre in
     let q = p .0 .0 in
-    ((q, sym (c .before .before .is-there .ensures q (p .0 .1)) ∙ c .before .if1 .left, p .0 .1), p .1, p .2, c .before .before .before .before .print-of .ensures)
+    ((q, sym (c .before .before .is-there .ensures q (p .0 .1)) ∙ c .before .if1 .left, p .0 .1), p .1, p .2, at-print-of .ensures)
 
 returns-2 : tie.Need-returns-2
-returns-2 c = λ q m. c .before .before .keep .ensures q (sym (c .before .before .before .before .before .is-there .ensures q m) ∙ c .before .before .before .before .if1 .left) m
+returns-2 c =
+    let at-is-there = c .before .before .before .before .before .is-there in
+    let at-if1 = c .before .before .before .before .if1 in
+    λ q m. c .before .before .keep .ensures q (sym (at-is-there .ensures q m) ∙ at-if1 .left) m
 
 pub settle-spec : {M : Type 1} → statement M
 settle-spec = tie.close (tie.spec print-of-requires is-there-requires (λ c. search needs) returns keep-requires (λ c. search needs) returns-2)

@@ -301,9 +301,10 @@ emit-row-loop-holds t c = (omega arith, refl, refl, λ q. record { rest = q; who
 
 emit-row-sub-clear : (t : ℕ) → emit-row-lts.Need-sub-clear (emit-row-calls t) (emit-row-at t) emit-row.Post emit-row-Inv-loop emit-row-μ-loop
 emit-row-sub-clear t c =
-    let a = c .before .before .before .before .before .before .before .before .args in
+    let start = c .before .before .before .before .before .before .before .before in
+    let a = start .args in
     let some = some-left (c .loop-test .taken) in
-    let r = c .before .loop .inv .3 (c .before .before .before .before .before .before .before .before .pre .1) .rest in
+    let r = c .before .loop .inv .3 (start .pre .1) .rest in
     let w = operand-words r (listOfType (a .from .now) (a .results .now)) some in
     omega arith
 
@@ -312,118 +313,161 @@ emit-row-part-clear-start t c = search needs
 
 emit-row-part-clear-end : (t : ℕ) → emit-row-lts.Need-part-clear-end (emit-row-calls t) (emit-row-at t) emit-row.Post emit-row-Inv-loop emit-row-μ-loop
 emit-row-part-clear-end t c =
-    let a = c .before .before .before .before .before .before .before .before .args in
+    let start = c .before .before .before .before .before .before .before .before in
+    let a = start .args in
     let some = some-left (c .loop-test .taken) in
-    let r = c .before .loop .inv .3 (c .before .before .before .before .before .before .before .before .pre .1) .rest in
+    let r = c .before .loop .inv .3 (start .pre .1) .rest in
     let w = operand-words r (listOfType (a .from .now) (a .results .now)) some in
     omega arith
 
 emit-row-add-if1 : (t : ℕ) → emit-row-lts.Need-add-if1 (emit-row-calls t) (emit-row-at t) emit-row.Post emit-row-Inv-loop emit-row-μ-loop
 emit-row-add-if1 t c =
-    let r = c .before .before .before .before .before .loop .inv .3 (c .before .before .before .before .before .before .before .before .before .before .before .before .pre .1) .rest in
+    let start = c .before .before .before .before .before .before .before .before .before .before .before .before in
+    let at-loop = c .before .before .before .before .before .loop in
+    let r = at-loop .inv .3 (start .pre .1) .rest in
     omega arith
 
 emit-row-add-t25 : (t : ℕ) → emit-row-lts.Need-add-t25 (emit-row-calls t) (emit-row-at t) emit-row.Post emit-row-Inv-loop emit-row-μ-loop
 emit-row-add-t25 t c =
-    let r = c .before .before .before .before .before .loop .inv .3 (c .before .before .before .before .before .before .before .before .before .before .before .before .pre .1) .rest in
+    let start = c .before .before .before .before .before .before .before .before .before .before .before .before in
+    let at-loop = c .before .before .before .before .before .loop in
+    let r = at-loop .inv .3 (start .pre .1) .rest in
     omega arith
 
 emit-row-add-t26 : (t : ℕ) → emit-row-lts.Need-add-t26 (emit-row-calls t) (emit-row-at t) emit-row.Post emit-row-Inv-loop emit-row-μ-loop
 emit-row-add-t26 t c =
-    let r = c .before .before .before .before .before .loop .inv .3 (c .before .before .before .before .before .before .before .before .before .before .before .before .pre .1) .rest in
+    let start = c .before .before .before .before .before .before .before .before .before .before .before .before in
+    let at-loop = c .before .before .before .before .before .loop in
+    let r = at-loop .inv .3 (start .pre .1) .rest in
     omega arith
 
 emit-row-gather-requires : (t : ℕ) → emit-row-lts.Need-gather-requires (emit-row-calls t) (emit-row-at t) emit-row.Post emit-row-Inv-loop emit-row-μ-loop
 emit-row-gather-requires t c κs =
-    let cleared = length-front (c .before .before .before .before .before .before .before .loop .register) (c .before .before .before .before .clear .last .0) typeWords (c .before .before .before .before .clear .kept .0) in
-    let a = c .before .before .before .before .before .before .before .before .before .before .before .before .before .before .args in
+    let start = c .before .before .before .before .before .before .before .before .before .before .before .before .before .before in
+    let at-loop = c .before .before .before .before .before .before .before .loop in
+    let at-loop-test = c .before .before .before .before .before .before .loop-test in
+    let at-clear = c .before .before .before .before .clear in
+    let cleared = length-front (at-loop .register) (at-clear .last .0) typeWords (at-clear .kept .0) in
+    let a = start .args in
     let res = listOfType (a .from .now) (a .results .now) in
-    let some = some-left (c .before .before .before .before .before .before .loop-test .taken) in
-    let q = c .before .before .before .before .before .before .before .before .before .before .before .before .before .before .pre .1 in
-    let m = c .before .before .before .before .before .before .before .before .before .before .before .before .before .before .pre .0 in
-    let on = c .before .before .before .before .before .before .before .loop .inv .0 in
-    let x = c .before .before .before .before .before .before .before .loop .inv .3 q in
+    let some = some-left (at-loop-test .taken) in
+    let q = start .pre .1 in
+    let m = start .pre .0 in
+    let on = at-loop .inv .0 in
+    let x = at-loop .inv .3 q in
     let r = x .rest in
-    (omega arith, (first-operand r res some _ cleared, operand-registered r res some (c .before .before .before .before .clear .last .0) (c .before .before .before .before .before .before .before .loop .register) refl (c .before .before .before .before .clear .ensures)))
+    (omega arith, (first-operand r res some _ cleared, operand-registered r res some (at-clear .last .0) (at-loop .register) refl (at-clear .ensures)))
 
 emit-row-returns : (t : ℕ) → emit-row-lts.Need-returns (emit-row-calls t) (emit-row-at t) emit-row.Post emit-row-Inv-loop emit-row-μ-loop
 emit-row-returns t c =
-    let cleared = length-front (c .before .before .before .before .before .before .before .before .before .before .before .before .before .before .loop .register) (c .before .before .before .before .before .before .before .before .before .before .before .clear .last .0) typeWords (c .before .before .before .before .before .before .before .before .before .before .before .clear .kept .0) in
-    let a = c .before .before .before .before .before .before .before .before .before .before .before .before .before .before .before .before .before .before .before .before .before .args in
+    let start = c .before .before .before .before .before .before .before .before .before .before .before .before .before .before .before .before .before .before .before .before .before in
+    let at-loop = c .before .before .before .before .before .before .before .before .before .before .before .before .before .before .loop in
+    let at-loop-test = c .before .before .before .before .before .before .before .before .before .before .before .before .before .loop-test in
+    let at-clear = c .before .before .before .before .before .before .before .before .before .before .before .clear in
+    let at-gather = c .before .before .before .before .before .before .gather in
+    let cleared = length-front (at-loop .register) (at-clear .last .0) typeWords (at-clear .kept .0) in
+    let a = start .args in
     let res = listOfType (a .from .now) (a .results .now) in
-    let some = some-left (c .before .before .before .before .before .before .before .before .before .before .before .before .before .loop-test .taken) in
+    let some = some-left (at-loop-test .taken) in
     λ q.
-    let x = c .before .before .before .before .before .before .before .before .before .before .before .before .before .before .loop .inv .3 q in
+    let x = at-loop .inv .3 q in
     let r = x .rest in
-    let g = c .before .before .before .before .before .before .gather .ensures (first-operand r res some _ cleared) (operand-registered r res some (c .before .before .before .before .before .before .before .before .before .before .before .clear .last .0) (c .before .before .before .before .before .before .before .before .before .before .before .before .before .before .loop .register) refl (c .before .before .before .before .before .before .before .before .before .before .before .clear .ensures)) .gathers in
+    let g = at-gather .ensures (first-operand r res some _ cleared) (operand-registered r res some (at-clear .last .0) (at-loop .register) refl (at-clear .ensures)) .gathers in
     x .whole _ _ (operand-wide r res some _ _ g (c .enum-told .given .1))
 
 emit-row-finish-requires : (t : ℕ) → emit-row-lts.Need-finish-requires (emit-row-calls t) (emit-row-at t) emit-row.Post emit-row-Inv-loop emit-row-μ-loop
 emit-row-finish-requires t c κs =
-    let cleared = length-front (c .before .before .before .before .before .before .before .before .before .before .before .before .before .before .before .before .loop .register) (c .before .before .before .before .before .before .before .before .before .before .before .before .before .clear .last .0) typeWords (c .before .before .before .before .before .before .before .before .before .before .before .before .before .clear .kept .0) in
-    let a = c .before .before .before .before .before .before .before .before .before .before .before .before .before .before .before .before .before .before .before .before .before .before .before .args in
+    let start = c .before .before .before .before .before .before .before .before .before .before .before .before .before .before .before .before .before .before .before .before .before .before .before in
+    let at-loop = c .before .before .before .before .before .before .before .before .before .before .before .before .before .before .before .before .loop in
+    let at-loop-test = c .before .before .before .before .before .before .before .before .before .before .before .before .before .before .before .loop-test in
+    let at-clear = c .before .before .before .before .before .before .before .before .before .before .before .before .before .clear in
+    let at-gather = c .before .before .before .before .before .before .before .before .gather in
+    let cleared = length-front (at-loop .register) (at-clear .last .0) typeWords (at-clear .kept .0) in
+    let a = start .args in
     let res = listOfType (a .from .now) (a .results .now) in
-    let some = some-left (c .before .before .before .before .before .before .before .before .before .before .before .before .before .before .before .loop-test .taken) in
-    let q = c .before .before .before .before .before .before .before .before .before .before .before .before .before .before .before .before .before .before .before .before .before .before .before .pre .1 in
-    let x = c .before .before .before .before .before .before .before .before .before .before .before .before .before .before .before .before .loop .inv .3 q in
+    let some = some-left (at-loop-test .taken) in
+    let q = start .pre .1 in
+    let x = at-loop .inv .3 q in
     let r = x .rest in
-    let g = c .before .before .before .before .before .before .before .before .gather .ensures (first-operand r res some _ cleared) (operand-registered r res some (c .before .before .before .before .before .before .before .before .before .before .before .before .before .clear .last .0) (c .before .before .before .before .before .before .before .before .before .before .before .before .before .before .before .before .loop .register) refl (c .before .before .before .before .before .before .before .before .before .before .before .before .before .clear .ensures)) .gathers in
-    operand-kept r res some _ _ g (c .before .before .next .given .1) (c .before .before .before .before .before .before .before .before .gather .kept .1 .1 .1 .1 .1 .0)
+    let g = at-gather .ensures (first-operand r res some _ cleared) (operand-registered r res some (at-clear .last .0) (at-loop .register) refl (at-clear .ensures)) .gathers in
+    operand-kept r res some _ _ g (c .before .before .next .given .1) (at-gather .kept .1 .1 .1 .1 .1 .0)
 
 emit-row-add-if1-2 : (t : ℕ) → emit-row-lts.Need-add-if1-2 (emit-row-calls t) (emit-row-at t) emit-row.Post emit-row-Inv-loop emit-row-μ-loop
 emit-row-add-if1-2 t c =
-    let q = c .before .before .before .before .before .before .before .before .before .before .before .before .before .before .before .before .before .before .before .before .before .before .before .before .before .before .pre .1 in
-    omega (arith, c .before .before .before .before .before .before .before .before .before .before .before .before .before .before .before .before .before .before .before .before .before .before .before .before .before .before .good .1 .1 .1 .1 .1 .1 .0)
+    let start = c .before .before .before .before .before .before .before .before .before .before .before .before .before .before .before .before .before .before .before .before .before .before .before .before .before .before in
+    let q = start .pre .1 in
+    omega (arith, start .good .1 .1 .1 .1 .1 .1 .0)
 
 emit-row-same-length-3 : (t : ℕ) → emit-row-lts.Need-same-length-3 (emit-row-calls t) (emit-row-at t) emit-row.Post emit-row-Inv-loop emit-row-μ-loop
-emit-row-same-length-3 t c = c .before .before .before .finish .kept .0 ∙ c .before .before .before .before .before .before .before .before .before .before .before .before .gather .kept .1 .1 .1 .1 .1 .0 ∙ c .before .before .before .before .before .before .before .before .before .before .before .before .before .before .before .before .before .before .before .before .loop .inv .1
+emit-row-same-length-3 t c =
+    let at-loop = c .before .before .before .before .before .before .before .before .before .before .before .before .before .before .before .before .before .before .before .before .loop in
+    let at-gather = c .before .before .before .before .before .before .before .before .before .before .before .before .gather in
+    let at-finish = c .before .before .before .finish in
+    at-finish .kept .0 ∙ at-gather .kept .1 .1 .1 .1 .1 .0 ∙ at-loop .inv .1
 
 emit-row-same-length-4 : (t : ℕ) → emit-row-lts.Need-same-length-4 (emit-row-calls t) (emit-row-at t) emit-row.Post emit-row-Inv-loop emit-row-μ-loop
 emit-row-same-length-4 t c =
-    c .before .before .before .before .before .before .before .before .before .before .before .before .gather .kept .1 .1 .1 .1 .1 .1 .1 .0 ∙ length-front (c .before .before .before .before .before .before .before .before .before .before .before .before .before .before .before .before .before .before .before .before .loop .register) (c .before .before .before .before .before .before .before .before .before .before .before .before .before .before .before .before .before .clear .last .0) typeWords (c .before .before .before .before .before .before .before .before .before .before .before .before .before .before .before .before .before .clear .kept .0) ∙ c .before .before .before .before .before .before .before .before .before .before .before .before .before .before .before .before .before .before .before .before .loop .inv .2
+    let at-loop = c .before .before .before .before .before .before .before .before .before .before .before .before .before .before .before .before .before .before .before .before .loop in
+    let at-clear = c .before .before .before .before .before .before .before .before .before .before .before .before .before .before .before .before .before .clear in
+    let at-gather = c .before .before .before .before .before .before .before .before .before .before .before .before .gather in
+    at-gather .kept .1 .1 .1 .1 .1 .1 .1 .0 ∙ length-front (at-loop .register) (at-clear .last .0) typeWords (at-clear .kept .0) ∙ at-loop .inv .2
 
 emit-row-returns-2 : (t : ℕ) → emit-row-lts.Need-returns-2 (emit-row-calls t) (emit-row-at t) emit-row.Post emit-row-Inv-loop emit-row-μ-loop
 emit-row-returns-2 t c =
-    let cleared = length-front (c .before .before .before .before .before .before .before .before .before .before .before .before .before .before .before .before .before .before .before .before .loop .register) (c .before .before .before .before .before .before .before .before .before .before .before .before .before .before .before .before .before .clear .last .0) typeWords (c .before .before .before .before .before .before .before .before .before .before .before .before .before .before .before .before .before .clear .kept .0) in
-    let a = c .before .before .before .before .before .before .before .before .before .before .before .before .before .before .before .before .before .before .before .before .before .before .before .before .before .before .before .args in
+    let start = c .before .before .before .before .before .before .before .before .before .before .before .before .before .before .before .before .before .before .before .before .before .before .before .before .before .before .before in
+    let at-loop = c .before .before .before .before .before .before .before .before .before .before .before .before .before .before .before .before .before .before .before .before .loop in
+    let at-loop-test = c .before .before .before .before .before .before .before .before .before .before .before .before .before .before .before .before .before .before .before .loop-test in
+    let at-clear = c .before .before .before .before .before .before .before .before .before .before .before .before .before .before .before .before .before .clear in
+    let at-gather = c .before .before .before .before .before .before .before .before .before .before .before .before .gather in
+    let at-next = c .before .before .before .before .before .before .next in
+    let at-finish = c .before .before .before .finish in
+    let cleared = length-front (at-loop .register) (at-clear .last .0) typeWords (at-clear .kept .0) in
+    let a = start .args in
     let res = listOfType (a .from .now) (a .results .now) in
-    let some = some-left (c .before .before .before .before .before .before .before .before .before .before .before .before .before .before .before .before .before .before .before .loop-test .taken) in
-    let e = c .before .before .before .before .before .before .next .given .1 in
-    let l = c .before .before .before .before .before .before .before .before .before .before .before .before .gather .kept .1 .1 .1 .1 .1 .0 in
+    let some = some-left (at-loop-test .taken) in
+    let e = at-next .given .1 in
+    let l = at-gather .kept .1 .1 .1 .1 .1 .0 in
     λ q.
-    let x = c .before .before .before .before .before .before .before .before .before .before .before .before .before .before .before .before .before .before .before .before .loop .inv .3 q in
+    let x = at-loop .inv .3 q in
     let r = x .rest in
-    let g = c .before .before .before .before .before .before .before .before .before .before .before .before .gather .ensures (first-operand r res some _ cleared) (operand-registered r res some (c .before .before .before .before .before .before .before .before .before .before .before .before .before .before .before .before .before .clear .last .0) (c .before .before .before .before .before .before .before .before .before .before .before .before .before .before .before .before .before .before .before .before .loop .register) refl (c .before .before .before .before .before .before .before .before .before .before .before .before .before .before .before .before .before .clear .ensures)) .gathers in
-    let f = c .before .before .before .finish .ensures (operand-kept r res some _ _ g e l) in
-    let l' = c .before .before .before .finish .kept .0 in
+    let g = at-gather .ensures (first-operand r res some _ cleared) (operand-registered r res some (at-clear .last .0) (at-loop .register) refl (at-clear .ensures)) .gathers in
+    let f = at-finish .ensures (operand-kept r res some _ _ g e l) in
+    let l' = at-finish .kept .0 in
     x .whole _ _ (operand-long r res some _ _ g e l f l' (c .if1 .taken))
 
 emit-row-loop-again : (t : ℕ) → emit-row-lts.Need-loop-again (emit-row-calls t) (emit-row-at t) emit-row.Post emit-row-Inv-loop emit-row-μ-loop
 emit-row-loop-again t c =
-    let cleared = length-front (c .before .before .before .before .before .before .before .before .before .before .before .before .before .before .before .before .before .before .before .before .loop .register) (c .before .before .before .before .before .before .before .before .before .before .before .before .before .before .before .before .before .clear .last .0) typeWords (c .before .before .before .before .before .before .before .before .before .before .before .before .before .before .before .before .before .clear .kept .0) in
-    let a = c .before .before .before .before .before .before .before .before .before .before .before .before .before .before .before .before .before .before .before .before .before .before .before .before .before .before .before .args in
+    let start = c .before .before .before .before .before .before .before .before .before .before .before .before .before .before .before .before .before .before .before .before .before .before .before .before .before .before .before in
+    let at-loop = c .before .before .before .before .before .before .before .before .before .before .before .before .before .before .before .before .before .before .before .before .loop in
+    let at-loop-test = c .before .before .before .before .before .before .before .before .before .before .before .before .before .before .before .before .before .before .before .loop-test in
+    let at-clear = c .before .before .before .before .before .before .before .before .before .before .before .before .before .before .before .before .before .clear in
+    let at-gather = c .before .before .before .before .before .before .before .before .before .before .before .before .gather in
+    let at-next = c .before .before .before .before .before .before .next in
+    let at-finish = c .before .before .before .finish in
+    let cleared = length-front (at-loop .register) (at-clear .last .0) typeWords (at-clear .kept .0) in
+    let a = start .args in
     let res = listOfType (a .from .now) (a .results .now) in
-    let some = some-left (c .before .before .before .before .before .before .before .before .before .before .before .before .before .before .before .before .before .before .before .loop-test .taken) in
-    let e = c .before .before .before .before .before .before .next .given .1 in
-    let l = c .before .before .before .before .before .before .before .before .before .before .before .before .gather .kept .1 .1 .1 .1 .1 .0 in
+    let some = some-left (at-loop-test .taken) in
+    let e = at-next .given .1 in
+    let l = at-gather .kept .1 .1 .1 .1 .1 .0 in
     let on =
-    let q = c .before .before .before .before .before .before .before .before .before .before .before .before .before .before .before .before .before .before .before .before .before .before .before .before .before .before .before .pre .1 in
-    let x = c .before .before .before .before .before .before .before .before .before .before .before .before .before .before .before .before .before .before .before .before .loop .inv .3 q in
+    let q = start .pre .1 in
+    let x = at-loop .inv .3 q in
     let r = x .rest in
-    let g = c .before .before .before .before .before .before .before .before .before .before .before .before .gather .ensures (first-operand r res some _ cleared) (operand-registered r res some (c .before .before .before .before .before .before .before .before .before .before .before .before .before .before .before .before .before .clear .last .0) (c .before .before .before .before .before .before .before .before .before .before .before .before .before .before .before .before .before .before .before .before .loop .register) refl (c .before .before .before .before .before .before .before .before .before .before .before .before .before .before .before .before .before .clear .ensures)) .gathers in
+    let g = at-gather .ensures (first-operand r res some _ cleared) (operand-registered r res some (at-clear .last .0) (at-loop .register) refl (at-clear .ensures)) .gathers in
     goes-on' r res some _ _ g e l in
-    let was = c .before .before .before .before .before .before .before .before .before .before .before .before .before .before .before .before .before .before .before .before .loop .inv .0 in (
+    let was = at-loop .inv .0 in (
       omega arith,
-      c .before .before .before .finish .kept .0 ∙ l ∙ c .before .before .before .before .before .before .before .before .before .before .before .before .before .before .before .before .before .before .before .before .loop .inv .1,
-      c .before .before .before .before .before .before .before .before .before .before .before .before .gather .kept .1 .1 .1 .1 .1 .1 .1 .0 ∙ cleared ∙ c .before .before .before .before .before .before .before .before .before .before .before .before .before .before .before .before .before .before .before .before .loop .inv .2,
+      at-finish .kept .0 ∙ l ∙ at-loop .inv .1,
+      at-gather .kept .1 .1 .1 .1 .1 .1 .1 .0 ∙ cleared ∙ at-loop .inv .2,
       λ q.
-          let x = c .before .before .before .before .before .before .before .before .before .before .before .before .before .before .before .before .before .before .before .before .loop .inv .3 q in
+          let x = at-loop .inv .3 q in
           let r = x .rest in
-          let g = c .before .before .before .before .before .before .before .before .before .before .before .before .gather .ensures (first-operand r res some _ cleared) (operand-registered r res some (c .before .before .before .before .before .before .before .before .before .before .before .before .before .before .before .before .before .clear .last .0) (c .before .before .before .before .before .before .before .before .before .before .before .before .before .before .before .before .before .before .before .before .loop .register) refl (c .before .before .before .before .before .before .before .before .before .before .before .before .before .before .before .before .before .clear .ensures)) .gathers in
-          let f = c .before .before .before .finish .ensures (operand-kept r res some _ _ g e l) in
-          let l' = c .before .before .before .finish .kept .0 in
+          let g = at-gather .ensures (first-operand r res some _ cleared) (operand-registered r res some (at-clear .last .0) (at-loop .register) refl (at-clear .ensures)) .gathers in
+          let f = at-finish .ensures (operand-kept r res some _ _ g e l) in
+          let l' = at-finish .kept .0 in
           record {
-            rest = other-operands r res some _ _ g e l f l' (c .if1 .left) _ (c .before .before .before .before .before .before .before .before .before .before .before .before .gather .kept .1 .1 .1 .1 .1 .1 .1 .0 ∙ cleared);
+            rest = other-operands r res some _ _ g e l f l' (c .if1 .left) _ (at-gather .kept .1 .1 .1 .1 .1 .1 .1 .0 ∙ cleared);
             whole = λ d o h. x .whole d o (row-on r res some _ _ g e l f l' (c .if1 .left) d o h);
           },
     )
@@ -437,72 +481,91 @@ emit-row-returns-3 t c =
 
 gather-shared-slice-read-wide : (t : ℕ) → gather-lts.Need-shared-slice-read-wide (gather-calls t) (gather-at t) gather.Post
 gather-shared-slice-read-wide t c =
-    let q = c .before .before .before .before .before .before .before .pre .1 .0 in
+    let start = c .before .before .before .before .before .before .before in
+    let q = start .pre .1 .0 in
     content-inside standard _ _ (q .there) .0
 
 gather-add-t14 : (t : ℕ) → gather-lts.Need-add-t14 (gather-calls t) (gather-at t) gather.Post
 gather-add-t14 t c =
-    let q = c .before .before .before .before .before .before .before .before .before .pre .1 .0 in
+    let start = c .before .before .before .before .before .before .before .before .before in
+    let q = start .pre .1 .0 in
     let i = content-inside standard _ _ (q .there) in
     omega arith
 
 gather-add-gather-empty : (t : ℕ) → gather-lts.Need-add-gather-empty (gather-calls t) (gather-at t) gather.Post
 gather-add-gather-empty t c =
-    let q = c .before .before .before .before .before .before .before .before .before .before .pre .1 .0 in
+    let start = c .before .before .before .before .before .before .before .before .before .before in
+    let q = start .pre .1 .0 in
     let i = content-inside standard _ _ (q .there) in
     omega arith
 
 gather-sub-gather-empty : (t : ℕ) → gather-lts.Need-sub-gather-empty (gather-calls t) (gather-at t) gather.Post
 gather-sub-gather-empty t c =
-    let room = c .before .before .before .before .before .before .before .before .before .before .pre .1 .1 .types .room in
+    let start = c .before .before .before .before .before .before .before .before .before .before in
+    let room = start .pre .1 .1 .types .room in
     omega arith
 
 gather-part-gather-empty-start : (t : ℕ) → gather-lts.Need-part-gather-empty-start (gather-calls t) (gather-at t) gather.Post
 gather-part-gather-empty-start t c =
-    let room = c .before .before .before .before .before .before .before .before .before .before .pre .1 .1 .types .room in
+    let start = c .before .before .before .before .before .before .before .before .before .before in
+    let room = start .pre .1 .1 .types .room in
     omega arith
 
 gather-part-gather-empty-end : (t : ℕ) → gather-lts.Need-part-gather-empty-end (gather-calls t) (gather-at t) gather.Post
 gather-part-gather-empty-end t c =
-    let room = c .before .before .before .before .before .before .before .before .before .before .pre .1 .1 .types .room in
+    let start = c .before .before .before .before .before .before .before .before .before .before in
+    let room = start .pre .1 .1 .types .room in
     omega arith
 
 gather-gather-empty-requires : (t : ℕ) → gather-lts.Need-gather-empty-requires (gather-calls t) (gather-at t) gather.Post
-gather-gather-empty-requires t c κs = (source-room (c .before .before .before .before .before .before .before .before .before .before .before .pre .1 .0), noted-part (c .before .before .before .before .before .before .before .before .before .before .before .pre .1 .1))
+gather-gather-empty-requires t c κs =
+    let start = c .before .before .before .before .before .before .before .before .before .before .before in
+    (source-room (start .pre .1 .0), noted-part (start .pre .1 .1))
 
 gather-add-wide : (t : ℕ) → gather-lts.Need-add-wide (gather-calls t) (gather-at t) gather.Post
 gather-add-wide t c =
-    let q = c .before .before .before .before .before .before .before .before .before .pre .1 .0 in
+    let start = c .before .before .before .before .before .before .before .before .before in
+    let q = start .pre .1 .0 in
     let i = content-inside standard _ _ (q .there) in
     omega arith
 
 gather-shared-slice-read-wide-2 : (t : ℕ) → gather-lts.Need-shared-slice-read-wide-2 (gather-calls t) (gather-at t) gather.Post
-gather-shared-slice-read-wide-2 t c = type-there standard _ _ (c .before .before .before .before .before .before .before .before .before .before .pre .1 .0 .there) (sym (c .before .before .wide .ensures .0) ∙ c .before .match .keys3) .0
+gather-shared-slice-read-wide-2 t c =
+    let start = c .before .before .before .before .before .before .before .before .before .before in
+    type-there standard _ _ (start .pre .1 .0 .there) (sym (c .before .before .wide .ensures .0) ∙ c .before .match .keys3) .0
 
 gather-add-gather-type : (t : ℕ) → gather-lts.Need-add-gather-type (gather-calls t) (gather-at t) gather.Post
 gather-add-gather-type t c =
-    let b = sym (c .before .before .before .before .wide .ensures .0) ∙ c .before .before .before .match .keys3 in
-    let i = type-there standard _ _ (c .before .before .before .before .before .before .before .before .before .before .before .before .pre .1 .0 .there) b in
+    let start = c .before .before .before .before .before .before .before .before .before .before .before .before in
+    let at-wide = c .before .before .before .before .wide in
+    let at-match = c .before .before .before .match in
+    let b = sym (at-wide .ensures .0) ∙ at-match .keys3 in
+    let i = type-there standard _ _ (start .pre .1 .0 .there) b in
     omega arith
 
 gather-gather-type-requires : (t : ℕ) → gather-lts.Need-gather-type-requires (gather-calls t) (gather-at t) gather.Post
 unfolding standard
 gather-gather-type-requires t c κs =
-    let q = c .before .before .before .before .before .before .before .before .before .before .before .before .before .pre .1 .0 in
-    let b = sym (c .before .before .before .before .before .wide .ensures .0) ∙ c .before .before .before .before .match .keys3 in
+    let start = c .before .before .before .before .before .before .before .before .before .before .before .before .before in
+    let at-wide = c .before .before .before .before .before .wide in
+    let at-match = c .before .before .before .before .match in
+    let q = start .pre .1 .0 in
+    let b = sym (at-wide .ensures .0) ∙ at-match .keys3 in
     let k = c .before .before .wide2 .ensures .0 in
     let i = type-there standard _ _ (q .there) b in
-    (omega arith, (source-room q, c .before .before .before .before .before .before .before .before .before .before .before .before .before .pre .1 .1))
+    (omega arith, (source-room q, start .pre .1 .1))
 
 gather-gather-compound-requires : (t : ℕ) → gather-lts.Need-gather-compound-requires (gather-calls t) (gather-at t) gather.Post
 gather-gather-compound-requires t c κs =
-    let m = c .before .before .before .before .before .before .before .before .before .before .before .pre .0 in
-    let w = c .before .before .before .wide .ensures .0 in
+    let start = c .before .before .before .before .before .before .before .before .before .before .before in
+    let at-wide = c .before .before .before .wide in
+    let m = start .pre .0 in
+    let w = at-wide .ensures .0 in
     let r = c .before .before .match .rest in
     let n2 = r .1 in
     let n1 = r .0 .1 in
     let n0 = r .0 .0 .1 in
-    (omega arith, (omega arith, c .before .before .before .before .before .before .before .before .before .before .before .pre .1))
+    (omega arith, (omega arith, start .pre .1))
 
 gather-returns : (t : ℕ) → gather-lts.Need-returns (gather-calls t) (gather-at t) gather.Post
 gather-returns t c =
@@ -511,243 +574,316 @@ gather-returns t c =
 
 gather-returns-2 : (t : ℕ) → gather-lts.Need-returns-2 (gather-calls t) (gather-at t) gather.Post
 gather-returns-2 t c =
-    let b = sym (c .before .before .before .before .before .before .before .before .wide .ensures .0) ∙ c .before .before .before .before .before .before .before .match .keys2 in
+    let at-wide = c .before .before .before .before .before .before .before .before .wide in
+    let at-match = c .before .before .before .before .before .before .before .match in
+    let at-gather-empty = c .before .before .before .before .gather-empty in
+    let b = sym (at-wide .ensures .0) ∙ at-match .keys2 in
     λ q s. plain-gives q _ (λ z. omega arith) (λ z. omega arith)
     s
-    (c .before .before .before .before .gather-empty .kept .1 .1 .1 .0)
-    (empty-gives q _ b _ _ (c .before .before .before .before .gather-empty .ensures (source-room q) (noted-part s)))
+    (at-gather-empty .kept .1 .1 .1 .0)
+    (empty-gives q _ b _ _ (at-gather-empty .ensures (source-room q) (noted-part s)))
 
 gather-returns-3 : (t : ℕ) → gather-lts.Need-returns-3 (gather-calls t) (gather-at t) gather.Post
 gather-returns-3 t c =
-    let b = sym (c .before .before .before .before .before .before .before .before .before .before .wide .ensures .0) ∙ c .before .before .before .before .before .before .before .before .before .match .keys3 in
-    λ q s. type-gives q b _ (c .before .before .before .before .before .before .before .wide2 .ensures .0) _ _ (c .before .before .before .before .gather-type .ensures (source-room q) s)
+    let at-wide = c .before .before .before .before .before .before .before .before .before .before .wide in
+    let at-match = c .before .before .before .before .before .before .before .before .before .match in
+    let at-wide2 = c .before .before .before .before .before .before .before .wide2 in
+    let at-gather-type = c .before .before .before .before .gather-type in
+    let b = sym (at-wide .ensures .0) ∙ at-match .keys3 in
+    λ q s. type-gives q b _ (at-wide2 .ensures .0) _ _ (at-gather-type .ensures (source-room q) s)
 
 gather-around-shared-slice-read-operator : (t : ℕ) → gather-around-lts.Need-shared-slice-read-operator (gather-around-calls t) (gather-around-at t) gather-around.Post
 gather-around-shared-slice-read-operator t c =
-    let q = c .before .before .before .before .before .before .before .pre .1 .1 .0 in
+    let start = c .before .before .before .before .before .before .before in
+    let q = start .pre .1 .1 .0 in
     content-inside standard _ _ (q .there) .0
 
 gather-around-add-content-has : (t : ℕ) → gather-around-lts.Need-add-content-has (gather-around-calls t) (gather-around-at t) gather-around.Post
 gather-around-add-content-has t c =
-    let q = c .before .before .before .before .before .before .before .pre .1 .1 .0 in
+    let start = c .before .before .before .before .before .before .before in
+    let q = start .pre .1 .1 .0 in
     let i = content-inside standard _ _ (q .there) in
     omega arith
 
 gather-around-content-has-requires : (t : ℕ) → gather-around-lts.Need-content-has-requires (gather-around-calls t) (gather-around-at t) gather-around.Post
 gather-around-content-has-requires t c κs =
-    let a = c .before .before .before .before .before .before .before .args in
+    let start = c .before .before .before .before .before .before .before in
+    let a = start .args in
     let res = listOfType (a .from .now) (a .results .now) in
-    let q = c .before .before .before .before .before .before .before .pre .1 .1 .0 in
-    let b = c .before .before .before .before .before .before .before .pre .1 .0 in
+    let q = start .pre .1 .1 .0 in
+    let b = start .pre .1 .0 in
     let words = q .maps .words in
     (single-of standard _ _ (q .there) res b .operand, omega arith)
 
 gather-around-slice-write-draft : (t : ℕ) → gather-around-lts.Need-slice-write-draft (gather-around-calls t) (gather-around-at t) gather-around.Post
 gather-around-slice-write-draft t c =
-    let a = c .before .before .before .before .before .before .before .before .before .args in
+    let start = c .before .before .before .before .before .before .before .before .before in
+    let a = start .args in
     let res = listOfType (a .from .now) (a .results .now) in
-    let q = c .before .before .before .before .before .before .before .before .before .pre .1 .1 .0 in
-    let b = c .before .before .before .before .before .before .before .before .before .pre .1 .0 in
+    let q = start .pre .1 .1 .0 in
+    let b = start .pre .1 .0 in
     around-inside q res (single-of standard _ _ (q .there) res b)
 
 gather-around-add-emit-row : (t : ℕ) → gather-around-lts.Need-add-emit-row (gather-around-calls t) (gather-around-at t) gather-around.Post
 gather-around-add-emit-row t c =
-    let q = c .before .before .before .before .before .before .before .before .before .pre .1 .1 .0 in
+    let start = c .before .before .before .before .before .before .before .before .before in
+    let q = start .pre .1 .1 .0 in
     let i = content-inside standard _ _ (q .there) in
     omega arith
 
 gather-around-add-emit-row-2 : (t : ℕ) → gather-around-lts.Need-add-emit-row-2 (gather-around-calls t) (gather-around-at t) gather-around.Post
 gather-around-add-emit-row-2 t c =
-    let a = c .before .before .before .before .before .before .before .before .before .before .args in
+    let start = c .before .before .before .before .before .before .before .before .before .before in
+    let a = start .args in
     let res = listOfType (a .from .now) (a .results .now) in
-    let q = c .before .before .before .before .before .before .before .before .before .before .pre .1 .1 .0 in
-    let b = c .before .before .before .before .before .before .before .before .before .before .pre .1 .0 in
+    let q = start .pre .1 .1 .0 in
+    let b = start .pre .1 .0 in
     let i = around-inside q res (single-of standard _ _ (q .there) res b) in
     omega arith
 
 gather-around-sub-emit-row : (t : ℕ) → gather-around-lts.Need-sub-emit-row (gather-around-calls t) (gather-around-at t) gather-around.Post
 gather-around-sub-emit-row t c =
-    let m = c .before .before .before .before .before .before .before .before .before .before .pre .1 .1 .1 .room in
+    let start = c .before .before .before .before .before .before .before .before .before .before in
+    let m = start .pre .1 .1 .1 .room in
     omega arith
 
 gather-around-part-emit-row-start : (t : ℕ) → gather-around-lts.Need-part-emit-row-start (gather-around-calls t) (gather-around-at t) gather-around.Post
 gather-around-part-emit-row-start t c =
-    let m = c .before .before .before .before .before .before .before .before .before .before .pre .1 .1 .1 .room in
+    let start = c .before .before .before .before .before .before .before .before .before .before in
+    let m = start .pre .1 .1 .1 .room in
     omega arith
 
 gather-around-part-emit-row-end : (t : ℕ) → gather-around-lts.Need-part-emit-row-end (gather-around-calls t) (gather-around-at t) gather-around.Post
 gather-around-part-emit-row-end t c =
-    let m = c .before .before .before .before .before .before .before .before .before .before .pre .1 .1 .1 .room in
+    let start = c .before .before .before .before .before .before .before .before .before .before in
+    let m = start .pre .1 .1 .1 .room in
     omega arith
 
 gather-around-emit-row-requires : (t : ℕ) → gather-around-lts.Need-emit-row-requires (gather-around-calls t) (gather-around-at t) gather-around.Post
 gather-around-emit-row-requires t c κs =
-    let a = c .before .before .before .before .before .before .before .before .before .before .before .args in
+    let start = c .before .before .before .before .before .before .before .before .before .before .before in
+    let a = start .args in
     let res = listOfType (a .from .now) (a .results .now) in
-    let m = c .before .before .before .before .before .before .before .before .before .before .before .pre .0 in
-    let q = c .before .before .before .before .before .before .before .before .before .before .before .pre .1 .1 .0 in
-    let b = c .before .before .before .before .before .before .before .before .before .before .before .pre .1 .0 in
+    let m = start .pre .0 in
+    let q = start .pre .1 .1 .0 in
+    let b = start .pre .1 .0 in
     let i = content-inside standard _ _ (q .there) in
-    (omega arith, around-operands q res (single-of standard _ _ (q .there) res b) _ (rows-within (a .notes .now) (c .before .before .before .before .before .before .before .before .before .before .before .pre .1 .1 .1 .room)))
+    (omega arith, around-operands q res (single-of standard _ _ (q .there) res b) _ (rows-within (a .notes .now) (start .pre .1 .1 .1 .room)))
 
 gather-around-settle-requires : (t : ℕ) → gather-around-lts.Need-settle-requires (gather-around-calls t) (gather-around-at t) gather-around.Post
 gather-around-settle-requires t c κs =
-    let a = c .before .before .before .before .before .before .before .before .before .before .before .before .before .before .before .before .before .before .before .before .before .args in
+    let start = c .before .before .before .before .before .before .before .before .before .before .before .before .before .before .before .before .before .before .before .before .before in
+    let at-content-has = c .before .before .before .before .before .before .before .before .before .before .before .before .before .content-has in
+    let at-if1 = c .before .before .before .before .before .before .before .before .before .before .before .before .if1 in
+    let at-emit-row = c .before .before .before .before .before .before .before .before .before .emit-row in
+    let at-next = c .before .before .before .next in
+    let a = start .args in
     let res = listOfType (a .from .now) (a .results .now) in
-    let q = c .before .before .before .before .before .before .before .before .before .before .before .before .before .before .before .before .before .before .before .before .before .pre .1 .1 .0 in
-    let m = c .before .before .before .before .before .before .before .before .before .before .before .before .before .before .before .before .before .before .before .before .before .pre .1 .1 .1 in
-    let b = c .before .before .before .before .before .before .before .before .before .before .before .before .before .before .before .before .before .before .before .before .before .pre .1 .0 in
+    let q = start .pre .1 .1 .0 in
+    let m = start .pre .1 .1 .1 in
+    let b = start .pre .1 .0 in
     let one = single-of standard _ _ (q .there) res b in
-    let found = content-found _ _ _ (q .maps) _ _ (one .operand) _ _ (c .before .before .before .before .before .before .before .before .before .before .before .before .before .content-has .ensures) in
-    let has = sym (found .0) ∙ c .before .before .before .before .before .before .before .before .before .before .before .before .if1 .taken in
-    let g = c .before .before .before .before .before .before .before .before .before .emit-row .ensures (around-operands q res one _ (rows-within (a .notes .now) (m .room))) in
-    ((around-newest q res one has _ _ g (c .before .before .before .next .given .1) (c .before .before .before .before .before .before .before .before .before .emit-row .kept .1 .1 .1 .1 .1 .1 .0), source-noted q m _), q .fits, q .small)
+    let found = content-found _ _ _ (q .maps) _ _ (one .operand) _ _ (at-content-has .ensures) in
+    let has = sym (found .0) ∙ at-if1 .taken in
+    let g = at-emit-row .ensures (around-operands q res one _ (rows-within (a .notes .now) (m .room))) in
+    ((around-newest q res one has _ _ g (at-next .given .1) (at-emit-row .kept .1 .1 .1 .1 .1 .1 .0), source-noted q m _), q .fits, q .small)
 
 gather-around-same-length-2 : (t : ℕ) → gather-around-lts.Need-same-length-2 (gather-around-calls t) (gather-around-at t) gather-around.Post
-gather-around-same-length-2 t c = part-long operandLimit (c .before .before .before .before .before .before .before .before .before .before .before .before .before .before .before .before .before .before .args .notes .now) (c .before .before .before .before .before .before .before .before .before .before .before .before .before .before .before .before .before .before .pre .1 .1 .1 .room) (c .before .before .before .before .before .before .emit-row .last .1 .1 .1 .1 .1 .1 .1 .1 .1 .0) (c .before .before .before .before .before .before .emit-row .kept .1 .1 .1 .1 .1 .1 .1 .1 .1 .0)
+gather-around-same-length-2 t c =
+    let start = c .before .before .before .before .before .before .before .before .before .before .before .before .before .before .before .before .before .before in
+    let at-emit-row = c .before .before .before .before .before .before .emit-row in
+    part-long operandLimit (start .args .notes .now) (start .pre .1 .1 .1 .room) (at-emit-row .last .1 .1 .1 .1 .1 .1 .1 .1 .1 .0) (at-emit-row .kept .1 .1 .1 .1 .1 .1 .1 .1 .1 .0)
 
 gather-around-returns : (t : ℕ) → gather-around-lts.Need-returns (gather-around-calls t) (gather-around-at t) gather-around.Post
 gather-around-returns t c =
-    let a = c .before .before .before .before .before .before .before .before .before .before .before .before .before .before .before .before .before .before .args in
+    let start = c .before .before .before .before .before .before .before .before .before .before .before .before .before .before .before .before .before .before in
+    let at-content-has = c .before .before .before .before .before .before .before .before .before .before .content-has in
+    let at-if1 = c .before .before .before .before .before .before .before .before .before .if1 in
+    let at-emit-row = c .before .before .before .before .before .before .emit-row in
+    let a = start .args in
     let res = listOfType (a .from .now) (a .results .now) in
-    let b = c .before .before .before .before .before .before .before .before .before .before .before .before .before .before .before .before .before .before .pre .1 .0 in
+    let b = start .pre .1 .0 in
     λ q m.
     let one = single-of standard _ _ (q .there) res b in
-    let found = content-found _ _ _ (q .maps) _ _ (one .operand) _ _ (c .before .before .before .before .before .before .before .before .before .before .content-has .ensures) in
-    let has = sym (found .0) ∙ c .before .before .before .before .before .before .before .before .before .if1 .taken in
-    let g = c .before .before .before .before .before .before .emit-row .ensures (around-operands q res one _ (rows-within (a .notes .now) (m .room))) in
+    let found = content-found _ _ _ (q .maps) _ _ (one .operand) _ _ (at-content-has .ensures) in
+    let has = sym (found .0) ∙ at-if1 .taken in
+    let g = at-emit-row .ensures (around-operands q res one _ (rows-within (a .notes .now) (m .room))) in
     around-wide q res one has _ _ g (c .enum-told .given .1)
 
 gather-around-same-length-4 : (t : ℕ) → gather-around-lts.Need-same-length-4 (gather-around-calls t) (gather-around-at t) gather-around.Post
-gather-around-same-length-4 t c = c .before .before .settle .kept .1 .1 .1 .1 .0 ∙ part-long operandLimit (c .before .before .before .before .before .before .before .before .before .before .before .before .before .before .before .before .before .before .before .before .before .before .before .before .args .notes .now) (c .before .before .before .before .before .before .before .before .before .before .before .before .before .before .before .before .before .before .before .before .before .before .before .before .pre .1 .1 .1 .room) (c .before .before .before .before .before .before .before .before .before .before .before .before .emit-row .last .1 .1 .1 .1 .1 .1 .1 .1 .1 .0) (c .before .before .before .before .before .before .before .before .before .before .before .before .emit-row .kept .1 .1 .1 .1 .1 .1 .1 .1 .1 .0)
+gather-around-same-length-4 t c =
+    let start = c .before .before .before .before .before .before .before .before .before .before .before .before .before .before .before .before .before .before .before .before .before .before .before .before in
+    let at-emit-row = c .before .before .before .before .before .before .before .before .before .before .before .before .emit-row in
+    c .before .before .settle .kept .1 .1 .1 .1 .0 ∙ part-long operandLimit (start .args .notes .now) (start .pre .1 .1 .1 .room) (at-emit-row .last .1 .1 .1 .1 .1 .1 .1 .1 .1 .0) (at-emit-row .kept .1 .1 .1 .1 .1 .1 .1 .1 .1 .0)
 
 gather-around-returns-2 : (t : ℕ) → gather-around-lts.Need-returns-2 (gather-around-calls t) (gather-around-at t) gather-around.Post
 gather-around-returns-2 t c =
-    let a = c .before .before .before .before .before .before .before .before .before .before .before .before .before .before .before .before .before .before .before .before .before .before .before .before .args in
+    let start = c .before .before .before .before .before .before .before .before .before .before .before .before .before .before .before .before .before .before .before .before .before .before .before .before in
+    let at-content-has = c .before .before .before .before .before .before .before .before .before .before .before .before .before .before .before .before .content-has in
+    let at-if1 = c .before .before .before .before .before .before .before .before .before .before .before .before .before .before .before .if1 in
+    let at-emit-row = c .before .before .before .before .before .before .before .before .before .before .before .before .emit-row in
+    let at-next = c .before .before .before .before .before .before .next in
+    let a = start .args in
     let res = listOfType (a .from .now) (a .results .now) in
-    let b = c .before .before .before .before .before .before .before .before .before .before .before .before .before .before .before .before .before .before .before .before .before .before .before .before .pre .1 .0 in
-    let e = c .before .before .before .before .before .before .next .given .1 in
-    let l = c .before .before .before .before .before .before .before .before .before .before .before .before .emit-row .kept .1 .1 .1 .1 .1 .1 .0 in
+    let b = start .pre .1 .0 in
+    let e = at-next .given .1 in
+    let l = at-emit-row .kept .1 .1 .1 .1 .1 .1 .0 in
     λ q m.
     let one = single-of standard _ _ (q .there) res b in
-    let found = content-found _ _ _ (q .maps) _ _ (one .operand) _ _ (c .before .before .before .before .before .before .before .before .before .before .before .before .before .before .before .before .content-has .ensures) in
-    let has = sym (found .0) ∙ c .before .before .before .before .before .before .before .before .before .before .before .before .before .before .before .if1 .taken in
-    let g = c .before .before .before .before .before .before .before .before .before .before .before .before .emit-row .ensures (around-operands q res one _ (rows-within (a .notes .now) (m .room))) in
+    let found = content-found _ _ _ (q .maps) _ _ (one .operand) _ _ (at-content-has .ensures) in
+    let has = sym (found .0) ∙ at-if1 .taken in
+    let g = at-emit-row .ensures (around-operands q res one _ (rows-within (a .notes .now) (m .room))) in
     around-settled q res one has _ _ g e l _ (c .before .before .settle .ensures (around-newest q res one has _ _ g e l) (source-noted q m _))
 
 gather-around-returns-3 : (t : ℕ) → gather-around-lts.Need-returns-3 (gather-around-calls t) (gather-around-at t) gather-around.Post
 gather-around-returns-3 t c =
-    let a = c .before .before .before .before .before .before .before .before .before .before .args in
+    let start = c .before .before .before .before .before .before .before .before .before .before in
+    let a = start .args in
     let res = listOfType (a .from .now) (a .results .now) in
-    let b = c .before .before .before .before .before .before .before .before .before .before .pre .1 .0 in
+    let b = start .pre .1 .0 in
     λ q m.
     let one = single-of standard _ _ (q .there) res b in
     let found = content-found _ _ _ (q .maps) _ _ (one .operand) _ _ (c .before .before .content-has .ensures) in
     around-blank q res one _ (found .1) (c .if2 .taken) (sym (found .0) ∙ c .before .if1 .left) m
 
 gather-around-gather-empty-requires : (t : ℕ) → gather-around-lts.Need-gather-empty-requires (gather-around-calls t) (gather-around-at t) gather-around.Post
-gather-around-gather-empty-requires t c κs = (source-room (c .before .before .before .before .before .before .before .before .before .before .before .before .pre .1 .1 .0), c .before .before .before .before .before .before .before .before .before .before .before .before .pre .1 .1 .1)
+gather-around-gather-empty-requires t c κs =
+    let start = c .before .before .before .before .before .before .before .before .before .before .before .before in
+    (source-room (start .pre .1 .1 .0), start .pre .1 .1 .1)
 
 gather-around-returns-4 : (t : ℕ) → gather-around-lts.Need-returns-4 (gather-around-calls t) (gather-around-at t) gather-around.Post
 gather-around-returns-4 t c =
-    let a = c .before .before .before .before .before .before .before .before .before .before .before .before .before .before .before .before .before .args in
+    let start = c .before .before .before .before .before .before .before .before .before .before .before .before .before .before .before .before .before in
+    let at-content-has = c .before .before .before .before .before .before .before .before .before .content-has in
+    let at-if1 = c .before .before .before .before .before .before .before .before .if1 in
+    let at-if2 = c .before .before .before .before .before .before .before .if2 in
+    let at-gather-empty = c .before .before .before .before .gather-empty in
+    let a = start .args in
     let res = listOfType (a .from .now) (a .results .now) in
-    let b = c .before .before .before .before .before .before .before .before .before .before .before .before .before .before .before .before .before .pre .1 .0 in
+    let b = start .pre .1 .0 in
     λ q m.
     let one = single-of standard _ _ (q .there) res b in
-    let found = content-found _ _ _ (q .maps) _ _ (one .operand) _ _ (c .before .before .before .before .before .before .before .before .before .content-has .ensures) in
-    let has-not = sym (found .0) ∙ c .before .before .before .before .before .before .before .before .if1 .left in
-    around-empty q res one _ _ _ (found .1) (c .before .before .before .before .before .before .before .if2 .left) has-not (c .before .before .before .before .gather-empty .ensures (source-room q) m)
+    let found = content-found _ _ _ (q .maps) _ _ (one .operand) _ _ (at-content-has .ensures) in
+    let has-not = sym (found .0) ∙ at-if1 .left in
+    around-empty q res one _ _ _ (found .1) (at-if2 .left) has-not (at-gather-empty .ensures (source-room q) m)
 
 gather-compound-shared-slice-read-wide : (t : ℕ) → gather-compound-lts.Need-shared-slice-read-wide (gather-compound-calls t) (gather-compound-at t) gather-compound.Post
 gather-compound-shared-slice-read-wide t c =
-    let q = c .before .before .before .before .before .before .before .pre .1 .1 .0 in
+    let start = c .before .before .before .before .before .before .before in
+    let q = start .pre .1 .1 .0 in
     content-inside standard _ _ (q .there) .0
 
 gather-compound-add-gather-row : (t : ℕ) → gather-compound-lts.Need-add-gather-row (gather-compound-calls t) (gather-compound-at t) gather-compound.Post
 gather-compound-add-gather-row t c =
-    let q = c .before .before .before .before .before .before .before .before .before .before .before .pre .1 .1 .0 in
-    let b = sym (c .before .before .before .wide .ensures .0) ∙ c .before .before .if1 .taken in
+    let start = c .before .before .before .before .before .before .before .before .before .before .before in
+    let at-wide = c .before .before .before .wide in
+    let q = start .pre .1 .1 .0 in
+    let b = sym (at-wide .ensures .0) ∙ c .before .before .if1 .taken in
     let i = count-there standard _ _ (q .there) (omega arith) (omega arith) in
     omega arith
 
 gather-compound-add-wide : (t : ℕ) → gather-compound-lts.Need-add-wide (gather-compound-calls t) (gather-compound-at t) gather-compound.Post
 gather-compound-add-wide t c =
-    let q = c .before .before .before .before .before .before .before .before .before .pre .1 .1 .0 in
+    let start = c .before .before .before .before .before .before .before .before .before in
+    let q = start .pre .1 .1 .0 in
     let i = content-inside standard _ _ (q .there) in
     omega arith
 
 gather-compound-shared-slice-read-wide-2 : (t : ℕ) → gather-compound-lts.Need-shared-slice-read-wide-2 (gather-compound-calls t) (gather-compound-at t) gather-compound.Post
 gather-compound-shared-slice-read-wide-2 t c =
-    let q = c .before .before .before .before .before .before .before .before .before .before .pre .1 .1 .0 in
+    let start = c .before .before .before .before .before .before .before .before .before .before in
+    let q = start .pre .1 .1 .0 in
     let b = sym (c .before .before .wide .ensures .0) ∙ c .before .if1 .taken in
     count-there standard _ _ (q .there) (omega arith) (omega arith)
 
 gather-compound-gather-row-requires : (t : ℕ) → gather-compound-lts.Need-gather-row-requires (gather-compound-calls t) (gather-compound-at t) gather-compound.Post
 gather-compound-gather-row-requires t c κs =
-    let a = c .before .before .before .before .before .before .before .before .before .before .before .before .before .args in
+    let start = c .before .before .before .before .before .before .before .before .before .before .before .before .before in
+    let at-wide = c .before .before .before .before .before .wide in
+    let at-if1 = c .before .before .before .before .if1 in
+    let a = start .args in
     let res = listOfType (a .from .now) (a .results .now) in
-    let m = c .before .before .before .before .before .before .before .before .before .before .before .before .before .pre .0 in
-    let q = c .before .before .before .before .before .before .before .before .before .before .before .before .before .pre .1 .1 .0 in
-    let b = sym (c .before .before .before .before .before .wide .ensures .0) ∙ c .before .before .before .before .if1 .taken in
+    let m = start .pre .0 in
+    let q = start .pre .1 .1 .0 in
+    let b = sym (at-wide .ensures .0) ∙ at-if1 .taken in
     let i = count-there standard _ _ (q .there) (omega arith) (omega arith) in
-    (omega arith, (choice-sources q res (choices-of q b (c .before .before .wide2 .ensures .0)), c .before .before .before .before .before .before .before .before .before .before .before .before .before .pre .1 .1 .1))
+    (omega arith, (choice-sources q res (choices-of q b (c .before .before .wide2 .ensures .0)), start .pre .1 .1 .1))
 
 gather-compound-returns : (t : ℕ) → gather-compound-lts.Need-returns (gather-compound-calls t) (gather-compound-at t) gather-compound.Post
 gather-compound-returns t c =
-    let a = c .before .before .before .before .before .before .before .before .before .before .before .before .before .before .before .before .before .before .args in
+    let start = c .before .before .before .before .before .before .before .before .before .before .before .before .before .before .before .before .before .before in
+    let at-wide = c .before .before .before .before .before .before .before .before .before .before .wide in
+    let at-if1 = c .before .before .before .before .before .before .before .before .before .if1 in
+    let at-wide2 = c .before .before .before .before .before .before .before .wide2 in
+    let at-gather-row = c .before .before .before .before .gather-row in
+    let a = start .args in
     let res = listOfType (a .from .now) (a .results .now) in
-    let b = sym (c .before .before .before .before .before .before .before .before .before .before .wide .ensures .0) ∙ c .before .before .before .before .before .before .before .before .before .if1 .taken in
+    let b = sym (at-wide .ensures .0) ∙ at-if1 .taken in
     λ q s.
-    let cs = choices-of q b (c .before .before .before .before .before .before .before .wide2 .ensures .0) in
-    choice-gives q res cs _ _ (c .before .before .before .before .gather-row .ensures (choice-sources q res cs) s)
+    let cs = choices-of q b (at-wide2 .ensures .0) in
+    choice-gives q res cs _ _ (at-gather-row .ensures (choice-sources q res cs) s)
 
 gather-compound-sub-gather-one : (t : ℕ) → gather-compound-lts.Need-sub-gather-one (gather-compound-calls t) (gather-compound-at t) gather-compound.Post
 gather-compound-sub-gather-one t c =
-    let room = c .before .before .before .before .before .before .before .before .before .before .pre .1 .1 .1 .types .room in
+    let start = c .before .before .before .before .before .before .before .before .before .before in
+    let room = start .pre .1 .1 .1 .types .room in
     omega arith
 
 gather-compound-part-gather-one-start : (t : ℕ) → gather-compound-lts.Need-part-gather-one-start (gather-compound-calls t) (gather-compound-at t) gather-compound.Post
 gather-compound-part-gather-one-start t c =
-    let room = c .before .before .before .before .before .before .before .before .before .before .pre .1 .1 .1 .types .room in
+    let start = c .before .before .before .before .before .before .before .before .before .before in
+    let room = start .pre .1 .1 .1 .types .room in
     omega arith
 
 gather-compound-part-gather-one-end : (t : ℕ) → gather-compound-lts.Need-part-gather-one-end (gather-compound-calls t) (gather-compound-at t) gather-compound.Post
 gather-compound-part-gather-one-end t c =
-    let room = c .before .before .before .before .before .before .before .before .before .before .pre .1 .1 .1 .types .room in
+    let start = c .before .before .before .before .before .before .before .before .before .before in
+    let room = start .pre .1 .1 .1 .types .room in
     omega arith
 
 gather-compound-gather-one-requires : (t : ℕ) → gather-compound-lts.Need-gather-one-requires (gather-compound-calls t) (gather-compound-at t) gather-compound.Post
 gather-compound-gather-one-requires t c κs =
-    let m = c .before .before .before .before .before .before .before .before .before .before .before .pre .0 in
-    let w = c .before .before .before .wide .ensures .0 in
-    let q = c .before .before .before .before .before .before .before .before .before .before .before .pre .1 .1 .0 in
-    let y = c .before .before .before .before .before .before .before .before .before .before .before .pre .1 .1 .1 in
-    (omega arith, (c .before .before .before .before .before .before .before .before .before .before .before .pre .1 .0, (λ z. c .before .before .if1 .left (w ∙ z)), (source-as q _ (notes-within (c .before .before .before .before .before .before .before .before .before .before .before .args .register .now) (y .types .room)), noted-part y)))
+    let start = c .before .before .before .before .before .before .before .before .before .before .before in
+    let at-wide = c .before .before .before .wide in
+    let m = start .pre .0 in
+    let w = at-wide .ensures .0 in
+    let q = start .pre .1 .1 .0 in
+    let y = start .pre .1 .1 .1 in
+    (omega arith, (start .pre .1 .0, (λ z. c .before .before .if1 .left (w ∙ z)), (source-as q _ (notes-within (start .args .register .now) (y .types .room)), noted-part y)))
 
 gather-compound-returns-2 : (t : ℕ) → gather-compound-lts.Need-returns-2 (gather-compound-calls t) (gather-compound-at t) gather-compound.Post
 gather-compound-returns-2 t c =
-    let low = c .before .before .before .before .before .before .before .before .before .before .before .before .before .before .before .before .pre .1 .0 in
-    let w = c .before .before .before .before .before .before .before .before .wide .ensures .0 in
-    λ q s. plain-gives q _ (λ z. omega arith) (λ z. c .before .before .before .before .before .before .before .if1 .left (w ∙ z)) s (c .before .before .before .before .gather-one .kept .1 .1 .1 .1 .1 .1 .1 .0)
-    (c .before .before .before .before .gather-one .ensures (source-as q _ (notes-within (c .before .before .before .before .before .before .before .before .before .before .before .before .before .before .before .before .args .register .now) (s .types .room))) (noted-part s))
+    let start = c .before .before .before .before .before .before .before .before .before .before .before .before .before .before .before .before in
+    let at-wide = c .before .before .before .before .before .before .before .before .wide in
+    let at-if1 = c .before .before .before .before .before .before .before .if1 in
+    let at-gather-one = c .before .before .before .before .gather-one in
+    let low = start .pre .1 .0 in
+    let w = at-wide .ensures .0 in
+    λ q s. plain-gives q _ (λ z. omega arith) (λ z. at-if1 .left (w ∙ z)) s (at-gather-one .kept .1 .1 .1 .1 .1 .1 .1 .0)
+    (at-gather-one .ensures (source-as q _ (notes-within (start .args .register .now) (s .types .room))) (noted-part s))
 
 gather-one-shared-slice-read-wide : (t : ℕ) → gather-one-lts.Need-shared-slice-read-wide (gather-one-calls t) (gather-one-at t) gather-one.Post
-gather-one-shared-slice-read-wide t c = content-inside standard _ _ (c .before .before .before .before .before .before .before .pre .1 .2 .0 .there) .0
+gather-one-shared-slice-read-wide t c =
+    let start = c .before .before .before .before .before .before .before in
+    content-inside standard _ _ (start .pre .1 .2 .0 .there) .0
 
 gather-one-gather-sequence-requires : (t : ℕ) → gather-one-lts.Need-gather-sequence-requires (gather-one-calls t) (gather-one-at t) gather-one.Post
 gather-one-gather-sequence-requires t c κs =
-    let m = c .before .before .before .before .before .before .before .before .before .before .before .pre .0 in
-    (omega arith, (sym (c .before .before .before .wide .ensures .0) ∙ c .before .before .if1 .taken, c .before .before .before .before .before .before .before .before .before .before .before .pre .1 .2))
+    let start = c .before .before .before .before .before .before .before .before .before .before .before in
+    let at-wide = c .before .before .before .wide in
+    let m = start .pre .0 in
+    (omega arith, (sym (at-wide .ensures .0) ∙ c .before .before .if1 .taken, start .pre .1 .2))
 
 gather-one-gather-around-requires : (t : ℕ) → gather-one-lts.Need-gather-around-requires (gather-one-calls t) (gather-one-at t) gather-one.Post
 gather-one-gather-around-requires t c κs =
-    let m = c .before .before .before .before .before .before .before .before .before .before .before .pre .0 in
-    let low = c .before .before .before .before .before .before .before .before .before .before .before .pre .1 .0 in
-    let n4 = c .before .before .before .before .before .before .before .before .before .before .before .pre .1 .1 in
+    let start = c .before .before .before .before .before .before .before .before .before .before .before in
+    let at-wide = c .before .before .before .wide in
+    let m = start .pre .0 in
+    let low = start .pre .1 .0 in
+    let n4 = start .pre .1 .1 in
     let n3 = c .before .before .if1 .left in
-    let w = c .before .before .before .wide .ensures .0 in
-    (omega arith, (omega arith, c .before .before .before .before .before .before .before .before .before .before .before .pre .1 .2))
+    let w = at-wide .ensures .0 in
+    (omega arith, (omega arith, start .pre .1 .2))
 
 abbrev gather-row-Inv-loop : gather-row-lts.InvT-loop
 gather-row-Inv-loop content at n types from results draft₀ row register₀ at₀ count₀ end₀ left₀ draft register at' count' end' left =
@@ -765,54 +901,67 @@ gather-row-loop-holds t c = (omega arith, refl, refl, λ q y. record { rest = q;
 
 gather-row-gather-requires : (t : ℕ) → gather-row-lts.Need-gather-requires (gather-row-calls t) (gather-row-at t) gather-row.Post gather-row-Inv-loop gather-row-μ-loop
 gather-row-gather-requires t c κs =
-    let a = c .before .before .before .before .before .before .before .before .before .before .args in
+    let start = c .before .before .before .before .before .before .before .before .before .before in
+    let at-loop = c .before .before .before .loop in
+    let a = start .args in
     let res = listOfType (a .from .now) (a .results .now) in
     let some = some-left (c .before .before .loop-test .taken) in
-    let m = c .before .before .before .before .before .before .before .before .before .before .pre .0 in
-    let on = c .before .before .before .loop .inv .0 in
-    let q = c .before .before .before .before .before .before .before .before .before .before .pre .1 .0 in
-    let y = c .before .before .before .before .before .before .before .before .before .before .pre .1 .1 in
-    let x = c .before .before .before .loop .inv .3 q y in
+    let m = start .pre .0 in
+    let on = at-loop .inv .0 in
+    let q = start .pre .1 .0 in
+    let y = start .pre .1 .1 in
+    let x = at-loop .inv .3 q y in
     let r = x .rest in
     (omega arith, (first-source r res some, x .registered))
 
 gather-row-same-length-2 : (t : ℕ) → gather-row-lts.Need-same-length-2 (gather-row-calls t) (gather-row-at t) gather-row.Post gather-row-Inv-loop gather-row-μ-loop
-gather-row-same-length-2 t c = c .before .before .before .before .before .before .gather .kept .1 .1 .1 .1 .1 .1 .1 .0 ∙ c .before .before .before .before .before .before .before .before .before .before .loop .inv .2
+gather-row-same-length-2 t c =
+    let at-loop = c .before .before .before .before .before .before .before .before .before .before .loop in
+    let at-gather = c .before .before .before .before .before .before .gather in
+    at-gather .kept .1 .1 .1 .1 .1 .1 .1 .0 ∙ at-loop .inv .2
 
 gather-row-returns : (t : ℕ) → gather-row-lts.Need-returns (gather-row-calls t) (gather-row-at t) gather-row.Post gather-row-Inv-loop gather-row-μ-loop
 gather-row-returns t c =
-    let a = c .before .before .before .before .before .before .before .before .before .before .before .before .before .before .before .before .before .args in
+    let start = c .before .before .before .before .before .before .before .before .before .before .before .before .before .before .before .before .before in
+    let at-loop = c .before .before .before .before .before .before .before .before .before .before .loop in
+    let at-loop-test = c .before .before .before .before .before .before .before .before .before .loop-test in
+    let at-gather = c .before .before .before .before .before .before .gather in
+    let a = start .args in
     let res = listOfType (a .from .now) (a .results .now) in
-    let some = some-left (c .before .before .before .before .before .before .before .before .before .loop-test .taken) in
+    let some = some-left (at-loop-test .taken) in
     λ q y.
-    let x = c .before .before .before .before .before .before .before .before .before .before .loop .inv .3 q y in
+    let x = at-loop .inv .3 q y in
     let r = x .rest in
-    x .whole _ _ _ (row-wide r res some _ _ (c .before .before .before .before .before .before .gather .ensures (first-source r res some) (x .registered)) (c .enum-told .given .1))
+    x .whole _ _ _ (row-wide r res some _ _ (at-gather .ensures (first-source r res some) (x .registered)) (c .enum-told .given .1))
 
 gather-row-loop-again : (t : ℕ) → gather-row-lts.Need-loop-again (gather-row-calls t) (gather-row-at t) gather-row.Post gather-row-Inv-loop gather-row-μ-loop
 gather-row-loop-again t c =
-    let a = c .before .before .before .before .before .before .before .before .before .before .before .before .before .before .before .before .before .before .args in
+    let start = c .before .before .before .before .before .before .before .before .before .before .before .before .before .before .before .before .before .before in
+    let at-loop = c .before .before .before .before .before .before .before .before .before .before .before .loop in
+    let at-loop-test = c .before .before .before .before .before .before .before .before .before .before .loop-test in
+    let at-gather = c .before .before .before .before .before .before .before .gather in
+    let a = start .args in
     let res = listOfType (a .from .now) (a .results .now) in
-    let some = some-left (c .before .before .before .before .before .before .before .before .before .before .loop-test .taken) in
+    let some = some-left (at-loop-test .taken) in
     let e = c .before .next .given .1 in
-    let l = c .before .before .before .before .before .before .before .gather .kept .1 .1 .1 .1 .1 .0 in
+    let l = at-gather .kept .1 .1 .1 .1 .1 .0 in
     let on =
-    let q = c .before .before .before .before .before .before .before .before .before .before .before .before .before .before .before .before .before .before .pre .1 .0 in
-    let y = c .before .before .before .before .before .before .before .before .before .before .before .before .before .before .before .before .before .before .pre .1 .1 in
-    let x = c .before .before .before .before .before .before .before .before .before .before .before .loop .inv .3 q y in
+    let q = start .pre .1 .0 in
+    let y = start .pre .1 .1 in
+    let x = at-loop .inv .3 q y in
     let r = x .rest in
-    let g = c .before .before .before .before .before .before .before .gather .ensures (first-source r res some) (x .registered) in
+    let g = at-gather .ensures (first-source r res some) (x .registered) in
     goes-on r res some _ _ g e l in
-    let was = c .before .before .before .before .before .before .before .before .before .before .before .loop .inv .0 in (
+    let was = at-loop .inv .0 in (
       omega arith,
-      l ∙ c .before .before .before .before .before .before .before .before .before .before .before .loop .inv .1,
-      c .before .before .before .before .before .before .before .gather .kept .1 .1 .1 .1 .1 .1 .1 .0 ∙ c .before .before .before .before .before .before .before .before .before .before .before .loop .inv .2,
+      l ∙ at-loop .inv .1,
+      at-gather .kept .1 .1 .1 .1 .1 .1 .1 .0 ∙ at-loop .inv .2,
       λ q y.
-          let x = c .before .before .before .before .before .before .before .before .before .before .before .loop .inv .3 q y in
+          let x = at-loop .inv .3 q y in
           let r = x .rest in
-          let g = c .before .before .before .before .before .before .before .gather .ensures (first-source r res some) (x .registered) in
+          let g = at-gather .ensures (first-source r res some) (x .registered) in
           record {
-            rest = other-sources r res some _ _ g e l _ (c .before .before .before .before .before .before .before .gather .kept .1 .1 .1 .1 .1 .1 .1 .0);
+            rest = other-sources r res some _ _ g e l _ (at-gather .kept .1 .1 .1 .1 .1 .1 .1 .0);
             registered = g .noted e;
             whole = λ register d o h. x .whole register d o (row-then r res some _ _ g e l d o h);
           },
@@ -827,172 +976,215 @@ gather-row-returns-2 t c =
 
 gather-sequence-add-wide : (t : ℕ) → gather-sequence-lts.Need-add-wide (gather-sequence-calls t) (gather-sequence-at t) gather-sequence.Post
 gather-sequence-add-wide t c =
-    let q = c .before .before .before .before .before .before .pre .1 .1 .0 in
-    let b = c .before .before .before .before .before .before .pre .1 .0 in
+    let start = c .before .before .before .before .before .before in
+    let q = start .pre .1 .1 .0 in
+    let b = start .pre .1 .0 in
     let i = count-there standard _ _ (q .there) (omega arith) (omega arith) in
     omega arith
 
 gather-sequence-shared-slice-read-wide : (t : ℕ) → gather-sequence-lts.Need-shared-slice-read-wide (gather-sequence-calls t) (gather-sequence-at t) gather-sequence.Post
 gather-sequence-shared-slice-read-wide t c =
-    let q = c .before .before .before .before .before .before .before .pre .1 .1 .0 in
-    let b = c .before .before .before .before .before .before .before .pre .1 .0 in
+    let start = c .before .before .before .before .before .before .before in
+    let q = start .pre .1 .1 .0 in
+    let b = start .pre .1 .0 in
     let i = count-there standard _ _ (q .there) (omega arith) (omega arith) in
     omega arith
 
 gather-sequence-add-row-has : (t : ℕ) → gather-sequence-lts.Need-add-row-has (gather-sequence-calls t) (gather-sequence-at t) gather-sequence.Post
 gather-sequence-add-row-has t c =
-    let q = c .before .before .before .before .before .before .before .before .pre .1 .1 .0 in
-    let b = c .before .before .before .before .before .before .before .before .pre .1 .0 in
+    let start = c .before .before .before .before .before .before .before .before in
+    let q = start .pre .1 .1 .0 in
+    let b = start .pre .1 .0 in
     let i = count-there standard _ _ (q .there) (omega arith) (omega arith) in
     omega arith
 
 gather-sequence-row-has-requires : (t : ℕ) → gather-sequence-lts.Need-row-has-requires (gather-sequence-calls t) (gather-sequence-at t) gather-sequence.Post
 gather-sequence-row-has-requires t c κs =
-    let q = c .before .before .before .before .before .before .before .before .pre .1 .1 .0 in
-    let b = c .before .before .before .before .before .before .before .before .pre .1 .0 in
+    let start = c .before .before .before .before .before .before .before .before in
+    let q = start .pre .1 .1 .0 in
+    let b = start .pre .1 .0 in
     let words = q .maps .words in
     (operands-of q b (c .wide .ensures .0) .operands, omega arith)
 
 gather-sequence-slice-write-draft : (t : ℕ) → gather-sequence-lts.Need-slice-write-draft (gather-sequence-calls t) (gather-sequence-at t) gather-sequence.Post
 gather-sequence-slice-write-draft t c =
-    let a = c .before .before .before .before .before .before .before .before .before .before .args in
+    let start = c .before .before .before .before .before .before .before .before .before .before in
+    let a = start .args in
     let res = listOfType (a .from .now) (a .results .now) in
-    let q = c .before .before .before .before .before .before .before .before .before .before .pre .1 .1 .0 in
-    let b = c .before .before .before .before .before .before .before .before .before .before .pre .1 .0 in
+    let q = start .pre .1 .1 .0 in
+    let b = start .pre .1 .0 in
     let n = c .before .before .wide .ensures .0 in
     let i = sequence-inside q res (operands-of q b n) n in
     omega arith
 
 gather-sequence-add-draft : (t : ℕ) → gather-sequence-lts.Need-add-draft (gather-sequence-calls t) (gather-sequence-at t) gather-sequence.Post
 gather-sequence-add-draft t c =
-    let q = c .before .before .before .before .before .before .before .before .before .before .pre .1 .1 .0 in
-    let b = c .before .before .before .before .before .before .before .before .before .before .pre .1 .0 in
+    let start = c .before .before .before .before .before .before .before .before .before .before in
+    let q = start .pre .1 .1 .0 in
+    let b = start .pre .1 .0 in
     let i = count-there standard _ _ (q .there) (omega arith) (omega arith) in
     omega arith
 
 gather-sequence-shared-slice-read-draft : (t : ℕ) → gather-sequence-lts.Need-shared-slice-read-draft (gather-sequence-calls t) (gather-sequence-at t) gather-sequence.Post
 gather-sequence-shared-slice-read-draft t c =
-    let q = c .before .before .before .before .before .before .before .before .before .before .before .pre .1 .1 .0 in
-    let b = c .before .before .before .before .before .before .before .before .before .before .before .pre .1 .0 in
+    let start = c .before .before .before .before .before .before .before .before .before .before .before in
+    let q = start .pre .1 .1 .0 in
+    let b = start .pre .1 .0 in
     let i = count-there standard _ _ (q .there) (omega arith) (omega arith) in
     omega arith
 
 gather-sequence-add-draft-2 : (t : ℕ) → gather-sequence-lts.Need-add-draft-2 (gather-sequence-calls t) (gather-sequence-at t) gather-sequence.Post
 gather-sequence-add-draft-2 t c =
-    let a = c .before .before .before .before .before .before .before .before .before .before .before .args in
+    let start = c .before .before .before .before .before .before .before .before .before .before .before in
+    let at-wide = c .before .before .before .wide in
+    let a = start .args in
     let res = listOfType (a .from .now) (a .results .now) in
-    let q = c .before .before .before .before .before .before .before .before .before .before .before .pre .1 .1 .0 in
-    let b = c .before .before .before .before .before .before .before .before .before .before .before .pre .1 .0 in
-    let n = c .before .before .before .wide .ensures .0 in
+    let q = start .pre .1 .1 .0 in
+    let b = start .pre .1 .0 in
+    let n = at-wide .ensures .0 in
     let i = sequence-inside q res (operands-of q b n) n in
     omega arith
 
 gather-sequence-slice-write-draft-2 : (t : ℕ) → gather-sequence-lts.Need-slice-write-draft-2 (gather-sequence-calls t) (gather-sequence-at t) gather-sequence.Post
 gather-sequence-slice-write-draft-2 t c =
-    let a = c .before .before .before .before .before .before .before .before .before .before .before .args in
+    let start = c .before .before .before .before .before .before .before .before .before .before .before in
+    let at-wide = c .before .before .before .wide in
+    let a = start .args in
     let res = listOfType (a .from .now) (a .results .now) in
-    let q = c .before .before .before .before .before .before .before .before .before .before .before .pre .1 .1 .0 in
-    let b = c .before .before .before .before .before .before .before .before .before .before .before .pre .1 .0 in
-    let n = c .before .before .before .wide .ensures .0 in
+    let q = start .pre .1 .1 .0 in
+    let b = start .pre .1 .0 in
+    let n = at-wide .ensures .0 in
     let i = sequence-inside q res (operands-of q b n) n in
     simp length-set (omega arith)
 
 gather-sequence-add-emit-row : (t : ℕ) → gather-sequence-lts.Need-add-emit-row (gather-sequence-calls t) (gather-sequence-at t) gather-sequence.Post
 gather-sequence-add-emit-row t c =
-    let q = c .before .before .before .before .before .before .before .before .before .before .before .pre .1 .1 .0 in
-    let b = c .before .before .before .before .before .before .before .before .before .before .before .pre .1 .0 in
+    let start = c .before .before .before .before .before .before .before .before .before .before .before in
+    let q = start .pre .1 .1 .0 in
+    let b = start .pre .1 .0 in
     let i = count-there standard _ _ (q .there) (omega arith) (omega arith) in
     omega arith
 
 gather-sequence-add-emit-row-2 : (t : ℕ) → gather-sequence-lts.Need-add-emit-row-2 (gather-sequence-calls t) (gather-sequence-at t) gather-sequence.Post
 gather-sequence-add-emit-row-2 t c =
-    let a = c .before .before .before .before .before .before .before .before .before .before .before .before .args in
+    let start = c .before .before .before .before .before .before .before .before .before .before .before .before in
+    let at-wide = c .before .before .before .before .wide in
+    let a = start .args in
     let res = listOfType (a .from .now) (a .results .now) in
-    let q = c .before .before .before .before .before .before .before .before .before .before .before .before .pre .1 .1 .0 in
-    let b = c .before .before .before .before .before .before .before .before .before .before .before .before .pre .1 .0 in
-    let n = c .before .before .before .before .wide .ensures .0 in
+    let q = start .pre .1 .1 .0 in
+    let b = start .pre .1 .0 in
+    let n = at-wide .ensures .0 in
     let i = sequence-inside q res (operands-of q b n) n in
     omega arith
 
 gather-sequence-sub-emit-row : (t : ℕ) → gather-sequence-lts.Need-sub-emit-row (gather-sequence-calls t) (gather-sequence-at t) gather-sequence.Post
 gather-sequence-sub-emit-row t c =
-    let m = c .before .before .before .before .before .before .before .before .before .before .before .before .pre .1 .1 .1 .room in
+    let start = c .before .before .before .before .before .before .before .before .before .before .before .before in
+    let m = start .pre .1 .1 .1 .room in
     omega arith
 
 gather-sequence-part-emit-row-start : (t : ℕ) → gather-sequence-lts.Need-part-emit-row-start (gather-sequence-calls t) (gather-sequence-at t) gather-sequence.Post
 gather-sequence-part-emit-row-start t c =
-    let m = c .before .before .before .before .before .before .before .before .before .before .before .before .pre .1 .1 .1 .room in
+    let start = c .before .before .before .before .before .before .before .before .before .before .before .before in
+    let m = start .pre .1 .1 .1 .room in
     omega arith
 
 gather-sequence-part-emit-row-end : (t : ℕ) → gather-sequence-lts.Need-part-emit-row-end (gather-sequence-calls t) (gather-sequence-at t) gather-sequence.Post
 gather-sequence-part-emit-row-end t c =
-    let m = c .before .before .before .before .before .before .before .before .before .before .before .before .pre .1 .1 .1 .room in
+    let start = c .before .before .before .before .before .before .before .before .before .before .before .before in
+    let m = start .pre .1 .1 .1 .room in
     omega arith
 
 gather-sequence-emit-row-requires : (t : ℕ) → gather-sequence-lts.Need-emit-row-requires (gather-sequence-calls t) (gather-sequence-at t) gather-sequence.Post
 gather-sequence-emit-row-requires t c κs =
-    let a = c .before .before .before .before .before .before .before .before .before .before .before .before .before .args in
+    let start = c .before .before .before .before .before .before .before .before .before .before .before .before .before in
+    let at-wide = c .before .before .before .before .before .wide in
+    let a = start .args in
     let res = listOfType (a .from .now) (a .results .now) in
-    let m = c .before .before .before .before .before .before .before .before .before .before .before .before .before .pre .0 in
-    let q = c .before .before .before .before .before .before .before .before .before .before .before .before .before .pre .1 .1 .0 in
-    let b = c .before .before .before .before .before .before .before .before .before .before .before .before .before .pre .1 .0 in
-    let n = c .before .before .before .before .before .wide .ensures .0 in
+    let m = start .pre .0 in
+    let q = start .pre .1 .1 .0 in
+    let b = start .pre .1 .0 in
+    let n = at-wide .ensures .0 in
     let i = count-there standard _ _ (q .there) (omega arith) (omega arith) in
-    (omega arith, sequence-operands q res (operands-of q b n) n _ (rows-within (a .notes .now) (c .before .before .before .before .before .before .before .before .before .before .before .before .before .pre .1 .1 .1 .room)))
+    (omega arith, sequence-operands q res (operands-of q b n) n _ (rows-within (a .notes .now) (start .pre .1 .1 .1 .room)))
 
 gather-sequence-settle-requires : (t : ℕ) → gather-sequence-lts.Need-settle-requires (gather-sequence-calls t) (gather-sequence-at t) gather-sequence.Post
 gather-sequence-settle-requires t c κs =
-    let a = c .before .before .before .before .before .before .before .before .before .before .before .before .before .before .before .before .before .before .before .before .before .before .before .args in
+    let start = c .before .before .before .before .before .before .before .before .before .before .before .before .before .before .before .before .before .before .before .before .before .before .before in
+    let at-wide = c .before .before .before .before .before .before .before .before .before .before .before .before .before .before .before .wide in
+    let at-row-has = c .before .before .before .before .before .before .before .before .before .before .before .before .before .before .row-has in
+    let at-if1 = c .before .before .before .before .before .before .before .before .before .before .before .before .before .if1 in
+    let at-emit-row = c .before .before .before .before .before .before .before .before .before .emit-row in
+    let at-next = c .before .before .before .next in
+    let a = start .args in
     let res = listOfType (a .from .now) (a .results .now) in
-    let q = c .before .before .before .before .before .before .before .before .before .before .before .before .before .before .before .before .before .before .before .before .before .before .before .pre .1 .1 .0 in
-    let m = c .before .before .before .before .before .before .before .before .before .before .before .before .before .before .before .before .before .before .before .before .before .before .before .pre .1 .1 .1 in
-    let b = c .before .before .before .before .before .before .before .before .before .before .before .before .before .before .before .before .before .before .before .before .before .before .before .pre .1 .0 in
-    let n = c .before .before .before .before .before .before .before .before .before .before .before .before .before .before .before .wide .ensures .0 in
+    let q = start .pre .1 .1 .0 in
+    let m = start .pre .1 .1 .1 in
+    let b = start .pre .1 .0 in
+    let n = at-wide .ensures .0 in
     let cs = operands-of q b n in
-    let found = row-found _ _ _ (q .maps) _ _ _ (cs .operands) _ _ _ (c .before .before .before .before .before .before .before .before .before .before .before .before .before .before .row-has .ensures) in
-    let has = sym (found .0) ∙ c .before .before .before .before .before .before .before .before .before .before .before .before .before .if1 .taken in
-    let g = c .before .before .before .before .before .before .before .before .before .emit-row .ensures (sequence-operands q res cs n _ (rows-within (a .notes .now) (m .room))) in
-    ((sequence-newest q res cs n has _ _ g (c .before .before .before .next .given .1) (c .before .before .before .before .before .before .before .before .before .emit-row .kept .1 .1 .1 .1 .1 .1 .0), source-noted q m _), q .fits, q .small)
+    let found = row-found _ _ _ (q .maps) _ _ _ (cs .operands) _ _ _ (at-row-has .ensures) in
+    let has = sym (found .0) ∙ at-if1 .taken in
+    let g = at-emit-row .ensures (sequence-operands q res cs n _ (rows-within (a .notes .now) (m .room))) in
+    ((sequence-newest q res cs n has _ _ g (at-next .given .1) (at-emit-row .kept .1 .1 .1 .1 .1 .1 .0), source-noted q m _), q .fits, q .small)
 
 gather-sequence-same-length-2 : (t : ℕ) → gather-sequence-lts.Need-same-length-2 (gather-sequence-calls t) (gather-sequence-at t) gather-sequence.Post
-gather-sequence-same-length-2 t c = part-long operandLimit (c .before .before .before .before .before .before .before .before .before .before .before .before .before .before .before .before .before .before .before .before .args .notes .now) (c .before .before .before .before .before .before .before .before .before .before .before .before .before .before .before .before .before .before .before .before .pre .1 .1 .1 .room) (c .before .before .before .before .before .before .emit-row .last .1 .1 .1 .1 .1 .1 .1 .1 .1 .0) (c .before .before .before .before .before .before .emit-row .kept .1 .1 .1 .1 .1 .1 .1 .1 .1 .0)
+gather-sequence-same-length-2 t c =
+    let start = c .before .before .before .before .before .before .before .before .before .before .before .before .before .before .before .before .before .before .before .before in
+    let at-emit-row = c .before .before .before .before .before .before .emit-row in
+    part-long operandLimit (start .args .notes .now) (start .pre .1 .1 .1 .room) (at-emit-row .last .1 .1 .1 .1 .1 .1 .1 .1 .1 .0) (at-emit-row .kept .1 .1 .1 .1 .1 .1 .1 .1 .1 .0)
 
 gather-sequence-returns : (t : ℕ) → gather-sequence-lts.Need-returns (gather-sequence-calls t) (gather-sequence-at t) gather-sequence.Post
 gather-sequence-returns t c =
-    let a = c .before .before .before .before .before .before .before .before .before .before .before .before .before .before .before .before .before .before .before .before .args in
+    let start = c .before .before .before .before .before .before .before .before .before .before .before .before .before .before .before .before .before .before .before .before in
+    let at-wide = c .before .before .before .before .before .before .before .before .before .before .before .before .wide in
+    let at-row-has = c .before .before .before .before .before .before .before .before .before .before .before .row-has in
+    let at-if1 = c .before .before .before .before .before .before .before .before .before .before .if1 in
+    let at-emit-row = c .before .before .before .before .before .before .emit-row in
+    let a = start .args in
     let res = listOfType (a .from .now) (a .results .now) in
-    let b = c .before .before .before .before .before .before .before .before .before .before .before .before .before .before .before .before .before .before .before .before .pre .1 .0 in
-    let n = c .before .before .before .before .before .before .before .before .before .before .before .before .wide .ensures .0 in
+    let b = start .pre .1 .0 in
+    let n = at-wide .ensures .0 in
     λ q m.
     let cs = operands-of q b n in
-    let found = row-found _ _ _ (q .maps) _ _ _ (cs .operands) _ _ _ (c .before .before .before .before .before .before .before .before .before .before .before .row-has .ensures) in
-    let has = sym (found .0) ∙ c .before .before .before .before .before .before .before .before .before .before .if1 .taken in
-    let g = c .before .before .before .before .before .before .emit-row .ensures (sequence-operands q res cs n _ (rows-within (a .notes .now) (m .room))) in
+    let found = row-found _ _ _ (q .maps) _ _ _ (cs .operands) _ _ _ (at-row-has .ensures) in
+    let has = sym (found .0) ∙ at-if1 .taken in
+    let g = at-emit-row .ensures (sequence-operands q res cs n _ (rows-within (a .notes .now) (m .room))) in
     sequence-wide q res cs n has _ _ g (c .enum-told .given .1)
 
 gather-sequence-same-length-4 : (t : ℕ) → gather-sequence-lts.Need-same-length-4 (gather-sequence-calls t) (gather-sequence-at t) gather-sequence.Post
-gather-sequence-same-length-4 t c = c .before .before .settle .kept .1 .1 .1 .1 .0 ∙ part-long operandLimit (c .before .before .before .before .before .before .before .before .before .before .before .before .before .before .before .before .before .before .before .before .before .before .before .before .before .before .args .notes .now) (c .before .before .before .before .before .before .before .before .before .before .before .before .before .before .before .before .before .before .before .before .before .before .before .before .before .before .pre .1 .1 .1 .room) (c .before .before .before .before .before .before .before .before .before .before .before .before .emit-row .last .1 .1 .1 .1 .1 .1 .1 .1 .1 .0) (c .before .before .before .before .before .before .before .before .before .before .before .before .emit-row .kept .1 .1 .1 .1 .1 .1 .1 .1 .1 .0)
+gather-sequence-same-length-4 t c =
+    let start = c .before .before .before .before .before .before .before .before .before .before .before .before .before .before .before .before .before .before .before .before .before .before .before .before .before .before in
+    let at-emit-row = c .before .before .before .before .before .before .before .before .before .before .before .before .emit-row in
+    c .before .before .settle .kept .1 .1 .1 .1 .0 ∙ part-long operandLimit (start .args .notes .now) (start .pre .1 .1 .1 .room) (at-emit-row .last .1 .1 .1 .1 .1 .1 .1 .1 .1 .0) (at-emit-row .kept .1 .1 .1 .1 .1 .1 .1 .1 .1 .0)
 
 gather-sequence-returns-2 : (t : ℕ) → gather-sequence-lts.Need-returns-2 (gather-sequence-calls t) (gather-sequence-at t) gather-sequence.Post
 gather-sequence-returns-2 t c =
-    let a = c .before .before .before .before .before .before .before .before .before .before .before .before .before .before .before .before .before .before .before .before .before .before .before .before .before .before .args in
+    let start = c .before .before .before .before .before .before .before .before .before .before .before .before .before .before .before .before .before .before .before .before .before .before .before .before .before .before in
+    let at-wide = c .before .before .before .before .before .before .before .before .before .before .before .before .before .before .before .before .before .before .wide in
+    let at-row-has = c .before .before .before .before .before .before .before .before .before .before .before .before .before .before .before .before .before .row-has in
+    let at-if1 = c .before .before .before .before .before .before .before .before .before .before .before .before .before .before .before .before .if1 in
+    let at-emit-row = c .before .before .before .before .before .before .before .before .before .before .before .before .emit-row in
+    let at-next = c .before .before .before .before .before .before .next in
+    let a = start .args in
     let res = listOfType (a .from .now) (a .results .now) in
-    let b = c .before .before .before .before .before .before .before .before .before .before .before .before .before .before .before .before .before .before .before .before .before .before .before .before .before .before .pre .1 .0 in
-    let n = c .before .before .before .before .before .before .before .before .before .before .before .before .before .before .before .before .before .before .wide .ensures .0 in
-    let e = c .before .before .before .before .before .before .next .given .1 in
-    let l = c .before .before .before .before .before .before .before .before .before .before .before .before .emit-row .kept .1 .1 .1 .1 .1 .1 .0 in
+    let b = start .pre .1 .0 in
+    let n = at-wide .ensures .0 in
+    let e = at-next .given .1 in
+    let l = at-emit-row .kept .1 .1 .1 .1 .1 .1 .0 in
     λ q m.
     let cs = operands-of q b n in
-    let found = row-found _ _ _ (q .maps) _ _ _ (cs .operands) _ _ _ (c .before .before .before .before .before .before .before .before .before .before .before .before .before .before .before .before .before .row-has .ensures) in
-    let has = sym (found .0) ∙ c .before .before .before .before .before .before .before .before .before .before .before .before .before .before .before .before .if1 .taken in
-    let g = c .before .before .before .before .before .before .before .before .before .before .before .before .emit-row .ensures (sequence-operands q res cs n _ (rows-within (a .notes .now) (m .room))) in
+    let found = row-found _ _ _ (q .maps) _ _ _ (cs .operands) _ _ _ (at-row-has .ensures) in
+    let has = sym (found .0) ∙ at-if1 .taken in
+    let g = at-emit-row .ensures (sequence-operands q res cs n _ (rows-within (a .notes .now) (m .room))) in
     sequence-settled q res cs n has _ _ g e l _ (c .before .before .settle .ensures (sequence-newest q res cs n has _ _ g e l) (source-noted q m _))
 
 gather-sequence-returns-3 : (t : ℕ) → gather-sequence-lts.Need-returns-3 (gather-sequence-calls t) (gather-sequence-at t) gather-sequence.Post
 gather-sequence-returns-3 t c =
-    let a = c .before .before .before .before .before .before .before .before .before .before .args in
+    let start = c .before .before .before .before .before .before .before .before .before .before in
+    let a = start .args in
     let res = listOfType (a .from .now) (a .results .now) in
-    let b = c .before .before .before .before .before .before .before .before .before .before .pre .1 .0 in
+    let b = start .pre .1 .0 in
     let n = c .before .before .wide .ensures .0 in
     λ q m.
     let cs = operands-of q b n in
@@ -1000,11 +1192,17 @@ gather-sequence-returns-3 t c =
     sequence-blank q res cs n _ (found .1) (sym (found .0) ∙ c .if1 .left) m
 
 emit-row-same-length : (t : ℕ) → emit-row-lts.Need-same-length (emit-row-calls t) (emit-row-at t) emit-row.Post emit-row-Inv-loop emit-row-μ-loop
-emit-row-same-length t c = c .before .before .before .before .before .before .gather .kept .1 .1 .1 .1 .1 .0 ∙ c .before .before .before .before .before .before .before .before .before .before .before .before .before .before .loop .inv .1
+emit-row-same-length t c =
+    let at-loop = c .before .before .before .before .before .before .before .before .before .before .before .before .before .before .loop in
+    let at-gather = c .before .before .before .before .before .before .gather in
+    at-gather .kept .1 .1 .1 .1 .1 .0 ∙ at-loop .inv .1
 
 emit-row-same-length-2 : (t : ℕ) → emit-row-lts.Need-same-length-2 (emit-row-calls t) (emit-row-at t) emit-row.Post emit-row-Inv-loop emit-row-μ-loop
 emit-row-same-length-2 t c =
-    c .before .before .before .before .before .before .gather .kept .1 .1 .1 .1 .1 .1 .1 .0 ∙ length-front (c .before .before .before .before .before .before .before .before .before .before .before .before .before .before .loop .register) (c .before .before .before .before .before .before .before .before .before .before .before .clear .last .0) typeWords (c .before .before .before .before .before .before .before .before .before .before .before .clear .kept .0) ∙ c .before .before .before .before .before .before .before .before .before .before .before .before .before .before .loop .inv .2
+    let at-loop = c .before .before .before .before .before .before .before .before .before .before .before .before .before .before .loop in
+    let at-clear = c .before .before .before .before .before .before .before .before .before .before .before .clear in
+    let at-gather = c .before .before .before .before .before .before .gather in
+    at-gather .kept .1 .1 .1 .1 .1 .1 .1 .0 ∙ length-front (at-loop .register) (at-clear .last .0) typeWords (at-clear .kept .0) ∙ at-loop .inv .2
 
 emit-row-same-length-5 : (t : ℕ) → emit-row-lts.Need-same-length-5 (emit-row-calls t) (emit-row-at t) emit-row.Post emit-row-Inv-loop emit-row-μ-loop
 emit-row-same-length-5 t c = c .before .loop .inv .1
@@ -1013,72 +1211,117 @@ emit-row-same-length-6 : (t : ℕ) → emit-row-lts.Need-same-length-6 (emit-row
 emit-row-same-length-6 t c = c .before .loop .inv .2
 
 gather-same-length : (t : ℕ) → gather-lts.Need-same-length (gather-calls t) (gather-at t) gather.Post
-gather-same-length t c = c .before .before .before .before .gather-empty .kept .0
+gather-same-length t c =
+    let at-gather-empty = c .before .before .before .before .gather-empty in
+    at-gather-empty .kept .0
 
 gather-same-length-2 : (t : ℕ) → gather-lts.Need-same-length-2 (gather-calls t) (gather-at t) gather.Post
 gather-same-length-2 t c =
-    part-long typeWords (c .before .before .before .before .before .before .before .before .before .before .before .before .before .before .before .before .args .register .now) (c .before .before .before .before .before .before .before .before .before .before .before .before .before .before .before .before .pre .1 .1 .types .room) (c .before .before .before .before .gather-empty .last .1 .1 .1 .0) (c .before .before .before .before .gather-empty .kept .1 .1 .1 .0)
+    let start = c .before .before .before .before .before .before .before .before .before .before .before .before .before .before .before .before in
+    let at-gather-empty = c .before .before .before .before .gather-empty in
+    part-long typeWords (start .args .register .now) (start .pre .1 .1 .types .room) (at-gather-empty .last .1 .1 .1 .0) (at-gather-empty .kept .1 .1 .1 .0)
 
 gather-same-length-3 : (t : ℕ) → gather-lts.Need-same-length-3 (gather-calls t) (gather-at t) gather.Post
-gather-same-length-3 t c = c .before .before .before .before .gather-type .kept .1 .1 .1 .0
+gather-same-length-3 t c =
+    let at-gather-type = c .before .before .before .before .gather-type in
+    at-gather-type .kept .1 .1 .1 .0
 
 gather-same-length-4 : (t : ℕ) → gather-lts.Need-same-length-4 (gather-calls t) (gather-at t) gather.Post
-gather-same-length-4 t c = c .before .before .before .before .gather-type .kept .1 .1 .1 .1 .1 .1 .0
+gather-same-length-4 t c =
+    let at-gather-type = c .before .before .before .before .gather-type in
+    at-gather-type .kept .1 .1 .1 .1 .1 .1 .0
 
 gather-same-length-5 : (t : ℕ) → gather-lts.Need-same-length-5 (gather-calls t) (gather-at t) gather.Post
-gather-same-length-5 t c = c .before .before .before .before .gather-compound .kept .1 .1 .1 .1 .1 .0
+gather-same-length-5 t c =
+    let at-gather-compound = c .before .before .before .before .gather-compound in
+    at-gather-compound .kept .1 .1 .1 .1 .1 .0
 
 gather-same-length-6 : (t : ℕ) → gather-lts.Need-same-length-6 (gather-calls t) (gather-at t) gather.Post
-gather-same-length-6 t c = c .before .before .before .before .gather-compound .kept .1 .1 .1 .1 .1 .1 .1 .0
+gather-same-length-6 t c =
+    let at-gather-compound = c .before .before .before .before .gather-compound in
+    at-gather-compound .kept .1 .1 .1 .1 .1 .1 .1 .0
 
 gather-returns-4 : (t : ℕ) → gather-lts.Need-returns-4 (gather-calls t) (gather-at t) gather.Post
-gather-returns-4 t c = c .before .before .before .before .gather-compound .ensures
+gather-returns-4 t c =
+    let at-gather-compound = c .before .before .before .before .gather-compound in
+    at-gather-compound .ensures
 
 gather-around-same-length : (t : ℕ) → gather-around-lts.Need-same-length (gather-around-calls t) (gather-around-at t) gather-around.Post
-gather-around-same-length t c = c .before .before .before .before .before .before .emit-row .kept .1 .1 .1 .1 .1 .1 .0 ∙ simp length-set
+gather-around-same-length t c =
+    let at-emit-row = c .before .before .before .before .before .before .emit-row in
+    at-emit-row .kept .1 .1 .1 .1 .1 .1 .0 ∙ simp length-set
 
 gather-around-same-length-3 : (t : ℕ) → gather-around-lts.Need-same-length-3 (gather-around-calls t) (gather-around-at t) gather-around.Post
-gather-around-same-length-3 t c = c .before .before .before .before .before .before .before .before .before .before .before .before .emit-row .kept .1 .1 .1 .1 .1 .1 .0 ∙ simp length-set
+gather-around-same-length-3 t c =
+    let at-emit-row = c .before .before .before .before .before .before .before .before .before .before .before .before .emit-row in
+    at-emit-row .kept .1 .1 .1 .1 .1 .1 .0 ∙ simp length-set
 
 gather-around-same-length-5 : (t : ℕ) → gather-around-lts.Need-same-length-5 (gather-around-calls t) (gather-around-at t) gather-around.Post
-gather-around-same-length-5 t c = c .before .before .before .before .gather-empty .kept .0
+gather-around-same-length-5 t c =
+    let at-gather-empty = c .before .before .before .before .gather-empty in
+    at-gather-empty .kept .0
 
 gather-around-same-length-6 : (t : ℕ) → gather-around-lts.Need-same-length-6 (gather-around-calls t) (gather-around-at t) gather-around.Post
-gather-around-same-length-6 t c = c .before .before .before .before .gather-empty .kept .1 .1 .1 .0
+gather-around-same-length-6 t c =
+    let at-gather-empty = c .before .before .before .before .gather-empty in
+    at-gather-empty .kept .1 .1 .1 .0
 
 gather-compound-same-length : (t : ℕ) → gather-compound-lts.Need-same-length (gather-compound-calls t) (gather-compound-at t) gather-compound.Post
-gather-compound-same-length t c = c .before .before .before .before .gather-row .kept .1 .1 .1 .1 .1 .1 .0
+gather-compound-same-length t c =
+    let at-gather-row = c .before .before .before .before .gather-row in
+    at-gather-row .kept .1 .1 .1 .1 .1 .1 .0
 
 gather-compound-same-length-2 : (t : ℕ) → gather-compound-lts.Need-same-length-2 (gather-compound-calls t) (gather-compound-at t) gather-compound.Post
-gather-compound-same-length-2 t c = c .before .before .before .before .gather-row .kept .1 .1 .1 .1 .1 .1 .1 .1 .0
+gather-compound-same-length-2 t c =
+    let at-gather-row = c .before .before .before .before .gather-row in
+    at-gather-row .kept .1 .1 .1 .1 .1 .1 .1 .1 .0
 
 gather-compound-same-length-3 : (t : ℕ) → gather-compound-lts.Need-same-length-3 (gather-compound-calls t) (gather-compound-at t) gather-compound.Post
-gather-compound-same-length-3 t c = c .before .before .before .before .gather-one .kept .1 .1 .1 .1 .1 .0
+gather-compound-same-length-3 t c =
+    let at-gather-one = c .before .before .before .before .gather-one in
+    at-gather-one .kept .1 .1 .1 .1 .1 .0
 
 gather-compound-same-length-4 : (t : ℕ) → gather-compound-lts.Need-same-length-4 (gather-compound-calls t) (gather-compound-at t) gather-compound.Post
 gather-compound-same-length-4 t c =
-    part-long typeWords (c .before .before .before .before .before .before .before .before .before .before .before .before .before .before .before .before .args .register .now) (c .before .before .before .before .before .before .before .before .before .before .before .before .before .before .before .before .pre .1 .1 .1 .types .room) (c .before .before .before .before .gather-one .last .1 .1 .1 .1 .1 .1 .1 .0) (c .before .before .before .before .gather-one .kept .1 .1 .1 .1 .1 .1 .1 .0)
+    let start = c .before .before .before .before .before .before .before .before .before .before .before .before .before .before .before .before in
+    let at-gather-one = c .before .before .before .before .gather-one in
+    part-long typeWords (start .args .register .now) (start .pre .1 .1 .1 .types .room) (at-gather-one .last .1 .1 .1 .1 .1 .1 .1 .0) (at-gather-one .kept .1 .1 .1 .1 .1 .1 .1 .0)
 
 gather-one-same-length : (t : ℕ) → gather-one-lts.Need-same-length (gather-one-calls t) (gather-one-at t) gather-one.Post
-gather-one-same-length t c = c .before .before .before .before .gather-sequence .kept .1 .1 .1 .1 .1 .0
+gather-one-same-length t c =
+    let at-gather-sequence = c .before .before .before .before .gather-sequence in
+    at-gather-sequence .kept .1 .1 .1 .1 .1 .0
 
 gather-one-same-length-2 : (t : ℕ) → gather-one-lts.Need-same-length-2 (gather-one-calls t) (gather-one-at t) gather-one.Post
-gather-one-same-length-2 t c = c .before .before .before .before .gather-sequence .kept .1 .1 .1 .1 .1 .1 .1 .0
+gather-one-same-length-2 t c =
+    let at-gather-sequence = c .before .before .before .before .gather-sequence in
+    at-gather-sequence .kept .1 .1 .1 .1 .1 .1 .1 .0
 
 gather-one-returns : (t : ℕ) → gather-one-lts.Need-returns (gather-one-calls t) (gather-one-at t) gather-one.Post
-gather-one-returns t c = c .before .before .before .before .gather-sequence .ensures
+gather-one-returns t c =
+    let at-gather-sequence = c .before .before .before .before .gather-sequence in
+    at-gather-sequence .ensures
 
 gather-one-same-length-3 : (t : ℕ) → gather-one-lts.Need-same-length-3 (gather-one-calls t) (gather-one-at t) gather-one.Post
-gather-one-same-length-3 t c = c .before .before .before .before .gather-around .kept .1 .1 .1 .1 .1 .0
+gather-one-same-length-3 t c =
+    let at-gather-around = c .before .before .before .before .gather-around in
+    at-gather-around .kept .1 .1 .1 .1 .1 .0
 
 gather-one-same-length-4 : (t : ℕ) → gather-one-lts.Need-same-length-4 (gather-one-calls t) (gather-one-at t) gather-one.Post
-gather-one-same-length-4 t c = c .before .before .before .before .gather-around .kept .1 .1 .1 .1 .1 .1 .1 .0
+gather-one-same-length-4 t c =
+    let at-gather-around = c .before .before .before .before .gather-around in
+    at-gather-around .kept .1 .1 .1 .1 .1 .1 .1 .0
 
 gather-one-returns-2 : (t : ℕ) → gather-one-lts.Need-returns-2 (gather-one-calls t) (gather-one-at t) gather-one.Post
-gather-one-returns-2 t c = c .before .before .before .before .gather-around .ensures
+gather-one-returns-2 t c =
+    let at-gather-around = c .before .before .before .before .gather-around in
+    at-gather-around .ensures
 
 gather-row-same-length : (t : ℕ) → gather-row-lts.Need-same-length (gather-row-calls t) (gather-row-at t) gather-row.Post gather-row-Inv-loop gather-row-μ-loop
-gather-row-same-length t c = c .before .before .before .before .before .before .gather .kept .1 .1 .1 .1 .1 .0 ∙ c .before .before .before .before .before .before .before .before .before .before .loop .inv .1
+gather-row-same-length t c =
+    let at-loop = c .before .before .before .before .before .before .before .before .before .before .loop in
+    let at-gather = c .before .before .before .before .before .before .gather in
+    at-gather .kept .1 .1 .1 .1 .1 .0 ∙ at-loop .inv .1
 
 gather-row-same-length-3 : (t : ℕ) → gather-row-lts.Need-same-length-3 (gather-row-calls t) (gather-row-at t) gather-row.Post gather-row-Inv-loop gather-row-μ-loop
 gather-row-same-length-3 t c = c .before .loop .inv .1
@@ -1087,10 +1330,14 @@ gather-row-same-length-4 : (t : ℕ) → gather-row-lts.Need-same-length-4 (gath
 gather-row-same-length-4 t c = c .before .loop .inv .2
 
 gather-sequence-same-length : (t : ℕ) → gather-sequence-lts.Need-same-length (gather-sequence-calls t) (gather-sequence-at t) gather-sequence.Post
-gather-sequence-same-length t c = c .before .before .before .before .before .before .emit-row .kept .1 .1 .1 .1 .1 .1 .0 ∙ simp length-set
+gather-sequence-same-length t c =
+    let at-emit-row = c .before .before .before .before .before .before .emit-row in
+    at-emit-row .kept .1 .1 .1 .1 .1 .1 .0 ∙ simp length-set
 
 gather-sequence-same-length-3 : (t : ℕ) → gather-sequence-lts.Need-same-length-3 (gather-sequence-calls t) (gather-sequence-at t) gather-sequence.Post
-gather-sequence-same-length-3 t c = c .before .before .before .before .before .before .before .before .before .before .before .before .emit-row .kept .1 .1 .1 .1 .1 .1 .0 ∙ simp length-set
+gather-sequence-same-length-3 t c =
+    let at-emit-row = c .before .before .before .before .before .before .before .before .before .before .before .before .emit-row in
+    at-emit-row .kept .1 .1 .1 .1 .1 .1 .0 ∙ simp length-set
 
 pub +emit-row+gather+gather-around+gather-compound+gather-one+gather-row+gather-sequence-spec :
     {M : Type 1} → statement M

@@ -38,7 +38,8 @@ module _ (d : List ℕ) (row : OperandRow) (h : row .end < length d) where
 
 settle-requires : tie.Need-settle-requires
 settle-requires c κs =
-    let p = c .before .before .before .before .pre in
+    let start = c .before .before .before .before in
+    let p = start .pre in
     ((newest _ _ (omega arith) (p .0 .kept), p .1), p .0 .fits, p .0 .small)
 
 same-length : tie.Need-same-length
@@ -46,8 +47,9 @@ same-length c = search needs
 
 returns : tie.Need-returns
 returns c =
-    let a = c .before .before .before .before .before .before .before .args in
-    let p = c .before .before .before .before .before .before .before .pre in
+    let start = c .before .before .before .before .before .before .before in
+    let a = start .args in
+    let p = start .pre in
     λ q m.
     let room = q .room in
     let fits = q .fits in

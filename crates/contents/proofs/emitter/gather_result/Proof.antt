@@ -70,8 +70,10 @@ is-there {ds = ds} s e h m = sym (s .there _ h ∙ ap (λ (k : ℕ). anyPass (sa
 
 returns : tie.Need-returns
 returns c =
-    let a = c .before .before .before .before .before .before .args in
-    let w = c .before .before .before .wide .ensures in
+    let start = c .before .before .before .before .before .before in
+    let at-wide = c .before .before .before .wide in
+    let a = start .args in
+    let w = at-wide .ensures in
     λ q s.
     let same = gather-old (q .kept .list) (q .kept .row .apart) (type (a .result)) (is-there (s .types) (w .0) (w .1) (sym (c .before .has .ensures) ∙ c .if1 .taken)) in
     record {
@@ -81,17 +83,22 @@ returns c =
 
 keep-requires : tie.Need-keep-requires
 keep-requires c κs =
-    let a = c .before .before .before .before .before .before .before .before .before .before .before .before .args in
-    let p = c .before .before .before .before .before .before .before .before .before .before .before .before .pre in
+    let start = c .before .before .before .before .before .before .before .before .before .before .before .before in
+    let at-wide = c .before .before .before .before .before .before .before .before .before .wide in
+    let at-has = c .before .before .before .before .before .before .before .has in
+    let at-if1 = c .before .before .before .before .before .before .if1 in
+    let at-put = c .before .before .before .before .put in
+    let a = start .args in
+    let p = start .pre in
     let q = p .0 in
     let room = q .room in
     let fits = q .fits in
     let h : a .row .end + 1 < length (a .draft .now) = omega arith in
-    let w = c .before .before .before .before .before .before .before .before .before .wide .ensures in (
+    let w = at-wide .ensures in (
       (
         newest (a .draft .now) (a .result) (a .row) h (q .kept),
-        is-there (p .1 .types) (w .0) (w .1) (sym (c .before .before .before .before .before .before .before .has .ensures) ∙ c .before .before .before .before .before .before .if1 .left),
-        noted-put (p .1) (w .1) (c .before .before .before .before .put .ensures),
+        is-there (p .1 .types) (w .0) (w .1) (sym (at-has .ensures) ∙ at-if1 .left),
+        noted-put (p .1) (w .1) (at-put .ensures),
       ),
       q .fits,
       q .small,
@@ -100,42 +107,51 @@ keep-requires c κs =
 
 returns-2 : tie.Need-returns-2
 returns-2 c =
-    let a = c .before .before .before .before .before .before .before .before .before .before .before .before .before .before .before .args in
-    let w = c .before .before .before .before .before .before .before .before .before .before .before .before .wide .ensures in
+    let start = c .before .before .before .before .before .before .before .before .before .before .before .before .before .before .before in
+    let at-wide = c .before .before .before .before .before .before .before .before .before .before .before .before .wide in
+    let at-has = c .before .before .before .before .before .before .before .before .before .before .has in
+    let at-if1 = c .before .before .before .before .before .before .before .before .before .if1 in
+    let at-put = c .before .before .before .before .before .before .before .put in
+    let a = start .args in
+    let w = at-wide .ensures in
     λ q s.
     let room = q .room in
     let fits = q .fits in
     let h : a .row .end + 1 < length (a .draft .now) = omega arith in
     let g =
     c .before .before .keep .ensures (newest (a .draft .now) (a .result) (a .row) h (q .kept))
-    (is-there (s .types) (w .0) (w .1) (sym (c .before .before .before .before .before .before .before .before .before .before .has .ensures) ∙ c .before .before .before .before .before .before .before .before .before .if1 .left))
-    (noted-put s (w .1) (c .before .before .before .before .before .before .before .put .ensures)) in
+    (is-there (s .types) (w .0) (w .1) (sym (at-has .ensures) ∙ at-if1 .left))
+    (noted-put s (w .1) (at-put .ensures)) in
     record {
       gathers =
           gathers-from _ _ _ _ _ _ _ (gathered (q .kept .list) (type (a .result) ∷ [])) _ (headed-before (a .draft .now) (a .row .end) 2 (a .result) h)
           (g .gathers);
       noted =
           λ u.
-          registered-part (types-put (s .types) (a .result) (omega arith) (c .before .before .before .before .before .before .before .put .ensures ∙ ap (putAt (a .register .now) 0) (w .0))) (c .before .before .keep .kept .1 .1 .1 .1 .1 .0)
+          registered-part (types-put (s .types) (a .result) (omega arith) (at-put .ensures ∙ ap (putAt (a .register .now) 0) (w .0))) (c .before .before .keep .kept .1 .1 .1 .1 .1 .0)
           (g .noted u);
     }
 
 has-requires : tie.Need-has-requires
 has-requires c κs =
+    let start = c .before .before .before .before in
     let w = c .before .wide .ensures .1 in
-    let room = c .before .before .before .before .pre .1 .types .room in
+    let room = start .pre .1 .types .room in
     omega arith
 
 put-requires : tie.Need-put-requires
 put-requires c κs =
-    let w = c .before .before .before .before .wide .ensures .1 in
-    let room = c .before .before .before .before .before .before .before .pre .1 .types .room in
+    let start = c .before .before .before .before .before .before .before in
+    let at-wide = c .before .before .before .before .wide in
+    let w = at-wide .ensures .1 in
+    let room = start .pre .1 .types .room in
     omega arith
 
 slice-write-draft : tie.Need-slice-write-draft
 slice-write-draft c =
-    let room = c .before .before .before .before .before .before .before .before .before .before .pre .0 .room in
-    let fits = c .before .before .before .before .before .before .before .before .before .before .pre .0 .fits in
+    let start = c .before .before .before .before .before .before .before .before .before .before in
+    let room = start .pre .0 .room in
+    let fits = start .pre .0 .fits in
     omega arith
 
 add-draft : tie.Need-add-draft
@@ -143,39 +159,49 @@ add-draft c = search needs
 
 slice-write-draft-2 : tie.Need-slice-write-draft-2
 slice-write-draft-2 c =
-    let room = c .before .before .before .before .before .before .before .before .before .before .pre .0 .room in
-    let fits = c .before .before .before .before .before .before .before .before .before .before .pre .0 .fits in
+    let start = c .before .before .before .before .before .before .before .before .before .before in
+    let room = start .pre .0 .room in
+    let fits = start .pre .0 .fits in
     simp length-set (omega arith)
 
 add-print : tie.Need-add-print
 add-print c =
-    let w = c .before .before .before .before .before .before .before .wide .ensures .1 in
+    let at-wide = c .before .before .before .before .before .before .before .wide in
+    let w = at-wide .ensures .1 in
     omega arith
 
 sub-keep : tie.Need-sub-keep
 sub-keep c =
-    let room = c .before .before .before .before .before .before .before .before .before .before .before .pre .1 .types .room in
-    let l = c .before .before .before .put .kept .0 in
+    let start = c .before .before .before .before .before .before .before .before .before .before .before in
+    let at-put = c .before .before .before .put in
+    let room = start .pre .1 .types .room in
+    let l = at-put .kept .0 in
     omega arith
 
 part-keep-start : tie.Need-part-keep-start
 part-keep-start c =
-    let room = c .before .before .before .before .before .before .before .before .before .before .before .pre .1 .types .room in
-    let l = c .before .before .before .put .kept .0 in
+    let start = c .before .before .before .before .before .before .before .before .before .before .before in
+    let at-put = c .before .before .before .put in
+    let room = start .pre .1 .types .room in
+    let l = at-put .kept .0 in
     omega arith
 
 part-keep-end : tie.Need-part-keep-end
 part-keep-end c =
-    let room = c .before .before .before .before .before .before .before .before .before .before .before .pre .1 .types .room in
-    let l = c .before .before .before .put .kept .0 in
+    let start = c .before .before .before .before .before .before .before .before .before .before .before in
+    let at-put = c .before .before .before .put in
+    let room = start .pre .1 .types .room in
+    let l = at-put .kept .0 in
     omega arith
 
 same-length-3 : tie.Need-same-length-3
 same-length-3 c =
-    let room = c .before .before .before .before .before .before .before .before .before .before .before .before .before .before .before .pre .1 .types .room in
-    let l = c .before .before .before .before .before .before .before .put .kept .0 in
-    let h : typeWords ≤ length (c .before .before .before .before .before .before .before .put .last .0) = omega arith in
-    part-long typeWords (c .before .before .before .before .before .before .before .put .last .0) h (c .before .before .keep .last .1 .1 .1 .1 .1 .0) (c .before .before .keep .kept .1 .1 .1 .1 .1 .0) ∙ l
+    let start = c .before .before .before .before .before .before .before .before .before .before .before .before .before .before .before in
+    let at-put = c .before .before .before .before .before .before .before .put in
+    let room = start .pre .1 .types .room in
+    let l = at-put .kept .0 in
+    let h : typeWords ≤ length (at-put .last .0) = omega arith in
+    part-long typeWords (at-put .last .0) h (c .before .before .keep .last .1 .1 .1 .1 .1 .0) (c .before .before .keep .kept .1 .1 .1 .1 .1 .0) ∙ l
 
 pub gather-result-spec : {M : Type 1} → statement M
 gather-result-spec =

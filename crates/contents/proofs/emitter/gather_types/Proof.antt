@@ -26,17 +26,20 @@ loop-holds c = (refl, refl, λ q s. types-start _ _ _ q s)
 
 returns : tie.Need-returns Inv-loop μ-loop
 returns c =
-    λ q s. types-all _ _ _ _ _ _ (c .before .before .loop .inv .2 q s) _ (types-past (c .before .before .before .before .before .before .args .results .now) _ _ (c .if1 .taken))
+    let start = c .before .before .before .before .before .before in
+    λ q s. types-all _ _ _ _ _ _ (c .before .before .loop .inv .2 q s) _ (types-past (start .args .results .now) _ _ (c .if1 .taken))
 
 shared-slice-read-gather-result : tie.Need-shared-slice-read-gather-result Inv-loop μ-loop
 shared-slice-read-gather-result c = search needs
 
 gather-result-requires : tie.Need-gather-result-requires Inv-loop μ-loop
 gather-result-requires c κs =
-    let p = c .before .before .before .before .before .before .before .before .before .pre in
-    let same = c .before .before .before .before .before .loop .inv .0 in
+    let start = c .before .before .before .before .before .before .before .before .before in
+    let at-loop = c .before .before .before .before .before .loop in
+    let p = start .pre in
+    let same = at-loop .inv .0 in
     let room = p .0 .room in
-    let so = c .before .before .before .before .before .loop .inv .2 (p .0) (p .1) in
+    let so = at-loop .inv .2 (p .0) (p .1) in
     (room-for _ _ _ _ _ _ so (p .0 .small) (omega arith), so .registered)
 
 enum-told : tie.Need-enum-told Inv-loop μ-loop
@@ -44,12 +47,16 @@ enum-told c = search needs
 
 returns-2 : tie.Need-returns-2 Inv-loop μ-loop
 returns-2 c =
+    let at-loop = c .before .before .before .before .before .before .before .before .before .before .before .before .loop in
+    let at-loop-test = c .before .before .before .before .before .before .before .before .before .before .before .loop-test in
+    let at-if1 = c .before .before .before .before .before .before .before .before .before .before .if1 in
+    let at-gather-result = c .before .before .before .before .before .before .gather-result in
     λ q s.
-    let same = c .before .before .before .before .before .before .before .before .before .before .before .before .loop .inv .0 in
+    let same = at-loop .inv .0 in
     let room = q .room in
-    let so = c .before .before .before .before .before .before .before .before .before .before .before .before .loop .inv .2 q s in
-    types-wide _ _ _ _ _ _ so (c .before .before .before .before .before .before .before .before .before .before .before .loop-test .taken) (c .before .before .before .before .before .before .before .before .before .before .if1 .left) _ _ _ _
-    (c .before .before .before .before .before .before .gather-result .ensures (room-for _ _ _ _ _ _ so (q .small) (omega arith)) (so .registered))
+    let so = at-loop .inv .2 q s in
+    types-wide _ _ _ _ _ _ so (at-loop-test .taken) (at-if1 .left) _ _ _ _
+    (at-gather-result .ensures (room-for _ _ _ _ _ _ so (q .small) (omega arith)) (so .registered))
     (c .enum-told .given .1)
 
 enum-known-more : tie.Need-enum-known-more Inv-loop μ-loop
@@ -62,17 +69,21 @@ loop-less : tie.Need-loop-less Inv-loop μ-loop
 loop-less c = omega arith
 
 loop-again : tie.Need-loop-again Inv-loop μ-loop
-loop-again c = (
-  search needs,
-  search needs,
-  λ q s.
-      let same = c .before .before .before .before .before .before .before .before .before .before .before .before .before .loop .inv .0 in
-      let room = q .room in
-      let so = c .before .before .before .before .before .before .before .before .before .before .before .before .before .loop .inv .2 q s in
-      types-next _ _ _ _ _ _ so (c .before .before .before .before .before .before .before .before .before .before .before .before .loop-test .taken) (c .before .before .before .before .before .before .before .before .before .before .before .if1 .left) _ _ _ _
-      (c .before .before .before .before .before .before .before .gather-result .ensures (room-for _ _ _ _ _ _ so (q .small) (omega arith)) (so .registered))
-      (c .before .more .given .1),
-)
+loop-again c =
+    let at-loop = c .before .before .before .before .before .before .before .before .before .before .before .before .before .loop in
+    let at-loop-test = c .before .before .before .before .before .before .before .before .before .before .before .before .loop-test in
+    let at-if1 = c .before .before .before .before .before .before .before .before .before .before .before .if1 in
+    let at-gather-result = c .before .before .before .before .before .before .before .gather-result in (
+      search needs,
+      search needs,
+      λ q s.
+          let same = at-loop .inv .0 in
+          let room = q .room in
+          let so = at-loop .inv .2 q s in
+          types-next _ _ _ _ _ _ so (at-loop-test .taken) (at-if1 .left) _ _ _ _
+          (at-gather-result .ensures (room-for _ _ _ _ _ _ so (q .small) (omega arith)) (so .registered))
+          (c .before .more .given .1),
+    )
 
 returns-3 : tie.Need-returns-3 Inv-loop μ-loop
 returns-3 c = λ q s. types-all _ _ _ _ _ _ (c .before .loop .inv .2 q s) _ (types-none _ _ _ (c .loop-test .left))

@@ -5,15 +5,22 @@ use Rattle.contents.proofs.joining.content_of_set.Statement.{statement}
 use Rattle.contents.proofs.joining.content_of_set.Tie as tie
 
 complete-requires : tie.Need-complete-requires
-complete-requires c κs = made-kept _ _ _ (c .before .before .before .before .before .before .gather-set .ensures (c .before .before .before .before .before .before .before .before .before .before .before .pre .0)) (c .before .before .count .given .1)
+complete-requires c κs =
+    let start = c .before .before .before .before .before .before .before .before .before .before .before in
+    let at-gather-set = c .before .before .before .before .before .before .gather-set in
+    made-kept _ _ _ (at-gather-set .ensures (start .pre .0)) (c .before .before .count .given .1)
 
 returns : tie.Need-returns
-returns c = λ q regular. made-wide _ _ _ (c .before .before .before .before .gather-set .ensures q) (c .enum-told .given .1) _
+returns c =
+    let at-gather-set = c .before .before .before .before .gather-set in
+    λ q regular. made-wide _ _ _ (at-gather-set .ensures q) (c .enum-told .given .1) _
 
 returns-2 : tie.Need-returns-2
 returns-2 c =
+    let at-gather-set = c .before .before .before .before .before .before .before .before .before .gather-set in
+    let at-count = c .before .before .before .before .before .count in
     λ q regular.
-    made-so _ _ _ (c .before .before .complete .ensures (made-kept _ _ _ (c .before .before .before .before .before .before .before .before .before .gather-set .ensures q) (c .before .before .before .before .before .count .given .1))) regular
+    made-so _ _ _ (c .before .before .complete .ensures (made-kept _ _ _ (at-gather-set .ensures q) (at-count .given .1))) regular
 
 pub content-of-set-spec : {M : Type 1} → statement M
 content-of-set-spec =

@@ -5,7 +5,9 @@ use Rattle.contents.proofs.joining.gather_content.Statement.{statement}
 use Rattle.contents.proofs.joining.gather_content.Tie as tie
 
 returns : tie.Need-returns
-returns c = λ q s. gathers-registered (c .before .before .before .before .gather .ensures q s)
+returns c =
+    let at-gather = c .before .before .before .before .gather in
+    λ q s. gathers-registered (at-gather .ensures q s)
 
 pub gather-content-spec : {M : Type 1} → statement M
 gather-content-spec =

@@ -47,13 +47,19 @@ loop-holds : tie.Need-loop-holds Inv-loop μ-loop
 loop-holds c = (omega arith, refl, refl, λ q k. so-far-none _ _ _ k)
 
 mul-if1 : tie.Need-mul-if1 Inv-loop μ-loop
-mul-if1 c = let h = c .before .before .before .before .before .before .before .pre .0 .views .few in omega arith
+mul-if1 c =
+    let start = c .before .before .before .before .before .before .before in
+    let h = start .pre .0 .views .few in omega arith
 
 array-read-if1 : tie.Need-array-read-if1 Inv-loop μ-loop
-array-read-if1 c = let h = c .before .before .before .before .before .before .before .pre .0 .views .few in omega arith
+array-read-if1 c =
+    let start = c .before .before .before .before .before .before .before in
+    let h = start .pre .0 .views .few in omega arith
 
 add-i : tie.Need-add-i Inv-loop μ-loop
-add-i c = let h = c .before .before .before .before .before .before .before .before .pre .0 .views .few in omega arith
+add-i c =
+    let start = c .before .before .before .before .before .before .before .before in
+    let h = start .pre .0 .views .few in omega arith
 
 -- the rule is of the pair, or it is of another
 of-pair : {old add : List ℕ} {v : United} {u : Table} {i p : ℕ} → Views old add v u → i < v .rules → firstIn v i ≡ p
@@ -76,28 +82,35 @@ loop-again c = (
 
 gather-rule-requires : tie.Need-gather-rule-requires Inv-loop μ-loop
 gather-rule-requires c κs =
+    let at-loop = c .before .before .before .before .loop in
+    let at-loop-test = c .before .before .before .loop-test in
     let start = c .before .before .before .before .before .before .before .before .before .before in
-    let l = c .before .before .before .before .loop .inv in
+    let l = at-loop .inv in
     let same = l .1 in
     let same-words = l .2 in
     let room = start .pre .1 .room in
     let deep = start .pre .1 .deep in
-    (start .pre .0, c .before .before .before .loop-test .taken, ready-for _ _ _ (l .3 (start .pre .0) (start .pre .1)) (start .pre .1 .small) (omega arith) (omega arith))
+    (start .pre .0, at-loop-test .taken, ready-for _ _ _ (l .3 (start .pre .0) (start .pre .1)) (start .pre .1 .small) (omega arith) (omega arith))
 
 returns : tie.Need-returns Inv-loop μ-loop
 returns c =
+    let start = c .before .before .before .before .before .before .before .before .before .before .before .before .before .before .before .before .before in
+    let at-loop = c .before .before .before .before .before .before .before .before .before .before .before .loop in
+    let at-loop-test = c .before .before .before .before .before .before .before .before .before .before .loop-test in
+    let at-if1 = c .before .before .before .before .before .before .before .before .before .if1 in
+    let at-gather-rule = c .before .before .before .before .before .before .gather-rule in
     λ q k.
-    let a = c .before .before .before .before .before .before .before .before .before .before .before .before .before .before .before .before .before .args in
-    let l = c .before .before .before .before .before .before .before .before .before .before .before .loop in
-    let h = c .before .before .before .before .before .before .before .before .before .before .loop-test .taken in
+    let a = start .args in
+    let l = at-loop in
+    let h = at-loop-test .taken in
     let same = l .inv .1 in
     let same-words = l .inv .2 in
     let room = k .room in
     let deep = k .deep in
     let s = l .inv .3 q k in
     so-far-wide _ _ _ s h _ _ _
-    (given-as _ _ _ (sym (given-on _ _ (of-pair (q .views) h (c .before .before .before .before .before .before .before .before .before .if1 .left))))
-    (c .before .before .before .before .before .before .gather-rule .ensures q (ready-for _ _ _ s (k .small) (omega arith) (omega arith))))
+    (given-as _ _ _ (sym (given-on _ _ (of-pair (q .views) h (at-if1 .left))))
+    (at-gather-rule .ensures q (ready-for _ _ _ s (k .small) (omega arith) (omega arith))))
     (c .enum-told .given .1)
     _
     _
@@ -108,28 +121,33 @@ add-i-2 : tie.Need-add-i-2 Inv-loop μ-loop
 add-i-2 c = let h = c .before .before .before .before .before .before .before .before .before .before .before .before .before .before .before .before .before .before .pre .0 .views .few in omega arith
 
 loop-again-2 : tie.Need-loop-again-2 Inv-loop μ-loop
-loop-again-2 c = (
-  omega arith,
-  search needs,
-  search needs,
-  λ q k.
-      let l = c .before .before .before .before .before .before .before .before .before .before .before .before .loop in
-      let h = c .before .before .before .before .before .before .before .before .before .before .before .loop-test .taken in
-      let same = l .inv .1 in
-      let same-words = l .inv .2 in
-      let room = k .room in
-      let deep = k .deep in
-      let s = l .inv .3 q k in
-      so-far-next _ _ _ s h _ _ _
-      (given-as _ _ _ (sym (given-on _ _ (of-pair (q .views) h (c .before .before .before .before .before .before .before .before .before .before .if1 .left))))
-      (c .before .before .before .before .before .before .before .gather-rule .ensures q (ready-for _ _ _ s (k .small) (omega arith) (omega arith))))
-      (c .before .more .given .1),
-)
+loop-again-2 c =
+    let at-loop = c .before .before .before .before .before .before .before .before .before .before .before .before .loop in
+    let at-loop-test = c .before .before .before .before .before .before .before .before .before .before .before .loop-test in
+    let at-if1 = c .before .before .before .before .before .before .before .before .before .before .if1 in
+    let at-gather-rule = c .before .before .before .before .before .before .before .gather-rule in (
+      omega arith,
+      search needs,
+      search needs,
+      λ q k.
+          let l = at-loop in
+          let h = at-loop-test .taken in
+          let same = l .inv .1 in
+          let same-words = l .inv .2 in
+          let room = k .room in
+          let deep = k .deep in
+          let s = l .inv .3 q k in
+          so-far-next _ _ _ s h _ _ _
+          (given-as _ _ _ (sym (given-on _ _ (of-pair (q .views) h (at-if1 .left))))
+          (at-gather-rule .ensures q (ready-for _ _ _ s (k .small) (omega arith) (omega arith))))
+          (c .before .more .given .1),
+    )
 
 returns-2 : tie.Need-returns-2 Inv-loop μ-loop
 returns-2 c =
+    let start = c .before .before .before .before .before .before .before in
     λ q k.
-    let a = c .before .before .before .before .before .before .before .args in
+    let a = start .args in
     let l = c .before .loop in
     so-far-all _ _ _ (l .inv .3 q k) (omega arith) _ (pair-gives (q .of) (q .table) (a .p) (a .v .rules) (q .views .rules))
 

@@ -41,7 +41,8 @@ abbrev μ-loop : tie.MeasureT-loop
 
 loop-holds : tie.Need-loop-holds Inv-loop μ-loop
 loop-holds c =
-    let room = c .before .before .before .pre .1 in
+    let start = c .before .before .before in
+    let room = start .pre .1 in
     let long = length-replicate {A = ℕ} registerLength 0 in (
       omega arith,
       refl,
@@ -59,26 +60,34 @@ loop-holds c =
     )
 
 has-requires : tie.Need-has-requires Inv-loop μ-loop
-has-requires c κs = let h = c .before .before .before .before .before .pre .0 .views .few in omega arith
+has-requires c κs =
+    let start = c .before .before .before .before .before in
+    let h = start .pre .0 .views .few in omega arith
 
 add-p : tie.Need-add-p Inv-loop μ-loop
-add-p c = let h = c .before .before .before .before .before .before .before .pre .0 .views .few in omega arith
+add-p c =
+    let start = c .before .before .before .before .before .before .before in
+    let h = start .pre .0 .views .few in omega arith
 
 loop-again : tie.Need-loop-again Inv-loop μ-loop
-loop-again c = (
-  omega arith,
-  c .before .before .before .loop .inv .1,
-  c .before .before .before .loop .inv .2,
-  λ q. so-far-skip _ _ _ (c .before .before .before .loop .inv .3 q) (c .before .before .loop-test .taken) (given-off _ _ (sym (c .before .has .ensures) ∙ not-true _ (c .if1 .taken))),
-)
+loop-again c =
+    let at-loop = c .before .before .before .loop in (
+      omega arith,
+      at-loop .inv .1,
+      at-loop .inv .2,
+      λ q. so-far-skip _ _ _ (at-loop .inv .3 q) (c .before .before .loop-test .taken) (given-off _ _ (sym (c .before .has .ensures) ∙ not-true _ (c .if1 .taken))),
+    )
 
 slice-aggregate-gather-pair : tie.Need-slice-aggregate-gather-pair Inv-loop μ-loop
-slice-aggregate-gather-pair c = sym (c .before .before .before .before .before .loop .inv .2)
+slice-aggregate-gather-pair c =
+    let at-loop = c .before .before .before .before .before .loop in
+    sym (at-loop .inv .2)
 
 gather-pair-requires : tie.Need-gather-pair-requires Inv-loop μ-loop
 gather-pair-requires c κs =
+    let at-loop = c .before .before .before .before .before .loop in
     let start = c .before .before .before .before .before .before .before .before .before in
-    let l = c .before .before .before .before .before .loop .inv in
+    let l = at-loop .inv in
     let same = l .1 in
     let long = l .2 in
     let room = start .pre .1 in
@@ -86,16 +95,21 @@ gather-pair-requires c κs =
 
 returns : tie.Need-returns Inv-loop μ-loop
 returns c =
+    let at-loop = c .before .before .before .before .before .before .before .before .before .before .before .loop in
+    let at-loop-test = c .before .before .before .before .before .before .before .before .before .before .loop-test in
+    let at-has = c .before .before .before .before .before .before .before .before .before .has in
+    let at-if1 = c .before .before .before .before .before .before .before .before .if1 in
+    let at-gather-pair = c .before .before .before .before .before .gather-pair in
     λ q.
     let start = c .before .before .before .before .before .before .before .before .before .before .before .before .before .before .before in
-    let l = c .before .before .before .before .before .before .before .before .before .before .before .loop in
+    let l = at-loop in
     let same = l .inv .1 in
     let long = l .inv .2 in
     let room = start .pre .1 in
     let s = l .inv .3 q in
-    so-far-wide _ _ _ s (c .before .before .before .before .before .before .before .before .before .before .loop-test .taken) _ _ _
-    (given-as _ _ _ (sym (given-on _ _ (sym (c .before .before .before .before .before .before .before .before .before .has .ensures) ∙ not-false _ (c .before .before .before .before .before .before .before .before .if1 .left))))
-    (c .before .before .before .before .before .gather-pair .ensures q (ready-for _ _ _ s (omega arith) (omega arith) (omega arith))))
+    so-far-wide _ _ _ s (at-loop-test .taken) _ _ _
+    (given-as _ _ _ (sym (given-on _ _ (sym (at-has .ensures) ∙ not-false _ (at-if1 .left))))
+    (at-gather-pair .ensures q (ready-for _ _ _ s (omega arith) (omega arith) (omega arith))))
     (c .enum-told .given .1)
     _
     []
@@ -107,26 +121,33 @@ add-p-2 : tie.Need-add-p-2 Inv-loop μ-loop
 add-p-2 c = let h = c .before .before .before .before .before .before .before .before .before .before .before .before .before .before .before .before .pre .0 .views .few in omega arith
 
 loop-again-2 : tie.Need-loop-again-2 Inv-loop μ-loop
-loop-again-2 c = (
-  omega arith,
-  search needs,
-  search needs,
-  λ q.
-      let l = c .before .before .before .before .before .before .before .before .before .before .before .before .loop in
-      let same = l .inv .1 in
-      let long = l .inv .2 in
-      let room = c .before .before .before .before .before .before .before .before .before .before .before .before .before .before .before .before .pre .1 in
-      let s = l .inv .3 q in
-      so-far-next _ _ _ s (c .before .before .before .before .before .before .before .before .before .before .before .loop-test .taken) _ _ _
-      (given-as _ _ _ (sym (given-on _ _ (sym (c .before .before .before .before .before .before .before .before .before .before .has .ensures) ∙ not-false _ (c .before .before .before .before .before .before .before .before .before .if1 .left))))
-      (c .before .before .before .before .before .before .gather-pair .ensures q (ready-for _ _ _ s (omega arith) (omega arith) (omega arith))))
-      (c .before .more .given .1),
-)
+loop-again-2 c =
+    let start = c .before .before .before .before .before .before .before .before .before .before .before .before .before .before .before .before in
+    let at-loop = c .before .before .before .before .before .before .before .before .before .before .before .before .loop in
+    let at-loop-test = c .before .before .before .before .before .before .before .before .before .before .before .loop-test in
+    let at-has = c .before .before .before .before .before .before .before .before .before .before .has in
+    let at-if1 = c .before .before .before .before .before .before .before .before .before .if1 in
+    let at-gather-pair = c .before .before .before .before .before .before .gather-pair in (
+      omega arith,
+      search needs,
+      search needs,
+      λ q.
+          let l = at-loop in
+          let same = l .inv .1 in
+          let long = l .inv .2 in
+          let room = start .pre .1 in
+          let s = l .inv .3 q in
+          so-far-next _ _ _ s (at-loop-test .taken) _ _ _
+          (given-as _ _ _ (sym (given-on _ _ (sym (at-has .ensures) ∙ not-false _ (at-if1 .left))))
+          (at-gather-pair .ensures q (ready-for _ _ _ s (omega arith) (omega arith) (omega arith))))
+          (c .before .more .given .1),
+    )
 
 returns-2 : tie.Need-returns-2 Inv-loop μ-loop
 returns-2 c =
+    let start = c .before .before .before .before .before in
     λ q.
-    let a = c .before .before .before .before .before .args in
+    let a = start .args in
     so-far-all _ _ _ (c .before .loop .inv .3 q) (omega arith) _
     (set-gives (q .of) (q .table) (member (a .set .words) 0) (a .v .rules) (q .views .rules))
     .gathers

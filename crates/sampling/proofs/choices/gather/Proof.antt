@@ -30,7 +30,8 @@ abbrev μ-loop : tie.MeasureT-loop
 
 loop-holds : tie.Need-loop-holds Inv-loop μ-loop
 loop-holds c =
-    let a = c .before .before .before .before .args in (
+    let start = c .before .before .before .before in
+    let a = start .args in (
       among-start (a .parents .now) (a .types .now) (a .nodes) (a .k) (a .scratch .now) (omega arith),
       omega arith,
       omega arith,
@@ -40,15 +41,21 @@ loop-holds c =
     )
 
 mul-if1 : tie.Need-mul-if1 Inv-loop μ-loop
-mul-if1 c = let h = c .before .before .before .before .before .before .pre .2 (c .before .loop .i) (c .loop-test .taken) .fits in omega arith
+mul-if1 c =
+    let start = c .before .before .before .before .before .before in
+    let h = start .pre .2 (c .before .loop .i) (c .loop-test .taken) .fits in omega arith
 
 shared-slice-read-if1 : tie.Need-shared-slice-read-if1 Inv-loop μ-loop
-shared-slice-read-if1 c = let h = c .before .before .before .before .before .before .before .pre .2 (c .before .before .loop .i) (c .before .loop-test .taken) .types-held in omega arith
+shared-slice-read-if1 c =
+    let start = c .before .before .before .before .before .before .before in
+    let h = start .pre .2 (c .before .before .loop .i) (c .before .loop-test .taken) .types-held in omega arith
 
 loop-again : tie.Need-loop-again Inv-loop μ-loop
 loop-again c =
-    let a = c .before .before .before .before .before .before .before .before .args in
-    let l = c .before .before .before .loop in
+    let start = c .before .before .before .before .before .before .before .before in
+    let at-loop = c .before .before .before .loop in
+    let a = start .args in
+    let l = at-loop in
     let same = among-skip (a .parents .now) (a .types .now) (a .nodes) (a .k) (l .i) (c .if1 .taken) in (
       subst (λ (ds : List Content). Row (l .scratch) 4 (l .count) ds (l .end)) same (l .inv .0),
       l .inv .1,
@@ -59,57 +66,83 @@ loop-again c =
     )
 
 mul-kids : tie.Need-mul-kids Inv-loop μ-loop
-mul-kids c = let h = c .before .before .before .before .before .before .before .before .pre .2 (c .before .before .before .loop .i) (c .before .before .loop-test .taken) .fits in omega arith
+mul-kids c =
+    let start = c .before .before .before .before .before .before .before .before in
+    let at-loop = c .before .before .before .loop in
+    let h = start .pre .2 (at-loop .i) (c .before .before .loop-test .taken) .fits in omega arith
 
 shared-slice-read-kids : tie.Need-shared-slice-read-kids Inv-loop μ-loop
 shared-slice-read-kids c = omega arith
 
 cast-kids : tie.Need-cast-kids Inv-loop μ-loop
-cast-kids c = omega (arith, c .shared-slice-known5 .given (c .before .before .before .before .loop .i))
+cast-kids c =
+    let at-loop = c .before .before .before .before .loop in
+    omega (arith, c .shared-slice-known5 .given (at-loop .i))
 
 slice-aggregate-settle : tie.Need-slice-aggregate-settle Inv-loop μ-loop
-slice-aggregate-settle c = sym (c .before .before .before .before .before .before .before .before .before .before .loop .inv .5)
+slice-aggregate-settle c =
+    let at-loop = c .before .before .before .before .before .before .before .before .before .before .loop in
+    sym (at-loop .inv .5)
 
 put-sequence-requires : tie.Need-put-sequence-requires Inv-loop μ-loop
 put-sequence-requires c κs =
-    let l = c .before .before .before .before .before .loop in
+    let start = c .before .before .before .before .before .before .before .before .before .before in
+    let at-loop = c .before .before .before .before .before .loop in
+    let at-loop-test = c .before .before .before .before .loop-test in
+    let l = at-loop in
     let w = l .inv .3 in
-    let room = c .before .before .before .before .before .before .before .before .before .before .pre .0 in
-    let kids = c .before .before .before .before .before .before .before .before .before .before .pre .2 (l .i) (c .before .before .before .before .loop-test .taken) in
+    let room = start .pre .0 in
+    let kids = start .pre .2 (l .i) (at-loop-test .taken) in
     let few = kids .few in
     (kids, omega arith)
 
 settle-requires : tie.Need-settle-requires Inv-loop μ-loop
 settle-requires c κs =
-    let a = c .before .before .before .before .before .before .before .before .before .before .before .before .before .before .before .args in
-    let l = c .before .before .before .before .before .before .before .before .before .before .loop in
-    let newest = newest-is (a .parents .now) (a .types .now) (a .nodes) (a .k) (l .i) (c .before .before .before .before .put-sequence .ensures) (record { list = _; row = l .inv .0 }) in
+    let start = c .before .before .before .before .before .before .before .before .before .before .before .before .before .before .before in
+    let at-loop = c .before .before .before .before .before .before .before .before .before .before .loop in
+    let at-put-sequence = c .before .before .before .before .put-sequence in
+    let a = start .args in
+    let l = at-loop in
+    let newest = newest-is (a .parents .now) (a .types .now) (a .nodes) (a .k) (l .i) (at-put-sequence .ensures) (record { list = _; row = l .inv .0 }) in
     ((newest, l .inv .4), l .inv .1, omega arith)
 
 returns : tie.Need-returns Inv-loop μ-loop
 returns c =
-    let a = c .before .before .before .before .before .before .before .before .before .before .before .before .before .before .before .before .before .before .before .args in
-    let l = c .before .before .before .before .before .before .before .before .before .before .before .before .before .before .loop in
-    let newest = newest-is (a .parents .now) (a .types .now) (a .nodes) (a .k) (l .i) (c .before .before .before .before .before .before .before .before .put-sequence .ensures) (record { list = _; row = l .inv .0 }) in
-    gather-stop (a .parents .now) (a .types .now) (a .nodes) (a .k) _ _ _ (l .count) (l .end) (l .i) (c .before .before .before .before .before .before .before .before .before .before .before .if1 .left) (c .before .before .before .settle .result)
-    (c .before .before .before .settle .ensures newest (l .inv .4))
+    let start = c .before .before .before .before .before .before .before .before .before .before .before .before .before .before .before .before .before .before .before in
+    let at-loop = c .before .before .before .before .before .before .before .before .before .before .before .before .before .before .loop in
+    let at-loop-test = c .before .before .before .before .before .before .before .before .before .before .before .before .before .loop-test in
+    let at-if1 = c .before .before .before .before .before .before .before .before .before .before .before .if1 in
+    let at-put-sequence = c .before .before .before .before .before .before .before .before .put-sequence in
+    let at-settle = c .before .before .before .settle in
+    let a = start .args in
+    let l = at-loop in
+    let newest = newest-is (a .parents .now) (a .types .now) (a .nodes) (a .k) (l .i) (at-put-sequence .ensures) (record { list = _; row = l .inv .0 }) in
+    gather-stop (a .parents .now) (a .types .now) (a .nodes) (a .k) _ _ _ (l .count) (l .end) (l .i) (at-if1 .left) (at-settle .result)
+    (at-settle .ensures newest (l .inv .4))
     (c .enum-told .given .1)
-    (c .before .before .before .before .before .before .before .before .before .before .before .before .before .loop-test .taken)
+    (at-loop-test .taken)
 
 loop-again-2 : tie.Need-loop-again-2 Inv-loop μ-loop
 loop-again-2 c =
-    let a = c .before .before .before .before .before .before .before .before .before .before .before .before .before .before .before .before .before .before .before .before .args in
-    let l = c .before .before .before .before .before .before .before .before .before .before .before .before .before .before .before .loop in
-    let newest = newest-is (a .parents .now) (a .types .now) (a .nodes) (a .k) (l .i) (c .before .before .before .before .before .before .before .before .before .put-sequence .ensures) (record { list = _; row = l .inv .0 }) in
+    let start = c .before .before .before .before .before .before .before .before .before .before .before .before .before .before .before .before .before .before .before .before in
+    let at-loop = c .before .before .before .before .before .before .before .before .before .before .before .before .before .before .before .loop in
+    let at-if1 = c .before .before .before .before .before .before .before .before .before .before .before .before .if1 in
+    let at-put-sequence = c .before .before .before .before .before .before .before .before .before .put-sequence in
+    let at-settle = c .before .before .before .before .settle in
+    let a = start .args in
+    let l = at-loop in
+    let newest = newest-is (a .parents .now) (a .types .now) (a .nodes) (a .k) (l .i) (at-put-sequence .ensures) (record { list = _; row = l .inv .0 }) in
     let r =
-    gather-next (a .parents .now) (a .types .now) (a .nodes) (a .k) _ _ _ (l .count) (l .end) (l .i) (c .before .before .before .before .before .before .before .before .before .before .before .before .if1 .left) (c .before .before .before .before .settle .result)
-    (c .before .before .before .before .settle .ensures newest (l .inv .4))
+    gather-next (a .parents .now) (a .types .now) (a .nodes) (a .k) _ _ _ (l .count) (l .end) (l .i) (at-if1 .left) (at-settle .result)
+    (at-settle .ensures newest (l .inv .4))
     (c .before .more .given .1) in
+    let h = c .before .before .before .before .before .before .before .before .before .before .before .before .before .before .loop-test .taken in
     (r .0, r .1, omega arith, search needs, r .2, search needs)
 
 returns-2 : tie.Need-returns-2 Inv-loop μ-loop
 returns-2 c =
-    let a = c .before .before .before .before .before .before .args in
+    let start = c .before .before .before .before .before .before in
+    let a = start .args in
     let l = c .before .loop in
     gather-all (a .parents .now) (a .types .now) (a .nodes) (a .k) _ (l .inv .0) (l .inv .1) (omega arith)
 
