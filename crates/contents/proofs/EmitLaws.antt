@@ -65,7 +65,7 @@ use Rattle.contents.proofs.WideLaws.{
   wide-sequence,
   wide-single,
 }
-use Rattle.contents.proofs.NoteLaws.{noted-front, partFrom, withPart}
+use Rattle.contents.proofs.NoteLaws.{noted-front, lentFrom, withLent}
 use Rattle.contents.proofs.KeptLaws.{row-count}
 use Rattle.contents.proofs.GatherLaws.{
   newest-of,
@@ -761,9 +761,9 @@ module _ {s : List ℕ} {at : ℕ} {types from results d : List ℕ} {row : Oper
 
     -- neither a type nor a choice
     pub plain-gives : (getD s at 0 ≡ 2 → ⊥) → (getD s at 0 ≡ 4 → ⊥) → {register part d' : List ℕ} {o : Gathering}
-        → Registered register (q .kept .list) → length part ≡ length (partFrom typeWords register)
+        → Registered register (q .kept .list) → length part ≡ length (lentFrom typeWords register)
         → GathersWith (Noted part) d d' row (q .there .next) (gathered (q .kept .list) sourceGives) o
-        → GathersWith (Registered (withPart typeWords register part)) d d' row (q .there .next) (gathered (q .kept .list) sourceGives) o
+        → GathersWith (Registered (withLent typeWords register part)) d d' row (q .there .next) (gathered (q .kept .list) sourceGives) o
     plain-gives h k {register} {part} y l g =
         record {
           gathers = g .gathers;

@@ -2,7 +2,7 @@
 --   print-small   a fingerprint is below `prints`; fold-next, fold-done, print-short, print-long : it is folded byte by byte
 --   note-print, note-before : what a note holds
 --   noted-none, noted-more, noted-front : no operand yet; one more; the words after a row do not matter
---   partFrom, withPart, part-is, part-words, part-after, part-before, part-long : words lent from a place on, and as they come back
+--   lentFrom, withLent, part-is, part-words, part-after, part-before, part-long : words lent from a place on, and as they come back
 --   no-upto       too large is no list of operands
 use Prim.Native.Nat.{ℕ, suc, _+_, _-_, _*_, _/_, _%_, _≤_, _<_}
 use native.Mathlib.Omega.{arith}
@@ -113,23 +113,23 @@ module _ (notes : List ℕ) (ds : List Content) (s : Noted notes ds) where
       }
 
 -- the part of some words that is lent from a place on, and the words with that part as it comes back
-abbrev pub partFrom : ℕ → List ℕ → List ℕ
-partFrom n l = take (length l - n) (drop n l)
+abbrev pub lentFrom : ℕ → List ℕ → List ℕ
+lentFrom n l = take (length l - n) (drop n l)
 
-abbrev pub withPart : (n : ℕ) (l part : List ℕ) → List ℕ
-withPart n l part = take n l ++ (part ++ drop (length l - n) (drop n l))
+abbrev pub withLent : (n : ℕ) (l part : List ℕ) → List ℕ
+withLent n l part = take n l ++ (part ++ drop (length l - n) (drop n l))
 
 module _ (n : ℕ) (l : List ℕ) (h : n ≤ length l) where
-  pub part-is : partFrom n l ≡ drop n l
+  pub part-is : lentFrom n l ≡ drop n l
   part-is =
       let d = length-drop n l in
       take-all (length l - n) (drop n l) (omega arith)
 
-  pub part-words : length (partFrom n l) ≡ length l - n
+  pub part-words : length (lentFrom n l) ≡ length l - n
   part-words = ap length part-is ∙ length-drop n l
 
-  module _ (part : List ℕ) (e : length part ≡ length (partFrom n l)) where
-    pub part-after : drop n (withPart n l part) ≡ part
+  module _ (part : List ℕ) (e : length part ≡ length (lentFrom n l)) where
+    pub part-after : drop n (withLent n l part) ≡ part
     part-after =
         let d = length-drop n l in
         let z : length (drop n l) ≤ length l - n = omega arith in
@@ -137,10 +137,10 @@ module _ (n : ℕ) (l : List ℕ) (h : n ≤ length l) where
         ∙ ap (λ (r : List ℕ). part ++ r) (drop-of-length-le (drop n l) z)
         ∙ append-nil part
 
-    pub part-before : take n (withPart n l part) ≡ take n l
+    pub part-before : take n (withLent n l part) ≡ take n l
     part-before = take-at (take n l) (part ++ drop (length l - n) (drop n l)) n (length-take-le n l h)
 
-    pub part-long : length (withPart n l part) ≡ length l
+    pub part-long : length (withLent n l part) ≡ length l
     part-long =
         let d = length-drop n l in
         let r = length-drop (length l - n) (drop n l) in

@@ -45,7 +45,7 @@ use Rattle.contents.specs.declared.drafts.Gathering.the-variants.{TooLar
 use Rattle.contents.specs.Drafts.{headedLength, reaching, Row, OperandsAdded, Gathers, GathersWith}
 use Rattle.contents.specs.Notes.{Noted, typeWords, TypesKept, Registered, rowWords}
 use Rattle.contents.specs.Emitting.{RoomForMore}
-use Rattle.contents.proofs.NoteLaws.{noted-none, partFrom, withPart, part-is, part-after, part-before, part-long}
+use Rattle.contents.proofs.NoteLaws.{noted-none, lentFrom, withLent, part-is, part-after, part-before, part-long}
 use Rattle.contents.proofs.GatherLaws.{gathers-then, told-large, told-upto, first-wide, with-as, with-large, typesFrom, types-first}
 
 -- an equal one is among what is gathered just where it was there or was given
@@ -131,8 +131,8 @@ registered-zeros n h =
       noted = noted-none (drop typeWords zeros) (omega arith);
     }
 
-pub registered-part : {register part : List ℕ} {ds : List Content} → TypesKept register ds → length part ≡ length (partFrom typeWords register)
-    → Noted part ds → Registered (withPart typeWords register part) ds
+pub registered-part : {register part : List ℕ} {ds : List Content} → TypesKept register ds → length part ≡ length (lentFrom typeWords register)
+    → Noted part ds → Registered (withLent typeWords register part) ds
 registered-part {register} {part} {ds} types e noted =
     let h = types .room in
     let l = part-long typeWords register h part e in
@@ -142,7 +142,7 @@ registered-part {register} {part} {ds} types e noted =
     }
 
 -- the notes that are lent
-pub noted-part : {register : List ℕ} {ds : List Content} → Registered register ds → Noted (partFrom typeWords register) ds
+pub noted-part : {register : List ℕ} {ds : List Content} → Registered register ds → Noted (lentFrom typeWords register) ds
 noted-part {register} {ds} s = subst (λ (w : List ℕ). Noted w ds) (sym (part-is typeWords register (s .types .room))) (s .noted)
 
 module _ {words : List ℕ} {ds : List Content} (s : TypesKept words ds) where

@@ -1,6 +1,6 @@
 -- The lines of a table that was read:
 --   name-stands, name-size : a label's name ; content-asks, content-put, content-size : a rule's content
---   rule-type-is, rule-label-is, line-joined : a rule's line ; start-line-size : a start's line ; joined-next, lines-next : one line more
+--   rule-type-is, rule-label-is, line-joined : a rule's line ; start-line-size : a start's line ; joined-place, lines-next : one line more
 use Prim.Native.Nat.{ℕ, _+_, _-_, _≤_, _<_}
 use native.Mathlib.Omega.{arith}
 use native.Mathlib.Numerals.{add-one}
@@ -29,9 +29,9 @@ use Rattle.lister_lines.specs.Printing.{Printable, Printed}
 use Rattle.lister_lines.proofs.DecimalLaws.{type-size}
 use Rattle.lister_lines.proofs.RoomLaws.{content-short}
 
-pub joined-next : {A : Type 0} (f : A → Text) (xs : List A) (i : ℕ) (d : A) → i < length xs
+pub joined-place : {A : Type 0} (f : A → Text) (xs : List A) (i : ℕ) (d : A) → i < length xs
     → joinedOf f (take i xs) ++ f (getD xs i d) ≡ joinedOf f (take (i + 1) xs)
-joined-next f xs i d h =
+joined-place f xs i d h =
     sym (ap (λ (n : ℕ). joinedOf f (take n xs)) (add-one i) ∙ ap (joinedOf f) (take-suc xs i d h) ∙ joined-end f (take i xs) (getD xs i d))
 
 module _ {s : List ℕ} {index : TableIndex} (f : SomeHeld standard asciiClasses s index) where
@@ -106,7 +106,7 @@ module _ {s : List ℕ} {index : TableIndex} (f : SomeHeld standard asciiClasses
 
     pub lines-next : joinedOf (ruleLine g) (take i (g .rules)) ++ ruleLine g (ruleNumbered g i) ≡ joinedOf (ruleLine g) (take (i + 1) (g .rules))
     lines-next =
-        joined-next (ruleLine g) (g .rules) i (record { type = 0; label = 0; content = none }) (omega (arith, f .held .indexes .rules))
+        joined-place (ruleLine g) (g .rules) i (record { type = 0; label = 0; content = none }) (omega (arith, f .held .indexes .rules))
 
 -- the parts of a rule's line
 pub line-joined : (g : Table) (x : Rule) (k l : ℕ) {before : List ℕ} {at : ℕ} {after : List ℕ} {end : ℕ} → k ≡ x .type → l ≡ x .label

@@ -38,15 +38,15 @@ module _ {A : Type 0} where
   never-given o r a p q = let z : _≡_ {A = ℕ} 0 1 = cc in omega arith
 
 -- the outcome that an answer about bytes written is of
-pub was-written : (o : Outcome (List ℕ)) (n : ℕ) → written o ≡ Length n → (bytes : List ℕ) × (o ≡ given bytes) × (n ≡ length bytes)
+pub written-length : (o : Outcome (List ℕ)) (n : ℕ) → written o ≡ Length n → (bytes : List ℕ) × (o ≡ given bytes) × (n ≡ length bytes)
 unfolding written
-was-written (given bytes) n e = (bytes, refl, cc)
-was-written (refused r) n e = let z : _≡_ {A = ℕ} 0 1 = cc in absurd (omega arith)
+written-length (given bytes) n e = (bytes, refl, cc)
+written-length (refused r) n e = let z : _≡_ {A = ℕ} 0 1 = cc in absurd (omega arith)
 
-pub was-unwritten : (o : Outcome (List ℕ)) (r : Refusal) → written o ≡ Unwritten r → o ≡ refused r
+pub written-refused : (o : Outcome (List ℕ)) (r : Refusal) → written o ≡ Unwritten r → o ≡ refused r
 unfolding written
-was-unwritten (given bytes) r e = let z : _≡_ {A = ℕ} 0 1 = cc in absurd (omega arith)
-was-unwritten (refused q) r e = cc
+written-refused (given bytes) r e = let z : _≡_ {A = ℕ} 0 1 = cc in absurd (omega arith)
+written-refused (refused q) r e = cc
 
 -- two readings, a step with both, and the last step apart
 pub both-then-last : {A B C D : Type 0} (x : Outcome A) (y : Outcome B) (w : A → B → Outcome C) (k : C → Outcome D)

@@ -34,7 +34,7 @@ use Rattle.theory.proofs.lists.BoolLaws.{or-false}
 use Rattle.theory.proofs.bytes.FieldBytes.{fields-empty, fields-tag, fields-half, fields-front, fields-past}
 use Rattle.reader.specs.DocumentNodes.{outcomeOf}
 use Rattle.reader.specs.DocumentSteps.{endAnswer, badCounts, Sized, restOf, restWith}
-use Rattle.reader.proofs.FieldReading.{part-of}
+use Rattle.reader.proofs.FieldReading.{slice-part}
 
 -- a list is empty when its length is 0
 empty-length : {A : Type 0} (l : List A) → isEmpty l ≡ eqb (length l) 0
@@ -231,7 +231,7 @@ module _ (s : List ℕ) (from to : ℕ) (order : from ≤ to) (within : to ≤ l
       let whole : to ≡ from + 1 + (to - (from + 1)) = omega arith in
       slice-cons from to s 0 (omega arith) within
       ∙ ap₂ (λ (f t : ℕ). getD s from 0 ∷ slice f t s) (sym (add-one from)) whole
-      ∙ ap (λ (l : List ℕ). getD s from 0 ∷ l) (part-of (from + 1) (to - (from + 1)) s (omega arith))
+      ∙ ap (λ (l : List ℕ). getD s from 0 ∷ l) (slice-part (from + 1) (to - (from + 1)) s (omega arith))
 
   name-length : 1 ≤ to - from → length name ≡ to - (from + 1)
   name-length h = let d = length-drop (from + 1) s in length-take-le (to - (from + 1)) (drop (from + 1) s) (omega arith)

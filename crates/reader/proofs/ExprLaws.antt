@@ -56,7 +56,7 @@ use Rattle.theory.proofs.contents.ContentBytes.{
   unknown-operator,
 }
 use Rattle.reader.specs.ExprAt.{Placed, _upTo_, placed, inFront, exprAt, exprsAt}
-use Rattle.reader.proofs.FieldReading.{part-of, from-place, from-place-two}
+use Rattle.reader.proofs.FieldReading.{slice-part, from-place, from-place-two}
 
 -- the last byte
 last-place : (s : List ℕ) (at : ℕ) → at + 1 ≡ length s → drop at s ≡ getD s at 0 ∷ []
@@ -419,12 +419,12 @@ written-cut k s at bytes next w h =
     record {
       bytes-from =
           ap (λ (j : ℕ). drop at (take j s)) from-at
-          ∙ part-of at (length bytes + (k - next)) s (omega arith)
+          ∙ slice-part at (length bytes + (k - next)) s (omega arith)
           ∙ ap (take (length bytes + (k - next))) (w .bytes-from)
           ∙ take-append-add bytes (drop next s) (k - next)
           ∙ ap
           (λ (x : List ℕ). bytes ++ x)
-          (sym (part-of next (k - next) s i) ∙ ap (λ (j : ℕ). drop next (take j s)) from-next);
+          (sym (slice-part next (k - next) s i) ∙ ap (λ (j : ℕ). drop next (take j s)) from-next);
       next-is = n;
       inside = omega arith;
     }

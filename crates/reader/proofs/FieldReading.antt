@@ -32,8 +32,8 @@ module _ (s : List ℕ) (at : ℕ) where
   at-found k = let h : at < length s = omega arith in rw (lt-leb (length s) at h, le-leb (at + 3 + sizeAt s at) (length s) k, fieldAt)
 
 -- the part of a list that begins at a place, by its length
-pub part-of : {A : Type 0} (f n : ℕ) (l : List A) → f ≤ length l → slice f (f + n) l ≡ take n (drop f l)
-part-of f n l h = ap (drop f) (take-add f n l) ∙ drop-at (take f l) (take n (drop f l)) f (length-take-le f l h)
+pub slice-part : {A : Type 0} (f n : ℕ) (l : List A) → f ≤ length l → slice f (f + n) l ≡ take n (drop f l)
+slice-part f n l h = ap (drop f) (take-add f n l) ∙ drop-at (take f l) (take n (drop f l)) f (length-take-le f l h)
 
 -- the bytes of a field
 pub field-length : (tag : ℕ) (value : List ℕ) → length (fieldBytes tag value) ≡ 3 + length value
@@ -83,7 +83,7 @@ module _ (s : List ℕ) (at : ℕ) where
       ∙ fields-front (getD s at 0) (getD s (at + 1) 0) (getD s (at + 2) 0) (drop (at + 3) s) (omega arith)
       ∙ ap₂
       (λ (v left : List ℕ). record { tag = getD s at 0; value = v } then fieldsOf left)
-      (sym (part-of (at + 3) n s (omega arith)))
+      (sym (slice-part (at + 3) n s (omega arith)))
       (drop-drop n (at + 3) s)
 
 -- a field was found at a place

@@ -22,14 +22,14 @@ use Rattle.theory.proofs.bytes.OutcomeLaws.{no-fault}
 use Rattle.theory.proofs.bytes.ReadSteps.{empty-is}
 use Rattle.reader.specs.TableIndex.{part, Inside}
 use Rattle.reader.proofs.AnswerLaws.{fault}
-use Rattle.reader.proofs.FieldReading.{part-of}
+use Rattle.reader.proofs.FieldReading.{slice-part}
 
 none-of : {A : Type 0} (xs : List A) → isEmpty xs ≡ true → length xs ≡ 0
 none-of xs e = ap length (empty-is xs e)
 
-pub is-none : {A : Type 0} (xs : List A) → length xs ≡ 0 → isEmpty xs ≡ true
-is-none [] e = refl
-is-none (x ∷ xs) e = absurd (omega arith)
+pub is-empty : {A : Type 0} (xs : List A) → length xs ≡ 0 → isEmpty xs ≡ true
+is-empty [] e = refl
+is-empty (x ∷ xs) e = absurd (omega arith)
 
 pub is-some : {A : Type 0} (xs : List A) → 0 < length xs → isEmpty xs ≡ false
 is-some [] h = absurd (omega arith)
@@ -64,7 +64,7 @@ module _ (lim : Limits) (classes : Classes) (g : Table) (value : List ℕ) where
       (and-intro
       first
       long
-      (and-intro (isEmpty (g .starts)) (isEmpty (g .rules)) (is-none (g .starts) (h .no-starts)) (is-none (g .rules) (h .no-rules)))
+      (and-intro (isEmpty (g .starts)) (isEmpty (g .rules)) (is-empty (g .starts) (h .no-starts)) (is-empty (g .rules) (h .no-rules)))
       (le-leb 1 (length value) (h .long)))
       (le-leb (length value) (lim .name) (h .short))
 
@@ -128,7 +128,7 @@ module _ (lim : Limits) (g : Table) where
 
     module _ (no-rules : length (g .rules) ≡ 0) where
       in-time : {B : Type 0} (next : Outcome B) → (turnBack (not (isEmpty (g .rules))) BadField >> next) ≡ next
-      in-time next = no-fault _ BadField next (ap not (is-none (g .rules) no-rules))
+      in-time next = no-fault _ BadField next (ap not (is-empty (g .rules) no-rules))
 
       pub start-repeated : isIn k (g .starts) ≡ true → readStart lim g (k ∷ []) ≡ refused Repeated
       unfolding readStart
@@ -238,4 +238,4 @@ module _ (s : List ℕ) where
   pub part-slice : (from to : ℕ) → Inside s from to → slice from to s ≡ part s from to
   part-slice from to h =
       let e : to ≡ from + (to - from) = omega arith in
-      ap (λ (n : ℕ). slice from n s) e ∙ part-of from (to - from) s (omega arith)
+      ap (λ (n : ℕ). slice from n s) e ∙ slice-part from (to - from) s (omega arith)

@@ -29,7 +29,7 @@ use Rattle.reader.specs.FieldAt.{fieldAt}
 use Rattle.reader.specs.TableIndex.{part, Inside, Indexes, TableIndexed, Reads, endOutcome}
 use Rattle.reader.proofs.AnswerLaws.{fault, readable, unreadable, was-readable, was-unreadable, never-given}
 use Rattle.reader.proofs.FieldReading.{FoundField, field-none, field-past}
-use Rattle.reader.proofs.TableFaults.{is-none, is-some, part-size, part-slice}
+use Rattle.reader.proofs.TableFaults.{is-empty, is-some, part-size, part-slice}
 use Rattle.reader.proofs.TableSteps.{refused-reads}
 
 -- which of the three a field is, by its tag
@@ -158,7 +158,7 @@ module _ (s : List ℕ) (from to : ℕ) (h : Inside s from to) (g : Table) where
 
   module _ (e : from ≡ to) where
     no-value : {B : Type 0} (next : Outcome B) → (turnBack (not (isEmpty (part s from to))) BadField >> next) ≡ next
-    no-value next = no-fault _ BadField next (ap not (is-none (part s from to) (let size = part-size s from to h in omega arith)))
+    no-value next = no-fault _ BadField next (ap not (is-empty (part s from to) (let size = part-size s from to h in omega arith)))
 
     pub end-with-more : (to ≡ length s → ⊥) → reading (endOutcome g (part s from to) (fieldsOf (drop to s))) ≡ Unreadable BytesAfterEnd
     unfolding ending

@@ -21,15 +21,15 @@ pub made-stop : (d : List ℕ) (c : Content) (r : Drafted) {stop : ℕ} → Cont
     → (exprAt d 2 ≡ just (c upTo stop)) × (stop ≤ ruleEnd) × (contentTooLarge standard c ≡ false)
 made-stop d c r g e = subst (λ (x : Drafted). ContentMade d c x) e g
 
-pub made-over : (d : List ℕ) (c : Content) (r : Drafted) → ContentMade d c r → r ≡ TooLarge → contentTooLarge standard c ≡ true
-made-over d c r g e = subst (λ (x : Drafted). ContentMade d c x) e g
+pub drafted-over : (d : List ℕ) (c : Content) (r : Drafted) → ContentMade d c r → r ≡ TooLarge → contentTooLarge standard c ≡ true
+drafted-over d c r g e = subst (λ (x : Drafted). ContentMade d c x) e g
 
-pub rule-value : (d : List ℕ) (k l stop : ℕ) (c : Content) → exprAt d 2 ≡ just (c upTo stop)
+pub drafted-rule : (d : List ℕ) (k l stop : ℕ) (c : Content) → exprAt d 2 ≡ just (c upTo stop)
     → take (stop - 0) (set (set d 0 k) 1 l) ≡ ruleBytes (record { type = k; label = l; content = c })
 unfolding ruleBytes
-rule-value [] k l stop c e = let h = expr-forward [] 2 c stop e in absurd (omega arith)
-rule-value (x ∷ []) k l stop c e = let h = expr-forward (x ∷ []) 2 c stop e in absurd (omega arith)
-rule-value (x ∷ y ∷ rest) k l stop c e =
+drafted-rule [] k l stop c e = let h = expr-forward [] 2 c stop e in absurd (omega arith)
+drafted-rule (x ∷ []) k l stop c e = let h = expr-forward (x ∷ []) 2 c stop e in absurd (omega arith)
+drafted-rule (x ∷ y ∷ rest) k l stop c e =
     let h = expr-forward (x ∷ y ∷ rest) 2 c stop e in
     let z : stop - 0 ≡ suc (suc (stop - 2)) = omega arith in
     ap (λ (n : ℕ). take n (k ∷ l ∷ rest)) z ∙ ap (λ (b : List ℕ). k ∷ l ∷ b) (expr-bytes (x ∷ y ∷ rest) 2 c stop e)

@@ -37,7 +37,7 @@ use Rattle.reader.specs.DocumentNodes.{DocumentReads, nodesIn}
 use Rattle.reader.specs.declared.tables.TableRead.{TableRead}
 use Rattle.reader.specs.declared.documents.DocumentRead.{DocumentRead}
 use Rattle.reader.specs.Held.{Held}
-use Rattle.reader.proofs.AnswerLaws.{fault, never-given, was-written, was-unwritten}
+use Rattle.reader.proofs.AnswerLaws.{fault, never-given, written-length, written-refused}
 use Rattle.reader.proofs.DocumentAnswers.{document-tree, nodes-read, document-unread}
 use Rattle.reader.proofs.TableFoundLaws.{TableFound, table-found, table-refused}
 use Rattle.writer.specs.declared.writing.Drafted.{Drafted}
@@ -90,12 +90,12 @@ module _ (o : Outcome Table) (draft : List ℕ) where
   module _ (answer : Written) (i : InDraft o draft answer) where
     pub was-made : (n : ℕ) → answer ≡ Length n → (g : Table) × (o ≡ given g) × (n ≡ length (tableBytes g))
     was-made n e =
-        let (bytes, p, size) = was-written (bytesOf o) n (sym (i .made-is) ∙ e) in
+        let (bytes, p, size) = written-length (bytesOf o) n (sym (i .made-is) ∙ e) in
         let (g, q, same) = was-given o (λ g. given (tableBytes g)) bytes p in
         (g, q, size ∙ ap length (sym (given-eq same)))
 
     pub was-unmade : (q : Refusal) → answer ≡ Refused q → o ≡ refused q
-    was-unmade q e = bytes-refused o q (was-unwritten (bytesOf o) q (sym (i .made-is) ∙ e))
+    was-unmade q e = bytes-refused o q (written-refused (bytesOf o) q (sym (i .made-is) ∙ e))
 
     pub made-fits : (n : ℕ) → answer ≡ Length n → n ≤ length draft
     made-fits n e =

@@ -59,8 +59,8 @@ use Rattle.theory.proofs.bytes.NodeSteps.{NodeRead, node-was, end-field
 use Rattle.theory.proofs.bytes.DocumentBytes.{tree-of-nodes}
 
 -- the node that a visit comes to
-abbrev pub nodeAt : Visit → Node
-nodeAt v = record { name = v .name; children = length (v .children) }
+abbrev pub nodeOfVisit : Visit → Node
+nodeOfVisit v = record { name = v .name; children = length (v .children) }
 
 roots-count : (ts : Forest) → length (rootNames ts) ≡ trees ts
 unfolding rootNames trees
@@ -70,15 +70,15 @@ roots-count (node n us ∷ᵗ ts) = ap suc (roots-count ts)
 mutual
   unfolding visits visitsAll nodesOf nodesOfAll
 
-  pub visit-node : (t : Tree) (above : List Name) (v : Visit) → List·Memᴰ v (visits t above) → List·Memᴰ (nodeAt v) (nodesOf t)
+  pub visit-node : (t : Tree) (above : List Name) (v : Visit) → List·Memᴰ v (visits t above) → List·Memᴰ (nodeOfVisit v) (nodesOf t)
   visit-node (node n ts) above v m =
       ⊎-elim
-      (λ e. List·Memᴰ·head (ap nodeAt e ∙ ap (λ (k : ℕ). record { name = n; children = k }) (roots-count ts)))
+      (λ e. List·Memᴰ·head (ap nodeOfVisit e ∙ ap (λ (k : ℕ). record { name = n; children = k }) (roots-count ts)))
       (λ q. List·Memᴰ·tail (visit-node-of ts (above ++ (n ∷ [])) v q))
       (List·Memᴰ·cases-cons m)
 
   visit-node-of : (ts : Forest) (above : List Name) (v : Visit) → List·Memᴰ v (visitsAll ts above)
-      → List·Memᴰ (nodeAt v) (nodesOfAll ts)
+      → List·Memᴰ (nodeOfVisit v) (nodesOfAll ts)
   visit-node-of []ᵗ above v m = elim m [ ]
   visit-node-of (t ∷ᵗ ts) above v m =
       ⊎-elim

@@ -58,7 +58,7 @@ use Rattle.theory.proofs.sample.SampleRules.{
   sample-start,
 }
 use Rattle.theory.proofs.contents.CountedContents.{choice-counted}
-use Rattle.theory.proofs.bytes.DocumentWithin.{nodeAt, visit-node}
+use Rattle.theory.proofs.bytes.DocumentWithin.{nodeOfVisit, visit-node}
 use Rattle.theory.proofs.bytes.NumberedTable.{Numbered, table-small, numbered-within}
 
 -- the sequence of some types
@@ -185,7 +185,7 @@ module _ (lim : Limits) (classes : Classes) (agree : LimitsAgree lim) (d : Tree)
         names =
             λ n o.
             let (u, p, e) = name-from d n o in
-            subst (NameWithin lim classes) e (within .each-node (nodeAt u) (visit-node d [] u p) .name);
+            subst (NameWithin lim classes) e (within .each-node (nodeOfVisit u) (visit-node d [] u p) .name);
         names-differ = sample-names d;
         start-types =
             λ k o.
@@ -200,7 +200,7 @@ module _ (lim : Limits) (classes : Classes) (agree : LimitsAgree lim) (d : Tree)
             content-counted d lim
             (λ u p.
             let a = agree .children in
-            let b = within .each-node (nodeAt u) (visit-node d [] u p) .children in
+            let b = within .each-node (nodeOfVisit u) (visit-node d [] u p) .children in
             omega arith);
       }
 

@@ -14,7 +14,7 @@ use Rattle.reader.proofs.ExprLaws.{operator-sequence, operator-choice}
 use Rattle.contents.specs.declared.drafts.OperandRow.{OperandRow}
 use Rattle.contents.specs.Notes.{typeWords, Registered, rowWords}
 use Rattle.contents.specs.Emitting.{Source, Sources, Operands}
-use Rattle.contents.proofs.NoteLaws.{partFrom, part-words, part-long}
+use Rattle.contents.proofs.NoteLaws.{lentFrom, part-words, part-long}
 use Rattle.contents.proofs.TypesKeptLaws.{noted-part}
 use Rattle.reader.proofs.ContentAtLaws.{content-inside, type-there, count-there}
 use Rattle.contents.proofs.SourceLaws.{CountedThere, counted-of, single-of, content-found, row-found}
@@ -275,10 +275,10 @@ module _ {s : List ℕ} {at n : ℕ} {types from results d : List ℕ} {row : Op
       counted-of standard s at n (q .there) choice e (omega arith) (omega arith) (ap (getElem? operators) b ∙ operator-choice)
 
 -- the words lent for the rows within
-rows-within : (notes : List ℕ) → operandLimit ≤ length notes → length (partFrom operandLimit notes) ≡ typeWords + length notes - rowWords
+rows-within : (notes : List ℕ) → operandLimit ≤ length notes → length (lentFrom operandLimit notes) ≡ typeWords + length notes - rowWords
 rows-within notes h = let p = part-words operandLimit notes h in omega arith
 
-notes-within : (register : List ℕ) → typeWords ≤ length register → typeWords + length (partFrom typeWords register) ≡ length register
+notes-within : (register : List ℕ) → typeWords ≤ length register → typeWords + length (lentFrom typeWords register) ≡ length register
 notes-within register h = let p = part-words typeWords register h in omega arith
 
 some-left : {n : ℕ} → 0 < n → n ≡ 0 → ⊥

@@ -23,7 +23,7 @@ use Rattle.contents.specs.Notes.{folded, fingerprint, Noted, typeWords, 
 use Rattle.contents.proofs.FinishLaws.{headed-first, headed-second, headed-length, headed-before}
 use Rattle.contents.proofs.GatherLaws.{newest-of, gathers-from, nothing-new}
 use Rattle.contents.proofs.TypesKeptLaws.{types-put, registered-part}
-use Rattle.contents.proofs.NoteLaws.{partFrom, part-is, part-long}
+use Rattle.contents.proofs.NoteLaws.{lentFrom, part-is, part-long}
 use Rattle.contents.proofs.emitter.gather_result.Statement.{statement}
 use Rattle.contents.proofs.emitter.gather_result.Tie as tie
 
@@ -54,7 +54,7 @@ module _ (d : List ℕ) (v : ℕ) (row : OperandRow) (h : row .end + 1 < length 
 
 -- the notes lent after it is put into the set
 noted-put : {register after : List ℕ} {ds : List Content} {n : ℕ} → Registered register ds → n < 256 → after ≡ putAt register 0 n
-    → Noted (partFrom typeWords after) ds
+    → Noted (lentFrom typeWords after) ds
 unfolding putAt
 noted-put {register} {after} {ds} {n} s h e =
     let room = s .types .room in

@@ -10,7 +10,7 @@ use Rattle.reader.proofs.TableFoundLaws.{starts-are, start-small}
 use Rattle.writer.specs.Writing.{Put}
 use Rattle.writer.proofs.PutLaws.{put-join, put-none}
 use Rattle.lister_lines.proofs.PrintSteps.{put-as}
-use Rattle.lister_lines.proofs.LineLaws.{start-line-size, joined-next}
+use Rattle.lister_lines.proofs.LineLaws.{start-line-size, joined-place}
 use Rattle.lister_lines.proofs.lines.put_starts.Statement.{statement}
 use Rattle.lister_lines.proofs.lines.put_starts.Tie as tie
 
@@ -65,7 +65,7 @@ loop-again c =
       omega arith,
       omega arith,
       omega arith,
-      put-as (joined-next startLine types (l .i) 0 (omega arith)) (put-join (l .inv .3) (put-as (ap startLine e) p)),
+      put-as (joined-place startLine types (l .i) 0 (omega arith)) (put-join (l .inv .3) (put-as (ap startLine e) p)),
     )
 
 same-length : tie.Need-same-length Inv-loop μ-loop

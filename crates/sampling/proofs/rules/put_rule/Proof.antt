@@ -5,7 +5,7 @@ use mathlib.Core.Path.{_≡_}
 use lib.ListN.{length, length-set, set}
 use Rattle.sampling.specs.SampleTable.{contentIn}
 use Rattle.writer.proofs.TableLaws.{rule-puts}
-use Rattle.sampling.proofs.RuleLaws.{made-stop, made-over, rule-value}
+use Rattle.sampling.proofs.RuleLaws.{made-stop, drafted-over, drafted-rule}
 use borrow.Author.Needs.{needs}
 use Rattle.sampling.proofs.rules.put_rule.Statement.{statement}
 use Rattle.sampling.proofs.rules.put_rule.Tie as tie
@@ -60,7 +60,7 @@ same-length c = search needs
 returns : tie.Need-returns
 returns c =
     let a = c .before .before .before .before .before .before .before .before .before .before .before .args in
-    inl (made-over (c .before .before .before .before .make-content .last .0) (contentIn (a .parents .now) (a .types .now) (a .nodes) (a .k)) (c .before .before .before .before .make-content .result) (c .before .before .before .before .make-content .ensures) (c .enum-told .given .1))
+    inl (drafted-over (c .before .before .before .before .make-content .last .0) (contentIn (a .parents .now) (a .types .now) (a .nodes) (a .k)) (c .before .before .before .before .make-content .result) (c .before .before .before .before .make-content .ensures) (c .enum-told .given .1))
 
 same-length-2 : tie.Need-same-length-2
 same-length-2 c = search needs
@@ -74,7 +74,7 @@ returns-2 c =
     let c0 = contentIn (a .parents .now) (a .types .now) (a .nodes) (a .k) in
     let made = made-stop (c .before .before .before .before .before .before .before .before .before .before .before .make-content .last .0) c0 (c .before .before .before .before .before .before .before .before .before .before .before .make-content .result) (c .before .before .before .before .before .before .before .before .before .before .before .make-content .ensures) (c .before .before .before .before .before .before .before .stop .given .1) in
     rule-puts (a .draft .now) (c .before .before .put-field .last .0) (a .at) _ (record { type = a .k; label = a .label; content = c0 }) (c .before .before .put-field .result)
-    (rule-value (c .before .before .before .before .before .before .before .before .before .before .before .make-content .last .0) (a .k) (a .label) _ c0 (made .0)) (made .2) (c .before .before .put-field .ensures)
+    (drafted-rule (c .before .before .before .before .before .before .before .before .before .before .before .make-content .last .0) (a .k) (a .label) _ c0 (made .0)) (made .2) (c .before .before .put-field .ensures)
 
 pub put-rule-spec : {M : Type 1} → statement M
 put-rule-spec =
