@@ -148,7 +148,7 @@ returns-2 : tie.Need-returns-2
 returns-2 c =
     let start = c .before .before .before .before .before .before .before .before .before .before .before .before .before .before .before .before .before .before .before .before .before .before in
     let loaded = c .before .before .before .before .before .before .before .before .before .before .before .before .before .before .before .before .load in
-    let marks = c .before .before .before .before .before .before .before .before .before .before .before .before .before .before .before .load2 in
+    let used-set = c .before .before .before .before .before .before .before .before .before .before .before .before .before .before .before .load2 in
     let labelled = c .before .before .before .before .before .before .before .before .before .before .before .before .before .before .set-label in
     let place-of = c .before .before .before .before .before .before .before .before .before .before .before .before .before .label-place in
     let content = c .before .before .before .before .before .before .before .before .before .before .before .set-content in
@@ -160,8 +160,8 @@ returns-2 c =
     let i = a .i in
     let h = start .pre .3 in
     let long = start .pre .2 in
-    let on = member (marks .result .words) 0 in
-    let used = ap (λ (w : List ℕ). member w 0) (marks .ensures) ∙ q .used-are in
+    let on = member (used-set .result .words) 0 in
+    let used = ap (λ (w : List ℕ). member w 0) (used-set .ensures) ∙ q .used-are in
     let made = made-stored _ (ruleFrom (q .rules) i .content) _ (content .ensures (q .rules)) (end .given .1) in
     let label : labelled .result ≡ _ =
     labelled .ensures _ _ (s .table) _ (s .views) (set-held s i h _ (loaded .ensures)) (set-ascending s i h) (set-some s i h) in
