@@ -2,7 +2,7 @@
 --   print-small   a fingerprint is below `prints`; fold-next, fold-done, print-short, print-long : it is folded byte by byte
 --   note-print, note-before : what a note holds
 --   noted-none, noted-more, noted-front : no operand yet; one more; the words after a row do not matter
---   lentFrom, withLent, part-is, part-words, part-after, part-before, part-long : words lent from a place on, and as they come back
+--   lentFrom, withLent, lent-is, lent-words, lent-after, lent-before, lent-long : words lent from a place on, and as they come back
 --   no-upto       too large is no list of operands
 use Prim.Native.Nat.{ℕ, suc, _+_, _-_, _*_, _/_, _%_, _≤_, _<_}
 use native.Mathlib.Omega.{arith}
@@ -120,31 +120,31 @@ abbrev pub withLent : (n : ℕ) (l part : List ℕ) → List ℕ
 withLent n l part = take n l ++ (part ++ drop (length l - n) (drop n l))
 
 module _ (n : ℕ) (l : List ℕ) (h : n ≤ length l) where
-  pub part-is : lentFrom n l ≡ drop n l
-  part-is =
+  pub lent-is : lentFrom n l ≡ drop n l
+  lent-is =
       let d = length-drop n l in
       take-all (length l - n) (drop n l) (omega arith)
 
-  pub part-words : length (lentFrom n l) ≡ length l - n
-  part-words = ap length part-is ∙ length-drop n l
+  pub lent-words : length (lentFrom n l) ≡ length l - n
+  lent-words = ap length lent-is ∙ length-drop n l
 
   module _ (part : List ℕ) (e : length part ≡ length (lentFrom n l)) where
-    pub part-after : drop n (withLent n l part) ≡ part
-    part-after =
+    pub lent-after : drop n (withLent n l part) ≡ part
+    lent-after =
         let d = length-drop n l in
         let z : length (drop n l) ≤ length l - n = omega arith in
         drop-at (take n l) (part ++ drop (length l - n) (drop n l)) n (length-take-le n l h)
         ∙ ap (λ (r : List ℕ). part ++ r) (drop-of-length-le (drop n l) z)
         ∙ append-nil part
 
-    pub part-before : take n (withLent n l part) ≡ take n l
-    part-before = take-at (take n l) (part ++ drop (length l - n) (drop n l)) n (length-take-le n l h)
+    pub lent-before : take n (withLent n l part) ≡ take n l
+    lent-before = take-at (take n l) (part ++ drop (length l - n) (drop n l)) n (length-take-le n l h)
 
-    pub part-long : length (withLent n l part) ≡ length l
-    part-long =
+    pub lent-long : length (withLent n l part) ≡ length l
+    lent-long =
         let d = length-drop n l in
         let r = length-drop (length l - n) (drop n l) in
-        let w = part-words in
+        let w = lent-words in
         let t = length-take-le n l h in
         let a = length-append part (drop (length l - n) (drop n l)) in
         let b = length-append (take n l) (part ++ drop (length l - n) (drop n l)) in

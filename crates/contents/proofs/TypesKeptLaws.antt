@@ -45,7 +45,7 @@ use Rattle.contents.specs.declared.drafts.Gathering.the-variants.{TooLar
 use Rattle.contents.specs.Drafts.{headedLength, reaching, Row, OperandsAdded, Gathers, GathersWith}
 use Rattle.contents.specs.Notes.{Noted, typeWords, TypesKept, Registered, rowWords}
 use Rattle.contents.specs.Emitting.{RoomForMore}
-use Rattle.contents.proofs.NoteLaws.{noted-none, lentFrom, withLent, part-is, part-after, part-before, part-long}
+use Rattle.contents.proofs.NoteLaws.{noted-none, lentFrom, withLent, lent-is, lent-after, lent-before, lent-long}
 use Rattle.contents.proofs.GatherLaws.{gathers-then, told-large, told-upto, first-wide, with-as, with-large, typesFrom, types-first}
 
 -- an equal one is among what is gathered just where it was there or was given
@@ -135,15 +135,15 @@ pub registered-part : {register part : List ℕ} {ds : List Content} → TypesKe
     → Noted part ds → Registered (withLent typeWords register part) ds
 registered-part {register} {part} {ds} types e noted =
     let h = types .room in
-    let l = part-long typeWords register h part e in
+    let l = lent-long typeWords register h part e in
     record {
-      types = types-front (part-before typeWords register h part e) (omega arith) types;
-      noted = subst (λ (w : List ℕ). Noted w ds) (sym (part-after typeWords register h part e)) noted;
+      types = types-front (lent-before typeWords register h part e) (omega arith) types;
+      noted = subst (λ (w : List ℕ). Noted w ds) (sym (lent-after typeWords register h part e)) noted;
     }
 
 -- the notes that are lent
 pub noted-part : {register : List ℕ} {ds : List Content} → Registered register ds → Noted (lentFrom typeWords register) ds
-noted-part {register} {ds} s = subst (λ (w : List ℕ). Noted w ds) (sym (part-is typeWords register (s .types .room))) (s .noted)
+noted-part {register} {ds} s = subst (λ (w : List ℕ). Noted w ds) (sym (lent-is typeWords register (s .types .room))) (s .noted)
 
 module _ {words : List ℕ} {ds : List Content} (s : TypesKept words ds) where
   pub types-same : (xs : List Content) → Plain xs → TypesKept words (gathered ds xs)

@@ -1,5 +1,6 @@
 // The draft in which a content is made: a list of operands that stand in it one after the other, no two byte-equal.
 use crate::limits::FOLD;
+use crate::limits::HEAD;
 use crate::limits::OPERANDS;
 use crate::limits::PRINTED;
 use crate::limits::PRINTS;
@@ -174,9 +175,9 @@ fn move_down(draft: &mut [u8], start: usize, end: usize)
     ensures { λ r. ⌜ now (draft .exit)
         ≡ paste (now (draft .entry)) start (drop (start + 2) (now (draft .entry))) (end - (start + 2)) ⌝ }
 {
-    let mut i = start + 2;
+    let mut i = start + HEAD;
     while i < end {
-        draft[i - 2] = draft[i];
+        draft[i - HEAD] = draft[i];
         i += 1;
     }
 }
@@ -193,7 +194,7 @@ pub fn finish(draft: &mut [u8], start: usize, count: usize, end: usize) -> usize
     }
     if count == 1 {
         move_down(draft, start, end);
-        return end - 2;
+        return end - HEAD;
     }
     draft[start] = CHOICE_BYTE;
     draft[start + 1] = count as u8;

@@ -8,6 +8,7 @@ use crate::drafts::finish;
 use crate::drafts::keep;
 use crate::drafts::settle;
 use crate::limits::FOLD;
+use crate::limits::HEAD;
 use crate::limits::HEADED;
 use crate::limits::OPERANDS;
 use crate::limits::TYPE_WORDS;
@@ -382,7 +383,7 @@ pub fn gather(
 }
 
 // The same for so many source contents, one after the other.
-pub fn gather_row(
+fn gather_row(
     content: &[u8],
     at: usize,
     n: usize,
@@ -460,9 +461,9 @@ fn emit_row(
     while 0 < left {
         clear(&mut register[0..TYPE_WORDS]);
         let row = OperandRow {
-            base: place + 2,
+            base: place + HEAD,
             count: 0,
-            end: place + 2,
+            end: place + HEAD,
             limit: start + HEADED,
         };
         match gather(content, at, types, from, results, draft, row, register) {

@@ -5,6 +5,7 @@ use crate::completing::complete;
 use crate::drafts::Gathering;
 use crate::drafts::OperandRow;
 use crate::emitter::gather;
+use crate::limits::HEAD;
 use crate::limits::HEADED;
 use crate::limits::REGISTER;
 use sets::four::Set4;
@@ -159,7 +160,7 @@ fn gather_set(
     let rules = v.rules;
     let mut register = [0u32; REGISTER];
     let mut count = 0usize;
-    let mut end = 2usize;
+    let mut end = HEAD;
     let mut p: usize = 0;
     while p < rules {
         if !set.has(p) {
@@ -167,7 +168,7 @@ fn gather_set(
             continue;
         }
         let so_far = OperandRow {
-            base: 2,
+            base: HEAD,
             count,
             end,
             limit: HEADED,

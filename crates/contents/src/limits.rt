@@ -4,8 +4,10 @@ use reader::limits::NESTING;
 
 // Operands of a choice.
 pub const OPERANDS: usize = 255;
-// The bytes of a content, and two before its operands for the operator and the count of a choice.
-pub const HEADED: usize = 2 + CONTENT;
+// Bytes before the operands of a choice: its operator and their count.
+pub const HEAD: usize = 2;
+// The bytes of a content, and so many before its operands.
+pub const HEADED: usize = HEAD + CONTENT;
 // Those of a content for each level that contents nest, and one more: the bytes of a draft.
 pub const DRAFT: usize = HEADED * (NESTING + 1);
 // The first bytes of an operand, of which its fingerprint is made; each is folded into so many times what is folded before it, and

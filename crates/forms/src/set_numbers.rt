@@ -25,7 +25,7 @@ ghost use Rattle.forms.specs.Worklist.{LabelsSized, NumbersOf};
 ghost use Rattle.forms.specs.SetForms.{pairsLabelled, labelLeft, setNumber};
 
 // The label of a pair, where it is left.
-pub fn label_left(v: United, left: Set4, p: usize) -> usize
+fn label_left(v: United, left: Set4, p: usize) -> usize
     requires { ⌜ (ViewSized v) × (LabelsSized v) × (length (left .words) ≡ 4) × (p < v .rules) ⌝ }
     ensures { λ r. ⌜ ((old add : List ℕ) (u : Table) → Views old add v u → member (left .words) 0 ≡ isLeft u → r ≡ labelLeft u p)
         × (r < 128) ⌝ }
@@ -38,7 +38,7 @@ pub fn label_left(v: United, left: Set4, p: usize) -> usize
 }
 
 // For each pair the number of the set of its label.
-pub fn pair_numbers(v: United, left: Set4, numbers: Numbers) -> Numbers
+fn pair_numbers(v: United, left: Set4, numbers: Numbers) -> Numbers
     requires { ⌜ (ViewSized v) × (LabelsSized v) × (length (left .words) ≡ 4) × ((l : ℕ) → getD (numbers .of) l 0 ≤ 64) ⌝ }
     ensures { λ r. ⌜ ((old add : List ℕ) (u : Table) → Views old add v u → member (left .words) 0 ≡ isLeft u
         → NumbersOf (λ p. getD (numbers .of) (labelLeft u p) 0) (v .rules) (r .of)) × ((p : ℕ) → getD (r .of) p 0 ≤ 64) ⌝ }
@@ -56,7 +56,7 @@ pub fn pair_numbers(v: United, left: Set4, numbers: Numbers) -> Numbers
 }
 
 // The lists with other numbers in place of their own.
-pub fn renumbered(lists: Lists, numbers: Numbers) -> Lists
+fn renumbered(lists: Lists, numbers: Numbers) -> Lists
     requires { ⌜ ((i : ℕ) → getD (lists .numbers) i 0 < 128) ⌝ }
     ensures { λ r. ⌜ (r .from ≡ lists .from) × (r .numbers ≡ map (λ p. getD (numbers .of) p 0) (lists .numbers)) ⌝ }
 {

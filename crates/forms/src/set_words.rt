@@ -38,7 +38,7 @@ pub fn set_number(words: &[u32], count: usize, set: Set4) -> usize
 }
 
 // Lays a set down after the others; a 65th is too many.
-pub fn put_set(words: &mut [u32], count: usize, set: Set4) -> Counted
+fn put_set(words: &mut [u32], count: usize, set: Set4) -> Counted
     requires { ⌜ SetRoom (now words) count (set .words) ⌝ }
     ensures { λ r. ⌜ ((sets : List TypeSet) (s : TypeSet) → SetsHeld (now (words .entry)) sets → count ≡ length sets
         → member (set .words) 0 ≡ (λ p. isIn p s) → Ascending s → SetsCounted (now (words .exit)) (sets ++ (s ∷ [])) r) × (Few r) ⌝ }

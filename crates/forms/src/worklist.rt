@@ -27,7 +27,7 @@ ghost use Rattle.forms.specs.SetWords.{SetsHeld, SetsCounted};
 ghost use Rattle.forms.specs.Worklist.{Few, setsWithin};
 
 // Adds the sets that the pairs met in a set give: for each pair those met that share its label, unless that set is there.
-pub fn add_met(v: United, found: Met, words: &mut [u32], count: usize) -> Counted
+fn add_met(v: United, found: Met, words: &mut [u32], count: usize) -> Counted
     requires { ⌜ (ViewSized v) × (MetHeld found) × (count ≤ 64) × (256 ≤ length (now words)) ⌝ }
     ensures { λ r. ⌜ ((old add : List ℕ) (u : Table) (sets : List TypeSet) (s : TypeSet) → Views old add v u
         → SetsHeld (now (words .entry)) sets → count ≡ length sets → distinct sameNumbers sets ≡ sets

@@ -16,7 +16,7 @@ pub record Limits : Type 0 where
   pub nodes : ℕ
   pub levels : ℕ  -- the root is level 1
 
--- Those that no site changes, by name: contracts name them too.
+-- Some of them by name, for contracts.
 abbrev pub inputLimit : ℕ
 inputLimit = 32768
 

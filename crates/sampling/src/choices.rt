@@ -1,5 +1,6 @@
 // The content of a type: the choice of the child sequences of its nodes.
 use crate::limits::OPERANDS_END;
+use crate::limits::OPERANDS_FROM;
 use crate::limits::RULE;
 use crate::sequences::put_sequence;
 use contents::drafts::Gathering;
@@ -33,7 +34,7 @@ fn gather(
 {
     let mut notes = [0u32; OPERANDS];
     let mut count: usize = 0;
-    let mut end: usize = 4;
+    let mut end: usize = OPERANDS_FROM;
     let mut i: usize = 0;
     while i < nodes {
         if types[i] != k {
@@ -43,7 +44,7 @@ fn gather(
         let kids = children[i] as usize;
         let fresh = put_sequence(scratch, end, parents, types, nodes, i, kids);
         let row = OperandRow {
-            base: 4,
+            base: OPERANDS_FROM,
             count,
             end,
             limit: OPERANDS_END,

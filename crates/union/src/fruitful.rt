@@ -18,7 +18,7 @@ ghost use Rattle.union.specs.Places.{knownAt};
 ghost use Rattle.union.specs.Rounds.{putIf, contentOfRule, typesWith, afterRound};
 
 // Whether the content of a rule has alternatives, over a set of types of the union.
-pub fn rule_has(old: &[u8], add: &[u8], v: United, i: usize, types: Set4) -> bool
+fn rule_has(old: &[u8], add: &[u8], v: United, i: usize, types: Set4) -> bool
     requires { ⌜ (Viewed (now old) (now add) v) × (i < v .rules) × (length (types .words) ≡ 4) ⌝ }
     ensures { λ r. ⌜ ((u : Table) → Views (now (old .entry)) (now (add .entry)) v u
         → r ≡ hasAlts (member (types .words) 0) (contentOfRule u i)) ⌝ }
@@ -48,7 +48,7 @@ pub fn put_if(on: bool, set: Set4, k: usize) -> Set4
 }
 
 // The types that have a known pair.
-pub fn types_with(v: United, known: Set4) -> Set4
+fn types_with(v: United, known: Set4) -> Set4
     requires { ⌜ (ViewSized v) × (length (known .words) ≡ 4) ⌝ }
     ensures { λ r. ⌜ (member (r .words) 0 ≡ typesWith v (member (known .words) 0)) × (length (r .words) ≡ 4) ⌝ }
 {
@@ -67,7 +67,7 @@ pub fn types_with(v: United, known: Set4) -> Set4
 }
 
 // The known pairs with those that a round finds fruitful.
-pub fn round(old: &[u8], add: &[u8], v: United, known: Set4) -> Set4
+fn round(old: &[u8], add: &[u8], v: United, known: Set4) -> Set4
     requires { ⌜ (Viewed (now old) (now add) v) × (length (known .words) ≡ 4) ⌝ }
     ensures { λ r. ⌜ ((u : Table) → Views (now (old .entry)) (now (add .entry)) v u
         → member (r .words) 0 ≡ afterRound u v (member (known .words) 0)) × (length (r .words) ≡ 4) ⌝ }

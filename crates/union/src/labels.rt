@@ -15,7 +15,7 @@ pub struct Names {
 }
 
 // The place of a name among names; their number where it is not there.
-pub fn name_place(name: &[u8], s: &[u8], names: Names) -> usize
+fn name_place(name: &[u8], s: &[u8], names: Names) -> usize
     requires { ⌜ SomeNames (now s) names ⌝ }
     ensures { λ r. ⌜ ((list : List Name) → NamesHeld (now (s .entry)) names list → r ≡ place sameName (now (name .entry)) list) ⌝ }
 {
@@ -25,7 +25,7 @@ pub fn name_place(name: &[u8], s: &[u8], names: Names) -> usize
 }
 
 // Names with one more, or as they are.
-pub fn with_name(names: Names, from: usize, to: usize, new: bool) -> Names
+fn with_name(names: Names, from: usize, to: usize, new: bool) -> Names
     requires { ⌜ names .count < 64 ⌝ }
     ensures { λ r. ⌜ r ≡ namesIf new names from to ⌝ }
 {

@@ -37,7 +37,7 @@ pub struct MetRow {
 }
 
 // The number is among the first of the list.
-pub fn among(list: &[u8], count: usize, number: u8) -> bool
+fn among(list: &[u8], count: usize, number: u8) -> bool
     requires { ⌜ count ≤ length (now list) ⌝ }
     ensures { λ r. ⌜ r ≡ isIn number (take count (now (list .entry))) ⌝ }
 {
@@ -52,7 +52,7 @@ pub fn among(list: &[u8], count: usize, number: u8) -> bool
 }
 
 // Adds a number after the others, unless it is among them.
-pub fn append(list: &mut [u8], count: usize, number: u8) -> usize
+fn append(list: &mut [u8], count: usize, number: u8) -> usize
     requires { ⌜ (Once 128 (now list) count) × (number < 128) ⌝ }
     ensures { λ r. ⌜ Adds (take count (now (list .entry))) (number ∷ []) (now (list .exit)) r ⌝ }
 {
@@ -64,7 +64,7 @@ pub fn append(list: &mut [u8], count: usize, number: u8) -> usize
 }
 
 // Adds the numbers of a part.
-pub fn append_part(list: &mut [u8], count: usize, numbers: &[u8], first: usize, end: usize) -> usize
+fn append_part(list: &mut [u8], count: usize, numbers: &[u8], first: usize, end: usize) -> usize
     requires { ⌜ (Once 128 (now list) count) × (PartOfNumbers 128 (now numbers) first end) ⌝ }
     ensures { λ r. ⌜ Adds (take count (now (list .entry))) (take (end - first) (drop first (now (numbers .entry))))
         (now (list .exit)) r ⌝ }
@@ -196,7 +196,7 @@ pub fn met(
 }
 
 // The same for so many contents, one after the other.
-pub fn met_row(
+fn met_row(
     content: &[u8],
     at: usize,
     n: usize,

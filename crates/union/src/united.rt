@@ -38,7 +38,7 @@ pub struct Union {
 }
 
 // The first rule of this type and label; the number of rules where there is none.
-pub fn pair_place(v: United, ty: usize, label: usize) -> usize
+fn pair_place(v: United, ty: usize, label: usize) -> usize
     requires { ⌜ v .rules ≤ 128 ⌝ }
     ensures { λ r. ⌜ ((old add : List ℕ) (rs : List Rule) (x : Rule) → Views old add v (rulesOnly rs)
         → ty ≡ x .type → label ≡ x .label → r ≡ place samePair x rs) ⌝ }
@@ -57,7 +57,7 @@ pub fn pair_place(v: United, ty: usize, label: usize) -> usize
 }
 
 // The view with one rule more.
-pub fn with_rule(v: United, ty: usize, label: usize, from: usize, to: usize) -> United
+fn with_rule(v: United, ty: usize, label: usize, from: usize, to: usize) -> United
     requires { ⌜ v .rules < 128 ⌝ }
     ensures { λ r. ⌜ (((old add : List ℕ) (rs : List Rule) (x : Rule) → Views old add v (rulesOnly rs)
         → NextRule old add v ty label from to x → Views old add r (rulesOnly (rs ++ (x ∷ [])))) × Grown v r) ⌝ }
@@ -75,7 +75,7 @@ pub fn with_rule(v: United, ty: usize, label: usize, from: usize, to: usize) -> 
 }
 
 // The view of no rules yet.
-pub fn no_rules(olds: usize) -> United
+fn no_rules(olds: usize) -> United
     ensures { λ r. ⌜ (((old add : List ℕ) → Views old add r (rulesOnly [])) × (r .rules ≡ 0) × (r .«old_rules» ≡ olds)) ⌝ }
 {
     United {
@@ -90,7 +90,7 @@ pub fn no_rules(olds: usize) -> United
 }
 
 // One rule more of the old table.
-pub fn with_old_rule(v: United, index: TableIndex, i: usize) -> United
+fn with_old_rule(v: United, index: TableIndex, i: usize) -> United
     requires { ⌜ (v .rules ≡ i) × (i < index .rules) × (index .rules ≤ 64) × (v .«old_rules» ≡ index .rules) ⌝ }
     ensures { λ r. ⌜ (((old add : List ℕ) (g : Table) → Held standard asciiClasses old index g
         → Views old add v (rulesOnly (take i (g .rules))) → Views old add r (rulesOnly (take (i + 1) (g .rules)))) × Grown v r) ⌝ }
@@ -109,7 +109,7 @@ pub fn with_old_rule(v: United, index: TableIndex, i: usize) -> United
 }
 
 // The rules of the old table.
-pub fn old_rules(index: TableIndex) -> United
+fn old_rules(index: TableIndex) -> United
     requires { ⌜ index .rules ≤ 64 ⌝ }
     ensures { λ r. ⌜ (((old add : List ℕ) (g : Table) → Held standard asciiClasses old index g → Views old add r (rulesOnly (g .rules)))
         × (r .rules ≡ index .rules) × (r .«old_rules» ≡ index .rules)) ⌝ }
@@ -125,7 +125,7 @@ pub fn old_rules(index: TableIndex) -> United
 }
 
 // One rule more of the addition.
-pub fn with_new_rule(
+fn with_new_rule(
     v: United,
     old: &[u8],
     olds: Names,
@@ -157,7 +157,7 @@ pub fn with_new_rule(
 }
 
 // The rules of the addition after those of the old table.
-pub fn new_rules(
+fn new_rules(
     v: United,
     old: &[u8],
     olds: Names,

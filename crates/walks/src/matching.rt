@@ -123,7 +123,7 @@ fn typed(
 }
 
 // One child's walk over the expression at a place; `incoming` where the child may begin it.
-pub fn pass(
+fn pass(
     content: &[u8],
     at: usize,
     marks: &mut [u8],

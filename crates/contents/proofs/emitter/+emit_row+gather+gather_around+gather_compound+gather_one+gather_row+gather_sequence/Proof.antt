@@ -14,7 +14,7 @@ use Rattle.reader.proofs.ExprLaws.{operator-sequence, operator-choice}
 use Rattle.contents.specs.declared.drafts.OperandRow.{OperandRow}
 use Rattle.contents.specs.Notes.{typeWords, Registered, rowWords}
 use Rattle.contents.specs.Emitting.{Source, Sources, Operands}
-use Rattle.contents.proofs.NoteLaws.{lentFrom, part-words, part-long}
+use Rattle.contents.proofs.NoteLaws.{lentFrom, lent-words, lent-long}
 use Rattle.contents.proofs.TypesKeptLaws.{noted-part}
 use Rattle.reader.proofs.ContentAtLaws.{content-inside, type-there, count-there}
 use Rattle.contents.proofs.SourceLaws.{CountedThere, counted-of, single-of, content-found, row-found}
@@ -276,10 +276,10 @@ module _ {s : List ℕ} {at n : ℕ} {types from results d : List ℕ} {row : Op
 
 -- the words lent for the rows within
 rows-within : (notes : List ℕ) → operandLimit ≤ length notes → length (lentFrom operandLimit notes) ≡ typeWords + length notes - rowWords
-rows-within notes h = let p = part-words operandLimit notes h in omega arith
+rows-within notes h = let p = lent-words operandLimit notes h in omega arith
 
 notes-within : (register : List ℕ) → typeWords ≤ length register → typeWords + length (lentFrom typeWords register) ≡ length register
-notes-within register h = let p = part-words typeWords register h in omega arith
+notes-within register h = let p = lent-words typeWords register h in omega arith
 
 some-left : {n : ℕ} → 0 < n → n ≡ 0 → ⊥
 some-left h z = omega arith
@@ -692,7 +692,7 @@ gather-around-same-length-2 : (t : ℕ) → gather-around-lts.Need-same-length-2
 gather-around-same-length-2 t c =
     let start = c .before .before .before .before .before .before .before .before .before .before .before .before .before .before .before .before .before .before in
     let at-emit-row = c .before .before .before .before .before .before .emit-row in
-    part-long operandLimit (start .args .notes .now) (start .pre .1 .1 .1 .room) (at-emit-row .last .1 .1 .1 .1 .1 .1 .1 .1 .1 .0) (at-emit-row .kept .1 .1 .1 .1 .1 .1 .1 .1 .1 .0)
+    lent-long operandLimit (start .args .notes .now) (start .pre .1 .1 .1 .room) (at-emit-row .last .1 .1 .1 .1 .1 .1 .1 .1 .1 .0) (at-emit-row .kept .1 .1 .1 .1 .1 .1 .1 .1 .1 .0)
 
 gather-around-returns : (t : ℕ) → gather-around-lts.Need-returns (gather-around-calls t) (gather-around-at t) gather-around.Post
 gather-around-returns t c =
@@ -714,7 +714,7 @@ gather-around-same-length-4 : (t : ℕ) → gather-around-lts.Need-same-length-4
 gather-around-same-length-4 t c =
     let start = c .before .before .before .before .before .before .before .before .before .before .before .before .before .before .before .before .before .before .before .before .before .before .before .before in
     let at-emit-row = c .before .before .before .before .before .before .before .before .before .before .before .before .emit-row in
-    c .before .before .settle .kept .1 .1 .1 .1 .0 ∙ part-long operandLimit (start .args .notes .now) (start .pre .1 .1 .1 .room) (at-emit-row .last .1 .1 .1 .1 .1 .1 .1 .1 .1 .0) (at-emit-row .kept .1 .1 .1 .1 .1 .1 .1 .1 .1 .0)
+    c .before .before .settle .kept .1 .1 .1 .1 .0 ∙ lent-long operandLimit (start .args .notes .now) (start .pre .1 .1 .1 .room) (at-emit-row .last .1 .1 .1 .1 .1 .1 .1 .1 .1 .0) (at-emit-row .kept .1 .1 .1 .1 .1 .1 .1 .1 .1 .0)
 
 gather-around-returns-2 : (t : ℕ) → gather-around-lts.Need-returns-2 (gather-around-calls t) (gather-around-at t) gather-around.Post
 gather-around-returns-2 t c =
@@ -1132,7 +1132,7 @@ gather-sequence-same-length-2 : (t : ℕ) → gather-sequence-lts.Need-same-leng
 gather-sequence-same-length-2 t c =
     let start = c .before .before .before .before .before .before .before .before .before .before .before .before .before .before .before .before .before .before .before .before in
     let at-emit-row = c .before .before .before .before .before .before .emit-row in
-    part-long operandLimit (start .args .notes .now) (start .pre .1 .1 .1 .room) (at-emit-row .last .1 .1 .1 .1 .1 .1 .1 .1 .1 .0) (at-emit-row .kept .1 .1 .1 .1 .1 .1 .1 .1 .1 .0)
+    lent-long operandLimit (start .args .notes .now) (start .pre .1 .1 .1 .room) (at-emit-row .last .1 .1 .1 .1 .1 .1 .1 .1 .1 .0) (at-emit-row .kept .1 .1 .1 .1 .1 .1 .1 .1 .1 .0)
 
 gather-sequence-returns : (t : ℕ) → gather-sequence-lts.Need-returns (gather-sequence-calls t) (gather-sequence-at t) gather-sequence.Post
 gather-sequence-returns t c =
@@ -1156,7 +1156,7 @@ gather-sequence-same-length-4 : (t : ℕ) → gather-sequence-lts.Need-same-leng
 gather-sequence-same-length-4 t c =
     let start = c .before .before .before .before .before .before .before .before .before .before .before .before .before .before .before .before .before .before .before .before .before .before .before .before .before .before in
     let at-emit-row = c .before .before .before .before .before .before .before .before .before .before .before .before .emit-row in
-    c .before .before .settle .kept .1 .1 .1 .1 .0 ∙ part-long operandLimit (start .args .notes .now) (start .pre .1 .1 .1 .room) (at-emit-row .last .1 .1 .1 .1 .1 .1 .1 .1 .1 .0) (at-emit-row .kept .1 .1 .1 .1 .1 .1 .1 .1 .1 .0)
+    c .before .before .settle .kept .1 .1 .1 .1 .0 ∙ lent-long operandLimit (start .args .notes .now) (start .pre .1 .1 .1 .room) (at-emit-row .last .1 .1 .1 .1 .1 .1 .1 .1 .1 .0) (at-emit-row .kept .1 .1 .1 .1 .1 .1 .1 .1 .1 .0)
 
 gather-sequence-returns-2 : (t : ℕ) → gather-sequence-lts.Need-returns-2 (gather-sequence-calls t) (gather-sequence-at t) gather-sequence.Post
 gather-sequence-returns-2 t c =
@@ -1219,7 +1219,7 @@ gather-same-length-2 : (t : ℕ) → gather-lts.Need-same-length-2 (gather-calls
 gather-same-length-2 t c =
     let start = c .before .before .before .before .before .before .before .before .before .before .before .before .before .before .before .before in
     let at-gather-empty = c .before .before .before .before .gather-empty in
-    part-long typeWords (start .args .register .now) (start .pre .1 .1 .types .room) (at-gather-empty .last .1 .1 .1 .0) (at-gather-empty .kept .1 .1 .1 .0)
+    lent-long typeWords (start .args .register .now) (start .pre .1 .1 .types .room) (at-gather-empty .last .1 .1 .1 .0) (at-gather-empty .kept .1 .1 .1 .0)
 
 gather-same-length-3 : (t : ℕ) → gather-lts.Need-same-length-3 (gather-calls t) (gather-at t) gather.Post
 gather-same-length-3 t c =
@@ -1285,7 +1285,7 @@ gather-compound-same-length-4 : (t : ℕ) → gather-compound-lts.Need-same-leng
 gather-compound-same-length-4 t c =
     let start = c .before .before .before .before .before .before .before .before .before .before .before .before .before .before .before .before in
     let at-gather-one = c .before .before .before .before .gather-one in
-    part-long typeWords (start .args .register .now) (start .pre .1 .1 .1 .types .room) (at-gather-one .last .1 .1 .1 .1 .1 .1 .1 .0) (at-gather-one .kept .1 .1 .1 .1 .1 .1 .1 .0)
+    lent-long typeWords (start .args .register .now) (start .pre .1 .1 .1 .types .room) (at-gather-one .last .1 .1 .1 .1 .1 .1 .1 .0) (at-gather-one .kept .1 .1 .1 .1 .1 .1 .1 .0)
 
 gather-one-same-length : (t : ℕ) → gather-one-lts.Need-same-length (gather-one-calls t) (gather-one-at t) gather-one.Post
 gather-one-same-length t c =

@@ -23,7 +23,7 @@ use Rattle.contents.specs.Notes.{folded, fingerprint, Noted, typeWords, 
 use Rattle.contents.proofs.FinishLaws.{headed-first, headed-second, headed-length, headed-before}
 use Rattle.contents.proofs.GatherLaws.{newest-of, gathers-from, nothing-new}
 use Rattle.contents.proofs.TypesKeptLaws.{types-put, registered-part}
-use Rattle.contents.proofs.NoteLaws.{lentFrom, part-is, part-long}
+use Rattle.contents.proofs.NoteLaws.{lentFrom, lent-is, lent-long}
 use Rattle.contents.proofs.emitter.gather_result.Statement.{statement}
 use Rattle.contents.proofs.emitter.gather_result.Tie as tie
 
@@ -60,7 +60,7 @@ noted-put {register} {after} {ds} {n} s h e =
     let room = s .types .room in
     let l : length after ≡ length register = ap length e ∙ length-put register 0 n in
     subst (λ (w : List ℕ). Noted w ds)
-    (sym (part-is typeWords after (omega arith) ∙ ap (drop typeWords) e ∙ drop-set-lt typeWords register (0 + n / 32) _ (omega arith)))
+    (sym (lent-is typeWords after (omega arith) ∙ ap (drop typeWords) e ∙ drop-set-lt typeWords register (0 + n / 32) _ (omega arith)))
     (s .noted)
 
 -- the set tells whether it is there
@@ -201,7 +201,7 @@ same-length-3 c =
     let room = start .pre .1 .types .room in
     let l = at-put .kept .0 in
     let h : typeWords ≤ length (at-put .last .0) = omega arith in
-    part-long typeWords (at-put .last .0) h (c .before .before .keep .last .1 .1 .1 .1 .1 .0) (c .before .before .keep .kept .1 .1 .1 .1 .1 .0) ∙ l
+    lent-long typeWords (at-put .last .0) h (c .before .before .keep .last .1 .1 .1 .1 .1 .0) (c .before .before .keep .kept .1 .1 .1 .1 .1 .0) ∙ l
 
 pub gather-result-spec : {M : Type 1} → statement M
 gather-result-spec =
