@@ -1,6 +1,7 @@
 """The static library of crate exports, called from Python (ctypes).
 
     library = Library()                 builds the archive (`rt staticlib exports`) and loads it
+    build_archive(crate)                the archive of another crate's exported functions; build_shared(crate) to load it
     library.calls                       the numbers of the calls that it has (tests/second_validator/README.md)
     library.run(case)                   (refusal, value, output slice, working slice) of a case of generate.py
     library.lets_in(table, document)    True or False
@@ -16,7 +17,6 @@ import sys
 
 ROOT = os.path.dirname(os.path.dirname(os.path.abspath(__file__)))
 ARCHIVE = os.path.join(ROOT, 'target', 'staticlib', 'libexports.a')
-SHARED = os.path.join(ROOT, 'target', 'staticlib', 'libcogarrune.so')
 
 sys.dont_write_bytecode = True
 sys.path.insert(0, os.path.join(ROOT, 'tests', 'second_validator'))
@@ -37,20 +37,23 @@ def newest(folder):
     return max(os.path.getmtime(os.path.join(place, name)) for place, _, names in os.walk(folder) for name in names)
 
 
-def build_archive():
-    """The archive, from proved crates; made anew where a crate changed since."""
-    if os.path.exists(ARCHIVE) and newest(os.path.join(ROOT, 'crates')) < os.path.getmtime(ARCHIVE):
-        return
-    run = subprocess.run(['rt', 'staticlib', 'exports'], cwd=ROOT, stdout=subprocess.PIPE, stderr=subprocess.STDOUT)
-    if run.returncode != 0:
-        sys.exit(run.stdout.decode()[-2000:])
+def build_archive(crate='exports'):
+    """The path of the crate's archive, from proved crates; it is made anew where a crate changed since."""
+    archive = os.path.join(os.path.dirname(ARCHIVE), 'lib%s.a' % crate)
+    if not os.path.exists(archive) or newest(os.path.join(ROOT, 'crates')) >= os.path.getmtime(archive):
+        run = subprocess.run(['rt', 'staticlib', crate], cwd=ROOT, stdout=subprocess.PIPE, stderr=subprocess.STDOUT)
+        if run.returncode != 0:
+            sys.exit(run.stdout.decode()[-2000:])
+    return archive
 
 
-def build_shared():
-    """A shared object of all of the archive."""
-    build_archive()
-    if not os.path.exists(SHARED) or os.path.getmtime(SHARED) < os.path.getmtime(ARCHIVE):
-        subprocess.run(['gcc', '-shared', '-o', SHARED, '-Wl,--whole-archive', ARCHIVE, '-Wl,--no-whole-archive'], check=True)
+def build_shared(crate='exports'):
+    """The path of a shared object of all of the crate's archive."""
+    archive = build_archive(crate)
+    shared = os.path.splitext(archive)[0] + '.so'
+    if not os.path.exists(shared) or os.path.getmtime(shared) < os.path.getmtime(archive):
+        subprocess.run(['gcc', '-shared', '-o', shared, '-Wl,--whole-archive', archive, '-Wl,--no-whole-archive'], check=True)
+    return shared
 
 
 def words(length, fill):
@@ -63,8 +66,7 @@ def words(length, fill):
 
 class Library:
     def __init__(self):
-        build_shared()
-        self.library = ctypes.CDLL(SHARED)
+        self.library = ctypes.CDLL(build_shared())
         self.functions = {}
         for call, name in generate.CALL_NAMES.items():
             if hasattr(self.library, 'cogarrune_' + name):

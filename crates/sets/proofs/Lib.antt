@@ -1,4 +1,5 @@
 pub mod BitLaws
+pub mod BuiltSets
 pub mod FourWords
 pub mod SetLaws
 pub mod SizeLaws

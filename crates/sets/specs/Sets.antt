@@ -20,6 +20,11 @@ member words base k = bitOf (getD words (base + k / 32) 0) (k % 32)
 unfoldable pub putAt : List ℕ → ℕ → ℕ → List ℕ
 putAt words base k = set words (base + k / 32) (bitOr (getD words (base + k / 32) 0) (2 ^ (k % 32)))
 
+-- the words after each of the numbers is put into the set at base, in turn
+unfoldable pub putAll : List ℕ → ℕ → List ℕ → List ℕ
+putAll words base [] = words
+putAll words base (k ∷ ks) = putAll (putAt words base k) base ks
+
 -- the n words that stand at base
 unfoldable pub wordsAt : List ℕ → ℕ → ℕ → List ℕ
 wordsAt words base n = take n (drop base words)
@@ -38,15 +43,27 @@ unionOf [] ys = ys
 unionOf (x ∷ xs) [] = x ∷ xs
 unionOf (x ∷ xs) (y ∷ ys) = bitOr x y ∷ unionOf xs ys
 
--- sets as tests: nothing, one number more, and both sets' numbers
+-- sets as tests: nothing, one number more, the numbers of a list, and both sets' numbers
 abbrev pub nothing : ℕ → Bool
 nothing j = false
 
 abbrev pub add : ℕ → (ℕ → Bool) → (ℕ → Bool)
 add k p j = eqb j k || p j
 
+unfoldable pub these : List ℕ → (ℕ → Bool)
+these [] = nothing
+these (k ∷ ks) = add k (these ks)
+
 abbrev pub inEither : (ℕ → Bool) → (ℕ → Bool) → (ℕ → Bool)
 inEither p q j = p j || q j
+
+-- each of the numbers is below m
+abbrev pub AllBelow : ℕ → List ℕ → Type 0
+AllBelow m numbers = (k : ℕ) → these numbers k ≡ true → k < m
+
+-- the set of n words at base has just these numbers: it says yes for each of them and for no other number below 32 * n
+abbrev pub HasJust : List ℕ → ℕ → ℕ → List ℕ → Type 0
+HasJust words base n numbers = (k : ℕ) → k < 32 * n → member words base k ≡ these numbers k
 
 -- how many numbers below n are in the set
 unfoldable pub size : (ℕ → Bool) → ℕ → ℕ
