@@ -27,7 +27,7 @@ pub extern "C" fn has_in_words(words: &[u32], base: usize, k: usize) -> bool
 }
 
 // The set of the numbers.
-fn set_of(numbers: &[usize]) -> Set4
+fn built_set(numbers: &[usize]) -> Set4
     requires { ⌜ AllBelow 128 (now numbers) ⌝ }
     ensures { λ r. ⌜ r .words ≡ putAll (replicate 4 0) 0 (now (numbers .entry)) ⌝ }
 {
@@ -47,7 +47,7 @@ pub extern "C" fn built_by_value(numbers: &[usize], k: usize) -> bool
     requires { ⌜ (AllBelow 128 (now numbers)) × (k < 128) ⌝ }
     ensures { λ r. ⌜ r ≡ these (now (numbers .entry)) k ⌝ }
 {
-    let set = set_of(numbers);
+    let set = built_set(numbers);
     set.has(k)
 }
 

@@ -22,10 +22,10 @@ below-rest : (m k : ℕ) (ks : List ℕ) → AllBelow m (k ∷ ks) → AllBelow 
 unfolding these
 below-rest m k ks below j h = below j (ap (λ (b : Bool). eqb j k || b) h ∙ or-true (eqb j k))
 
-pub below-at : (m : ℕ) (numbers : List ℕ) (i : ℕ) → AllBelow m numbers → i < length numbers → getD numbers i 0 < m
-below-at m [] i below h = absurd (omega arith)
-below-at m (k ∷ ks) zero below h = below-first m k ks below
-below-at m (k ∷ ks) (suc i) below h = below-at m ks i (below-rest m k ks below) (omega arith)
+pub number-below : (m : ℕ) (numbers : List ℕ) (i : ℕ) → AllBelow m numbers → i < length numbers → getD numbers i 0 < m
+number-below m [] i below h = absurd (omega arith)
+number-below m (k ∷ ks) zero below h = below-first m k ks below
+number-below m (k ∷ ks) (suc i) below h = number-below m ks i (below-rest m k ks below) (omega arith)
 
 -- ---- putting them in
 

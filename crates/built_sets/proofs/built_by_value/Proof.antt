@@ -1,4 +1,4 @@
--- `built_by_value`: what `set_of` builds has just its numbers.
+-- `built_by_value`: what `built_set` builds has just its numbers.
 use mathlib.Core.List.{List}
 use mathlib.Core.Path.{ap, _∙_}
 use Prim.Native.Nat.{ℕ}
@@ -13,7 +13,7 @@ returns c =
     let start = c .before .before .before in
     let k = start .args .k in
     c .has .ensures
-    ∙ ap (λ (words : List ℕ). member words 0 k) (c .before .set-of .ensures)
+    ∙ ap (λ (words : List ℕ). member words 0 k) (c .before .built-set .ensures)
     ∙ by-value-has-just 4 (start .args .numbers .now) (start .pre .0) k (start .pre .1)
 
 pub built-by-value-spec : {M : Type 1} → statement M

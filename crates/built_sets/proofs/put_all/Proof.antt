@@ -7,7 +7,7 @@ use borrow.Author.Needs.{needs}
 use lib.ListN.{length, getD, take}
 use lib.Seq.{take-all}
 use Rattle.sets.specs.Sets.{putAt, putAll}
-use Rattle.sets.proofs.BuiltSets.{below-at, length-put-all, put-all-none, put-all-next}
+use Rattle.sets.proofs.BuiltSets.{number-below, length-put-all, put-all-none, put-all-next}
 use Rattle.built_sets.proofs.put_all.Statement.{statement}
 use Rattle.built_sets.proofs.put_all.Tie as tie
 
@@ -24,7 +24,7 @@ put-requires : tie.Need-put-requires Inv-loop μ-loop
 put-requires c κs =
     let start = c .before .before .before .before .before .before in
     let loop = c .before .before .before .loop in
-    let small = below-at 128 (start .args .numbers .now) (loop .i) (start .pre .0) (omega arith) in
+    let small = number-below 128 (start .args .numbers .now) (loop .i) (start .pre .0) (omega arith) in
     let room = start .pre .1 in
     let same = ap length (loop .inv .1) ∙ length-put-all _ _ _ in
     omega arith
