@@ -9,23 +9,19 @@ use native.Mathlib.Omega.{arith}
 use lib.Dec.{eqb}
 use lib.ListN.{length, getD, take, drop, replicate, length-replicate}
 use lib.Seq.{take-set-le, drop-set-lt}
-use Rattle.sets.specs.Sets.{member, putAt, putAll, wordsAt, these, AllBelow, HasJust}
+use Rattle.grammar.specs.Lists.{anyPass, isIn}
+use Rattle.sets.specs.Sets.{member, putAt, putAll, wordsAt, AllBelow, HasJust}
 use Rattle.sets.proofs.SetLaws.{length-put, member-put, member-words, member-zeros, add-itself}
 
 -- ---- numbers of a list
 
 below-first : (m k : ℕ) (ks : List ℕ) → AllBelow m (k ∷ ks) → k < m
-unfolding these
-below-first m k ks below = below k (add-itself (these ks) k)
+unfolding isIn anyPass
+below-first m k ks below = below k (add-itself (λ j. isIn j ks) k)
 
 below-rest : (m k : ℕ) (ks : List ℕ) → AllBelow m (k ∷ ks) → AllBelow m ks
-unfolding these
+unfolding isIn anyPass
 below-rest m k ks below j h = below j (ap (λ (b : Bool). eqb j k || b) h ∙ or-true (eqb j k))
-
-pub number-below : (m : ℕ) (numbers : List ℕ) (i : ℕ) → AllBelow m numbers → i < length numbers → getD numbers i 0 < m
-number-below m [] i below h = absurd (omega arith)
-number-below m (k ∷ ks) zero below h = below-first m k ks below
-number-below m (k ∷ ks) (suc i) below h = number-below m ks i (below-rest m k ks below) (omega arith)
 
 -- ---- putting them in
 
@@ -36,15 +32,15 @@ length-put-all words base (k ∷ ks) = length-put-all (putAt words base k) base 
 
 -- it adds them and nothing else
 pub member-put-all : (words : List ℕ) (base n : ℕ) (numbers : List ℕ) → base + n ≤ length words → AllBelow (32 * n) numbers
-    → (j : ℕ) → member (putAll words base numbers) base j ≡ (these numbers j || member words base j)
-unfolding putAll these
+    → (j : ℕ) → member (putAll words base numbers) base j ≡ (isIn j numbers || member words base j)
+unfolding putAll isIn anyPass
 member-put-all words base n [] room below j = refl
 member-put-all words base n (k ∷ ks) room below j =
     let first : k < 32 * n = below-first (32 * n) k ks below in
     member-put-all (putAt words base k) base n ks (rw length-put room) (below-rest (32 * n) k ks below) j
-    ∙ ap (λ (p : ℕ → Bool). these ks j || p j) (member-put words base k (omega (arith, first)))
-    ∙ sym (or-assoc (these ks j) (eqb j k) (member words base j))
-    ∙ ap (λ (b : Bool). b || member words base j) (or-comm (these ks j) (eqb j k))
+    ∙ ap (λ (p : ℕ → Bool). isIn j ks || p j) (member-put words base k (omega (arith, first)))
+    ∙ sym (or-assoc (isIn j ks) (eqb j k) (member words base j))
+    ∙ ap (λ (b : Bool). b || member words base j) (or-comm (isIn j ks) (eqb j k))
 
 -- one number after the other
 pub put-all-none : (words : List ℕ) (base : ℕ) → putAll words base [] ≡ words
@@ -88,11 +84,11 @@ in-words-has-just words base n numbers room empty below j h =
     sym (member-words words base n j (omega arith))
     ∙ ap (λ (w : List ℕ). member w 0 j) empty
     ∙ ap (λ (p : ℕ → Bool). p j) (member-zeros n 0) in
-    member-put-all words base n numbers room below j ∙ ap (λ (b : Bool). these numbers j || b) none ∙ or-false (these numbers j)
+    member-put-all words base n numbers room below j ∙ ap (λ (b : Bool). isIn j numbers || b) none ∙ or-false (isIn j numbers)
 
 -- by value
 pub by-value-has-just : (n : ℕ) (numbers : List ℕ) → AllBelow (32 * n) numbers → HasJust (putAll (replicate n 0) 0 numbers) 0 n numbers
 by-value-has-just n numbers below j h =
     member-put-all (replicate n 0) 0 n numbers (rw length-replicate (omega arith)) below j
-    ∙ ap (λ (p : ℕ → Bool). these numbers j || p j) (member-zeros n 0)
-    ∙ or-false (these numbers j)
+    ∙ ap (λ (p : ℕ → Bool). isIn j numbers || p j) (member-zeros n 0)
+    ∙ or-false (isIn j numbers)

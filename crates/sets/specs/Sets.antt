@@ -6,6 +6,7 @@ use mathlib.Core.Path.{_≡_}
 use lib.Bits.{bitOr}
 use lib.Dec.{eqb}
 use lib.ListN.{length, getD, set, take, drop}
+use Rattle.grammar.specs.Lists.{isIn}
 
 -- is bit k of x set?
 unfoldable pub bitOf : ℕ → ℕ → Bool
@@ -43,27 +44,23 @@ unionOf [] ys = ys
 unionOf (x ∷ xs) [] = x ∷ xs
 unionOf (x ∷ xs) (y ∷ ys) = bitOr x y ∷ unionOf xs ys
 
--- sets as tests: nothing, one number more, the numbers of a list, and both sets' numbers
+-- sets as tests: nothing, one number more, and both sets' numbers
 abbrev pub nothing : ℕ → Bool
 nothing j = false
 
 abbrev pub add : ℕ → (ℕ → Bool) → (ℕ → Bool)
 add k p j = eqb j k || p j
 
-unfoldable pub these : List ℕ → (ℕ → Bool)
-these [] = nothing
-these (k ∷ ks) = add k (these ks)
-
 abbrev pub inEither : (ℕ → Bool) → (ℕ → Bool) → (ℕ → Bool)
 inEither p q j = p j || q j
 
 -- each of the numbers is below m
 abbrev pub AllBelow : ℕ → List ℕ → Type 0
-AllBelow m numbers = (k : ℕ) → these numbers k ≡ true → k < m
+AllBelow m numbers = (k : ℕ) → isIn k numbers ≡ true → k < m
 
 -- the set of n words at base has just these numbers: it says yes for each of them and for no other number below 32 * n
 abbrev pub HasJust : List ℕ → ℕ → ℕ → List ℕ → Type 0
-HasJust words base n numbers = (k : ℕ) → k < 32 * n → member words base k ≡ these numbers k
+HasJust words base n numbers = (k : ℕ) → k < 32 * n → member words base k ≡ isIn k numbers
 
 -- how many numbers below n are in the set
 unfoldable pub size : (ℕ → Bool) → ℕ → ℕ
