@@ -1,6 +1,7 @@
 pub mod Ascii
 pub mod Lists
 pub mod Limits
+pub mod LimitSets
 pub mod Names
 pub mod Content
 pub mod Tree

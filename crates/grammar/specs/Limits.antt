@@ -35,24 +35,35 @@ nestingLimit = 32
 abbrev pub childLimit : ℕ
 childLimit = 200
 
--- the limits of the paper
-unfoldable pub standard : Limits
-standard =
+-- A size of site sets four limits: rules, nodes, levels and working words. Labels, starts and types are limited as rules are, and the
+-- other limits are the same for all sizes.
+abbrev pub limitsFor : (rules nodes levels words : ℕ) → Limits
+limitsFor rules nodes levels words =
     record {
-      words = 16384;
+      words = words;
       input = inputLimit;
       name = nameLimit;
-      labels = 64;
-      starts = 64;
-      rules = 64;
-      types = 64;
+      labels = rules;
+      starts = rules;
+      rules = rules;
+      types = rules;
       content = contentLimit;
       operands = operandLimit;
       nesting = nestingLimit;
       children = childLimit;
-      nodes = 1024;
-      levels = 64;
+      nodes = nodes;
+      levels = levels;
     }
+
+-- the three sizes: that of a kiosk, that of document 01, that of a campus
+unfoldable pub small : Limits
+small = limitsFor 16 256 16 12288
+
+unfoldable pub standard : Limits
+standard = limitsFor 64 1024 64 16384
+
+unfoldable pub large : Limits
+large = limitsFor 128 2048 64 32768
 
 -- A file may have as many labels, starts and rules as types, and a content may name as many types as a node has children.
 pub record LimitsAgree (lim : Limits) : Type 0 where
@@ -60,3 +71,18 @@ pub record LimitsAgree (lim : Limits) : Type 0 where
   pub starts : lim .types ≤ lim .starts
   pub rules : lim .types ≤ lim .rules
   pub children : lim .children ≤ lim .operands
+
+-- No limit of one set is above the other's. The working words are no limit of a file, and are left aside.
+pub record NoneAbove (lim lim′ : Limits) : Type 0 where
+  pub input : lim .input ≤ lim′ .input
+  pub name : lim .name ≤ lim′ .name
+  pub labels : lim .labels ≤ lim′ .labels
+  pub starts : lim .starts ≤ lim′ .starts
+  pub rules : lim .rules ≤ lim′ .rules
+  pub types : lim .types ≤ lim′ .types
+  pub content : lim .content ≤ lim′ .content
+  pub operands : lim .operands ≤ lim′ .operands
+  pub nesting : lim .nesting ≤ lim′ .nesting
+  pub children : lim .children ≤ lim′ .children
+  pub nodes : lim .nodes ≤ lim′ .nodes
+  pub levels : lim .levels ≤ lim′ .levels

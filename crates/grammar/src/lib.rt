@@ -1,4 +1,5 @@
-// The answers of the public calls, whose cases crates/grammar/specs gives numbers and values, and the sorts of addition.
+// The answers of the public calls, whose cases crates/grammar/specs gives numbers and values, the sorts of addition, and the sizes that
+// a call can be asked for.
 
 // Why a call turned its input back, in the order in which the reasons are tried.
 pub enum Refusal {
@@ -42,4 +43,19 @@ pub enum Written {
 pub enum Source {
     Table,
     Document,
+}
+
+// The three sets of limits: those of a small site, those that are meant where nothing is said, those of a large one.
+pub enum Size {
+    Small,
+    Standard,
+    Large,
+}
+
+// The limits that a size sets. Labels, starts and types are limited as rules are.
+pub struct SizeLimits {
+    pub rules: usize,
+    pub nodes: usize,
+    pub levels: usize,
+    pub words: usize,
 }

@@ -2,10 +2,10 @@
 use Prim.Native.Nat.{ℕ, _+_, _-_, _≤_, _<_}
 use native.Mathlib.Omega.{arith}
 use mathlib.Core.List.{List, []}
-use mathlib.Core.Path.{_≡_, sym, _∙_, ap, subst}
+use mathlib.Core.Path.{_≡_, sym, _∙_, ap, subst, ap₂}
 use lib.Dec.{leb}
 use lib.ListN.{length, getD}
-use Rattle.grammar.specs.Limits.{standard}
+use Rattle.grammar.specs.Limits.{Limits, NoneAbove, large}
 use Rattle.grammar.specs.Names.{asciiClasses}
 use Rattle.grammar.specs.Table.{Table}
 use Rattle.grammar.specs.Outcome.{Outcome, given, refused, _>>=_, _>>_, turnBack, number}
@@ -31,71 +31,71 @@ use Rattle.grammar.specs.declared.Refusal.the-variants.{WorkTooShort, OutOfRang
 use Rattle.grammar.specs.declared.Reading.{Reading}
 use Rattle.grammar.specs.declared.Reading.the-variants.{Readable, Refused as Unreadable}
 use Rattle.theory.proofs.theorems.AnswerNumbers.{reading-numbers}
+use Rattle.theory.proofs.theorems.CallPromises.{lent-short, lent-enough}
 use Rattle.reader.specs.declared.label_places.LabelFound.{LabelFound}
 use Rattle.reader.specs.declared.label_places.LabelFound.the-variants.{At, Refused as Unfound}
-use Rattle.reader.specs.declared.tables.TableRead.{TableRead}
 use Rattle.reader.specs.declared.documents.DocumentRead.{DocumentRead}
 use Rattle.reader.specs.DocumentNodes.{DocumentReads}
-use Rattle.reader.specs.TableIndex.{part, labelFrom, labelTo, Inside, Reads}
+use Rattle.reader.specs.TableIndex.{part, labelFrom, labelTo, labelCount, Inside, Reads}
 use Rattle.reader.specs.Held.{SomeHeld}
 use Rattle.reader.specs.LabelPlaces.{LabelSought, labelPart, nameBegins}
 use Rattle.reader.proofs.AnswerLaws.{was-unreadable}
 use Rattle.reader.proofs.DocumentAnswers.{document-answer}
 use Rattle.reader.proofs.LabelParts.{are-bytes, label-unread, label-past}
 use Rattle.reader.proofs.LabelPlaceLaws.{place-found}
-use Rattle.reader.proofs.WorkLaws.{work-kept, lent-short, lent-enough}
-use Rattle.reader.proofs.TableFoundLaws.{table-found}
+use Rattle.reader.proofs.WorkLaws.{work-kept}
+use Rattle.reader.proofs.TableFoundLaws.{table-found, some-roomier}
 
 -- What a call leaves, by its outcome
-module _ {A : Type 0} (value : A → ℕ) (o : Outcome A) (work : List ℕ) where
-  pub left-as : (numbers : Numbers) (left : List ℕ) → numbers ≡ numbersOf value o → left ≡ workAfter standard work
-      → after numbers [] left ≡ answered standard value o work
+module _ {A : Type 0} (lim : Limits) (value : A → ℕ) (o : Outcome A) (work : List ℕ) where
+  pub left-as : (numbers : Numbers) (left : List ℕ) → numbers ≡ numbersOf value o → left ≡ workAfter lim work
+      → after numbers [] left ≡ answered lim value o work
   unfolding answered
   left-as numbers left e w = ap (λ (n : Numbers). after n [] left) e ∙ ap (λ (l : List ℕ). after (numbersOf value o) [] l) w
 
   -- one that was lent too few words
-  pub left-short : length work < 16384 → o ≡ refused WorkTooShort → after (refusedBy WorkTooShort) [] work ≡ answered standard value o work
+  pub left-short : length work < lim .words → o ≡ refused WorkTooShort → after (refusedBy WorkTooShort) [] work ≡ answered lim value o work
   unfolding numbersOf
-  left-short h e = left-as (refusedBy WorkTooShort) work (sym (ap (numbersOf value) e)) (work-kept work h)
+  left-short h e = left-as (refusedBy WorkTooShort) work (sym (ap (numbersOf value) e)) (work-kept lim work h)
 
-module _ (table work : List ℕ) where
-  pub table-unanswered : length work < 16384
-      → TableReading standard asciiClasses table work (after (readingNumbers (Unreadable WorkTooShort)) [] work)
+module _ (lim : Limits) (table work : List ℕ) where
+  pub table-unanswered : length work < lim .words
+      → TableReading lim asciiClasses table work (after (readingNumbers (Unreadable WorkTooShort)) [] work)
   unfolding tableReads readingNumbers
   table-unanswered h =
-      record { settled = left-short (λ g. 1) _ work h (lent-short work (readTable standard asciiClasses table) h) }
+      record { settled = left-short lim (λ g. 1) _ work h (lent-short lim work (readTable lim asciiClasses table) h) }
 
-  pub table-answered : 16384 ≤ length work → (left : List ℕ) → left ≡ workAfter standard work → (answer : Reading)
-      → answer ≡ reading (readTable standard asciiClasses table)
-      → TableReading standard asciiClasses table work (after (readingNumbers answer) [] left)
+  pub table-answered : lim .words ≤ length work → (left : List ℕ) → left ≡ workAfter lim work → (answer : Reading)
+      → answer ≡ reading (readTable lim asciiClasses table)
+      → TableReading lim asciiClasses table work (after (readingNumbers answer) [] left)
   unfolding tableReads
   table-answered h left w answer a =
-      let o = readTable standard asciiClasses table in
+      let o = readTable lim asciiClasses table in
       record {
         settled =
-            left-as (λ g. 1) _ work (readingNumbers answer) left
-            (ap readingNumbers a ∙ reading-numbers o ∙ ap (numbersOf (λ g. 1)) (sym (lent-enough work o h)))
+            left-as lim (λ g. 1) _ work (readingNumbers answer) left
+            (ap readingNumbers a ∙ reading-numbers o ∙ ap (numbersOf (λ g. 1)) (sym (lent-enough lim work o h)))
             w;
       }
 
-module _ (document work : List ℕ) where
-  pub document-unanswered : length work < 16384
-      → DocumentReading standard asciiClasses document work (after (readingNumbers (Unreadable WorkTooShort)) [] work)
+module _ (lim : Limits) (document work : List ℕ) where
+  pub document-unanswered : length work < lim .words
+      → DocumentReading lim asciiClasses document work (after (readingNumbers (Unreadable WorkTooShort)) [] work)
   unfolding documentReads readingNumbers
   document-unanswered h =
-      record { settled = left-short (λ d. 1) _ work h (lent-short work (readDocument standard asciiClasses document) h) }
+      record { settled = left-short lim (λ d. 1) _ work h (lent-short lim work (readDocument lim asciiClasses document) h) }
 
-  pub document-answered : 16384 ≤ length work → (left : List ℕ) → left ≡ workAfter standard work → (r : DocumentRead)
-      → DocumentReads document r → DocumentReading standard asciiClasses document work (after (readingNumbers (r .answer)) [] left)
+  pub document-answered : lim .words ≤ length work → (left : List ℕ) → left ≡ workAfter lim work → (r : DocumentRead)
+      → DocumentReads lim document r → DocumentReading lim asciiClasses document work (after (readingNumbers (r .answer)) [] left)
   unfolding documentReads
   document-answered h left w r d =
-      let o = readDocument standard asciiClasses document in
+      let o = readDocument lim asciiClasses document in
       record {
         settled =
-            left-as (λ t. 1) _ work (readingNumbers (r .answer)) left
-            (ap readingNumbers (sym (document-answer document r d))
+            left-as lim (λ t. 1) _ work (readingNumbers (r .answer)) left
+            (ap readingNumbers (sym (document-answer lim document r d))
             ∙ reading-numbers o
-            ∙ ap (numbersOf (λ t. 1)) (sym (lent-enough work o h)))
+            ∙ ap (numbersOf (λ t. 1)) (sym (lent-enough lim work o h)))
             w;
       }
 
@@ -126,68 +126,75 @@ module _ (s : List ℕ) (o : Outcome Part) where
       second : {f t : ℕ} → At from to ≡ At f t → to ≡ t
       second q = cc
 
-module _ (s : List ℕ) (label : ℕ) (r : TableRead) (so : Reads s (readTable standard asciiClasses s) r) where
-  pub find-unread : (q : Refusal) → r .answer ≡ Unreadable q → LabelSought s (labelPart s label) (Unfound q)
+module _ {lim : Limits} (none-above : NoneAbove lim large) (s : List ℕ) (label : ℕ) (r : Reading) (index : List ℕ)
+    (so : Reads s (readTable lim asciiClasses s) r index) where
+  pub find-unread : (q : Refusal) → r ≡ Unreadable q → LabelSought s (labelPart lim s label) (Unfound q)
   find-unread q e =
-      sought-none s (labelPart s label) q (label-unread s label q (was-unreadable (readTable standard asciiClasses s) q (sym (so .answer) ∙ e)))
+      let unread = was-unreadable (readTable lim asciiClasses s) q (sym (so .answer) ∙ e) in
+      sought-none s (labelPart lim s label) q (label-unread lim s label q unread)
 
-  module _ (e : r .answer ≡ Readable) where
-    pub table-there : SomeHeld standard asciiClasses s (r .index)
-    table-there = table-found s r so e .some
+  module _ (e : r ≡ Readable) where
+    pub table-there : SomeHeld large asciiClasses s index
+    table-there = some-roomier none-above (table-found lim s r index so e .some)
 
-    pub find-past : r .index .labels ≤ label → LabelSought s (labelPart s label) (Unfound OutOfRange)
+    pub find-past : labelCount index ≤ label → LabelSought s (labelPart lim s label) (Unfound OutOfRange)
     find-past h =
-        let f = table-found s r so e in
-        sought-none s (labelPart s label) OutOfRange (label-past s label (f .some .table) (f .read) (omega (arith, f .some .held .indexes .labels)))
+        let f = table-found lim s r index so e in
+        let past = label-past lim s label (f .some .table) (f .read) (omega (arith, f .some .held .indexes .labels)) in
+        sought-none s (labelPart lim s label) OutOfRange past
 
-    pub find-at : label < r .index .labels → ((i : ℕ) → getD s i 0 < 256) → (from : ℕ)
-        → ((f : SomeHeld standard asciiClasses s (r .index)) → from ≡ nameBegins (f .table .labels) label)
-        → LabelSought s (labelPart s label) (At from (from + (labelTo (r .index) label - labelFrom (r .index) label)))
-    find-at h small from begins =
-        let f = table-found s r so e in
-        let p = place-found f (are-bytes s small) label h from (begins (f .some)) in
-        sought-at s (labelPart s label) from _ (p .0) (p .1)
+    pub find-at : label < labelCount index → ((i : ℕ) → getD s i 0 < 256) → (from : ℕ)
+        → ((f : SomeHeld large asciiClasses s index) → from ≡ nameBegins (f .table .labels) label)
+        → (to : ℕ) → to ≡ labelTo index label → (begins : ℕ) → begins ≡ labelFrom index label
+        → LabelSought s (labelPart lim s label) (At from (from + (to - begins)))
+    find-at h small from first to is-to begins is-from =
+        let f = table-found lim s r index so e in
+        let p = place-found none-above f (are-bytes s small) label h from (first (some-roomier none-above (f .some))) in
+        subst
+        (λ (n : ℕ). LabelSought s (labelPart lim s label) (At from (from + n)))
+        (sym (ap₂ (λ (a b : ℕ). a - b) is-to is-from))
+        (sought-at s (labelPart lim s label) from _ (p .0) (p .1))
 
-module _ (table : List ℕ) (label : ℕ) (work : List ℕ) where
-  pub label-name-short : length work < 16384 → labelName standard asciiClasses table label work ≡ refused WorkTooShort
+module _ (lim : Limits) (table : List ℕ) (label : ℕ) (work : List ℕ) where
+  pub label-name-short : length work < lim .words → labelName lim asciiClasses table label work ≡ refused WorkTooShort
   unfolding labelName tableReads
   label-name-short h =
       ap
       (λ (o : Outcome Table). o >>= (λ g. turnBack (leb (length (g .labels)) label) OutOfRange >> given (partOfLabel (g .labels) label)))
-      (lent-short work (readTable standard asciiClasses table) h)
+      (lent-short lim work (readTable lim asciiClasses table) h)
 
-  pub label-name-enough : 16384 ≤ length work → labelName standard asciiClasses table label work ≡ labelPart table label
+  pub label-name-enough : lim .words ≤ length work → labelName lim asciiClasses table label work ≡ labelPart lim table label
   unfolding labelName tableReads labelPart
   label-name-enough h =
       ap
       (λ (o : Outcome Table). o >>= (λ g. turnBack (leb (length (g .labels)) label) OutOfRange >> given (partOfLabel (g .labels) label)))
-      (lent-enough work (readTable standard asciiClasses table) h)
+      (lent-enough lim work (readTable lim asciiClasses table) h)
 
   -- what is told of a part at a place in memory
   abbrev Told : List ℕ → ℕ × ℕ → ℕ → List ℕ → ℕ × ℕ → Type 0
   Told left input n bytes at =
-      Naming standard asciiClasses table label work (after (record { bytes = bytes; refusal = n }) [] left)
-      × PartOf input (labelName standard asciiClasses table label work) at
+      Naming lim asciiClasses table label work (after (record { bytes = bytes; refusal = n }) [] left)
+      × PartOf input (labelName lim asciiClasses table label work) at
 
   -- a refusal, and a name that was found
-  module _ (left : List ℕ) (w : left ≡ workAfter standard work) (input at : ℕ × ℕ) (block : at .0 ≡ input .0) where
-    refused-so : at .1 ≡ input .1 + 0 → (r : Refusal) → labelName standard asciiClasses table label work ≡ refused r
+  module _ (left : List ℕ) (w : left ≡ workAfter lim work) (input at : ℕ × ℕ) (block : at .0 ≡ input .0) where
+    refused-so : at .1 ≡ input .1 + 0 → (r : Refusal) → labelName lim asciiClasses table label work ≡ refused r
         → Told left input (number r) [] at
     unfolding named partBytes partFrom numberAfter
     refused-so offset r e = (
       record {
         settled =
             ap (λ (l : List ℕ). after (record { bytes = []; refusal = number r }) [] l) w
-            ∙ sym (ap (λ (o : Outcome Part). named standard o table work) e);
+            ∙ sym (ap (λ (o : Outcome Part). named lim o table work) e);
       },
       record { block = block; offset = offset ∙ ap (λ (o : Outcome Part). input .1 + partFrom o) (sym e) },
     )
 
-    pub label-unanswered : at .1 ≡ input .1 + 0 → length work < 16384 → Told left input 1 [] at
+    pub label-unanswered : at .1 ≡ input .1 + 0 → length work < lim .words → Told left input 1 [] at
     unfolding number
     label-unanswered offset h = refused-so offset WorkTooShort (label-name-short h)
 
-    module _ (h : 16384 ≤ length work) (found : LabelFound) (so : LabelSought table (labelPart table label) found) where
+    module _ (h : lim .words ≤ length work) (found : LabelFound) (so : LabelSought table (labelPart lim table label) found) where
       pub label-refused : at .1 ≡ input .1 + 0 → (r : Refusal) → found ≡ Unfound r → (n : ℕ) → n ≡ number r → Told left input n [] at
       label-refused offset r e n m =
           subst (λ (k : ℕ). Told left input k [] at) (sym m) (refused-so offset r (label-name-enough h ∙ so .unfound r e))
@@ -195,12 +202,12 @@ module _ (table : List ℕ) (label : ℕ) (work : List ℕ) where
       pub label-given : (from to : ℕ) → at .1 ≡ input .1 + from → found ≡ At from to → Told left input 0 (part table from to) at
       unfolding named partBytes partFrom numberAfter
       label-given from to offset e =
-          let o : labelName standard asciiClasses table label work ≡ given (record { from = from; size = to - from }) =
+          let o : labelName lim asciiClasses table label work ≡ given (record { from = from; size = to - from }) =
           label-name-enough h ∙ so .found from to e .1 in (
             record {
               settled =
                   ap (λ (l : List ℕ). after (record { bytes = part table from to; refusal = 0 }) [] l) w
-                  ∙ sym (ap (λ (x : Outcome Part). named standard x table work) o);
+                  ∙ sym (ap (λ (x : Outcome Part). named lim x table work) o);
             },
             record { block = block; offset = offset ∙ ap (λ (x : Outcome Part). input .1 + partFrom x) (sym o) },
           )

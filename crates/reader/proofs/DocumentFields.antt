@@ -11,7 +11,7 @@ use lib.Dec.{eqb, leb, ltb, eqb·suc-zero}
 use lib.ListN.{length, getD, take, drop, length-drop}
 use lib.Seq.{slice, slice-empty, slice-cons, length-take-le}
 use borrow.Author.Tests.{leb-true, leb-false, ltb-false, eqb-false, eq-eqb, ne-eqb, le-leb, lt-leb, lt-ltb, le-ltb}
-use Rattle.grammar.specs.Limits.{Limits, standard}
+use Rattle.grammar.specs.Limits.{Limits}
 use Rattle.grammar.specs.Names.{Classes, asciiClasses, isName}
 use Rattle.grammar.specs.Fields.{Field, Fields, _then_, fieldsOf}
 use Rattle.grammar.specs.Outcome.{Outcome, given, refused, _>>=_, _>>_, turnBack}
@@ -125,24 +125,23 @@ bad-counts lim o n =
     (empty-length (o .toCome))
 
 -- a node without a fault is within the limits
-pub record Counts (nodes children depth : ℕ) : Type 0 where
-  pub room : nodes < 1024
-  pub few : children ≤ 200
-  pub level : depth ≤ 64
+pub record Counts (lim : Limits) (nodes children depth : ℕ) : Type 0 where
+  pub room : nodes < lim .nodes
+  pub few : children ≤ lim .children
+  pub level : depth ≤ lim .levels
   pub some-level : 0 < depth
 
-pub good-counts : (nodes children depth : ℕ) → badCounts standard nodes children depth ≡ false → Counts nodes children depth
-unfolding standard
-good-counts nodes children depth e =
-    let a = leb 1024 nodes in
-    let b = ltb 200 children in
-    let c = ltb 64 depth in
+pub good-counts : (lim : Limits) (nodes children depth : ℕ) → badCounts lim nodes children depth ≡ false → Counts lim nodes children depth
+good-counts lim nodes children depth e =
+    let a = leb (lim .nodes) nodes in
+    let b = ltb (lim .children) children in
+    let c = ltb (lim .levels) depth in
     let last = or-false (a || b || c) (eqb depth 0) e in
     let third = or-false (a || b) c (last .0) in
     let first = or-false a b (third .0) in
-    let room = leb-false 1024 nodes (first .0) in
-    let few = ltb-false 200 children (first .1) in
-    let level = ltb-false 64 depth (third .1) in
+    let room = leb-false (lim .nodes) nodes (first .0) in
+    let few = ltb-false (lim .children) children (first .1) in
+    let level = ltb-false (lim .levels) depth (third .1) in
     let some-level = eqb-false depth 0 (last .1) in
     record { room = room; few = few; level = level; some-level = omega arith }
 
@@ -237,36 +236,36 @@ module _ (s : List ℕ) (from to : ℕ) (order : from ≤ to) (within : to ≤ l
   name-length h = let d = length-drop (from + 1) s in length-take-le (to - (from + 1)) (drop (from + 1) s) (omega arith)
 
   -- the cases of a field that is no end
-  module _ (tag : ℕ) (rest : Fields) (o : Opened) where
+  module _ (lim : Limits) (tag : ℕ) (rest : Fields) (o : Opened) where
     abbrev field : Field
     field = record { tag = tag; value = value }
 
     goes-on : (v : List ℕ) → value ≡ v → (r : Outcome Opened)
-        → readNode standard asciiClasses o (record { tag = tag; value = v }) ≡ r
-        → restWith field rest o ≡ (r >>= λ more. restOf more rest)
+        → readNode lim asciiClasses o (record { tag = tag; value = v }) ≡ r
+        → restWith lim field rest o ≡ (r >>= λ more. restOf lim more rest)
     goes-on v p r q =
-        ap (λ (l : List ℕ). restWith (record { tag = tag; value = l }) rest o) p
-        ∙ ap (λ (x : Outcome Opened). x >>= λ more. restOf more rest) q
+        ap (λ (l : List ℕ). restWith lim (record { tag = tag; value = l }) rest o) p
+        ∙ ap (λ (x : Outcome Opened). x >>= λ more. restOf lim more rest) q
 
-    node-misfit : (1 ≤ to - from → fits standard asciiClasses o tag (getD s from 0) name ≡ false) → restWith field rest o ≡ refused BadField
+    node-misfit : (1 ≤ to - from → fits lim asciiClasses o tag (getD s from 0) name ≡ false) → restWith lim field rest o ≡ refused BadField
     node-misfit p = go (leb 1 (to - from)) refl
       where
-        go : (b : Bool) → leb 1 (to - from) ≡ b → restWith field rest o ≡ refused BadField
-        go false q = goes-on [] (no-value (leb-false 1 (to - from) q)) (refused BadField) (read-empty standard asciiClasses o tag)
+        go : (b : Bool) → leb 1 (to - from) ≡ b → restWith lim field rest o ≡ refused BadField
+        go false q = goes-on [] (no-value (leb-false 1 (to - from) q)) (refused BadField) (read-empty lim asciiClasses o tag)
         go true q =
             let some = leb-true 1 (to - from) q in
             goes-on
             (getD s from 0 ∷ name)
             (first-and-name some)
             (refused BadField)
-            (read-misfit standard asciiClasses o tag (getD s from 0) name (p some))
+            (read-misfit lim asciiClasses o tag (getD s from 0) name (p some))
 
-    pub node-foreign : (tag ≡ nodeTag → ⊥) → restWith field rest o ≡ refused BadField
+    pub node-foreign : (tag ≡ nodeTag → ⊥) → restWith lim field rest o ≡ refused BadField
     node-foreign p =
         node-misfit
-        (λ q. first-fails (eqb tag nodeTag) (leb 1 (length name)) (leb (length name) (standard .name)) (ne-eqb tag nodeTag p))
+        (λ q. first-fails (eqb tag nodeTag) (leb 1 (length name)) (leb (length name) (lim .name)) (ne-eqb tag nodeTag p))
 
-    pub node-short : to - from < 2 → restWith field rest o ≡ refused BadField
+    pub node-short : to - from < 2 → restWith lim field rest o ≡ refused BadField
     node-short p =
         node-misfit
         (λ q.
@@ -274,49 +273,51 @@ module _ (s : List ℕ) (from to : ℕ) (order : from ≤ to) (within : to ≤ l
         second-fails
         (eqb tag nodeTag)
         (leb 1 (length name))
-        (leb (length name) (standard .name))
+        (leb (length name) (lim .name))
         (lt-leb 1 (length name) (omega arith)))
 
-    pub node-long : 63 < to - from - 1 → restWith field rest o ≡ refused BadField
-    unfolding standard
+    pub node-long : lim .name < to - from - 1 → restWith lim field rest o ≡ refused BadField
     node-long p =
         node-misfit
         (λ q.
         let long = name-length q in
-        third-fails (eqb tag nodeTag) (leb 1 (length name)) (leb (length name) 63) (lt-leb (length name) 63 (omega arith)))
+        third-fails
+        (eqb tag nodeTag)
+        (leb 1 (length name))
+        (leb (length name) (lim .name))
+        (lt-leb (length name) (lim .name) (omega arith)))
 
-    module _ (tagged : tag ≡ nodeTag) (some : 2 ≤ to - from) (short : to - from - 1 ≤ 63) where
+    module _ (tagged : tag ≡ nodeTag) (some : 2 ≤ to - from) (short : to - from - 1 ≤ lim .name) where
       node-tried : (named : Bool) → isName asciiClasses name ≡ named → (bad : Bool)
-          → badCounts standard (length (o .nodes)) (getD s from 0) (length (o .toCome)) ≡ bad
-          → restWith field rest o
+          → badCounts lim (length (o .nodes)) (getD s from 0) (length (o .toCome)) ≡ bad
+          → restWith lim field rest o
           ≡ (tried true named bad (withNode o (record { name = name; children = getD s from 0 }))
-          >>= λ more. restOf more rest)
-      unfolding standard
+          >>= λ more. restOf lim more rest)
       node-tried named p bad q =
           let long = name-length (omega arith) in
           goes-on
           (getD s from 0 ∷ name)
           (first-and-name (omega arith))
           (tried true named bad (withNode o (record { name = name; children = getD s from 0 })))
-          (read-fits standard asciiClasses o tag (getD s from 0) name tagged (omega arith) (omega arith) named p bad q)
+          (read-fits lim asciiClasses o tag (getD s from 0) name tagged (omega arith) (omega arith) named p bad q)
 
-      pub node-misnamed : isName asciiClasses name ≡ false → restWith field rest o ≡ refused BadName
-      node-misnamed p = node-tried false p (badCounts standard (length (o .nodes)) (getD s from 0) (length (o .toCome))) refl
+      pub node-misnamed : isName asciiClasses name ≡ false → restWith lim field rest o ≡ refused BadName
+      node-misnamed p = node-tried false p (badCounts lim (length (o .nodes)) (getD s from 0) (length (o .toCome))) refl
 
       module _ (nodes depth children : ℕ) (counted : children ≡ getD s from 0) (sized : Sized o nodes depth) where
-        here : (bad : Bool) → badCounts standard nodes children depth ≡ bad
-            → badCounts standard (length (o .nodes)) (getD s from 0) (length (o .toCome)) ≡ bad
+        here : (bad : Bool) → badCounts lim nodes children depth ≡ bad
+            → badCounts lim (length (o .nodes)) (getD s from 0) (length (o .toCome)) ≡ bad
         here bad e = rw (sized .read, sized .open-levels, ← counted) e
 
-        pub node-misplaced : isName asciiClasses name ≡ true → badCounts standard nodes children depth ≡ true
-            → restWith field rest o ≡ refused BadTree
+        pub node-misplaced : isName asciiClasses name ≡ true → badCounts lim nodes children depth ≡ true
+            → restWith lim field rest o ≡ refused BadTree
         node-misplaced p q = node-tried true p true (here true q)
 
-        pub node-here : isName asciiClasses name ≡ true → badCounts standard nodes children depth ≡ false
-            → restWith field rest o ≡ restOf (withNode o (record { name = name; children = children })) rest
+        pub node-here : isName asciiClasses name ≡ true → badCounts lim nodes children depth ≡ false
+            → restWith lim field rest o ≡ restOf lim (withNode o (record { name = name; children = children })) rest
         node-here p q =
             node-tried true p false (here false q)
-            ∙ ap (λ (k : ℕ). restOf (withNode o (record { name = name; children = k })) rest) (sym counted)
+            ∙ ap (λ (k : ℕ). restOf lim (withNode o (record { name = name; children = k })) rest) (sym counted)
 
 -- the length of the input comes first
 module _ (lim : Limits) (classes : Classes) (bytes : List ℕ) where

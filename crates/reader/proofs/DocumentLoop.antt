@@ -10,6 +10,7 @@ use lib.Dec.{ltb}
 use lib.ListN.{length, getD, take, drop, set, length-set, length-append}
 use lib.Seq.{getD-set-same, getD-set-other}
 use borrow.Author.Tests.{ltb-true, ltb-false}
+use Rattle.grammar.specs.Limits.{Limits}
 use Rattle.grammar.specs.Fields.{fieldsOf}
 use Rattle.grammar.specs.Outcome.{Outcome}
 use Rattle.grammar.specs.ReadDocument.{Node, Opened, nothingRead, withNode}
@@ -31,7 +32,8 @@ module _ (s names sizes children : List ℕ) where
       omega arith
 
   -- what is stored behind the first nodes does not matter
-  pub nodes-kept : (n i a b k : ℕ) → n ≤ i → firstNodes s (set names i a) (set sizes i b) (set children i k) n ≡ firstNodes s names sizes children n
+  pub nodes-kept : (n i a b k : ℕ) → n ≤ i
+      → firstNodes s (set names i a) (set sizes i b) (set children i k) n ≡ firstNodes s names sizes children n
   unfolding firstNodes
   nodes-kept zero i a b k h = refl
   nodes-kept (suc n) i a b k h =
@@ -57,43 +59,46 @@ module _ (s names sizes children : List ℕ) where
       node-stored : nodeAt s (set names n a) (set sizes n b) (set children n k) n ≡ record { name = take b (drop a s); children = k }
       node-stored = rw (getD-set-same names n a 0 p, getD-set-same sizes n b 0 q, getD-set-same children n k 0 r)
 
-pub record NodesSoFar (s names sizes children : List ℕ) (nodes at : ℕ) (coming : List ℕ) (depth : ℕ) : Type 0 where
+pub record NodesSoFar (lim : Limits) (s names sizes children : List ℕ) (nodes at : ℕ) (coming : List ℕ) (depth : ℕ) : Type 0 where
   pub reached : at ≤ length s
-  pub names-room : 1024 ≤ length names
-  pub sizes-room : 1024 ≤ length sizes
-  pub children-room : 1024 ≤ length children
+  pub few : nodes ≤ lim .nodes
+  pub names-room : lim .nodes ≤ length names
+  pub sizes-room : lim .nodes ≤ length sizes
+  pub children-room : lim .nodes ≤ length children
   pub indexed : NodesIndexed s names sizes children nodes
   pub levels-open : Open coming depth
-  pub goes-on : restOf nothingRead (fieldsOf s)
-      ≡ restOf
+  pub goes-on : restOf lim nothingRead (fieldsOf s)
+      ≡ restOf lim
       (record { nodes = firstNodes s names sizes children nodes; toCome = openLevels coming depth })
       (fieldsOf (drop at s))
 
 -- what a step says, once it is known to be a node
-pub says-node : (s : List ℕ) (at nodes depth : ℕ) (whole : Opened → Outcome (List Node)) (st : Step) {from to k : ℕ} → st ≡ NodeHere from to k
-    → StepSays s at nodes depth whole st → NodeStep s at nodes depth whole from to k
-says-node s at nodes depth whole st e says = subst (λ (x : Step). StepSays s at nodes depth whole x) e says
+pub says-node : (lim : Limits) (s : List ℕ) (at nodes depth : ℕ) (whole : Opened → Outcome (List Node)) (st : Step) {from to k : ℕ}
+    → st ≡ NodeHere from to k → StepSays lim s at nodes depth whole st → NodeStep lim s at nodes depth whole from to k
+says-node lim s at nodes depth whole st e says = subst (λ (x : Step). StepSays lim s at nodes depth whole x) e says
 
-module _ (s names sizes children : List ℕ) where
-  pub so-far-none : (coming : List ℕ) → 1024 ≤ length names → 1024 ≤ length sizes → 1024 ≤ length children → getD coming 0 0 ≡ 1
-      → NodesSoFar s names sizes children 0 0 coming 1
+module _ (lim : Limits) (room : lim .nodes ≤ 2048) (s names sizes children : List ℕ) where
+  pub so-far-none : (coming : List ℕ) → lim .nodes ≤ length names → lim .nodes ≤ length sizes → lim .nodes ≤ length children
+      → getD coming 0 0 ≡ 1
+      → NodesSoFar lim s names sizes children 0 0 coming 1
   unfolding firstNodes openLevels
   so-far-none coming p q r e =
       record {
         reached = omega arith;
+        few = omega arith;
         names-room = p;
         sizes-room = q;
         children-room = r;
         indexed = record { few = omega arith; within = λ i h. absurd (omega arith); counts = λ i h. absurd (omega arith) };
         levels-open = record { innermost = innermost };
-        goes-on = ap (λ (k : ℕ). restOf (record { nodes = []; toCome = k ∷ [] }) (fieldsOf s)) (sym e);
+        goes-on = ap (λ (k : ℕ). restOf lim (record { nodes = []; toCome = k ∷ [] }) (fieldsOf s)) (sym e);
       }
     where
       innermost : (d : ℕ) → 1 ≡ suc d → 0 < getD coming d 0
       innermost zero h = omega arith
       innermost (suc d) h = absurd (omega arith)
 
-  module _ (nodes at : ℕ) (coming : List ℕ) (depth : ℕ) (far : NodesSoFar s names sizes children nodes at coming depth) where
+  module _ (nodes at : ℕ) (coming : List ℕ) (depth : ℕ) (far : NodesSoFar lim s names sizes children nodes at coming depth) where
     abbrev opened : Opened
     opened = record { nodes = firstNodes s names sizes children nodes; toCome = openLevels coming depth }
 
@@ -101,17 +106,17 @@ module _ (s names sizes children : List ℕ) where
     sized = record { read = nodes-length s names sizes children nodes; open-levels = levels-length coming depth }
 
     pub so-far-stop : (st : Step) {answer : Reading} → st ≡ Stop answer
-        → StepSays s at nodes depth (λ o. restOf o (fieldsOf (drop at s))) st
-        → restOf nothingRead (fieldsOf s) ≡ outcomeOf answer (firstNodes s names sizes children nodes)
+        → StepSays lim s at nodes depth (λ o. restOf lim o (fieldsOf (drop at s))) st
+        → restOf lim nothingRead (fieldsOf s) ≡ outcomeOf answer (firstNodes s names sizes children nodes)
     so-far-stop st {answer} e says =
         far .goes-on
-        ∙ subst (λ (x : Step). StepSays s at nodes depth (λ o. restOf o (fieldsOf (drop at s))) x) e says opened sized
+        ∙ subst (λ (x : Step). StepSays lim s at nodes depth (λ o. restOf lim o (fieldsOf (drop at s))) x) e says opened sized
 
-    module _ (from to k : ℕ) (step : NodeStep s at nodes depth (λ o. restOf o (fieldsOf (drop at s))) from to k)
+    module _ (from to k : ℕ) (step : NodeStep lim s at nodes depth (λ o. restOf lim o (fieldsOf (drop at s))) from to k)
         (coming′ : List ℕ) (depth′ : ℕ) (after : LevelsAfter coming depth k coming′ depth′) where
       indexed-more : NodesIndexed s (set names nodes from) (set sizes nodes (to - from)) (set children nodes k) (nodes + 1)
       indexed-more =
-          let room = step .room in
+          let place = step .room in
           record { few = omega arith; within = λ i h. within i h (ltb i nodes) refl; counts = λ i h. counts i h (ltb i nodes) refl }
         where
           within : (i : ℕ) → i < nodes + 1 → (b : Bool) → ltb i nodes ≡ b
@@ -124,7 +129,7 @@ module _ (s names sizes children : List ℕ) where
               omega arith
           within i h false e =
               let p = ltb-false i nodes e in
-              let room = step .room in
+              let place = step .room in
               let a = put names nodes i from (omega (arith, far .names-room)) (omega arith) in
               let b = put sizes nodes i (to - from) (omega (arith, far .sizes-room)) (omega arith) in
               omega (arith, step .order, step .within)
@@ -137,16 +142,18 @@ module _ (s names sizes children : List ℕ) where
               omega arith
           counts i h false e =
               let p = ltb-false i nodes e in
-              let room = step .room in
+              let place = step .room in
               let a = put children nodes i k (omega (arith, far .children-room)) (omega arith) in
               omega (arith, step .few)
 
-      pub so-far-next : NodesSoFar s (set names nodes from) (set sizes nodes (to - from)) (set children nodes k) (nodes + 1) to coming′ depth′
+      pub so-far-next
+          : NodesSoFar lim s (set names nodes from) (set sizes nodes (to - from)) (set children nodes k) (nodes + 1) to coming′ depth′
       unfolding withNode
       so-far-next =
-          let room = step .room in
+          let place = step .room in
           record {
             reached = step .within;
+            few = omega arith;
             names-room = simp length-set (far .names-room);
             sizes-room = simp length-set (far .sizes-room);
             children-room = simp length-set (far .children-room);
@@ -156,7 +163,11 @@ module _ (s names sizes children : List ℕ) where
                 far .goes-on
                 ∙ step .goes opened sized
                 ∙ ap₂
-                (λ (ns : List Node) (ls : List ℕ). restOf (record { nodes = ns; toCome = ls }) (fieldsOf (drop to s)))
-                (sym (nodes-more s names sizes children nodes from (to - from) k (omega (arith, far .names-room)) (omega (arith, far .sizes-room)) (omega (arith, far .children-room))))
+                (λ (ns : List Node) (ls : List ℕ). restOf lim (record { nodes = ns; toCome = ls }) (fieldsOf (drop to s)))
+                (sym
+                (nodes-more s names sizes children nodes from (to - from) k
+                (omega (arith, far .names-room))
+                (omega (arith, far .sizes-room))
+                (omega (arith, far .children-room))))
                 (sym (after .levels-are));
           }

@@ -8,7 +8,7 @@ use lib.Dec.{eqb}
 use lib.ListN.{length, drop, length-drop}
 use lib.Seq.{slice, length-slice}
 use borrow.Author.Tests.{ne-eqb}
-use Rattle.grammar.specs.Limits.{standard}
+use Rattle.grammar.specs.Limits.{Limits}
 use Rattle.grammar.specs.Names.{asciiClasses}
 use Rattle.grammar.specs.Fields.{Field, Fields, noBytes, pastEnd, _then_, fieldsOf}
 use Rattle.grammar.specs.Outcome.{Outcome, refused}
@@ -21,25 +21,26 @@ use Rattle.reader.specs.DocumentSteps.{endAnswer, Sized, restOf, restWit
 use Rattle.reader.proofs.FieldReading.{FoundField}
 use Rattle.reader.proofs.DocumentFields.{ends}
 
-pub stops-none : (o : Opened) (fs : Fields) → fs ≡ noBytes → restOf o fs ≡ refused FieldPastEnd
+pub stops-none : (lim : Limits) (o : Opened) (fs : Fields) → fs ≡ noBytes → restOf lim o fs ≡ refused FieldPastEnd
 unfolding readNodeFields
-stops-none o fs e = ap (restOf o) e
+stops-none lim o fs e = ap (restOf lim o) e
 
-pub stops-past : (o : Opened) (fs : Fields) → fs ≡ pastEnd → restOf o fs ≡ refused FieldPastEnd
+pub stops-past : (lim : Limits) (o : Opened) (fs : Fields) → fs ≡ pastEnd → restOf lim o fs ≡ refused FieldPastEnd
 unfolding readNodeFields
-stops-past o fs e = ap (restOf o) e
+stops-past lim o fs e = ap (restOf lim o) e
 
-another-tag : (f : Field) (rest : Fields) (o : Opened) → eqb (f .tag) documentEndTag ≡ false → restOf o (f then rest) ≡ restWith f rest o
+another-tag : (lim : Limits) (f : Field) (rest : Fields) (o : Opened) → eqb (f .tag) documentEndTag ≡ false
+    → restOf lim o (f then rest) ≡ restWith lim f rest o
 unfolding readNodeFields
-another-tag f rest o e = rw (e, readNodeFields)
+another-tag lim f rest o e = rw (e, readNodeFields)
 
-module _ (s : List ℕ) (at tag from to : ℕ) (found : FoundField s at tag from to) where
+module _ (lim : Limits) (s : List ℕ) (at tag from to : ℕ) (found : FoundField s at tag from to) where
   pub stops-end : tag ≡ documentEndTag → (nodes depth : ℕ) (o : Opened) → Sized o nodes depth
-      → restOf o (fieldsOf (drop at s)) ≡ outcomeOf (endAnswer (to - from) depth (length s - to)) (o .nodes)
+      → restOf lim o (fieldsOf (drop at s)) ≡ outcomeOf (endAnswer (to - from) depth (length s - to)) (o .nodes)
   stops-end e nodes depth o z =
-      ap (restOf o) (found .fields)
-      ∙ ap (λ (t : ℕ). restOf o (record { tag = t; value = slice from to s } then fieldsOf (drop to s))) e
-      ∙ ends standard asciiClasses o (slice from to s) (drop to s)
+      ap (restOf lim o) (found .fields)
+      ∙ ap (λ (t : ℕ). restOf lim o (record { tag = t; value = slice from to s } then fieldsOf (drop to s))) e
+      ∙ ends lim asciiClasses o (slice from to s) (drop to s)
       ∙ sizes (length-slice from to s (found .within)) (z .open-levels) (length-drop to s)
     where
       sizes : {a b c : ℕ} → a ≡ to - from → b ≡ depth → c ≡ length s - to
@@ -47,15 +48,15 @@ module _ (s : List ℕ) (at tag from to : ℕ) (found : FoundField s at tag from
       sizes p q r = rw (p, q, r)
 
   pub goes-with : (tag ≡ documentEndTag → ⊥) → (o : Opened)
-      → restOf o (fieldsOf (drop at s)) ≡ restWith (record { tag = tag; value = slice from to s }) (fieldsOf (drop to s)) o
+      → restOf lim o (fieldsOf (drop at s)) ≡ restWith lim (record { tag = tag; value = slice from to s }) (fieldsOf (drop to s)) o
   goes-with e o =
-      ap (restOf o) (found .fields)
-      ∙ another-tag (record { tag = tag; value = slice from to s }) (fieldsOf (drop to s)) o (ne-eqb tag documentEndTag e)
+      ap (restOf lim o) (found .fields)
+      ∙ another-tag lim (record { tag = tag; value = slice from to s }) (fieldsOf (drop to s)) o (ne-eqb tag documentEndTag e)
 
 -- a step says the same of what is the same, and from an earlier place
-pub says-also : (s : List ℕ) (at from nodes depth : ℕ) (whole whole′ : Opened → Outcome (List Node)) (st : Step) → at ≤ from
-    → ((o : Opened) → whole′ o ≡ whole o) → StepSays s from nodes depth whole st → StepSays s at nodes depth whole′ st
-says-also s at from nodes depth whole whole′ (NodeHere f t k) h e n =
+pub says-also : (lim : Limits) (s : List ℕ) (at from nodes depth : ℕ) (whole whole′ : Opened → Outcome (List Node)) (st : Step) → at ≤ from
+    → ((o : Opened) → whole′ o ≡ whole o) → StepSays lim s from nodes depth whole st → StepSays lim s at nodes depth whole′ st
+says-also lim s at from nodes depth whole whole′ (NodeHere f t k) h e n =
     record {
       forward = let p = n .forward in omega arith;
       order = n .order;
@@ -66,4 +67,4 @@ says-also s at from nodes depth whole whole′ (NodeHere f t k) h e n =
       few = n .few;
       goes = λ o z. e o ∙ n .goes o z;
     }
-says-also s at from nodes depth whole whole′ (Stop answer) h e n = λ o z. e o ∙ n o z
+says-also lim s at from nodes depth whole whole′ (Stop answer) h e n = λ o z. e o ∙ n o z

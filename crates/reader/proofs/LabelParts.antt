@@ -11,7 +11,7 @@ use lib.ListN.{length, getD, getElem?, take, drop, length-append, length-drop}
 use lib.Seq.{drop-drop, drop-append-add, take-append-seam}
 use borrow.Author.Tests.{le-leb, lt-leb}
 use Rattle.grammar.specs.Lists.{joinedOf}
-use Rattle.grammar.specs.Limits.{Limits, standard}
+use Rattle.grammar.specs.Limits.{Limits}
 use Rattle.grammar.specs.Names.{Name, Classes, asciiClasses}
 use Rattle.grammar.specs.Table.{Table}
 use Rattle.grammar.specs.Outcome.{Outcome, given, refused, _>>=_, _>>_, turnBack}
@@ -85,21 +85,21 @@ module _ (lim : Limits) (classes : Classes) (s : List ℕ) (g : Table) (small : 
       omega arith
 
 -- the three ways of looking for a label
-module _ (s : List ℕ) (label : ℕ) where
-  pub label-unread : (r : Refusal) → readTable standard asciiClasses s ≡ refused r → labelPart s label ≡ refused r
+module _ (lim : Limits) (s : List ℕ) (label : ℕ) where
+  pub label-unread : (r : Refusal) → readTable lim asciiClasses s ≡ refused r → labelPart lim s label ≡ refused r
   unfolding labelPart
   label-unread r e =
       ap
       (λ (o : Outcome Table). o >>= (λ g. turnBack (leb (length (g .labels)) label) OutOfRange >> given (partOfLabel (g .labels) label)))
       e
 
-  module _ (g : Table) (e : readTable standard asciiClasses s ≡ given g) where
-    pub label-past : length (g .labels) ≤ label → labelPart s label ≡ refused OutOfRange
+  module _ (g : Table) (e : readTable lim asciiClasses s ≡ given g) where
+    pub label-past : length (g .labels) ≤ label → labelPart lim s label ≡ refused OutOfRange
     unfolding labelPart
     label-past h =
-        given-then (readTable standard asciiClasses s) g _ e ∙ fault _ OutOfRange _ (le-leb (length (g .labels)) label h)
+        given-then (readTable lim asciiClasses s) g _ e ∙ fault _ OutOfRange _ (le-leb (length (g .labels)) label h)
 
-    pub label-found : label < length (g .labels) → labelPart s label ≡ given (partOfLabel (g .labels) label)
+    pub label-found : label < length (g .labels) → labelPart lim s label ≡ given (partOfLabel (g .labels) label)
     unfolding labelPart
     label-found h =
-        given-then (readTable standard asciiClasses s) g _ e ∙ no-fault _ OutOfRange _ (lt-leb (length (g .labels)) label h)
+        given-then (readTable lim asciiClasses s) g _ e ∙ no-fault _ OutOfRange _ (lt-leb (length (g .labels)) label h)

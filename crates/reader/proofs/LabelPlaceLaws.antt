@@ -12,7 +12,7 @@ use lib.ListN.{length, getD, getElem?, take, length-append}
 use lib.Seq.{take-suc}
 use borrow.Author.Tests.{leb-false}
 use Rattle.grammar.specs.Lists.{joinedOf}
-use Rattle.grammar.specs.Limits.{standard}
+use Rattle.grammar.specs.Limits.{Limits, NoneAbove, large}
 use Rattle.grammar.specs.Names.{Name, asciiClasses}
 use Rattle.grammar.specs.Table.{Table}
 use Rattle.grammar.specs.Fields.{fieldBytes}
@@ -24,23 +24,23 @@ use Rattle.theory.proofs.bytes.FieldBytes.{AreBytes}
 use Rattle.theory.proofs.lists.ListLaws.{below-at, at-below, at-mem, at-else, joined-end}
 use Rattle.theory.proofs.bytes.OutcomeLaws.{was-given, had-no-fault, given-eq}
 use Rattle.theory.proofs.bytes.ReadWithin.{read-within}
-use Rattle.reader.specs.declared.tables.TableIndex.{TableIndex}
-use Rattle.reader.specs.TableIndex.{labelFrom, labelTo, Inside}
+use Rattle.theory.proofs.tables.RoomierLimits.{table-roomier}
+use Rattle.reader.specs.TableIndex.{labelFrom, labelTo, labelCount, Inside}
 use Rattle.reader.specs.Held.{SomeHeld}
 use Rattle.reader.specs.LabelPlaces.{labelPart, nameBegins}
 use Rattle.reader.proofs.FieldReading.{field-length}
 use Rattle.reader.proofs.LabelParts.{label-inside, label-found}
 use Rattle.reader.proofs.TableFaults.{part-size}
-use Rattle.reader.proofs.TableFoundLaws.{TableFound, label-found-at}
+use Rattle.reader.proofs.TableFoundLaws.{TableFound, some-roomier, label-found-at}
 
 -- three bytes, and three more and the name for each label before
-unfoldable pub summed : List ℕ → List ℕ → ℕ → ℕ
-summed from to zero = 3
-summed from to (suc i) = summed from to i + (3 + (getD to i 0 - getD from i 0))
+unfoldable pub summed : List ℕ → ℕ → ℕ
+summed index zero = 3
+summed index (suc i) = summed index i + (3 + (labelTo index i - labelFrom index i))
 
-pub summed-next : (from to : List ℕ) (i : ℕ) → summed from to (i + 1) ≡ summed from to i + (3 + (getD to i 0 - getD from i 0))
+pub summed-next : (index : List ℕ) (i : ℕ) → summed index (i + 1) ≡ summed index i + (3 + (labelTo index i - labelFrom index i))
 unfolding summed
-summed-next from to i = ap (summed from to) (add-one i)
+summed-next index i = ap (summed index) (add-one i)
 
 -- one element more
 joined-next : {A B : Type 0} (f : A → List B) (xs : List A) (i : ℕ) (x : A) → getElem? xs i ≡ just x
@@ -54,16 +54,16 @@ begins-next : (labels : List Name) (i : ℕ) (n : Name) → getElem? labels i �
 unfolding nameBegins partOfLabel
 begins-next labels i n e = let j = joined-next (fieldBytes labelTag) labels i n e in let l = field-length labelTag n in omega arith
 
-module _ {s : List ℕ} {index : TableIndex} (f : SomeHeld standard asciiClasses s index) where
-  label-size : (i : ℕ) → i < index .labels
+module _ {s index : List ℕ} (f : SomeHeld large asciiClasses s index) where
+  label-size : (i : ℕ) → i < labelCount index
       → (n : Name) × (getElem? (f .table .labels) i ≡ just n) × (labelTo index i - labelFrom index i ≡ length n) × (length n ≤ 63)
-  unfolding standard
+  unfolding large
   label-size i h =
       let p = label-found-at (f .held .indexes) (f .held .within) i h in
       let w = p .3 .size in
       (p .0, p .1, sym (part-size s (labelFrom index i) (labelTo index i) (p .2 .inside)) ∙ ap length (p .2 .bytes-are), omega arith)
 
-  pub label-short : (i : ℕ) → i < index .labels → (labelFrom index i ≤ labelTo index i) × (labelTo index i - labelFrom index i ≤ 63)
+  pub label-short : (i : ℕ) → i < labelCount index → (labelFrom index i ≤ labelTo index i) × (labelTo index i - labelFrom index i ≤ 63)
   label-short i h =
       let p = label-size i h in
       let q = label-found-at (f .held .indexes) (f .held .within) i h in
@@ -71,8 +71,8 @@ module _ {s : List ℕ} {index : TableIndex} (f : SomeHeld standard asciiClasses
       let w = p .3 in
       (q .2 .inside .order, omega arith)
 
-  pub begins-at : (i : ℕ) → i ≤ index .labels
-      → summed (index .«label_from») (index .«label_to») i ≡ nameBegins (f .table .labels) i
+  pub begins-at : (i : ℕ) → i ≤ labelCount index
+      → summed index i ≡ nameBegins (f .table .labels) i
   unfolding summed nameBegins partOfLabel joinedOf
   begins-at zero h = refl
   begins-at (suc i) h =
@@ -97,7 +97,8 @@ joined-short (n ∷ labels) h (suc i) =
     omega arith
 
 -- the place of a label that there is
-module _ {s : List ℕ} {index : TableIndex} (f : TableFound s index) (small : AreBytes s) (label : ℕ) (h : label < index .labels) where
+module _ {lim : Limits} (none-above : NoneAbove lim large) {s index : List ℕ} (f : TableFound lim s index) (small : AreBytes s) (label : ℕ)
+    (h : label < labelCount index) where
   abbrev size : ℕ
   size = labelTo index label - labelFrom index label
 
@@ -105,32 +106,32 @@ module _ {s : List ℕ} {index : TableIndex} (f : TableFound s index) (small : A
   g = f .some .table
 
   pub place-found : (from : ℕ) → from ≡ nameBegins (g .labels) label
-      → Inside s from (from + size) × (labelPart s label ≡ given (record { from = from; size = (from + size) - from }))
+      → Inside s from (from + size) × (labelPart lim s label ≡ given (record { from = from; size = (from + size) - from }))
   unfolding nameBegins partOfLabel
   place-found from e =
       let few = f .some .held .indexes .labels in
-      let p = label-size (f .some) label h in
-      let inside = label-inside standard asciiClasses s g small (f .read) label (p .0) (p .1) in
+      let p = label-size (some-roomier none-above (f .some)) label h in
+      let inside = label-inside lim asciiClasses s g small (f .read) label (p .0) (p .1) in
       let name : length (getD (g .labels) label []) ≡ length (p .0) = ap length (at-else (g .labels) label [] (p .1)) in
       let long = p .2 in
       let same : length (getD (g .labels) label []) ≡ (from + size) - from = omega arith in (
         record { order = omega arith; within = omega arith },
-        label-found s label g (f .read) (omega arith)
+        label-found lim s label g (f .read) (omega arith)
             ∙ ap (λ (k : ℕ). given (record { from = k; size = length (getD (g .labels) label []) })) (sym e)
             ∙ ap (λ (k : ℕ). given (record { from = from; size = k })) same,
       )
 
-module _ (s : List ℕ) (label : ℕ) where
-  pub name-bounds : (p : Part) → labelPart s label ≡ given p → (p .from ≤ 4227) × (p .size ≤ 63)
-  unfolding labelPart standard partOfLabel
+module _ {lim : Limits} (none-above : NoneAbove lim large) (s : List ℕ) (label : ℕ) where
+  pub name-bounds : (p : Part) → labelPart lim s label ≡ given p → (p .from ≤ 8451) × (p .size ≤ 63)
+  unfolding labelPart large partOfLabel
   name-bounds p e =
-      let a = was-given (readTable standard asciiClasses s) _ p e in
+      let a = was-given (readTable lim asciiClasses s) _ p e in
       let g : Table = a .0 in
       let b = had-no-fault _ OutOfRange _ p (a .2) in
       let among = leb-false (length (g .labels)) label (b .0) in
       let n = below-at (g .labels) label among in
       let q : partOfLabel (g .labels) label ≡ p = given-eq (b .1) in
-      let within = read-within standard asciiClasses s g (a .1) in
+      let within = table-roomier none-above (read-within lim asciiClasses s g (a .1)) in
       let few = within .labels in
       let begins = joined-short (g .labels) (λ m k. within .names m k .size) label in
       let from : p .from ≡ length (joinedOf (fieldBytes labelTag) (take label (g .labels))) + 3 = ap (λ (r : Part). r .from) (sym q) in

@@ -1,6 +1,6 @@
 -- The place of the first that is the same (`place-first`, `place-nowhere`), searching names by where they stand (`found-here`,
 -- `found-nowhere`), and the labels and starts of an index.
-use Prim.Native.Nat.{ℕ, zero, suc, _<_}
+use Prim.Native.Nat.{ℕ, zero, suc, _+_, _<_}
 use native.Mathlib.Omega.{arith}
 use mathlib.Core.Bool.{Bool, true, false}
 use mathlib.Core.List.{List, [], _∷_}
@@ -15,9 +15,8 @@ use Rattle.grammar.specs.Table.{Table}
 use Rattle.theory.proofs.lists.BoolLaws.{false-of, not-both}
 use Rattle.theory.proofs.lists.PlaceLaws.{place-some, place-none}
 use Rattle.theory.proofs.lists.ListLaws.{any-found, any-of, mem-at, at-mem, at-below, below-at, just-eq}
-use Rattle.reader.specs.declared.tables.TableIndex.{TableIndex}
 use Rattle.reader.specs.NamePlaces.{NamesAt}
-use Rattle.reader.specs.TableIndex.{startType, part, BytesStand, Indexes}
+use Rattle.reader.specs.TableIndex.{labelCount, startType, startCount, part, BytesStand, Indexes}
 use Rattle.reader.proofs.TableIndexLaws.{start-at}
 
 -- places
@@ -40,16 +39,16 @@ module _ {A : Type 0} (same : A → A → Bool) (x : A) where
       rw (f, place) (ap suc (place-nowhere ys (λ j z p. h (suc j) z p)))
 
 -- names by where they stand
-module _ {s from to : List ℕ} {count : ℕ} {list : List Name} (x : NamesAt s from to count list) where
-  pub name-at : (i : ℕ) → i < count → (n : Name) × (getElem? list i ≡ just n) × BytesStand s (getD from i 0) (getD to i 0) n
+module _ {s places : List ℕ} {count : ℕ} {list : List Name} (x : NamesAt s places count list) where
+  pub name-at : (i : ℕ) → i < count → (n : Name) × (getElem? list i ≡ just n) × BytesStand s (getD places i 0) (getD places (128 + i) 0) n
   name-at i h =
       let p = below-at list i (omega (arith, x .count)) in
       (p .0, p .1, x .name i (p .0) (p .1))
 
   module _ (name : Name) where
     pub found-here : (i : ℕ) → i < count
-        → ((j : ℕ) → j < i → sameName name (part s (getD from j 0) (getD to j 0)) ≡ false)
-        → sameName name (part s (getD from i 0) (getD to i 0)) ≡ true
+        → ((j : ℕ) → j < i → sameName name (part s (getD places j 0) (getD places (128 + j) 0)) ≡ false)
+        → sameName name (part s (getD places i 0) (getD places (128 + i) 0)) ≡ true
         → i ≡ place sameName name list
     found-here i h before e =
         let p = name-at i h in
@@ -57,7 +56,7 @@ module _ {s from to : List ℕ} {count : ℕ} {list : List Name} (x : NamesAt s 
         (place-first sameName name list i (p .1) (ap (sameName name) (sym (p .2 .bytes-are)) ∙ e)
         (λ j z k q. ap (sameName name) (sym (x .name j z q .bytes-are)) ∙ before j k))
 
-    pub found-nowhere : ((j : ℕ) → j < count → sameName name (part s (getD from j 0) (getD to j 0)) ≡ false)
+    pub found-nowhere : ((j : ℕ) → j < count → sameName name (part s (getD places j 0) (getD places (128 + j) 0)) ≡ false)
         → count ≡ place sameName name list
     found-nowhere before =
         x .count
@@ -81,22 +80,19 @@ module _ {s from to : List ℕ} {count : ℕ} {list : List Name} (x : NamesAt s 
             let n = x .count in
             sym (place-none sameName name list (omega arith))
 
-module _ {s : List ℕ} {index : TableIndex} {g : Table} (x : Indexes s index g) where
+module _ {s index : List ℕ} {g : Table} (x : Indexes s index g) where
   -- the names of the labels
-  pub index-names : NamesAt s (index .«label_from») (index .«label_to») (index .labels) (g .labels)
-  index-names =
-      record {
-        count = x .labels;
-        name = x .label;
-        from-room = let room = x .rooms .label-from in let few = x .few-labels in omega arith;
-        to-room = let room = x .rooms .label-to in let few = x .few-labels in omega arith;
-      }
+  pub index-names : {n : ℕ} → n ≡ labelCount index → NamesAt s index n (g .labels)
+  index-names e =
+      let few = x .few-labels in
+      let room = x .room in
+      record { count = e ∙ x .labels; name = x .label; few = omega arith; room = omega arith }
 
   module _ (test : ℕ → Bool) where
-    pub start-passes : (i : ℕ) → i < index .starts → test (startType index i) ≡ true → anyPass test (g .starts) ≡ true
+    pub start-passes : (i : ℕ) → i < startCount index → test (startType index i) ≡ true → anyPass test (g .starts) ≡ true
     start-passes i h e = any-of test (at-mem (g .starts) i (start-at x i h)) e
 
-    pub no-start-passes : ((i : ℕ) → i < index .starts → test (startType index i) ≡ false) → anyPass test (g .starts) ≡ false
+    pub no-start-passes : ((i : ℕ) → i < startCount index → test (startType index i) ≡ false) → anyPass test (g .starts) ≡ false
     no-start-passes h =
         false-of
         (anyPass test (g .starts))

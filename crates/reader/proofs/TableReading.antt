@@ -8,13 +8,15 @@ use mathlib.Core.Path.{_≡_, refl, sym, _∙_, ap, subst}
 use lib.Dec.{ltb}
 use lib.ListN.{length, drop, length-drop, drop-of-length-le}
 use borrow.Author.Tests.{eq-eqb, ne-eqb, lt-ltb, le-ltb}
-use Rattle.grammar.specs.Limits.{standard, inputLimit}
+use Rattle.grammar.specs.Limits.{inputLimit}
+use Rattle.grammar.specs.LimitSets.{limitsOf}
 use Rattle.grammar.specs.Names.{asciiClasses}
 use Rattle.grammar.specs.Table.{Table, emptyTable}
 use Rattle.grammar.specs.Outcome.{Outcome, refused, _>>=_, _>>_, turnBack}
 use Rattle.grammar.specs.Answers.{reading}
 use Rattle.grammar.specs.Fields.{Field, Fields, noBytes, pastEnd, _then_, fieldsOf}
 use Rattle.grammar.specs.ReadTable.{labelTag, startTag, ruleTag, tableEndTag, isEmpty, bytesLeft, readLabel, readStart, readRule, readTableField, readTableFields, readTable}
+use Rattle.grammar.specs.declared.SizeLimits.{SizeLimits}
 use Rattle.grammar.specs.declared.Refusal.{Refusal}
 use Rattle.grammar.specs.declared.Refusal.the-variants.{InputTooLong, FieldPastEnd, BadField, BytesAfterEnd}
 use Rattle.grammar.specs.declared.Reading.{Reading}
@@ -23,8 +25,6 @@ use Rattle.theory.proofs.bytes.OutcomeLaws.{given-then, no-fault, had-no-fault,
 use Rattle.theory.proofs.bytes.FieldBytes.{fields-empty, fields-none}
 use Rattle.theory.proofs.bytes.ReadSteps.{end-field, next-field}
 use Rattle.reader.specs.declared.fields.FieldAt.the-variants.{NoBytes, PastEnd}
-use Rattle.reader.specs.declared.tables.TableIndex.{TableIndex}
-use Rattle.reader.specs.declared.tables.TableRead.{TableRead}
 use Rattle.reader.specs.FieldAt.{fieldAt}
 use Rattle.reader.specs.TableIndex.{part, Inside, Indexes, TableIndexed, Reads, endOutcome}
 use Rattle.reader.proofs.AnswerLaws.{fault, readable, unreadable, was-readable, was-unreadable, never-given}
@@ -33,58 +33,58 @@ use Rattle.reader.proofs.TableFaults.{is-empty, is-some, part-size, par
 use Rattle.reader.proofs.TableSteps.{refused-reads}
 
 -- which of the three a field is, by its tag
-module _ (g : Table) (tag : ℕ) (value : List ℕ) where
-  pub label-field : tag ≡ labelTag → readTableField standard asciiClasses g (record { tag = tag; value = value }) ≡ readLabel standard asciiClasses g value
+module _ (limits : SizeLimits) (g : Table) (tag : ℕ) (value : List ℕ) where
+  pub label-field : tag ≡ labelTag → readTableField (limitsOf limits) asciiClasses g (record { tag = tag; value = value }) ≡ readLabel (limitsOf limits) asciiClasses g value
   unfolding readTableField
   label-field e = rw (eq-eqb tag labelTag e, readTableField)
 
   pub start-field : (tag ≡ labelTag → ⊥) → tag ≡ startTag
-      → readTableField standard asciiClasses g (record { tag = tag; value = value }) ≡ readStart standard g value
+      → readTableField (limitsOf limits) asciiClasses g (record { tag = tag; value = value }) ≡ readStart (limitsOf limits) g value
   unfolding readTableField
   start-field n e = rw (ne-eqb tag labelTag n, eq-eqb tag startTag e, readTableField)
 
   pub rule-field : (tag ≡ labelTag → ⊥) → (tag ≡ startTag → ⊥) → tag ≡ ruleTag
-      → readTableField standard asciiClasses g (record { tag = tag; value = value }) ≡ readRule standard g value
+      → readTableField (limitsOf limits) asciiClasses g (record { tag = tag; value = value }) ≡ readRule (limitsOf limits) g value
   unfolding readTableField
   rule-field n m e = rw (ne-eqb tag labelTag n, ne-eqb tag startTag m, eq-eqb tag ruleTag e, readTableField)
 
   pub foreign-field : (tag ≡ labelTag → ⊥) → (tag ≡ startTag → ⊥) → (tag ≡ ruleTag → ⊥)
-      → readTableField standard asciiClasses g (record { tag = tag; value = value }) ≡ refused BadField
+      → readTableField (limitsOf limits) asciiClasses g (record { tag = tag; value = value }) ≡ refused BadField
   unfolding readTableField
   foreign-field n m k = rw (ne-eqb tag labelTag n, ne-eqb tag startTag m, ne-eqb tag ruleTag k, readTableField)
 
 -- the table's fields as a whole
-abbrev pub wholeTable : List ℕ → Outcome Table
-wholeTable s = readTableFields standard asciiClasses emptyTable (fieldsOf s)
+abbrev pub wholeTable : SizeLimits → List ℕ → Outcome Table
+wholeTable limits s = readTableFields (limitsOf limits) asciiClasses emptyTable (fieldsOf s)
 
 -- Up to this place a table is read, which the index indexes; the whole reads as the rest does after that table.
-pub record TableReached (s : List ℕ) (at : ℕ) (index : TableIndex) : Type 0 where
+pub record TableReached (limits : SizeLimits) (s : List ℕ) (at : ℕ) (index : List ℕ) : Type 0 where
   pub table : Table
   pub indexes : Indexes s index table
   pub inside : at ≤ length s
-  pub rest : wholeTable s ≡ readTableFields standard asciiClasses table (fieldsOf (drop at s))
+  pub rest : wholeTable limits s ≡ readTableFields (limitsOf limits) asciiClasses table (fieldsOf (drop at s))
 
-pub reached-none : (s : List ℕ) (index : TableIndex) → Indexes s index emptyTable → TableReached s 0 index
-reached-none s index x = record { table = emptyTable; indexes = x; inside = omega arith; rest = refl }
+pub reached-none : (limits : SizeLimits) (s index : List ℕ) → Indexes s index emptyTable → TableReached limits s 0 index
+reached-none limits s index x = record { table = emptyTable; indexes = x; inside = omega arith; rest = refl }
 
 pub found-inside : {s : List ℕ} {at tag from to : ℕ} → FoundField s at tag from to → Inside s from to
 found-inside w = record { order = w .order; within = w .within }
 
-module _ {s : List ℕ} {at : ℕ} {index : TableIndex} (r : TableReached s at index) where
+module _ {limits : SizeLimits} {s : List ℕ} {at : ℕ} {index : List ℕ} (r : TableReached limits s at index) where
   pub indexed : TableIndexed s index
   indexed = record { table = r .table; indexes = r .indexes }
 
   pub ends-early : (fieldAt s at ≡ NoBytes) ⊎ (fieldAt s at ≡ PastEnd)
-      → Reads s (wholeTable s) (record { answer = Unreadable FieldPastEnd; index = index })
+      → Reads s (wholeTable limits s) (Unreadable FieldPastEnd) index
   unfolding readTableFields
   ends-early e =
-      refused-reads s (wholeTable s) FieldPastEnd index (unreadable (wholeTable s) FieldPastEnd (⊎-elim none past e))
+      refused-reads s (wholeTable limits s) FieldPastEnd index (unreadable (wholeTable limits s) FieldPastEnd (⊎-elim none past e))
     where
-      none : fieldAt s at ≡ NoBytes → wholeTable s ≡ refused FieldPastEnd
-      none p = r .rest ∙ ap (readTableFields standard asciiClasses (r .table)) (field-none s at p .1)
+      none : fieldAt s at ≡ NoBytes → wholeTable limits s ≡ refused FieldPastEnd
+      none p = r .rest ∙ ap (readTableFields (limitsOf limits) asciiClasses (r .table)) (field-none s at p .1)
 
-      past : fieldAt s at ≡ PastEnd → wholeTable s ≡ refused FieldPastEnd
-      past p = r .rest ∙ ap (readTableFields standard asciiClasses (r .table)) (field-past s at p .1)
+      past : fieldAt s at ≡ PastEnd → wholeTable limits s ≡ refused FieldPastEnd
+      past p = r .rest ∙ ap (readTableFields (limitsOf limits) asciiClasses (r .table)) (field-past s at p .1)
 
   module _ {tag from to : ℕ} (w : FoundField s at tag from to) where
     here : Field
@@ -97,53 +97,53 @@ module _ {s : List ℕ} {at : ℕ} {index : TableIndex} (r : TableReached s at i
         ∙ ap (λ (v : List ℕ). record { tag = tag; value = v } then fieldsOf (drop to s)) (part-slice s from to (found-inside w))
 
     pub ends-here : tag ≡ tableEndTag → (answer : Reading) → answer ≡ reading (endOutcome (r .table) (part s from to) (fieldsOf (drop to s)))
-        → Reads s (wholeTable s) (record { answer = answer; index = index })
+        → Reads s (wholeTable limits s) answer index
     unfolding here
     ends-here e answer a =
-        let so : wholeTable s ≡ endOutcome (r .table) (part s from to) (fieldsOf (drop to s)) =
+        let so : wholeTable limits s ≡ endOutcome (r .table) (part s from to) (fieldsOf (drop to s)) =
         r .rest
-        ∙ ap (readTableFields standard asciiClasses (r .table)) fields-here
-        ∙ end-field standard asciiClasses (r .table) here (fieldsOf (drop to s)) (eq-eqb tag tableEndTag e) in
+        ∙ ap (readTableFields (limitsOf limits) asciiClasses (r .table)) fields-here
+        ∙ end-field (limitsOf limits) asciiClasses (r .table) here (fieldsOf (drop to s)) (eq-eqb tag tableEndTag e) in
         record {
           answer = a ∙ ap reading (sym so);
-          index =
+          index-of =
               λ g q.
               let b = had-no-fault (not (isEmpty (part s from to))) BadField _ g (sym so ∙ q) in
               let d = had-no-fault (bytesLeft (fieldsOf (drop to s))) BytesAfterEnd _ g (b .1) in
               subst (Indexes s index) (given-eq (d .1)) (r .indexes);
         }
 
-    module _ (other : tag ≡ tableEndTag → ⊥) (read : TableRead)
-        (so : Reads s (readTableField standard asciiClasses (r .table) (record { tag = tag; value = part s from to })) read) where
-      goes-on : wholeTable s
-          ≡ (readTableField standard asciiClasses (r .table) here >>= (λ more. readTableFields standard asciiClasses more (fieldsOf (drop to s))))
+    module _ (other : tag ≡ tableEndTag → ⊥) (read : Reading) (index′ : List ℕ)
+        (so : Reads s (readTableField (limitsOf limits) asciiClasses (r .table) (record { tag = tag; value = part s from to })) read index′) where
+      goes-on : wholeTable limits s
+          ≡ (readTableField (limitsOf limits) asciiClasses (r .table) here >>= (λ more. readTableFields (limitsOf limits) asciiClasses more (fieldsOf (drop to s))))
       unfolding here
       goes-on =
           r .rest
-          ∙ ap (readTableFields standard asciiClasses (r .table)) fields-here
-          ∙ next-field standard asciiClasses (r .table) here (fieldsOf (drop to s)) (ne-eqb tag tableEndTag other)
+          ∙ ap (readTableFields (limitsOf limits) asciiClasses (r .table)) fields-here
+          ∙ next-field (limitsOf limits) asciiClasses (r .table) here (fieldsOf (drop to s)) (ne-eqb tag tableEndTag other)
 
-      pub stops-here : (q : Refusal) → read .answer ≡ Unreadable q → Reads s (wholeTable s) read
+      pub stops-here : (q : Refusal) → read ≡ Unreadable q → Reads s (wholeTable limits s) (Unreadable q) index′
       unfolding here
       stops-here q e =
-          let f = was-unreadable (readTableField standard asciiClasses (r .table) here) q (sym (so .answer) ∙ e) in
-          let whole : wholeTable s ≡ refused q =
+          let f = was-unreadable (readTableField (limitsOf limits) asciiClasses (r .table) here) q (sym (so .answer) ∙ e) in
+          let whole : wholeTable limits s ≡ refused q =
           goes-on
-          ∙ ap (λ (o : Outcome Table). o >>= (λ more. readTableFields standard asciiClasses more (fieldsOf (drop to s)))) f in
+          ∙ ap (λ (o : Outcome Table). o >>= (λ more. readTableFields (limitsOf limits) asciiClasses more (fieldsOf (drop to s)))) f in
           record {
-            answer = e ∙ sym (unreadable (wholeTable s) q whole);
-            index = λ g p. absurd (never-given (wholeTable s) q g whole p);
+            answer = sym (unreadable (wholeTable limits s) q whole);
+            index-of = λ g p. absurd (never-given (wholeTable limits s) q g whole p);
           }
 
-      pub reached-next : read .answer ≡ Readable → TableReached s to (read .index)
+      pub reached-next : read ≡ Readable → TableReached limits s to index′
       unfolding here
       reached-next e =
-          let f = was-readable (readTableField standard asciiClasses (r .table) here) (sym (so .answer) ∙ e) in
+          let f = was-readable (readTableField (limitsOf limits) asciiClasses (r .table) here) (sym (so .answer) ∙ e) in
           record {
             table = f .0;
-            indexes = so .index (f .0) (f .1);
+            indexes = so .index-of (f .0) (f .1);
             inside = w .within;
-            rest = goes-on ∙ given-then (readTableField standard asciiClasses (r .table) here) (f .0) _ (f .1);
+            rest = goes-on ∙ given-then (readTableField (limitsOf limits) asciiClasses (r .table) here) (f .0) _ (f .1);
           }
 
 -- what an end field says
@@ -181,11 +181,11 @@ module _ (s : List ℕ) (from to : ℕ) (h : Inside s from to) (g : Table) where
         (no-value _ ∙ no-fault _ BytesAfterEnd _ (ap bytesLeft (ap fieldsOf (drop-of-length-le s {i = to} (omega arith)) ∙ fields-empty)))
 
 -- an input that is too long, and any other
-module _ (s : List ℕ) where
-  pub table-too-long : inputLimit < length s → readTable standard asciiClasses s ≡ refused InputTooLong
-  unfolding readTable standard
+module _ (limits : SizeLimits) (s : List ℕ) where
+  pub table-too-long : inputLimit < length s → readTable (limitsOf limits) asciiClasses s ≡ refused InputTooLong
+  unfolding readTable
   table-too-long h = fault (ltb inputLimit (length s)) InputTooLong _ (lt-ltb inputLimit (length s) h)
 
-  pub table-by-fields : length s ≤ inputLimit → readTable standard asciiClasses s ≡ wholeTable s
-  unfolding readTable standard
+  pub table-by-fields : length s ≤ inputLimit → readTable (limitsOf limits) asciiClasses s ≡ wholeTable limits s
+  unfolding readTable
   table-by-fields h = no-fault (ltb inputLimit (length s)) InputTooLong _ (le-ltb inputLimit (length s) h)

@@ -4,7 +4,7 @@ use native.Mathlib.Omega.{arith}
 use mathlib.Core.List.{List, [], _∷_}
 use mathlib.Core.Path.{_≡_, sym, _∙_, ap, subst}
 use lib.ListN.{length, getD}
-use Rattle.grammar.specs.Limits.{standard}
+use Rattle.grammar.specs.LimitSets.{limitsOf, Within}
 use Rattle.grammar.specs.Names.{asciiClasses}
 use Rattle.grammar.specs.Table.{Rule, Table}
 use Rattle.grammar.specs.Outcome.{Outcome, given}
@@ -12,79 +12,93 @@ use Rattle.grammar.specs.Answers.{reading}
 use Rattle.grammar.specs.ReadContent.{contentBytes}
 use Rattle.grammar.specs.WriteTable.{ruleBytes}
 use Rattle.grammar.specs.ReadTable.{withLabel, withStart, withRule, readLabel, readStart, readRule}
+use Rattle.grammar.specs.declared.SizeLimits.{SizeLimits}
 use Rattle.grammar.specs.declared.Refusal.{Refusal}
+use Rattle.grammar.specs.declared.Reading.{Reading}
 use Rattle.grammar.specs.declared.Reading.the-variants.{Readable, Refused as Unreadable}
 use Rattle.theory.proofs.bytes.OutcomeLaws.{given-eq}
 use Rattle.theory.proofs.bytes.ReadSteps.{label-was, StartRead, start-was, RuleRead, rule-was}
-use Rattle.reader.specs.declared.tables.TableIndex.{TableIndex}
-use Rattle.reader.specs.TableIndex.{part, Inside, BytesStand, Indexes, Reads}
+use Rattle.reader.specs.TableIndex.{
+  labelCount,
+  startCount,
+  ruleCount,
+  withLabelAt,
+  withStartOf,
+  withRuleAt,
+  part,
+  Inside,
+  BytesStand,
+  Indexes,
+  Reads,
+}
 use Rattle.reader.proofs.AnswerLaws.{readable, was-readable, was-unreadable, never-given}
 use Rattle.reader.proofs.TableFaults.{part-size, part-one, part-two}
-use Rattle.reader.proofs.TableIndexLaws.{addLabel, addStart, addRule, label-added, start-added, rule-added}
+use Rattle.reader.proofs.TableIndexLaws.{label-added, start-added, rule-added}
 
 -- a refusal leaves nothing to say of the index
-pub refused-reads : (s : List ℕ) (o : Outcome Table) (r : Refusal) (index : TableIndex) → reading o ≡ Unreadable r
-    → Reads s o (record { answer = Unreadable r; index = index })
-refused-reads s o r index e =
-    record { answer = sym e; index = λ g q. absurd (never-given o r g (was-unreadable o r e) q) }
+pub refused-reads : (s : List ℕ) (o : Outcome Table) (r : Refusal) (index : List ℕ) → reading o ≡ Unreadable r
+    → Reads s o (Unreadable r) index
+refused-reads s o r index e = record { answer = sym e; index-of = λ g q. absurd (never-given o r g (was-unreadable o r e) q) }
+
+-- the same outcome by another name
+pub reads-as : {s : List ℕ} {o o′ : Outcome Table} {r : Reading} {index : List ℕ} → o ≡ o′ → Reads s o′ r index → Reads s o r index
+reads-as {s} {o} {o′} {r} {index} e w = subst (λ (q : Outcome Table). Reads s q r index) (sym e) w
 
 -- the index of the table that is given
-pub given-reads : (s : List ℕ) (o : Outcome Table) (g : Table) (index : TableIndex) → o ≡ given g → Indexes s index g
-    → Reads s o (record { answer = Readable; index = index })
+pub given-reads : (s : List ℕ) (o : Outcome Table) (g : Table) (index : List ℕ) → o ≡ given g → Indexes s index g
+    → Reads s o Readable index
 given-reads s o g index e x =
-    record { answer = sym (readable o g e); index = λ h q. subst (Indexes s index) (given-eq (sym e ∙ q)) x }
+    record { answer = sym (readable o g e); index-of = λ h q. subst (Indexes s index) (given-eq (sym e ∙ q)) x }
 
-module _ {s : List ℕ} {index : TableIndex} {g : Table} (x : Indexes s index g) {from to : ℕ} (h : Inside s from to) where
-  module _ (read : reading (readLabel standard asciiClasses g (part s from to)) ≡ Readable) where
-    pub label-room : index .labels < 64
-    unfolding standard
+module _ (limits : SizeLimits) (room : Within limits) {s index : List ℕ} {g : Table} (x : Indexes s index g) {from to : ℕ} (h : Inside s from to) where
+  module _ (read : reading (readLabel (limitsOf limits) asciiClasses g (part s from to)) ≡ Readable) where
+    pub label-room : labelCount index < 128
     label-room =
-        let r = was-readable (readLabel standard asciiClasses g (part s from to)) read in
-        let w = label-was standard asciiClasses g (part s from to) (r .0) (r .1) in
-        let room = w .room in
+        let r = was-readable (readLabel (limitsOf limits) asciiClasses g (part s from to)) read in
+        let w = label-was (limitsOf limits) asciiClasses g (part s from to) (r .0) (r .1) in
+        let free = w .room in let most = room .rules in
         omega (arith, x .labels)
 
-    pub label-reads : Reads s (readLabel standard asciiClasses g (part s from to)) (record { answer = Readable; index = addLabel index from to })
+    pub label-reads : Reads s (readLabel (limitsOf limits) asciiClasses g (part s from to)) Readable (withLabelAt index from to)
     label-reads =
-        let r = was-readable (readLabel standard asciiClasses g (part s from to)) read in
-        let w = label-was standard asciiClasses g (part s from to) (r .0) (r .1) in
-        given-reads s (readLabel standard asciiClasses g (part s from to)) (withLabel g (part s from to)) (addLabel index from to) (r .1 ∙ ap given (sym (w .result))) (label-added x from to h label-room)
+        let r = was-readable (readLabel (limitsOf limits) asciiClasses g (part s from to)) read in
+        let w = label-was (limitsOf limits) asciiClasses g (part s from to) (r .0) (r .1) in
+        given-reads s (readLabel (limitsOf limits) asciiClasses g (part s from to)) (withLabel g (part s from to)) (withLabelAt index from to) (r .1 ∙ ap given (sym (w .result))) (label-added x from to label-room h)
 
-  module _ (read : reading (readStart standard g (part s from to)) ≡ Readable) where
-    start-found : (more : Table) × (readStart standard g (part s from to) ≡ given more) × StartRead standard g (part s from to) more
+  module _ (read : reading (readStart (limitsOf limits) g (part s from to)) ≡ Readable) where
+    start-found : (more : Table) × (readStart (limitsOf limits) g (part s from to) ≡ given more) × StartRead (limitsOf limits) g (part s from to) more
     start-found =
-        let r = was-readable (readStart standard g (part s from to)) read in
-        (r .0, r .1, start-was standard g (part s from to) (r .0) (r .1))
+        let r = was-readable (readStart (limitsOf limits) g (part s from to)) read in
+        (r .0, r .1, start-was (limitsOf limits) g (part s from to) (r .0) (r .1))
 
     start-size : to - from ≡ 1
     start-size = sym (part-size s from to h) ∙ ap length (start-found .2 .byte)
 
-    pub start-room : (index .starts < 64) × (from < length s)
-    unfolding standard
+    pub start-room : (startCount index < 128) × (from < length s)
     start-room =
-        let room = start-found .2 .room in
+        let free = start-found .2 .room in let most = room .rules in
         let size = start-size in
         (omega (arith, x .starts), omega (arith, h .within))
 
-    pub start-step : Reads s (readStart standard g (part s from to)) (record { answer = Readable; index = addStart index (getD s from 0) })
+    pub start-step : Reads s (readStart (limitsOf limits) g (part s from to)) Readable (withStartOf index (getD s from 0))
     start-step =
         let w = start-found .2 in
         given-reads
         s
-        (readStart standard g (part s from to))
+        (readStart (limitsOf limits) g (part s from to))
         (withStart g (getD s from 0))
-        (addStart index (getD s from 0))
+        (withStartOf index (getD s from 0))
         (start-found .1 ∙ ap given (sym (w .result) ∙ ap (withStart g) (same-one (sym (w .byte) ∙ part-one s from to start-size (h .within)))))
         (start-added x (getD s from 0) (start-room .0))
       where
         same-one : {a b : ℕ} → _≡_ {A = List ℕ} (a ∷ []) (b ∷ []) → a ≡ b
         same-one e = cc
 
-  module _ (read : reading (readRule standard g (part s from to)) ≡ Readable) where
-    rule-found : (more : Table) × (readRule standard g (part s from to) ≡ given more) × RuleRead standard g (part s from to) more
+  module _ (read : reading (readRule (limitsOf limits) g (part s from to)) ≡ Readable) where
+    rule-found : (more : Table) × (readRule (limitsOf limits) g (part s from to) ≡ given more) × RuleRead (limitsOf limits) g (part s from to) more
     rule-found =
-        let r = was-readable (readRule standard g (part s from to)) read in
-        (r .0, r .1, rule-was standard g (part s from to) (r .0) (r .1))
+        let r = was-readable (readRule (limitsOf limits) g (part s from to)) read in
+        (r .0, r .1, rule-was (limitsOf limits) g (part s from to) (r .0) (r .1))
 
     rule-size : from + 2 ≤ to
     unfolding ruleBytes
@@ -93,10 +107,9 @@ module _ {s : List ℕ} {index : TableIndex} {g : Table} (x : Indexes s index g)
         let e = ap length (rule-found .2 .bytes) in
         omega arith
 
-    pub rule-room : (index .rules < 64) × (from + 1 < length s)
-    unfolding standard
+    pub rule-room : (ruleCount index < 128) × (from + 1 < length s)
     rule-room =
-        let room = rule-found .2 .room in
+        let free = rule-found .2 .room in let most = room .rules in
         let size = rule-size in
         (omega (arith, x .rules), omega (arith, h .within))
 
@@ -109,8 +122,8 @@ module _ {s : List ℕ} {index : TableIndex} {g : Table} (x : Indexes s index g)
         two : {a b c d : ℕ} {l m : List ℕ} → _≡_ {A = List ℕ} (a ∷ b ∷ l) (c ∷ d ∷ m) → (a ≡ c) × (b ≡ d) × (m ≡ l)
         two e = (cc, cc, cc)
 
-    pub rule-step : Reads s (readRule standard g (part s from to))
-        (record { answer = Readable; index = addRule index (getD s from 0) (getD s (from + 1) 0) (from + 2) to })
+    pub rule-step : Reads s (readRule (limitsOf limits) g (part s from to)) Readable
+        (withRuleAt index (getD s from 0) (getD s (from + 1) 0) (from + 2) to)
     rule-step =
         let w = rule-found .2 in
         let r = w .rule in
@@ -119,16 +132,8 @@ module _ {s : List ℕ} {index : TableIndex} {g : Table} (x : Indexes s index g)
         record { inside = record { order = rule-size; within = h .within }; bytes-are = b .2 } in
         given-reads
         s
-        (readRule standard g (part s from to))
+        (readRule (limitsOf limits) g (part s from to))
         (withRule g r)
-        (addRule index (getD s from 0) (getD s (from + 1) 0) (from + 2) to)
+        (withRuleAt index (getD s from 0) (getD s (from + 1) 0) (from + 2) to)
         (rule-found .1 ∙ ap given (sym (w .result)))
-        (as-read r (b .0) (b .1) (rule-added x r (from + 2) to stands (rule-room .0)))
-      where
-        as-read : {a b c d : ℕ} (q : Rule) → a ≡ c → b ≡ d → Indexes s (addRule index a b (from + 2) to) (withRule g q)
-            → Indexes s (addRule index c d (from + 2) to) (withRule g q)
-        as-read {a} {b} {c} {d} q e f i =
-            subst
-            (λ (z : ℕ). Indexes s (addRule index z d (from + 2) to) (withRule g q))
-            e
-            (subst (λ (z : ℕ). Indexes s (addRule index a z (from + 2) to) (withRule g q)) f i)
+        (rule-added x (getD s from 0) (getD s (from + 1) 0) (from + 2) to (rule-room .0) r (sym (b .0)) (sym (b .1)) stands)

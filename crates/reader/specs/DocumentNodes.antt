@@ -3,7 +3,7 @@ use Prim.Native.Nat.{ℕ, zero, suc, _+_, _≤_, _<_}
 use mathlib.Core.List.{List, [], _∷_, _++_}
 use mathlib.Core.Path.{_≡_}
 use lib.ListN.{length, getD, take, drop}
-use Rattle.grammar.specs.Limits.{standard, childLimit}
+use Rattle.grammar.specs.Limits.{Limits, childLimit}
 use Rattle.grammar.specs.Names.{asciiClasses}
 use Rattle.grammar.specs.Outcome.{Outcome, given, refused}
 use Rattle.grammar.specs.ReadDocument.{Node, readNodes}
@@ -34,16 +34,17 @@ outcomeOf (Unreadable r) ns = refused r
 
 -- the arrays up to a count: each name lies within the input, and each child count is within the limit
 pub record NodesIndexed (s names sizes children : List ℕ) (nodes : ℕ) : Type 0 where
-  pub few : nodes ≤ 1024
+  pub few : nodes ≤ 2048
   pub within : (i : ℕ) → i < nodes → getD names i 0 + getD sizes i 0 ≤ length s
   pub counts : (i : ℕ) → i < nodes → getD children i 0 ≤ childLimit
 
 -- what was read into the arrays is the document's answer, and its nodes if it reads
-pub record NodesFound (s names sizes children : List ℕ) (r : NodesRead) : Type 0 where
-  pub outcome : readNodes standard asciiClasses s ≡ outcomeOf (r .answer) (firstNodes s names sizes children (r .nodes))
+pub record NodesFound (lim : Limits) (s names sizes children : List ℕ) (r : NodesRead) : Type 0 where
+  pub outcome : readNodes lim asciiClasses s ≡ outcomeOf (r .answer) (firstNodes s names sizes children (r .nodes))
+  pub few : r .nodes ≤ lim .nodes
   pub indexed : NodesIndexed s names sizes children (r .nodes)
 
 -- the same of an index
-abbrev pub DocumentReads : List ℕ → DocumentRead → Type 0
-DocumentReads s r =
-    NodesFound s (r .index .names) (r .index .sizes) (r .index .children) (record { answer = r .answer; nodes = r .index .nodes })
+abbrev pub DocumentReads : Limits → List ℕ → DocumentRead → Type 0
+DocumentReads lim s r =
+    NodesFound lim s (r .index .names) (r .index .sizes) (r .index .children) (record { answer = r .answer; nodes = r .index .nodes })

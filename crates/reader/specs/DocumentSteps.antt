@@ -5,7 +5,7 @@ use mathlib.Core.List.{List, [], _∷_}
 use mathlib.Core.Path.{_≡_}
 use lib.Dec.{eqb, leb, ltb}
 use lib.ListN.{length, getD, take, drop}
-use Rattle.grammar.specs.Limits.{Limits, standard, childLimit}
+use Rattle.grammar.specs.Limits.{Limits, childLimit}
 use Rattle.grammar.specs.Names.{asciiClasses}
 use Rattle.grammar.specs.Fields.{Field, Fields, fieldsOf}
 use Rattle.grammar.specs.Outcome.{Outcome, _>>=_}
@@ -39,29 +39,30 @@ pub record Sized (o : Opened) (nodes depth : ℕ) : Type 0 where
   pub open-levels : length (o .toCome) ≡ depth
 
 -- the rest of a document, of which `o` is read
-abbrev pub restOf : Opened → Fields → Outcome (List Node)
-restOf = readNodeFields standard asciiClasses
+abbrev pub restOf : Limits → Opened → Fields → Outcome (List Node)
+restOf lim = readNodeFields lim asciiClasses
 
 -- the same, where the first field is no end
-abbrev pub restWith : Field → Fields → Opened → Outcome (List Node)
-restWith f rest o = readNode standard asciiClasses o f >>= λ more. restOf more rest
+abbrev pub restWith : Limits → Field → Fields → Opened → Outcome (List Node)
+restWith lim f rest o = readNode lim asciiClasses o f >>= λ more. restOf lim more rest
 
 -- A node is read: `whole` goes on behind it. Its name stands after `at`.
-pub record NodeStep (s : List ℕ) (at nodes depth : ℕ) (whole : Opened → Outcome (List Node)) (from to children : ℕ) : Type 0 where
+pub record NodeStep (lim : Limits) (s : List ℕ) (at nodes depth : ℕ) (whole : Opened → Outcome (List Node)) (from to children : ℕ)
+    : Type 0 where
   pub forward : at < from
   pub order : from ≤ to
   pub within : to ≤ length s
-  pub room : nodes < 1024
+  pub room : nodes < lim .nodes
   pub some-level : 0 < depth
-  pub level : depth ≤ 64
+  pub level : depth ≤ lim .levels
   pub few : children ≤ childLimit
   pub goes : (o : Opened) → Sized o nodes depth
-      → whole o ≡ restOf (withNode o (record { name = take (to - from) (drop from s); children = children })) (fieldsOf (drop to s))
+      → whole o ≡ restOf lim (withNode o (record { name = take (to - from) (drop from s); children = children })) (fieldsOf (drop to s))
 
 -- what a step says of the rest of a document, `whole`, whatever was read before it
-abbrev pub StepSays : List ℕ → ℕ → ℕ → ℕ → (Opened → Outcome (List Node)) → Step → Type 0
-StepSays s at nodes depth whole (NodeHere from to children) = NodeStep s at nodes depth whole from to children
-StepSays s at nodes depth whole (Stop answer) = (o : Opened) → Sized o nodes depth → whole o ≡ outcomeOf answer (o .nodes)
+abbrev pub StepSays : Limits → List ℕ → ℕ → ℕ → ℕ → (Opened → Outcome (List Node)) → Step → Type 0
+StepSays lim s at nodes depth whole (NodeHere from to children) = NodeStep lim s at nodes depth whole from to children
+StepSays lim s at nodes depth whole (Stop answer) = (o : Opened) → Sized o nodes depth → whole o ≡ outcomeOf answer (o .nodes)
 
 -- the open levels, innermost first: the array has them outermost first
 unfoldable pub openLevels : List ℕ → ℕ → List ℕ

@@ -5,15 +5,14 @@ use Rattle.grammar.specs.Limits.{Limits}
 use Rattle.grammar.specs.Names.{Classes}
 use Rattle.grammar.specs.Table.{Table}
 use Rattle.grammar.specs.WithinLimits.{TableWithin}
-use Rattle.reader.specs.declared.tables.TableIndex.{TableIndex}
 use Rattle.reader.specs.TableIndex.{Indexes}
 
 -- the index says where the table's parts stand in the bytes, and the table is within the limits
-pub record Held (lim : Limits) (classes : Classes) (bytes : List ℕ) (index : TableIndex) (g : Table) : Type 0 where
+pub record Held (lim : Limits) (classes : Classes) (bytes index : List ℕ) (g : Table) : Type 0 where
   pub indexes : Indexes bytes index g
   pub within : TableWithin lim classes g
 
 -- some table is held
-pub record SomeHeld (lim : Limits) (classes : Classes) (bytes : List ℕ) (index : TableIndex) : Type 0 where
+pub record SomeHeld (lim : Limits) (classes : Classes) (bytes index : List ℕ) : Type 0 where
   pub table : Table
   pub held : Held lim classes bytes index table

@@ -4,7 +4,7 @@ use mathlib.Core.List.{List}
 use mathlib.Core.Path.{_≡_}
 use lib.Dec.{leb}
 use lib.ListN.{length}
-use Rattle.grammar.specs.Limits.{standard}
+use Rattle.grammar.specs.Limits.{Limits}
 use Rattle.grammar.specs.Names.{Name, asciiClasses}
 use Rattle.grammar.specs.Outcome.{Outcome, given, refused, _>>=_, _>>_, turnBack}
 use Rattle.grammar.specs.Calls.{Part, partOfLabel}
@@ -16,10 +16,10 @@ use Rattle.reader.specs.declared.label_places.LabelFound.the-variants.{A
 use Rattle.reader.specs.TableIndex.{Inside}
 
 -- the part of a table that is a label's name, where there is enough working memory
-unfoldable pub labelPart : List ℕ → ℕ → Outcome Part
+unfoldable pub labelPart : Limits → List ℕ → ℕ → Outcome Part
 unfolding readTable partOfLabel
-labelPart table label = do
-  g ← readTable standard asciiClasses table
+labelPart lim table label = do
+  g ← readTable lim asciiClasses table
   turnBack (leb (length (g .labels)) label) OutOfRange
   given (partOfLabel (g .labels) label)
 

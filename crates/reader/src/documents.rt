@@ -4,7 +4,8 @@ ghost use Prim.Native.Nat.{_≤_, _<_};
 ghost use lib.ListN.{length, drop};
 ghost use lib.Seq.{slice};
 ghost use Rattle.grammar.specs.Names.{asciiClasses};
-ghost use Rattle.grammar.specs.Limits.{standard, inputLimit};
+ghost use Rattle.grammar.specs.Limits.{inputLimit};
+ghost use Rattle.grammar.specs.LimitSets.{limitsOf, Within};
 ghost use Rattle.grammar.specs.Fields.{fieldsOf};
 ghost use Rattle.grammar.specs.ReadDocument.{nothingRead};
 ghost use Rattle.reader.specs.DocumentNodes.{firstNodes, outcomeOf, NodesIndexed, NodesFound, DocumentReads};
@@ -13,9 +14,7 @@ use crate::fields::FieldAt;
 use crate::fields::field_at;
 use crate::limits::CHILDREN;
 use crate::limits::INPUT;
-use crate::limits::LEVELS;
 use crate::limits::NAME;
-use crate::limits::NODES;
 use crate::names::CLASSES;
 use crate::names::is_name;
 use crate::numbers::wide;
@@ -23,6 +22,7 @@ use crate::tags::DOCUMENT_END_TAG;
 use crate::tags::NODE_TAG;
 use grammar::Reading;
 use grammar::Refusal;
+use grammar::SizeLimits;
 
 // What the next field says.
 enum Step {
@@ -34,9 +34,9 @@ enum Step {
 
 // The nodes of a document in file order: where each name stands, and how many children each has.
 pub struct DocumentIndex {
-    pub names: [u16; 1024],
-    pub sizes: [u16; 1024],
-    pub children: [u16; 1024],
+    pub names: [u16; 2048],
+    pub sizes: [u16; 2048],
+    pub children: [u16; 2048],
     pub nodes: usize,
 }
 
@@ -69,16 +69,16 @@ fn end_answer(size: usize, depth: usize, left: usize) -> Reading
 }
 
 // The node is one too many, has too many children, lies too deep or follows a complete tree.
-fn bad_node(nodes: usize, children: usize, depth: usize) -> bool
-    ensures { λ r. ⌜ r ≡ badCounts standard nodes children depth ⌝ }
+fn bad_node(limits: SizeLimits, nodes: usize, children: usize, depth: usize) -> bool
+    ensures { λ r. ⌜ r ≡ badCounts (limitsOf limits) nodes children depth ⌝ }
 {
-    if NODES <= nodes {
+    if limits.nodes <= nodes {
         return true;
     }
     if CHILDREN < children {
         return true;
     }
-    if LEVELS < depth {
+    if limits.levels < depth {
         return true;
     }
     depth == 0
@@ -86,6 +86,7 @@ fn bad_node(nodes: usize, children: usize, depth: usize) -> bool
 
 // What a field other than the end says.
 fn node_of(
+    limits: SizeLimits,
     classes: &[u8],
     s: &[u8],
     tag: u8,
@@ -96,8 +97,9 @@ fn node_of(
 ) -> Step
     requires { ⌜ now classes ≡ asciiClasses ⌝ }
     requires { ⌜ (from ≤ to) × (to ≤ length (now s)) ⌝ }
-    ensures { λ r. ⌜ StepSays (now (s .entry)) from nodes depth
-        (restWith (record { tag = tag; value = slice from to (now (s .entry)) }) (fieldsOf (drop to (now (s .entry))))) r ⌝ }
+    ensures { λ r. ⌜ StepSays (limitsOf limits) (now (s .entry)) from nodes depth
+        (restWith (limitsOf limits) (record { tag = tag; value = slice from to (now (s .entry)) })
+        (fieldsOf (drop to (now (s .entry))))) r ⌝ }
 {
     let size = to - from;
     if tag != NODE_TAG {
@@ -112,7 +114,7 @@ fn node_of(
     let children = wide(s[from]);
     let name = from + 1;
     if is_name(classes, &s[name..to]) {
-        if bad_node(nodes, children, depth) {
+        if bad_node(limits, nodes, children, depth) {
             return Step::Stop(Reading::Refused(Refusal::BadTree));
         }
         Step::Node(name, to, children)
@@ -122,9 +124,17 @@ fn node_of(
 }
 
 // What the field at a place says.
-fn step_at(classes: &[u8], s: &[u8], at: usize, nodes: usize, depth: usize) -> Step
+fn step_at(
+    limits: SizeLimits,
+    classes: &[u8],
+    s: &[u8],
+    at: usize,
+    nodes: usize,
+    depth: usize,
+) -> Step
     requires { ⌜ now classes ≡ asciiClasses ⌝ }
-    ensures { λ r. ⌜ StepSays (now (s .entry)) at nodes depth (λ o. restOf o (fieldsOf (drop at (now (s .entry))))) r ⌝ }
+    ensures { λ r. ⌜ StepSays (limitsOf limits) (now (s .entry)) at nodes depth
+        (λ o. restOf (limitsOf limits) o (fieldsOf (drop at (now (s .entry))))) r ⌝ }
 {
     match field_at(s, at) {
         FieldAt::NoBytes => Step::Stop(Reading::Refused(Refusal::FieldPastEnd)),
@@ -134,7 +144,7 @@ fn step_at(classes: &[u8], s: &[u8], at: usize, nodes: usize, depth: usize) -> S
                 let answer = end_answer(to - from, depth, s.len() - to);
                 return Step::Stop(answer);
             }
-            node_of(classes, s, tag, from, to, nodes, depth)
+            node_of(limits, classes, s, tag, from, to, nodes, depth)
         }
     }
 }
@@ -169,6 +179,7 @@ fn after_node(coming: &mut [usize], depth: usize, children: usize) -> usize
 
 // The fields of a document, front to back.
 fn read_fields(
+    limits: SizeLimits,
     classes: &[u8],
     s: &[u8],
     names: &mut [u16],
@@ -176,10 +187,12 @@ fn read_fields(
     children: &mut [u16],
 ) -> NodesRead
     requires { ⌜ now classes ≡ asciiClasses ⌝ }
-    requires { ⌜ (length (now s) ≤ inputLimit) × (1024 ≤ length (now names)) × (1024 ≤ length (now sizes))
-        × (1024 ≤ length (now children)) ⌝ }
-    ensures answer { λ r. ⌜ restOf nothingRead (fieldsOf (now (s .entry)))
+    requires { ⌜ Within limits ⌝ }
+    requires { ⌜ (length (now s) ≤ inputLimit) × (limits .nodes ≤ length (now names)) × (limits .nodes ≤ length (now sizes))
+        × (limits .nodes ≤ length (now children)) ⌝ }
+    ensures answer { λ r. ⌜ restOf (limitsOf limits) nothingRead (fieldsOf (now (s .entry)))
         ≡ outcomeOf (r .answer) (firstNodes (now (s .entry)) (now (names .exit)) (now (sizes .exit)) (now (children .exit)) (r .nodes)) ⌝ }
+    ensures few { λ r. ⌜ r .nodes ≤ limits .nodes ⌝ }
     ensures index { λ r. ⌜ NodesIndexed (now (s .entry)) (now (names .exit)) (now (sizes .exit)) (now (children .exit)) (r .nodes) ⌝ }
 {
     let mut nodes: usize = 0;
@@ -188,7 +201,7 @@ fn read_fields(
     coming[0] = 1;
     let mut depth: usize = 1;
     loop {
-        match step_at(classes, s, at, nodes, depth) {
+        match step_at(limits, classes, s, at, nodes, depth) {
             Step::Node(from, to, count) => {
                 names[nodes] = from as u16;
                 sizes[nodes] = (to - from) as u16;
@@ -209,9 +222,16 @@ fn read_fields(
 }
 
 // The nodes of a document, into lent arrays.
-pub fn read_nodes(s: &[u8], names: &mut [u16], sizes: &mut [u16], children: &mut [u16]) -> NodesRead
-    requires { ⌜ (1024 ≤ length (now names)) × (1024 ≤ length (now sizes)) × (1024 ≤ length (now children)) ⌝ }
-    ensures { λ r. ⌜ NodesFound (now (s .entry)) (now (names .exit)) (now (sizes .exit)) (now (children .exit)) r ⌝ }
+pub fn read_nodes(
+    limits: SizeLimits,
+    s: &[u8],
+    names: &mut [u16],
+    sizes: &mut [u16],
+    children: &mut [u16],
+) -> NodesRead
+    requires { ⌜ Within limits ⌝ }
+    requires { ⌜ (limits .nodes ≤ length (now names)) × (limits .nodes ≤ length (now sizes)) × (limits .nodes ≤ length (now children)) ⌝ }
+    ensures { λ r. ⌜ NodesFound (limitsOf limits) (now (s .entry)) (now (names .exit)) (now (sizes .exit)) (now (children .exit)) r ⌝ }
 {
     if INPUT < s.len() {
         return NodesRead {
@@ -220,17 +240,18 @@ pub fn read_nodes(s: &[u8], names: &mut [u16], sizes: &mut [u16], children: &mut
         };
     }
     let classes = CLASSES;
-    read_fields(&classes, s, names, sizes, children)
+    read_fields(limits, &classes, s, names, sizes, children)
 }
 
 // The nodes of a document.
-pub fn read_document(s: &[u8]) -> DocumentRead
-    ensures { λ r. ⌜ DocumentReads (now (s .entry)) r ⌝ }
+pub fn read_document(limits: SizeLimits, s: &[u8]) -> DocumentRead
+    requires { ⌜ Within limits ⌝ }
+    ensures { λ r. ⌜ DocumentReads (limitsOf limits) (now (s .entry)) r ⌝ }
 {
-    let mut names = [0u16; 1024];
-    let mut sizes = [0u16; 1024];
-    let mut children = [0u16; 1024];
-    let read = read_nodes(s, &mut names, &mut sizes, &mut children);
+    let mut names = [0u16; 2048];
+    let mut sizes = [0u16; 2048];
+    let mut children = [0u16; 2048];
+    let read = read_nodes(limits, s, &mut names, &mut sizes, &mut children);
     let answer = read.answer;
     DocumentRead {
         answer: answer,

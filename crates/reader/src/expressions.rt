@@ -1,6 +1,5 @@
 // Contents: exactly one expression, of known operators, counts of 2 or more and types in range, that nests no deeper than allowed.
 use crate::limits::NESTING;
-use crate::limits::TYPES;
 use crate::numbers::wide;
 use crate::operators::ANY_NUMBER;
 use crate::operators::CHOICE;
@@ -10,10 +9,12 @@ use crate::operators::OPTIONAL;
 use crate::operators::SEQUENCE;
 use crate::operators::TYPE;
 use grammar::Refusal;
+use grammar::SizeLimits;
 ghost use mathlib.Core.Path.{_≡_};
 ghost use Prim.Native.Nat.{_≤_};
 ghost use lib.ListN.{length};
-ghost use Rattle.grammar.specs.Limits.{standard, contentLimit};
+ghost use Rattle.grammar.specs.Limits.{contentLimit};
+ghost use Rattle.grammar.specs.LimitSets.{limitsOf};
 ghost use Rattle.grammar.specs.ReadContent.{readContent};
 ghost use Rattle.reader.specs.Extents.{NestsBelow, deeperOf, joinedExtent, typeExtent, properAt, properRowAt, contentAnswer};
 
@@ -61,13 +62,13 @@ fn joined(first: usize, others: Extent) -> Extent
 }
 
 // The number of a type, in range.
-fn type_number(content: &[u8], at: usize) -> Extent
-    ensures { λ r. ⌜ r ≡ typeExtent standard (now (content .entry)) at ⌝ }
+fn type_number(limits: SizeLimits, content: &[u8], at: usize) -> Extent
+    ensures { λ r. ⌜ r ≡ typeExtent (limitsOf limits) (now (content .entry)) at ⌝ }
 {
     if content.len() <= at {
         return Extent::Nowhere;
     }
-    if wide(content[at]) < TYPES {
+    if wide(content[at]) < limits.rules {
         return Extent::Upto {
             next: at + 1,
             nesting: 1,
@@ -77,9 +78,9 @@ fn type_number(content: &[u8], at: usize) -> Extent
 }
 
 // The proper expression at a place.
-pub fn expression(content: &[u8], at: usize) -> Extent
+pub fn expression(limits: SizeLimits, content: &[u8], at: usize) -> Extent
     requires { ⌜ length (now content) ≤ contentLimit ⌝ }
-    ensures { λ r. ⌜ r ≡ properAt standard (now (content .entry)) at ⌝ }
+    ensures { λ r. ⌜ r ≡ properAt (limitsOf limits) (now (content .entry)) at ⌝ }
 {
     if content.len() <= at {
         return Extent::Nowhere;
@@ -90,7 +91,7 @@ pub fn expression(content: &[u8], at: usize) -> Extent
             next: at + 1,
             nesting: 1,
         },
-        TYPE => type_number(content, at + 1),
+        TYPE => type_number(limits, content, at + 1),
         SEQUENCE..=CHOICE => {
             if content.len() <= at + 1 {
                 return Extent::Nowhere;
@@ -99,17 +100,17 @@ pub fn expression(content: &[u8], at: usize) -> Extent
             if count < 2 {
                 return Extent::Nowhere;
             }
-            deeper(operands(content, at + 2, count))
+            deeper(operands(limits, content, at + 2, count))
         }
-        ANY_NUMBER..=OPTIONAL => deeper(expression(content, at + 1)),
+        ANY_NUMBER..=OPTIONAL => deeper(expression(limits, content, at + 1)),
         _ => Extent::Nowhere,
     }
 }
 
 // So many proper expressions, one after the other.
-fn operands(content: &[u8], at: usize, count: usize) -> Extent
+fn operands(limits: SizeLimits, content: &[u8], at: usize, count: usize) -> Extent
     requires { ⌜ length (now content) ≤ contentLimit ⌝ }
-    ensures { λ r. ⌜ r ≡ properRowAt standard (now (content .entry)) at count ⌝ }
+    ensures { λ r. ⌜ r ≡ properRowAt (limitsOf limits) (now (content .entry)) at count ⌝ }
 {
     if count == 0 {
         return Extent::Upto {
@@ -117,18 +118,20 @@ fn operands(content: &[u8], at: usize, count: usize) -> Extent
             nesting: 0,
         };
     }
-    match expression(content, at) {
+    match expression(limits, content, at) {
         Extent::Nowhere => Extent::Nowhere,
-        Extent::Upto { next, nesting } => { joined(nesting, operands(content, next, count - 1)) }
+        Extent::Upto { next, nesting } => {
+            joined(nesting, operands(limits, content, next, count - 1))
+        }
     }
 }
 
 // Why a content is turned back, if it is. The nesting is looked at after the whole walk.
-pub fn content_refusal(content: &[u8]) -> ContentAnswer
+pub fn content_refusal(limits: SizeLimits, content: &[u8]) -> ContentAnswer
     requires { ⌜ length (now content) ≤ contentLimit ⌝ }
-    ensures { λ r. ⌜ r ≡ contentAnswer (readContent standard (now (content .entry))) ⌝ }
+    ensures { λ r. ⌜ r ≡ contentAnswer (readContent (limitsOf limits) (now (content .entry))) ⌝ }
 {
-    match expression(content, 0) {
+    match expression(limits, content, 0) {
         Extent::Nowhere => ContentAnswer::Refused(Refusal::BadContent),
         Extent::Upto { next, nesting } => {
             if next < content.len() {

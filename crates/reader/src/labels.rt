@@ -3,31 +3,35 @@ ghost use mathlib.Core.List.{List};
 ghost use mathlib.Core.Path.{_≡_};
 ghost use Rattle.grammar.specs.Lists.{anyPass, place};
 ghost use Rattle.grammar.specs.Names.{Name, asciiClasses, sameName};
-ghost use Rattle.grammar.specs.Limits.{standard};
+ghost use Rattle.grammar.specs.LimitSets.{limitsOf, Within};
 ghost use Rattle.grammar.specs.Table.{Table};
 ghost use Rattle.grammar.specs.ReadTable.{readLabel};
 ghost use Rattle.reader.specs.NamePlaces.{NamesAt, NamesStand};
 ghost use Rattle.reader.specs.TableIndex.{part, ValueAt, Indexes, AnswersFor, ReadsFor};
-use crate::limits::LABELS;
+use crate::index::add_label;
+use crate::index::label_count;
+use crate::index::rule_count;
+use crate::index::start_count;
 use crate::limits::NAME;
 use crate::names::is_name;
 use crate::names::same_name;
-use crate::tables::TableIndex;
-use crate::tables::TableRead;
+use crate::numbers::wider;
 use grammar::Reading;
 use grammar::Refusal;
+use grammar::SizeLimits;
 
-// The place of a name among names that stand in bytes; their number where it is not there.
-pub fn name_place(name: &[u8], s: &[u8], from: &[usize], to: &[usize], count: usize) -> usize
-    requires { ⌜ NamesStand (now s) (now from) (now to) count ⌝ }
-    ensures { λ r. ⌜ ((list : List Name) → NamesAt (now (s .entry)) (now (from .entry)) (now (to .entry)) count list
+// The place of a name among names that stand in bytes; their number where it is not there. `places` begins as an index does: it has
+// where each name begins, and 128 numbers later where it ends.
+pub fn name_place(name: &[u8], s: &[u8], places: &[u16], count: usize) -> usize
+    requires { ⌜ NamesStand (now s) (now places) count ⌝ }
+    ensures { λ r. ⌜ ((list : List Name) → NamesAt (now (s .entry)) (now (places .entry)) count list
         → r ≡ place sameName (now (name .entry)) list) ⌝ }
 {
     let mut i: usize = 0;
     while i < count {
-        let f = from[i];
-        let t = to[i];
-        if same_name(name, &s[f..t]) {
+        let from = wider(places[i]);
+        let to = wider(places[128 + i]);
+        if same_name(name, &s[from..to]) {
             return i;
         }
         i += 1;
@@ -36,27 +40,33 @@ pub fn name_place(name: &[u8], s: &[u8], from: &[usize], to: &[usize], count: us
 }
 
 // An earlier label has this name.
-fn repeated_label(s: &[u8], from: usize, to: usize, index: TableIndex) -> bool
-    requires { ⌜ ValueAt (now s) from to index ⌝ }
-    ensures { λ r. ⌜ ((g : Table) → Indexes (now (s .entry)) index g
+fn repeated_label(s: &[u8], from: usize, to: usize, index: &[u16; 899]) -> bool
+    requires { ⌜ ValueAt (now s) from to (now index) ⌝ }
+    ensures { λ r. ⌜ ((g : Table) → Indexes (now (s .entry)) (now (index .entry)) g
         → r ≡ anyPass (sameName (part (now (s .entry)) from to)) (g .labels)) ⌝ }
 {
-    let label_from = index.label_from;
-    let label_to = index.label_to;
-    let labels = index.labels;
-    name_place(&s[from..to], s, &label_from, &label_to, labels) < labels
+    let labels = label_count(index);
+    name_place(&s[from..to], s, index, labels) < labels
 }
 
 // Why a label is turned back, if it is.
-fn label_answer(classes: &[u8], s: &[u8], from: usize, to: usize, index: TableIndex) -> Reading
+fn label_answer(
+    limits: SizeLimits,
+    classes: &[u8],
+    s: &[u8],
+    from: usize,
+    to: usize,
+    index: &[u16; 899],
+) -> Reading
     requires { ⌜ now classes ≡ asciiClasses ⌝ }
-    requires { ⌜ ValueAt (now s) from to index ⌝ }
-    ensures { λ r. ⌜ AnswersFor (now (s .entry)) index (λ g. readLabel standard asciiClasses g (part (now (s .entry)) from to)) r ⌝ }
+    requires { ⌜ ValueAt (now s) from to (now index) ⌝ }
+    ensures { λ r. ⌜ AnswersFor (now (s .entry)) (now (index .entry))
+        (λ g. readLabel (limitsOf limits) asciiClasses g (part (now (s .entry)) from to)) r ⌝ }
 {
-    if index.starts != 0 {
+    if start_count(index) != 0 {
         return Reading::Refused(Refusal::BadField);
     }
-    if index.rules != 0 {
+    if rule_count(index) != 0 {
         return Reading::Refused(Refusal::BadField);
     }
     if from == to {
@@ -69,7 +79,7 @@ fn label_answer(classes: &[u8], s: &[u8], from: usize, to: usize, index: TableIn
         if repeated_label(s, from, to, index) {
             return Reading::Refused(Refusal::Repeated);
         }
-        if LABELS <= index.labels {
+        if limits.rules <= label_count(index) {
             return Reading::Refused(Refusal::TooMany);
         }
         Reading::Readable
@@ -78,27 +88,26 @@ fn label_answer(classes: &[u8], s: &[u8], from: usize, to: usize, index: TableIn
     }
 }
 
-// The index after a label.
-pub fn after_label(classes: &[u8], s: &[u8], from: usize, to: usize, index: TableIndex) -> TableRead
+// Reads a label into the index.
+pub fn after_label(
+    limits: SizeLimits,
+    classes: &[u8],
+    s: &[u8],
+    from: usize,
+    to: usize,
+    index: &mut [u16; 899],
+) -> Reading
     requires { ⌜ now classes ≡ asciiClasses ⌝ }
-    requires { ⌜ ValueAt (now s) from to index ⌝ }
-    ensures { λ r. ⌜ ReadsFor (now (s .entry)) index (λ g. readLabel standard asciiClasses g (part (now (s .entry)) from to)) r ⌝ }
+    requires { ⌜ Within limits ⌝ }
+    requires { ⌜ ValueAt (now s) from to (now index) ⌝ }
+    ensures { λ r. ⌜ ReadsFor (now (s .entry)) (now (index .entry))
+        (λ g. readLabel (limitsOf limits) asciiClasses g (part (now (s .entry)) from to)) r (now (index .exit)) ⌝ }
 {
-    match label_answer(classes, s, from, to, index) {
-        Reading::Refused(r) => TableRead {
-            answer: Reading::Refused(r),
-            index: index,
-        },
+    match label_answer(limits, classes, s, from, to, index) {
+        Reading::Refused(r) => Reading::Refused(r),
         Reading::Readable => {
-            let mut more = index;
-            let n = index.labels;
-            more.label_from[n] = from;
-            more.label_to[n] = to;
-            more.labels = n + 1;
-            TableRead {
-                answer: Reading::Readable,
-                index: more,
-            }
+            add_label(index, from, to);
+            Reading::Readable
         }
     }
 }

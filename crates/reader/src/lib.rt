@@ -3,6 +3,7 @@ pub mod calls;
 pub mod documents;
 pub mod expressions;
 pub mod fields;
+pub mod index;
 pub mod label_places;
 pub mod labels;
 pub mod limits;

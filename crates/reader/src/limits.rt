@@ -1,26 +1,43 @@
 // The limits of files, once for all code. crates/grammar/specs/Limits.antt has them for the definitions.
+use grammar::Size;
+use grammar::SizeLimits;
+ghost use mathlib.Core.Path.{_≡_};
+ghost use Rattle.grammar.specs.LimitSets.{sizeLimits, limitsOf, Within};
 
-// Working words that a call needs.
-pub const WORDS: usize = 16384;
 // Bytes of an input.
 pub const INPUT: usize = 32768;
 // Bytes of a name.
 pub const NAME: usize = 63;
-// Labels of a table.
-pub const LABELS: usize = 64;
-// Starts of a table.
-pub const STARTS: usize = 64;
-// Rules of a table.
-pub const RULES: usize = 64;
-// Types are the numbers below this.
-pub const TYPES: usize = 64;
 // Bytes of a content.
 pub const CONTENT: usize = 1024;
 // How deep a content may nest.
 pub const NESTING: usize = 32;
 // Children of a node.
 pub const CHILDREN: usize = 200;
-// Nodes of a document.
-pub const NODES: usize = 1024;
-// Levels of a document; the root is level 1.
-pub const LEVELS: usize = 64;
+
+// The limits that a size sets.
+pub fn limits_of(size: Size) -> SizeLimits
+    ensures limits { λ r. ⌜ limitsOf r ≡ sizeLimits size ⌝ }
+    ensures within { λ r. ⌜ Within r ⌝ }
+{
+    match size {
+        Size::Small => SizeLimits {
+            rules: 16,
+            nodes: 256,
+            levels: 16,
+            words: 12288,
+        },
+        Size::Standard => SizeLimits {
+            rules: 64,
+            nodes: 1024,
+            levels: 64,
+            words: 16384,
+        },
+        Size::Large => SizeLimits {
+            rules: 128,
+            nodes: 2048,
+            levels: 64,
+            words: 32768,
+        },
+    }
+}

@@ -1,4 +1,4 @@
-// Bytes as numbers.
+// Bytes, and pairs of bytes, as numbers.
 ghost use mathlib.Core.Path.{_≡_};
 ghost use Prim.Native.Nat.{_<_};
 
@@ -6,6 +6,14 @@ ghost use Prim.Native.Nat.{_<_};
 pub fn wide(x: u8) -> usize
     ensures value { λ r. ⌜ r ≡ x ⌝ }
     ensures small { λ r. ⌜ r < 256 ⌝ }
+{
+    x as usize
+}
+
+// A number of two bytes.
+pub fn wider(x: u16) -> usize
+    ensures value { λ r. ⌜ r ≡ x ⌝ }
+    ensures small { λ r. ⌜ r < 65536 ⌝ }
 {
     x as usize
 }

@@ -1,25 +1,24 @@
 // Rules of a table: type byte, label byte, content of 1 to 1,024 bytes.
-ghost use Rattle.grammar.specs.Limits.{standard};
+ghost use Rattle.grammar.specs.LimitSets.{limitsOf, Within};
 ghost use Rattle.grammar.specs.ReadTable.{readRule};
 ghost use Rattle.reader.specs.TableIndex.{part, ValueAt, AnswersFor, ReadsFor};
 use crate::expressions::ContentAnswer;
 use crate::expressions::content_refusal;
+use crate::index::add_rule;
+use crate::index::label_count;
+use crate::index::rule_count;
 use crate::limits::CONTENT;
-use crate::limits::RULES;
-use crate::limits::TYPES;
 use crate::numbers::wide;
-use crate::tables::TableIndex;
-use crate::tables::TableRead;
 use grammar::Reading;
 use grammar::Refusal;
+use grammar::SizeLimits;
 
 // Why a rule is turned back, if it is.
-fn rule_answer(s: &[u8], from: usize, to: usize, index: TableIndex) -> Reading
-    requires { ⌜ ValueAt (now s) from to index ⌝ }
-    ensures { λ r. ⌜ AnswersFor (now (s .entry)) index (λ g. readRule standard g (part (now (s .entry)) from to)) r ⌝ }
+fn rule_answer(limits: SizeLimits, s: &[u8], from: usize, to: usize, index: &[u16; 899]) -> Reading
+    requires { ⌜ ValueAt (now s) from to (now index) ⌝ }
+    ensures { λ r. ⌜ AnswersFor (now (s .entry)) (now (index .entry))
+        (λ g. readRule (limitsOf limits) g (part (now (s .entry)) from to)) r ⌝ }
 {
-    let labels = index.labels;
-    let rules = index.rules;
     let size = to - from;
     if size < 3 {
         return Reading::Refused(Refusal::BadField);
@@ -29,44 +28,40 @@ fn rule_answer(s: &[u8], from: usize, to: usize, index: TableIndex) -> Reading
     }
     let ty = wide(s[from]);
     let label = wide(s[from + 1]);
-    if RULES <= rules {
+    if limits.rules <= rule_count(index) {
         return Reading::Refused(Refusal::TooMany);
     }
-    if TYPES <= ty {
+    if limits.rules <= ty {
         return Reading::Refused(Refusal::OutOfRange);
     }
-    if labels <= label {
+    if label_count(index) <= label {
         return Reading::Refused(Refusal::OutOfRange);
     }
     let content = from + 2;
-    match content_refusal(&s[content..to]) {
+    match content_refusal(limits, &s[content..to]) {
         ContentAnswer::Fine => Reading::Readable,
         ContentAnswer::Refused(r) => Reading::Refused(r),
     }
 }
 
-// The index after a rule.
-pub fn after_rule(s: &[u8], from: usize, to: usize, index: TableIndex) -> TableRead
-    requires { ⌜ ValueAt (now s) from to index ⌝ }
-    ensures { λ r. ⌜ ReadsFor (now (s .entry)) index (λ g. readRule standard g (part (now (s .entry)) from to)) r ⌝ }
+// Reads a rule into the index.
+pub fn after_rule(
+    limits: SizeLimits,
+    s: &[u8],
+    from: usize,
+    to: usize,
+    index: &mut [u16; 899],
+) -> Reading
+    requires { ⌜ Within limits ⌝ }
+    requires { ⌜ ValueAt (now s) from to (now index) ⌝ }
+    ensures { λ r. ⌜ ReadsFor (now (s .entry)) (now (index .entry)) (λ g. readRule (limitsOf limits) g (part (now (s .entry)) from to)) r
+        (now (index .exit)) ⌝ }
 {
-    match rule_answer(s, from, to, index) {
-        Reading::Refused(r) => TableRead {
-            answer: Reading::Refused(r),
-            index: index,
-        },
+    match rule_answer(limits, s, from, to, index) {
+        Reading::Refused(r) => Reading::Refused(r),
         Reading::Readable => {
-            let mut more = index;
-            let n = index.rules;
-            more.rule_type[n] = s[from];
-            more.rule_label[n] = s[from + 1];
-            more.content_from[n] = from + 2;
-            more.content_to[n] = to;
-            more.rules = n + 1;
-            TableRead {
-                answer: Reading::Readable,
-                index: more,
-            }
+            add_rule(index, s[from], s[from + 1], from + 2, to);
+            Reading::Readable
         }
     }
 }

@@ -1,17 +1,18 @@
 // Table files: labels, then starts, then rules, then the end.
 ghost use mathlib.Core.Path.{_≡_};
-ghost use mathlib.Core.List.{List};
-ghost use Prim.Native.Nat.{ℕ};
-ghost use lib.ListN.{drop};
+ghost use Prim.Native.Nat.{_≤_};
+ghost use lib.ListN.{length, drop};
 ghost use Rattle.grammar.specs.Names.{asciiClasses};
-ghost use Rattle.grammar.specs.Limits.{standard};
+ghost use Rattle.grammar.specs.Limits.{inputLimit};
+ghost use Rattle.grammar.specs.LimitSets.{limitsOf, Within};
 ghost use Rattle.grammar.specs.Table.{Table, emptyTable};
 ghost use Rattle.grammar.specs.Answers.{reading};
 ghost use Rattle.grammar.specs.Fields.{fieldsOf};
 ghost use Rattle.grammar.specs.ReadTable.{readTableField, readTableFields, readTable};
-ghost use Rattle.reader.specs.TableIndex.{part, Inside, ValueAt, Indexes, Reads, ReadsFor, endOutcome};
+ghost use Rattle.reader.specs.TableIndex.{part, Inside, ValueAt, Reads, ReadsFor, endOutcome};
 use crate::fields::FieldAt;
 use crate::fields::field_at;
+use crate::index::clear_index;
 use crate::labels::after_label;
 use crate::limits::INPUT;
 use crate::names::CLASSES;
@@ -23,54 +24,35 @@ use crate::tags::START_TAG;
 use crate::tags::TABLE_END_TAG;
 use grammar::Reading;
 use grammar::Refusal;
+use grammar::SizeLimits;
 
-// Where the labels, starts and rules of a table stand in its bytes, each in the order of the file.
-pub struct TableIndex {
-    pub label_from: [usize; 64],
-    pub label_to: [usize; 64],
-    pub labels: usize,
-    pub start_type: [u8; 64],
-    pub starts: usize,
-    pub rule_type: [u8; 64],
-    pub rule_label: [u8; 64],
-    pub content_from: [usize; 64],
-    pub content_to: [usize; 64],
-    pub rules: usize,
-}
-
-// Whether a table reads, and its index if it does.
-pub struct TableRead {
-    pub answer: Reading,
-    pub index: TableIndex,
-}
-
-// The index after a field that is not the end.
+// Reads a field that is not the end into the index.
 fn after_field(
+    limits: SizeLimits,
     classes: &[u8],
     s: &[u8],
     tag: u8,
     from: usize,
     to: usize,
-    index: TableIndex,
-) -> TableRead
+    index: &mut [u16; 899],
+) -> Reading
     requires { ⌜ now classes ≡ asciiClasses ⌝ }
-    requires { ⌜ ValueAt (now s) from to index ⌝ }
-    ensures { λ r. ⌜ ReadsFor (now (s .entry)) index
-        (λ g. readTableField standard asciiClasses g (record { tag = tag; value = part (now (s .entry)) from to })) r ⌝ }
+    requires { ⌜ Within limits ⌝ }
+    requires { ⌜ ValueAt (now s) from to (now index) ⌝ }
+    ensures { λ r. ⌜ ReadsFor (now (s .entry)) (now (index .entry))
+        (λ g. readTableField (limitsOf limits) asciiClasses g (record { tag = tag; value = part (now (s .entry)) from to })) r
+        (now (index .exit)) ⌝ }
 {
     if tag == LABEL_TAG {
-        return after_label(classes, s, from, to, index);
+        return after_label(limits, classes, s, from, to, index);
     }
     if tag == START_TAG {
-        return after_start(s, from, to, index);
+        return after_start(limits, s, from, to, index);
     }
     if tag == RULE_TAG {
-        return after_rule(s, from, to, index);
+        return after_rule(limits, s, from, to, index);
     }
-    TableRead {
-        answer: Reading::Refused(Refusal::BadField),
-        index: index,
-    }
+    Reading::Refused(Refusal::BadField)
 }
 
 // What an end field says.
@@ -88,75 +70,46 @@ fn end_answer(s: &[u8], from: usize, to: usize) -> Reading
     Reading::Readable
 }
 
-// The index of no labels, starts or rules.
-fn no_index() -> TableIndex
-    ensures { λ r. ⌜ ((s : List ℕ) → Indexes s r emptyTable) ⌝ }
-{
-    TableIndex {
-        label_from: [0; 64],
-        label_to: [0; 64],
-        labels: 0,
-        start_type: [0; 64],
-        starts: 0,
-        rule_type: [0; 64],
-        rule_label: [0; 64],
-        content_from: [0; 64],
-        content_to: [0; 64],
-        rules: 0,
-    }
-}
-
-// The fields of a table, front to back.
-fn read_fields(classes: &[u8], s: &[u8]) -> TableRead
+// Reads the fields of a table into the index, front to back.
+fn read_fields(limits: SizeLimits, classes: &[u8], s: &[u8], index: &mut [u16; 899]) -> Reading
     requires { ⌜ now classes ≡ asciiClasses ⌝ }
-    ensures { λ r. ⌜ Reads (now (s .entry)) (readTableFields standard asciiClasses emptyTable (fieldsOf (now (s .entry)))) r ⌝ }
+    requires { ⌜ Within limits ⌝ }
+    requires { ⌜ length (now s) ≤ inputLimit ⌝ }
+    ensures { λ r. ⌜ Reads (now (s .entry)) (readTableFields (limitsOf limits) asciiClasses emptyTable (fieldsOf (now (s .entry)))) r
+        (now (index .exit)) ⌝ }
 {
-    let mut index = no_index();
+    clear_index(index);
     let mut at: usize = 0;
     loop {
         match field_at(s, at) {
             FieldAt::Found(tag, from, to) => {
                 if tag == TABLE_END_TAG {
-                    return TableRead {
-                        answer: end_answer(s, from, to),
-                        index: index,
-                    };
+                    return end_answer(s, from, to);
                 }
-                let read = after_field(classes, s, tag, from, to, index);
-                let answer = read.answer;
-                if let Reading::Refused(_) = answer {
-                    return read;
+                let answer = after_field(limits, classes, s, tag, from, to, index);
+                if let Reading::Refused(r) = answer {
+                    return Reading::Refused(r);
                 }
-                let more = read.index;
-                index = more;
                 at = to;
             }
             FieldAt::NoBytes => {
-                return TableRead {
-                    answer: Reading::Refused(Refusal::FieldPastEnd),
-                    index: index,
-                };
+                return Reading::Refused(Refusal::FieldPastEnd);
             }
             FieldAt::PastEnd => {
-                return TableRead {
-                    answer: Reading::Refused(Refusal::FieldPastEnd),
-                    index: index,
-                };
+                return Reading::Refused(Refusal::FieldPastEnd);
             }
         }
     }
 }
 
-// A table of labels, starts and rules.
-pub fn read_table(s: &[u8]) -> TableRead
-    ensures { λ r. ⌜ Reads (now (s .entry)) (readTable standard asciiClasses (now (s .entry))) r ⌝ }
+// Reads a table of labels, starts and rules into the index.
+pub fn read_table(limits: SizeLimits, s: &[u8], index: &mut [u16; 899]) -> Reading
+    requires { ⌜ Within limits ⌝ }
+    ensures { λ r. ⌜ Reads (now (s .entry)) (readTable (limitsOf limits) asciiClasses (now (s .entry))) r (now (index .exit)) ⌝ }
 {
     if INPUT < s.len() {
-        return TableRead {
-            answer: Reading::Refused(Refusal::InputTooLong),
-            index: no_index(),
-        };
+        return Reading::Refused(Refusal::InputTooLong);
     }
     let classes = CLASSES;
-    read_fields(&classes, s)
+    read_fields(limits, &classes, s, index)
 }

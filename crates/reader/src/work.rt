@@ -1,9 +1,9 @@
 // The working memory that is lent to every call.
-use crate::limits::WORDS;
+use grammar::SizeLimits;
 ghost use mathlib.Core.Path.{_≡_};
 ghost use Prim.Native.Nat.{_≤_};
 ghost use lib.ListN.{length, replicate};
-ghost use Rattle.grammar.specs.Limits.{standard};
+ghost use Rattle.grammar.specs.LimitSets.{limitsOf};
 ghost use Rattle.grammar.specs.Calls.{workAfter};
 
 // Clears lent words.
@@ -18,9 +18,10 @@ pub fn clear(words: &mut [u32])
 }
 
 // Clears the words that a call needs.
-pub fn clear_work(work: &mut [u32])
-    requires { ⌜ 16384 ≤ length (now work) ⌝ }
-    ensures { λ r. ⌜ now (work .exit) ≡ workAfter standard (now (work .entry)) ⌝ }
+pub fn clear_work(limits: SizeLimits, work: &mut [u32])
+    requires { ⌜ limits .words ≤ length (now work) ⌝ }
+    ensures { λ r. ⌜ now (work .exit) ≡ workAfter (limitsOf limits) (now (work .entry)) ⌝ }
 {
-    clear(&mut work[0..WORDS]);
+    let words = limits.words;
+    clear(&mut work[0..words]);
 }

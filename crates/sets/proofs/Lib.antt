@@ -1,5 +1,7 @@
 pub mod BitLaws
 pub mod BuiltSets
+pub mod EightWords
 pub mod FourWords
 pub mod SetLaws
 pub mod SizeLaws
+pub mod WordByWord

@@ -1,7 +1,8 @@
--- Sets in words, as tests on numbers. Main statements: `member-put` (putting k in adds k and nothing else), `words-store`,
--- `store-before`, `store-after` (what is laid down stands there, the words around it are kept), `store-set`, `store-kept`, `set-before`,
--- `set-after` (the same of sets of four words), `member-words` (a set that is taken out has the members it had), `member-zeros`,
--- `member-union`, and `words-differ` (different words of 32 bits have different members).
+-- Sets in words, as tests on numbers. Main statements: `member-put` (putting k in adds k and nothing else), `words-stored`,
+-- `stored-kept` (what is laid down stands there, the words around it are kept), `words-before`, `words-after` (words stay where those
+-- around them stay), `store-set`, `store-kept`, `set-before`, `set-after` (the same of sets of four words), `member-words` (a set
+-- that is taken out has the members it had), `member-zeros`, `member-union`, and `words-differ` (different words of 32 bits have
+-- different members).
 use Prim.Native.Nat.{ℕ, zero, suc, _+_, _*_, _-_, _/_, _%_, _^_, _≤_, _<_}
 use mathlib.Core.Bool.{Bool, true, false, _||_, or-comm}
 use mathlib.Core.List.{List, [], _∷_, _++_}
@@ -11,7 +12,20 @@ use native.Mathlib.Omega.{arith}
 use lib.Bits.{bitOr, or-zero-r}
 use lib.Dec.{eqb}
 use lib.ListN.{length, getD, set, take, drop, replicate, length-set, length-append, length-take, length-drop}
-use lib.Seq.{getD-set-same, getD-set-other, getD-take, getD-drop, take-at, drop-at, length-take-le, take-append-le, drop-append-le, drop-drop, take-take, drop-append-add}
+use lib.Seq.{
+  getD-set-same,
+  getD-set-other,
+  getD-take,
+  getD-drop,
+  take-at,
+  drop-at,
+  length-take-le,
+  take-append-le,
+  drop-append-le,
+  drop-drop,
+  take-take,
+  drop-append-add,
+}
 use borrow.Author.Tests.{eqb-true, eqb-false, eq-eqb, ne-eqb}
 use Rattle.sets.specs.Sets.{
   bitOf,
@@ -27,6 +41,7 @@ use Rattle.sets.specs.Sets.{
   Compares,
   Empties,
   OthersKept,
+  KeptAround,
 }
 use Rattle.sets.proofs.BitLaws.{bit-or, bit-one, bit-zero, bits-differ, one-shifted}
 
@@ -144,51 +159,64 @@ words-of-take [] (suc base) n = ap (λ (m : ℕ). take n (drop (suc base) (take 
 words-of-take (x ∷ l) (suc base) n =
     ap (λ (m : ℕ). take n (drop (suc base) (take m (x ∷ l)))) (suc-add base n) ∙ words-of-take l base n
 
+-- the m words at a place stay where the words stay that they are among: the first n, or those after the first n
+pub words-before : (before after : List ℕ) (n other m : ℕ) → take n after ≡ take n before → other + m ≤ n
+    → wordsAt after other m ≡ wordsAt before other m
+words-before before after n other m e h =
+    let first : take (other + m) after ≡ take (other + m) before =
+    sym (take-take (other + m) n after h) ∙ ap (take (other + m)) e ∙ take-take (other + m) n before h in
+    sym (words-of-take after other m) ∙ ap (λ (l : List ℕ). wordsAt l other m) first ∙ words-of-take before other m
+
+pub words-after : (before after : List ℕ) (n other m : ℕ) → drop n after ≡ drop n before → n ≤ other
+    → wordsAt after other m ≡ wordsAt before other m
+unfolding wordsAt
+words-after before after n other m e h =
+    let more = other - n in
+    let at : n + more ≡ other = omega arith in
+    let rest : (l : List ℕ) → drop more (drop n l) ≡ drop other l = λ l. drop-drop more n l ∙ ap (λ (k : ℕ). drop k l) at in
+    ap (take m) (sym (rest after) ∙ ap (drop more) e ∙ rest before)
+
 -- sets that stand before or after are kept
 pub store-before : (words : List ℕ) (base : ℕ) (new : List ℕ) (other n : ℕ) → base + length new ≤ length words → other + n ≤ base
     → wordsAt (storeAt words base new) other n ≡ wordsAt words other n
 store-before words base new other n h q =
-    sym (words-of-take (storeAt words base new) other n)
-    ∙ ap (λ (l : List ℕ). wordsAt l other n) (take-store words base new (other + n) h q)
-    ∙ words-of-take words other n
+    words-before words (storeAt words base new) base other n (take-store words base new base h (le-refl base)) q
 
 pub store-after : (words : List ℕ) (base : ℕ) (new : List ℕ) (other n : ℕ) → base + length new ≤ length words → base + length new ≤ other
     → wordsAt (storeAt words base new) other n ≡ wordsAt words other n
-unfolding wordsAt
-store-after words base new other n h q = ap (take n) (drop-store words base new other h q)
+store-after words base new other n h q =
+    words-after words (storeAt words base new) other other n (drop-store words base new other h q) (le-refl other)
+
+-- ---- a set of n words that is laid down stands there, and the others are kept
+
+module _ (words : List ℕ) (base n : ℕ) (set after : List ℕ) (room : base + n ≤ length words) (long : length set ≡ n)
+    (stored : after ≡ storeAt words base set) where
+  pub words-stored : wordsAt after base n ≡ set
+  words-stored = ap (λ (l : List ℕ). wordsAt l base n) stored ∙ words-store words base set n (omega arith) long
+
+  pub stored-kept : KeptAround base n words after
+  stored-kept =
+      record {
+        front = ap (take base) stored ∙ take-store words base set base (omega arith) (le-refl base);
+        back = ap (drop (base + n)) stored ∙ drop-store words base set (base + n) (omega arith) (omega arith);
+      }
 
 -- ---- sets of four words
 
--- a set stays where the words stay that it stands in: the first n, or those after the first n
-pub set-before : (before after : List ℕ) (n other : ℕ) → take n after ≡ take n before → other + 4 ≤ n → setAt after other ≡ setAt before other
-set-before before after n other e h =
-    let first : take (other + 4) after ≡ take (other + 4) before =
-    sym (take-take (other + 4) n after h) ∙ ap (take (other + 4)) e ∙ take-take (other + 4) n before h in
-    ap (λ (w : List ℕ). member w 0)
-    (sym (words-of-take after other 4) ∙ ap (λ (l : List ℕ). wordsAt l other 4) first ∙ words-of-take before other 4)
+pub set-before : (before after : List ℕ) (n other : ℕ) → take n after ≡ take n before → other + 4 ≤ n
+    → setAt after other ≡ setAt before other
+set-before before after n other e h = ap (λ (w : List ℕ). member w 0) (words-before before after n other 4 e h)
 
 pub set-after : (before after : List ℕ) (n other : ℕ) → drop n after ≡ drop n before → n ≤ other → setAt after other ≡ setAt before other
-unfolding wordsAt
-set-after before after n other e h =
-    let more = other - n in
-    let at : n + more ≡ other = omega arith in
-    let rest : (l : List ℕ) → drop more (drop n l) ≡ drop other l = λ l. drop-drop more n l ∙ ap (λ (m : ℕ). drop m l) at in
-    ap (λ (w : List ℕ). member (take 4 w) 0) (sym (rest after) ∙ ap (drop more) e ∙ rest before)
+set-after before after n other e h = ap (λ (w : List ℕ). member w 0) (words-after before after n other 4 e h)
 
--- a set that is laid down stands there, and the others are kept
 module _ (words : List ℕ) (base : ℕ) (set after : List ℕ) (room : base + 4 ≤ length words) (four : length set ≡ 4)
     (stored : after ≡ storeAt words base set) where
   pub store-set : setAt after base ≡ member set 0
-  store-set =
-      ap (λ (l : List ℕ). setAt l base) stored
-      ∙ ap (λ (w : List ℕ). member w 0) (words-store words base set 4 (omega arith) four)
+  store-set = ap (λ (w : List ℕ). member w 0) (words-stored words base 4 set after room four stored)
 
   pub store-kept : OthersKept base words after
-  store-kept =
-      record {
-        front = ap (take base) stored ∙ take-store words base set base (omega arith) (le-refl base);
-        back = ap (drop (base + 4)) stored ∙ drop-store words base set (base + 4) (omega arith) (omega arith);
-      }
+  store-kept = stored-kept words base 4 set after room four stored
 
 pub kept-before : {base : ℕ} {before after : List ℕ} → OthersKept base before after → (other : ℕ) → other + 4 ≤ base
     → setAt after other ≡ setAt before other

@@ -34,6 +34,10 @@ wordsAt words base n = take n (drop base words)
 abbrev pub setAt : List ℕ → ℕ → ℕ → Bool
 setAt words base = member (wordsAt words base 4) 0
 
+-- the set of numbers below 256 that stands at base
+abbrev pub setOfEightAt : List ℕ → ℕ → ℕ → Bool
+setOfEightAt words base = member (wordsAt words base 8) 0
+
 -- the words after `new` is laid down at base
 unfoldable pub storeAt : List ℕ → ℕ → List ℕ → List ℕ
 storeAt words base new = take base words ++ new ++ drop (base + length new) words
@@ -77,7 +81,11 @@ pub record Empties (a : List ℕ) (r : Bool) : Type 0 where
   pub none : r ≡ true → member a 0 ≡ nothing
   pub one : r ≡ false → (k : ℕ) × (k < 32 * length a) × (member a 0 k ≡ true)
 
--- the set at base may have changed, no other word has
-pub record OthersKept (base : ℕ) (before after : List ℕ) : Type 0 where
+-- the n words at base may have changed, no other word has
+pub record KeptAround (base n : ℕ) (before after : List ℕ) : Type 0 where
   pub front : take base after ≡ take base before
-  pub back : drop (base + 4) after ≡ drop (base + 4) before
+  pub back : drop (base + n) after ≡ drop (base + n) before
+
+-- the set of four words at base may have changed, no other word has
+abbrev pub OthersKept : ℕ → List ℕ → List ℕ → Type 0
+OthersKept base = KeptAround base 4

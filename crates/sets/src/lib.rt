@@ -4,5 +4,8 @@
 // A set of numbers below 128, by value.
 pub mod four;
 
+// A set of numbers below 256, by value.
+pub mod eight;
+
 // Sets that stand in lent words.
 pub mod words;

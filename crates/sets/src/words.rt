@@ -1,4 +1,5 @@
 // Sets that stand in lent words, each from a word `base` on.
+use crate::eight::Set8;
 use crate::four::Set4;
 ghost use mathlib.Core.Path.{_≡_};
 ghost use Prim.Native.Nat.{_+_, _/_, _<_, _≤_};
@@ -37,7 +38,7 @@ pub fn load(words: &[u32], base: usize) -> Set4
     }
 }
 
-// Lays the set down at base.
+// Lays the set of four words down at base.
 pub fn store(words: &mut [u32], base: usize, s: Set4)
     requires { ⌜ base + 4 ≤ length (now words) ⌝ }
     ensures { λ r. ⌜ now (words .exit) ≡ storeAt (now (words .entry)) base (s .words) ⌝ }
@@ -46,4 +47,38 @@ pub fn store(words: &mut [u32], base: usize, s: Set4)
     words[base + 1] = s.words[1];
     words[base + 2] = s.words[2];
     words[base + 3] = s.words[3];
+}
+
+// The set of numbers below 256 that stands at base.
+pub fn load_eight(words: &[u32], base: usize) -> Set8
+    requires { ⌜ base + 8 ≤ length (now words) ⌝ }
+    ensures { λ r. ⌜ r .words ≡ wordsAt (now (words .entry)) base 8 ⌝ }
+{
+    Set8 {
+        words: [
+            words[base],
+            words[base + 1],
+            words[base + 2],
+            words[base + 3],
+            words[base + 4],
+            words[base + 5],
+            words[base + 6],
+            words[base + 7],
+        ],
+    }
+}
+
+// Lays the set of eight words down at base.
+pub fn store_eight(words: &mut [u32], base: usize, s: Set8)
+    requires { ⌜ base + 8 ≤ length (now words) ⌝ }
+    ensures { λ r. ⌜ now (words .exit) ≡ storeAt (now (words .entry)) base (s .words) ⌝ }
+{
+    words[base] = s.words[0];
+    words[base + 1] = s.words[1];
+    words[base + 2] = s.words[2];
+    words[base + 3] = s.words[3];
+    words[base + 4] = s.words[4];
+    words[base + 5] = s.words[5];
+    words[base + 6] = s.words[6];
+    words[base + 7] = s.words[7];
 }

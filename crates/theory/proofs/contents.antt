@@ -1,6 +1,7 @@
 pub mod WordLaws
 pub mod SameWords
 pub mod Standing
+pub mod ReplaceLaws
 pub mod SimplifyWords
 pub mod ContentBytes
 pub mod TidyWords

@@ -1,5 +1,6 @@
 pub mod UniteDocuments
 pub mod NormaliseDocuments
+pub mod ShiftedTypes
 pub mod Rounds
 pub mod Fruitful
 pub mod Reached

@@ -1,5 +1,6 @@
 pub mod NamedLabels
 pub mod TableConditions
+pub mod RoomierLimits
 pub mod KindLaws
 pub mod KindTests
 pub mod CarryDerivations

@@ -5,4 +5,5 @@ pub mod LeastLaws
 pub mod WideningCorollaries
 pub mod AnswerNumbers
 pub mod CallPromises
+pub mod SizedPromises
 pub mod PaperTheorem

@@ -19,7 +19,7 @@ ghost use mathlib.Core.Logic.{_↔_};
 ghost use mathlib.Core.Path.{_≡_};
 ghost use Prim.Native.Nat.{_+_, _*_, _<_, _≤_};
 ghost use lib.ListN.{length, set, getD, replicate, drop};
-ghost use Rattle.grammar.specs.Limits.{standard};
+ghost use Rattle.grammar.specs.Limits.{large};
 ghost use Rattle.theory.specs.MarkedWalk.{markNumber, isMarked};
 ghost use Rattle.reader.specs.ContentAt.{ContentAt, ContentsAt};
 ghost use Rattle.walks.specs.TypeSets.{setAt, testsAt};
@@ -66,7 +66,7 @@ fn mark(marks: &mut [u8], at: usize, ends: bool)
 
 // Whether the child, if it may come here, has the type.
 fn allowed(incoming: bool, words: &[u32], base: usize, k: usize) -> bool
-    requires { ⌜ (k < 64) × (base + 4 ≤ length (now words)) ⌝ }
+    requires { ⌜ (k < 128) × (base + 4 ≤ length (now words)) ⌝ }
     ensures { λ r. ⌜ r ≡ (incoming && setAt (now (words .entry)) base k) ⌝ }
 {
     if incoming {
@@ -104,7 +104,7 @@ fn typed(
     words: &[u32],
     base: usize,
 ) -> Passed
-    requires { ⌜ (at + 1 < length (now content)) × (getD (now content) (at + 1) 0 < 64)
+    requires { ⌜ (at + 1 < length (now content)) × (getD (now content) (at + 1) 0 < 128)
         × (WalkRoom (now content) (now marks) (now words) base) ⌝ }
     ensures { λ r. ⌜ walked (now (marks .exit)) r ≡ ended at (record {
       marks = now (marks .entry);
@@ -131,7 +131,7 @@ fn pass(
     words: &[u32],
     base: usize,
 ) -> Passed
-    requires { ⌜ (ContentAt standard (now content) at) × (WalkRoom (now content) (now marks) (now words) base) ⌝ }
+    requires { ⌜ (ContentAt large (now content) at) × (WalkRoom (now content) (now marks) (now words) base) ⌝ }
     ensures { λ r. ⌜ walked (now (marks .exit)) r
         ≡ walkAt (now (content .entry)) at (now (marks .entry)) incoming (setAt (now (words .entry)) base) ⌝ }
 {
@@ -184,7 +184,7 @@ fn operand(
     words: &[u32],
     base: usize,
 ) -> Passed
-    requires { ⌜ (ContentAt standard (now content) at) × (WalkRoom (now content) (now marks) (now words) base) ⌝ }
+    requires { ⌜ (ContentAt large (now content) at) × (WalkRoom (now content) (now marks) (now words) base) ⌝ }
     ensures { λ r. ⌜ walked (now (marks .exit)) r
         ≡ walkAt (now (content .entry)) at (now (marks .entry)) incoming (setAt (now (words .entry)) base) ⌝ }
 {
@@ -196,7 +196,7 @@ fn operand(
 
 // Whether the expression at a place is a type under one operator: any number of it, one or more of it, or optional.
 fn is_around_type(content: &[u8], at: usize) -> bool
-    requires { ⌜ ContentAt standard (now content) at ⌝ }
+    requires { ⌜ ContentAt large (now content) at ⌝ }
     ensures { λ r. ⌜ ((r ≡ true) ↔ AroundType (now (content .entry)) at) ⌝ }
 {
     if content[at] < 5 {
@@ -214,7 +214,7 @@ fn around_type(
     words: &[u32],
     base: usize,
 ) -> Passed
-    requires { ⌜ (ContentAt standard (now content) at) × (AroundType (now content) at)
+    requires { ⌜ (ContentAt large (now content) at) × (AroundType (now content) at)
         × (WalkRoom (now content) (now marks) (now words) base) ⌝ }
     ensures { λ r. ⌜ walked (now (marks .exit)) r
         ≡ walkAt (now (content .entry)) at (now (marks .entry)) incoming (setAt (now (words .entry)) base) ⌝ }
@@ -240,7 +240,7 @@ fn operand_in_turn(
     words: &[u32],
     base: usize,
 ) -> Passed
-    requires { ⌜ (ContentAt standard (now content) at) × (WalkRoom (now content) (now marks) (now words) base) ⌝ }
+    requires { ⌜ (ContentAt large (now content) at) × (WalkRoom (now content) (now marks) (now words) base) ⌝ }
     ensures { λ r. ⌜ walked (now (marks .exit)) r
         ≡ walkAt (now (content .entry)) at (now (marks .entry)) incoming (setAt (now (words .entry)) base) ⌝ }
 {
@@ -260,7 +260,7 @@ fn in_turn(
     words: &[u32],
     base: usize,
 ) -> Passed
-    requires { ⌜ (ContentsAt standard (now content) from count) × (WalkRoom (now content) (now marks) (now words) base) ⌝ }
+    requires { ⌜ (ContentsAt large (now content) from count) × (WalkRoom (now content) (now marks) (now words) base) ⌝ }
     ensures { λ r. ⌜ walked (now (marks .exit)) r
         ≡ walkInTurnAt (now (content .entry)) from count (now (marks .entry)) begun (setAt (now (words .entry)) base) true false ⌝ }
 {
@@ -295,7 +295,7 @@ fn each(
     words: &[u32],
     base: usize,
 ) -> Passed
-    requires { ⌜ (ContentsAt standard (now content) from count) × (WalkRoom (now content) (now marks) (now words) base) ⌝ }
+    requires { ⌜ (ContentsAt large (now content) from count) × (WalkRoom (now content) (now marks) (now words) base) ⌝ }
     ensures { λ r. ⌜ walked (now (marks .exit)) r
         ≡ walkEachAt (now (content .entry)) from count (now (marks .entry)) incoming (setAt (now (words .entry)) base) false false ⌝ }
 {
@@ -331,7 +331,7 @@ fn clear(marks: &mut [u8], places: usize)
 
 // The children's walks over the content, one after the other: whether the last one can end it.
 fn walked_through(content: &[u8], marks: &mut [u8], words: &[u32], top: usize, count: usize) -> bool
-    requires { ⌜ (WholeAt standard (now content)) × (0 < count) × (WalkRoom (now content) (now marks) (now words) top)
+    requires { ⌜ (WholeAt large (now content)) × (0 < count) × (WalkRoom (now content) (now marks) (now words) top)
         × (top + 4 * count ≤ length (now words)) ⌝ }
     ensures { λ r. ⌜ r ≡ isMarked (walksAt (now (content .entry)) (now (marks .entry)) true (testsAt (now (words .entry)) top count)) 0 ⌝ }
 {
@@ -345,7 +345,7 @@ fn walked_through(content: &[u8], marks: &mut [u8], words: &[u32], top: usize, c
 
 // Whether the content matches so many children, whose sets stand in the words from `top` on, four words a set.
 pub fn matches(content: &[u8], marks: &mut [u8], words: &[u32], top: usize, count: usize) -> bool
-    requires { ⌜ (WholeAt standard (now content)) × (WalkRoom (now content) (now marks) (now words) 0)
+    requires { ⌜ (WholeAt large (now content)) × (WalkRoom (now content) (now marks) (now words) 0)
         × (top + 4 * count ≤ length (now words)) ⌝ }
     ensures { λ r. ⌜ r ≡ runAt (now (content .entry)) (testsAt (now (words .entry)) top count) ⌝ }
 {

@@ -3,7 +3,6 @@
 --   simplify-choice  simplify (choiceOf xs) ≡ choiceOf (keep notNone (map simplify xs))
 --   word-choice      hasWord known (choiceOf xs) ≡ any (hasWord known) xs
 --   tidy-choice      tidy (choiceOf xs) ≡ written (joinedOf alternatives (map tidy xs))
--- And of replacing twice: replace-twice : replace (replace c f) g ≡ replace c (λ k. replace (f k) g)
 use Prim.Native.Nat.{ℕ}
 use mathlib.Core.Bool.{Bool, true, false, not, _||_, or-false as or-nothing}
 use mathlib.Core.List.{
@@ -19,7 +18,7 @@ use mathlib.Core.List.{
   List·Memᴰ·eq-of-singleton,
 }
 use mathlib.Core.Logic.{⊎-elim}
-use mathlib.Core.Path.{_≡_, refl, sym, _∙_, ap, ap₂, subst}
+use mathlib.Core.Path.{_≡_, refl, sym, _∙_, ap, subst}
 use Rattle.grammar.specs.Lists.{anyPass, keep, distinct, joinedOf}
 use Rattle.grammar.specs.Content.{
   Content,
@@ -63,24 +62,6 @@ module _ (f : ℕ → Content) where
   replace-choice [] = refl
   replace-choice (x ∷ []) = refl
   replace-choice (x ∷ y ∷ ys) = ap (λ (l : Contents). choice (replace x f ∷ᶜ (replace y f ∷ᶜ l))) (replace-operands ys)
-
-module _ (f g : ℕ → Content) where
-  mutual
-    unfolding replace
-
-    pub replace-twice : (c : Content) → replace (replace c f) g ≡ replace c (λ k. replace (f k) g)
-    replace-twice none = refl
-    replace-twice empty = refl
-    replace-twice (type k) = refl
-    replace-twice (sequence cs) = ap sequence (replace-all-twice cs)
-    replace-twice (choice cs) = ap choice (replace-all-twice cs)
-    replace-twice (anyNumber c) = ap anyNumber (replace-twice c)
-    replace-twice (oneOrMore c) = ap oneOrMore (replace-twice c)
-    replace-twice (optional c) = ap optional (replace-twice c)
-
-    replace-all-twice : (cs : Contents) → replaceAll (replaceAll cs f) g ≡ replaceAll cs (λ k. replace (f k) g)
-    replace-all-twice []ᶜ = refl
-    replace-all-twice (c ∷ᶜ cs) = ap₂ _∷ᶜ_ (replace-twice c) (replace-all-twice cs)
 
 -- simplifying
 simplify-operands : (xs : List Content) → simplifyAll (operands xs) ≡ map simplify xs

@@ -60,6 +60,7 @@ use Rattle.theory.specs.Alternatives.{
   hasLeft,
 }
 use Rattle.theory.proofs.lists.ListLaws.{keep-yes, keep-no, kept, joined-append}
+use Rattle.theory.proofs.contents.ReplaceLaws.{replace-twice}
 use Rattle.theory.proofs.contents.ContentBytes.{same-content}
 use Rattle.theory.proofs.lists.DistinctLaws.{distinct-again, distinct-join}
 use Rattle.theory.proofs.emission.AlternativeLaws.{
@@ -79,7 +80,6 @@ use Rattle.theory.proofs.emission.ChoiceLaws.{
   single-distinct,
   alternatives-choice,
   replace-choice,
-  replace-twice,
   simplify-choice,
   tidy-choice,
 }

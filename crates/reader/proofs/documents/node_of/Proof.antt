@@ -2,6 +2,7 @@
 use Prim.Native.Nat.{_+_}
 use native.Mathlib.Omega.{arith}
 use mathlib.Core.Path.{sym, _∙_}
+use Rattle.grammar.specs.LimitSets.{limitsOf}
 use Rattle.grammar.specs.Fields.{fieldsOf}
 use lib.ListN.{drop}
 use Rattle.reader.specs.TableIndex.{part}
@@ -22,22 +23,25 @@ returns : tie.Need-returns
 returns c =
     let a = c .before .before .before .args in
     let s = a .s .now in
+    let lim = limitsOf (a .limits) in
     let p = c .before .before .before .pre in
-    λ o z. node-foreign s (a .from) (a .to) (p .1 .0) (p .1 .1) (a .tag) (fieldsOf (drop (a .to) s)) o (c .if1 .taken)
+    λ o z. node-foreign s (a .from) (a .to) (p .1 .0) (p .1 .1) lim (a .tag) (fieldsOf (drop (a .to) s)) o (c .if1 .taken)
 
 returns-2 : tie.Need-returns-2
 returns-2 c =
     let a = c .before .before .before .before .args in
     let s = a .s .now in
+    let lim = limitsOf (a .limits) in
     let p = c .before .before .before .before .pre in
-    λ o z. node-short s (a .from) (a .to) (p .1 .0) (p .1 .1) (a .tag) (fieldsOf (drop (a .to) s)) o (omega arith)
+    λ o z. node-short s (a .from) (a .to) (p .1 .0) (p .1 .1) lim (a .tag) (fieldsOf (drop (a .to) s)) o (omega arith)
 
 returns-3 : tie.Need-returns-3
 returns-3 c =
     let a = c .before .before .before .before .before .args in
     let s = a .s .now in
+    let lim = limitsOf (a .limits) in
     let p = c .before .before .before .before .before .pre in
-    λ o z. node-long s (a .from) (a .to) (p .1 .0) (p .1 .1) (a .tag) (fieldsOf (drop (a .to) s)) o (omega arith)
+    λ o z. node-long s (a .from) (a .to) (p .1 .0) (p .1 .1) lim (a .tag) (fieldsOf (drop (a .to) s)) o (omega arith)
 
 is-name-requires : tie.Need-is-name-requires
 is-name-requires c κs = all-bytes (c .before .before .before .before .before .before .before .before .pre .0)
@@ -46,11 +50,13 @@ returns-4 : tie.Need-returns-4
 returns-4 c =
     let a = c .before .before .before .before .before .before .before .before .before .before .before .before .args in
     let s = a .s .now in
+    let lim = limitsOf (a .limits) in
     let p = c .before .before .before .before .before .before .before .before .before .before .before .before .pre in
     λ o z.
-    node-misplaced s (a .from) (a .to) (p .1 .0) (p .1 .1) (a .tag) (fieldsOf (drop (a .to) s)) o
+    node-misplaced s (a .from) (a .to) (p .1 .0) (p .1 .1) lim (a .tag) (fieldsOf (drop (a .to) s)) o
     (c .before .before .before .before .before .before .before .before .before .if1 .left) (omega arith) (omega arith)
-    (a .nodes) (a .depth) (c .before .before .before .before .before .wide .result) (c .before .before .before .before .before .wide .ensures .0) z
+    (a .nodes) (a .depth) (c .before .before .before .before .before .wide .result)
+    (c .before .before .before .before .before .wide .ensures .0) z
     (as-tested (p .0) (part s (a .from + 1) (a .to)) (c .before .before .before .is-name .ensures) (c .before .before .if4 .taken))
     (sym (c .before .bad-node .ensures) ∙ c .if5 .taken)
 
@@ -58,8 +64,10 @@ returns-5 : tie.Need-returns-5
 returns-5 c =
     let a = c .before .before .before .before .before .before .before .before .before .before .before .before .args in
     let s = a .s .now in
+    let lim = limitsOf (a .limits) in
     let p = c .before .before .before .before .before .before .before .before .before .before .before .before .pre in
-    let counts = good-counts (a .nodes) (c .before .before .before .before .before .wide .result) (a .depth) (sym (c .before .bad-node .ensures) ∙ c .if5 .left) in
+    let good = sym (c .before .bad-node .ensures) ∙ c .if5 .left in
+    let counts = good-counts lim (a .nodes) (c .before .before .before .before .before .wide .result) (a .depth) good in
     record {
       forward = omega arith;
       order = omega arith;
@@ -70,20 +78,22 @@ returns-5 c =
       few = counts .few;
       goes =
           λ o z.
-          node-here s (a .from) (a .to) (p .1 .0) (p .1 .1) (a .tag) (fieldsOf (drop (a .to) s)) o
+          node-here s (a .from) (a .to) (p .1 .0) (p .1 .1) lim (a .tag) (fieldsOf (drop (a .to) s)) o
           (c .before .before .before .before .before .before .before .before .before .if1 .left) (omega arith) (omega arith)
-          (a .nodes) (a .depth) (c .before .before .before .before .before .wide .result) (c .before .before .before .before .before .wide .ensures .0) z
+          (a .nodes) (a .depth) (c .before .before .before .before .before .wide .result)
+          (c .before .before .before .before .before .wide .ensures .0) z
           (as-tested (p .0) (part s (a .from + 1) (a .to)) (c .before .before .before .is-name .ensures) (c .before .before .if4 .taken))
-          (sym (c .before .bad-node .ensures) ∙ c .if5 .left);
+          good;
     }
 
 returns-6 : tie.Need-returns-6
 returns-6 c =
     let a = c .before .before .before .before .before .before .before .before .before .before .args in
     let s = a .s .now in
+    let lim = limitsOf (a .limits) in
     let p = c .before .before .before .before .before .before .before .before .before .before .pre in
     λ o z.
-    node-misnamed s (a .from) (a .to) (p .1 .0) (p .1 .1) (a .tag) (fieldsOf (drop (a .to) s)) o
+    node-misnamed s (a .from) (a .to) (p .1 .0) (p .1 .1) lim (a .tag) (fieldsOf (drop (a .to) s)) o
     (c .before .before .before .before .before .before .before .if1 .left) (omega arith) (omega arith)
     (as-tested (p .0) (part s (a .from + 1) (a .to)) (c .before .is-name .ensures) (c .if4 .left))
 

@@ -4,6 +4,7 @@ use native.Mathlib.Omega.{arith}
 use mathlib.Core.Path.{_≡_, refl, sym, _∙_}
 use lib.ListN.{length, drop, length-set}
 use borrow.Author.Needs.{needs}
+use Rattle.grammar.specs.LimitSets.{limitsOf}
 use Rattle.grammar.specs.Fields.{fieldsOf}
 use Rattle.reader.specs.DocumentSteps.{restOf, NodeStep}
 use Rattle.reader.proofs.documents.read_fields.Statement.{statement}
@@ -11,44 +12,56 @@ use Rattle.reader.proofs.documents.read_fields.Tie as tie
 use Rattle.reader.proofs.DocumentLoop.{NodesSoFar, says-node, so-far-none, so-far-next, so-far-stop}
 
 abbrev Inv-loop : tie.InvT-loop
-Inv-loop classes s names₀ sizes₀ children₀ nodes₀ at₀ coming₀ depth₀ names sizes children nodes at coming depth =
-    NodesSoFar s names sizes children nodes at coming depth
+Inv-loop limits classes s names₀ sizes₀ children₀ nodes₀ at₀ coming₀ depth₀ names sizes children nodes at coming depth =
+    NodesSoFar (limitsOf limits) s names sizes children nodes at coming depth
     × (length coming ≡ 65)
     × (length names ≡ length names₀)
     × (length sizes ≡ length sizes₀)
     × (length children ≡ length children₀)
 
 abbrev μ-loop : tie.MeasureT-loop
-μ-loop classes s names₀ sizes₀ children₀ nodes₀ at₀ coming₀ depth₀ names sizes children nodes at coming depth = length s - at
+μ-loop limits classes s names₀ sizes₀ children₀ nodes₀ at₀ coming₀ depth₀ names sizes children nodes at coming depth = length s - at
 
 -- in the arm of a node
 step : (c : tie.After-known-told Inv-loop μ-loop)
     → NodeStep
+    (limitsOf (c .before .before .before .before .before .before .before .before .before .before .args .limits))
     (c .before .before .before .before .before .before .before .before .before .before .args .s .now)
     (c .before .before .before .before .loop .at)
     (c .before .before .before .before .loop .nodes)
     (c .before .before .before .before .loop .depth)
-    (λ o. restOf o (fieldsOf (drop (c .before .before .before .before .loop .at) (c .before .before .before .before .before .before .before .before .before .before .args .s .now))))
+    (λ o.
+    restOf
+    (limitsOf (c .before .before .before .before .before .before .before .before .before .before .args .limits))
+    o
+    (fieldsOf
+    (drop
+    (c .before .before .before .before .loop .at)
+    (c .before .before .before .before .before .before .before .before .before .before .args .s .now))))
     (c .before .from .given .0 .0)
     (c .before .from .given .0 .1 .0)
     (c .before .from .given .0 .1 .1 .0)
 step c =
+    let lim = limitsOf (c .before .before .before .before .before .before .before .before .before .before .args .limits) in
     let s = c .before .before .before .before .before .before .before .before .before .before .args .s .now in
     let loop = c .before .before .before .before .loop in
     says-node
+    lim
     s
     (loop .at)
     (loop .nodes)
     (loop .depth)
-    (λ o. restOf o (fieldsOf (drop (loop .at) s)))
+    (λ o. restOf lim o (fieldsOf (drop (loop .at) s)))
     (c .before .before .before .step-at .result)
     (c .before .from .given .1)
     (c .before .before .before .step-at .ensures)
 
 loop-holds : tie.Need-loop-holds Inv-loop μ-loop
 loop-holds c =
-    let p = c .before .before .before .before .before .pre .1 in
-    (so-far-none (c .before .before .before .before .before .args .s .now) _ _ _ _ (p .1) (p .2) (p .3) refl, refl, refl, refl, refl)
+    let start = c .before .before .before .before .before in
+    let room = start .pre .1 .0 .nodes in
+    let p = start .pre .1 .1 in
+    (so-far-none (limitsOf (start .args .limits)) room (start .args .s .now) _ _ _ _ (p .1) (p .2) (p .3) refl, refl, refl, refl, refl)
 
 cast-names : tie.Need-cast-names Inv-loop μ-loop
 cast-names c = let order = step c .order in let within = step c .within in omega arith
@@ -75,6 +88,7 @@ after-node-requires : tie.Need-after-node-requires Inv-loop μ-loop
 after-node-requires c κs =
     let n = step (c .before) in
     let level = n .level in
+    let levels = c .before .before .before .before .before .before .before .before .before .before .before .pre .1 .0 .levels in
     let room = c .before .before .before .before .before .loop .inv .1 in
     (n .some-level, omega arith, c .before .before .before .before .before .loop .inv .0 .levels-open)
 
@@ -88,10 +102,13 @@ loop-less c =
 
 loop-again : tie.Need-loop-again Inv-loop μ-loop
 loop-again c =
+    let start = c .before .before .before .before .before .before .before .before .before .before .before .before .before in
     let l = c .before .before .before .before .before .before .before .loop in
     let g = c .before .before .before .before .from .given .0 in (
       so-far-next
-          (c .before .before .before .before .before .before .before .before .before .before .before .before .before .args .s .now)
+          (limitsOf (start .args .limits))
+          (start .pre .1 .0 .nodes)
+          (start .args .s .now)
           (l .names)
           (l .sizes)
           (l .children)
@@ -115,10 +132,12 @@ loop-again c =
 
 returns : tie.Need-returns Inv-loop μ-loop
 returns c =
-    let s = c .before .before .before .before .before .before .before .before .before .before .args .s .now in
+    let start = c .before .before .before .before .before .before .before .before .before .before in
     let l = c .before .before .before .before .loop in (
       so-far-stop
-          s
+          (limitsOf (start .args .limits))
+          (start .pre .1 .0 .nodes)
+          (start .args .s .now)
           (l .names)
           (l .sizes)
           (l .children)
@@ -130,7 +149,7 @@ returns c =
           (c .before .before .before .step-at .result)
           (c .before .answer .given .1)
           (c .before .before .before .step-at .ensures),
-      l .inv .0 .indexed,
+      (l .inv .0 .few, l .inv .0 .indexed),
     )
 
 pub read-fields-spec : {M : Type 1} → statement M

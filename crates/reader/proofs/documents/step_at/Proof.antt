@@ -4,6 +4,7 @@ use mathlib.Core.Path.{sym, _∙_, ap}
 use borrow.Author.Needs.{needs}
 use lib.ListN.{drop}
 use lib.Seq.{slice}
+use Rattle.grammar.specs.LimitSets.{limitsOf}
 use Rattle.grammar.specs.Fields.{fieldsOf}
 use Rattle.grammar.specs.declared.Reading.{Reading}
 use Rattle.reader.specs.DocumentNodes.{outcomeOf}
@@ -28,47 +29,54 @@ returns c =
     let a = c .before .before .before .before .before .before .before .before .args in
     let s = a .s .now in
     let g = c .before .before .before .tag .given .0 in
-    let found = field-found s (a .at) (sym (c .before .before .before .before .before .field-at .ensures) ∙ c .before .before .before .tag .given .1) in
+    let tagged = sym (c .before .before .before .before .before .field-at .ensures) ∙ c .before .before .before .tag .given .1 in
+    let found = field-found s (a .at) tagged in
     λ o z.
-    stops-end s (a .at) (g .0) (g .1 .0) (g .1 .1 .0) found (c .before .if1 .taken) (a .nodes) (a .depth) o z
+    stops-end (limitsOf (a .limits)) s (a .at) (g .0) (g .1 .0) (g .1 .1 .0) found (c .before .if1 .taken) (a .nodes) (a .depth) o z
     ∙ ap (λ (r : Reading). outcomeOf r (o .nodes)) (sym (c .end-answer .ensures))
 
 node-of-requires : tie.Need-node-of-requires
 node-of-requires c κs =
     let a = c .before .before .before .before .before .before .before .args in
-    let found = field-found (a .s .now) (a .at) (sym (c .before .before .before .before .field-at .ensures) ∙ c .before .before .tag .given .1) in
+    let tagged = sym (c .before .before .before .before .field-at .ensures) ∙ c .before .before .tag .given .1 in
+    let found = field-found (a .s .now) (a .at) tagged in
     (c .before .before .before .before .before .before .before .pre, (found .order, found .within))
 
 returns-2 : tie.Need-returns-2
 returns-2 c =
     let a = c .before .before .before .before .before .args in
     let s = a .s .now in
-    λ o z. stops-none o (fieldsOf (drop (a .at) s)) (field-none s (a .at) (sym (c .before .before .field-at .ensures) ∙ c .enum-told .given .1) .1)
+    let ended = field-none s (a .at) (sym (c .before .before .field-at .ensures) ∙ c .enum-told .given .1) in
+    λ o z. stops-none (limitsOf (a .limits)) o (fieldsOf (drop (a .at) s)) (ended .1)
 
 returns-3 : tie.Need-returns-3
 returns-3 c =
     let a = c .before .before .before .before .before .args in
     let s = a .s .now in
-    λ o z. stops-past o (fieldsOf (drop (a .at) s)) (field-past s (a .at) (sym (c .before .before .field-at .ensures) ∙ c .enum-told2 .given .1) .1)
+    let ended = field-past s (a .at) (sym (c .before .before .field-at .ensures) ∙ c .enum-told2 .given .1) in
+    λ o z. stops-past (limitsOf (a .limits)) o (fieldsOf (drop (a .at) s)) (ended .1)
 
 returns-4 : tie.Need-returns-4
 returns-4 c =
     let a = c .before .before .before .before .before .before .before .before .args in
     let s = a .s .now in
     let g = c .before .before .before .tag .given .0 in
-    let found = field-found s (a .at) (sym (c .before .before .before .before .before .field-at .ensures) ∙ c .before .before .before .tag .given .1) in
+    let tagged = sym (c .before .before .before .before .before .field-at .ensures) ∙ c .before .before .before .tag .given .1 in
+    let found = field-found s (a .at) tagged in
     let from-is = found .begins in
+    let lim = limitsOf (a .limits) in
     says-also
+    lim
     s
     (a .at)
     (g .1 .0)
     (a .nodes)
     (a .depth)
-    (restWith (record { tag = g .0; value = slice (g .1 .0) (g .1 .1 .0) s }) (fieldsOf (drop (g .1 .1 .0) s)))
-    (λ o. restOf o (fieldsOf (drop (a .at) s)))
+    (restWith lim (record { tag = g .0; value = slice (g .1 .0) (g .1 .1 .0) s }) (fieldsOf (drop (g .1 .1 .0) s)))
+    (λ o. restOf lim o (fieldsOf (drop (a .at) s)))
     (c .node-of .result)
     (omega arith)
-    (λ o. goes-with s (a .at) (g .0) (g .1 .0) (g .1 .1 .0) found (c .before .if1 .left) o)
+    (λ o. goes-with lim s (a .at) (g .0) (g .1 .0) (g .1 .1 .0) found (c .before .if1 .left) o)
     (c .node-of .ensures)
 
 pub step-at-spec : {M : Type 1} → statement M

@@ -7,7 +7,7 @@ use lib.ListN.{length}
 use borrow.Author.Needs.{needs}
 use borrow.Fn.Kinds.{In}
 use borrow.Fn.PlainCycle.{Measures, is, falls, and}
-use Rattle.grammar.specs.Limits.{standard}
+use Rattle.grammar.specs.LimitSets.{limitsOf}
 use Rattle.reader.specs.Extents.{NestsBelow, deeperOf, joinedExtent, properRowAt}
 use Rattle.reader.proofs.ExtentLaws.{
   proper-within,
@@ -39,10 +39,10 @@ use Rattle.reader.proofs.expressions.+expression+operands.{statement}
 use Rattle.reader.proofs.expressions.+expression+operands.Tie.{close}
 
 abbrev μ-expression : Measures 1 expression-kinds.ps ℕ
-μ-expression κs a = 2 * (length (a .0 .now) - a .1 .0)
+μ-expression κs a = 2 * (length (a .1 .0 .now) - a .1 .1 .0)
 
 abbrev μ-operands : Measures 1 operands-kinds.ps ℕ
-μ-operands κs a = 2 * (length (a .0 .now) - a .1 .0) + 1
+μ-operands κs a = 2 * (length (a .1 .0 .now) - a .1 .1 .0) + 1
 
 abbrev expression-at : ℕ → In 1 expression-kinds.ps
 expression-at t =
@@ -79,119 +79,132 @@ operands-calls t = (expression-below t, expression.Post, operands-below t, opera
 expression-returns : (t : ℕ) → expression-lts.Need-returns (expression-calls t) (expression-at t) expression.Post
 expression-returns t c =
     let start = c .before .before in
+    let lim = limitsOf (start .args .limits) in
     let s = start .args .content .now in
     let at = start .args .at in
-    sym (proper-past standard s at (c .if1 .taken))
+    sym (proper-past lim s at (c .if1 .taken))
 
 expression-returns-2 : (t : ℕ) → expression-lts.Need-returns-2 (expression-calls t) (expression-at t) expression.Post
 expression-returns-2 t c =
     let start = c .before .before .before .before .before .before .before .before in
+    let lim = limitsOf (start .args .limits) in
     let s = start .args .content .now in
     let at = start .args .at in
     let not-2 = c .before .before .before .match .rest .1 in
-    sym (proper-uncounted standard s at (omega arith) (omega arith) (omega arith))
+    sym (proper-uncounted lim s at (omega arith) (omega arith) (omega arith))
 
 expression-returns-3 : (t : ℕ) → expression-lts.Need-returns-3 (expression-calls t) (expression-at t) expression.Post
 expression-returns-3 t c =
     let start = c .before .before .before .before .before .before .before .before .before .before .before in
+    let lim = limitsOf (start .args .limits) in
     let s = start .args .content .now in
     let at = start .args .at in
     let not-2 = c .before .before .before .before .before .before .match .rest .1 in
-    sym (proper-few standard s at (omega arith) (omega arith) (c .before .before .before .if4 .left) (omega arith))
+    sym (proper-few lim s at (omega arith) (omega arith) (c .before .before .before .if4 .left) (omega arith))
 
 expression-deeper-requires : (t : ℕ) → expression-lts.Need-deeper-requires (expression-calls t) (expression-at t) expression.Post
 expression-deeper-requires t c κs =
     let start = c .before .before .before .before .before .before .before .before .before .before .before .before in
+    let lim = limitsOf (start .args .limits) in
     let s = start .args .content .now in
     let at = start .args .at in
-    subst (NestsBelow 1025) (sym (c .operands .ensures)) (row-nests standard s (at + 2) _ 1025 (omega arith) (omega arith))
+    subst (NestsBelow 1025) (sym (c .operands .ensures)) (row-nests lim s (at + 2) _ 1025 (omega arith) (omega arith))
 
 expression-deeper-requires-2 : (t : ℕ)
     → expression-lts.Need-deeper-requires-2 (expression-calls t) (expression-at t) expression.Post
 expression-deeper-requires-2 t c κs =
     let start = c .before .before .before .before .before .before .before .before .before in
+    let lim = limitsOf (start .args .limits) in
     let s = start .args .content .now in
     let at = start .args .at in
-    subst (NestsBelow 1025) (sym (c .expression .ensures)) (proper-nests standard s (at + 1) 1025 (omega arith))
+    subst (NestsBelow 1025) (sym (c .expression .ensures)) (proper-nests lim s (at + 1) 1025 (omega arith))
 
 expression-returns-4 : (t : ℕ) → expression-lts.Need-returns-4 (expression-calls t) (expression-at t) expression.Post
 expression-returns-4 t c =
     let start = c .before .before .before .before .before .before in
+    let lim = limitsOf (start .args .limits) in
     let s = start .args .content .now in
     let at = start .args .at in
     let inside = c .before .before .before .before .if1 .left in
     let operator = c .before .before .wide .ensures .0 in
-    c .type-number .ensures ∙ sym (proper-type standard s at inside (sym operator ∙ c .before .match .keys1))
+    c .type-number .ensures ∙ sym (proper-type lim s at inside (sym operator ∙ c .before .match .keys1))
 
 expression-returns-5 : (t : ℕ) → expression-lts.Need-returns-5 (expression-calls t) (expression-at t) expression.Post
 expression-returns-5 t c =
     let start = c .before .before .before .before .before .before in
+    let lim = limitsOf (start .args .limits) in
     let s = start .args .content .now in
     let at = start .args .at in
-    sym (proper-alone standard s at (c .before .before .before .before .if1 .left) (omega arith))
+    sym (proper-alone lim s at (c .before .before .before .before .if1 .left) (omega arith))
 
 expression-returns-6 : (t : ℕ) → expression-lts.Need-returns-6 (expression-calls t) (expression-at t) expression.Post
-unfolding standard
 expression-returns-6 t c =
     let start = c .before .before .before .before .before .before .before .before .before .before .before .before .before in
+    let lim = limitsOf (start .args .limits) in
     let s = start .args .content .now in
     let at = start .args .at in
     let not-2 = c .before .before .before .before .before .before .before .before .match .rest .1 in
     c .deeper .ensures
-    ∙ ap deeperOf (c .before .operands .ensures ∙ ap (properRowAt standard s (at + 2)) (c .before .before .before .wide2 .ensures .0))
-    ∙ sym (proper-row standard s at (omega arith) (omega arith) (omega arith) (omega arith) (omega arith))
+    ∙ ap deeperOf (c .before .operands .ensures ∙ ap (properRowAt lim s (at + 2)) (c .before .before .before .wide2 .ensures .0))
+    ∙ sym (proper-row lim s at (omega arith) (omega arith) (omega arith) (omega arith) (omega arith))
 
 expression-returns-7 : (t : ℕ) → expression-lts.Need-returns-7 (expression-calls t) (expression-at t) expression.Post
 expression-returns-7 t c =
     let start = c .before .before .before .before .before .before .before .before .before .before in
+    let lim = limitsOf (start .args .limits) in
     let s = start .args .content .now in
     let at = start .args .at in
     c .deeper2 .ensures
     ∙ ap deeperOf (c .before .expression .ensures)
-    ∙ sym (proper-single standard s at (omega arith) (omega arith) (omega arith))
+    ∙ sym (proper-single lim s at (omega arith) (omega arith) (omega arith))
 
 expression-returns-8 : (t : ℕ) → expression-lts.Need-returns-8 (expression-calls t) (expression-at t) expression.Post
 expression-returns-8 t c =
     let start = c .before .before .before .before .before .before .before .before in
+    let lim = limitsOf (start .args .limits) in
     let s = start .args .content .now in
     let at = start .args .at in
-    sym (proper-unknown standard s at (c .before .before .before .before .before .before .if1 .left) (omega arith))
+    sym (proper-unknown lim s at (c .before .before .before .before .before .before .if1 .left) (omega arith))
 
 operands-returns : (t : ℕ) → operands-lts.Need-returns (operands-calls t) (operands-at t) operands.Post
 operands-returns t c =
     let start = c .before .before in
+    let lim = limitsOf (start .args .limits) in
     let s = start .args .content .now in
     let at = start .args .at in
-    sym (ap (properRowAt standard s at) (c .if1 .taken) ∙ row-none standard s at)
+    sym (ap (properRowAt lim s at) (c .if1 .taken) ∙ row-none lim s at)
 
 operands-operands-requires : (t : ℕ) → operands-lts.Need-operands-requires (operands-calls t) (operands-at t) operands.Post
 operands-operands-requires t c κs =
     let start = c .before .before .before .before .before .before in
+    let lim = limitsOf (start .args .limits) in
     let s = start .args .content .now in
     let at = start .args .at in
     let first = sym (c .before .before .before .expression .ensures) ∙ c .before .next .given .1 in
-    let w = proper-within standard s at _ _ first in
+    let w = proper-within lim s at _ _ first in
     (omega arith, omega arith)
 
 operands-returns-2 : (t : ℕ) → operands-lts.Need-returns-2 (operands-calls t) (operands-at t) operands.Post
 operands-returns-2 t c =
     let start = c .before .before .before .before .before in
+    let lim = limitsOf (start .args .limits) in
     let s = start .args .content .now in
     let at = start .args .at in
     let some = c .before .before .before .if1 .left in
     let nowhere = sym (c .before .before .expression .ensures) ∙ c .enum-told .given .1 in
-    sym (row-stop standard s at (start .args .count) (omega arith) nowhere)
+    sym (row-stop lim s at (start .args .count) (omega arith) nowhere)
 
 operands-returns-3 : (t : ℕ) → operands-lts.Need-returns-3 (operands-calls t) (operands-at t) operands.Post
 operands-returns-3 t c =
     let start = c .before .before .before .before .before .before .before .before in
+    let lim = limitsOf (start .args .limits) in
     let s = start .args .content .now in
     let at = start .args .at in
     let some = c .before .before .before .before .before .before .if1 .left in
     let first = sym (c .before .before .before .before .before .expression .ensures) ∙ c .before .before .before .next .given .1 in
     c .joined .ensures
     ∙ ap (joinedExtent _) (c .before .operands .ensures)
-    ∙ sym (row-more standard s at (start .args .count) _ _ (omega arith) first)
+    ∙ sym (row-more lim s at (start .args .count) _ _ (omega arith) first)
 
 pub +expression+operands-spec : {M : Type 1} → statement M
 +expression+operands-spec = close μ-expression μ-operands (λ t. expression-lts.spec (expression-calls t)

@@ -1,7 +1,7 @@
 -- `content_refusal` meets its contract: what the walk from the first byte finds settles how the content reads.
 use mathlib.Core.Path.{sym, _∙_, ap}
 use borrow.Author.Needs.{needs}
-use Rattle.grammar.specs.Limits.{standard}
+use Rattle.grammar.specs.LimitSets.{limitsOf}
 use Rattle.reader.specs.Extents.{contentAnswer}
 use Rattle.reader.proofs.ExtentLaws.{read-none, read-left, read-deep, read-fine}
 use Rattle.reader.proofs.expressions.content_refusal.Statement.{statement}
@@ -18,28 +18,34 @@ enum-known-next c = search needs
 
 returns : tie.Need-returns
 returns c =
-    let s = c .before .before .before .before .before .before .args .content .now in
+    let a = c .before .before .before .before .before .before .args in
+    let lim = limitsOf (a .limits) in
+    let s = a .content .now in
     let found = sym (c .before .before .before .before .expression .ensures) ∙ c .before .before .next .given .1 in
-    sym (ap contentAnswer (read-left standard s _ _ found (c .if1 .taken)))
+    sym (ap contentAnswer (read-left lim s _ _ found (c .if1 .taken)))
 
 returns-2 : tie.Need-returns-2
-unfolding standard
 returns-2 c =
-    let s = c .before .before .before .before .before .before .before .args .content .now in
+    let a = c .before .before .before .before .before .before .before .args in
+    let lim = limitsOf (a .limits) in
+    let s = a .content .now in
     let found = sym (c .before .before .before .before .before .expression .ensures) ∙ c .before .before .before .next .given .1 in
-    sym (ap contentAnswer (read-deep standard s _ _ found (c .before .if1 .left) (c .if2 .taken)))
+    sym (ap contentAnswer (read-deep lim s _ _ found (c .before .if1 .left) (c .if2 .taken)))
 
 returns-3 : tie.Need-returns-3
 returns-3 c =
-    let s = c .before .before .before .before .args .content .now in
-    sym (ap contentAnswer (read-none standard s (sym (c .before .before .expression .ensures) ∙ c .enum-told .given .1)))
+    let a = c .before .before .before .before .args in
+    let lim = limitsOf (a .limits) in
+    let s = a .content .now in
+    sym (ap contentAnswer (read-none lim s (sym (c .before .before .expression .ensures) ∙ c .enum-told .given .1)))
 
 returns-4 : tie.Need-returns-4
-unfolding standard
 returns-4 c =
-    let s = c .before .before .before .before .before .before .before .args .content .now in
+    let a = c .before .before .before .before .before .before .before .args in
+    let lim = limitsOf (a .limits) in
+    let s = a .content .now in
     let found = sym (c .before .before .before .before .before .expression .ensures) ∙ c .before .before .before .next .given .1 in
-    sym (ap contentAnswer (read-fine standard s _ _ found (c .before .if1 .left) (c .if2 .left) .1))
+    sym (ap contentAnswer (read-fine lim s _ _ found (c .before .if1 .left) (c .if2 .left) .1))
 
 pub content-refusal-spec : {M : Type 1} → statement M
 content-refusal-spec =

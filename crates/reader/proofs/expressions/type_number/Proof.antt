@@ -5,7 +5,8 @@ use mathlib.Core.Path.{_≡_, subst}
 use lib.ListN.{length, getD}
 use borrow.Author.Needs.{needs}
 use borrow.Author.Tests.{lt-ltb, le-ltb}
-use Rattle.grammar.specs.Limits.{Limits, standard}
+use Rattle.grammar.specs.Limits.{Limits}
+use Rattle.grammar.specs.LimitSets.{limitsOf}
 use Rattle.reader.specs.declared.expressions.Extent.the-variants.{Nowhere, Upto}
 use Rattle.reader.specs.Extents.{typeExtent}
 use Rattle.reader.proofs.expressions.type_number.Statement.{statement}
@@ -25,7 +26,7 @@ module _ (lim : Limits) (s : List ℕ) (at : ℕ) where
   out-of-range h k = rw (lt-ltb at (length s) h, le-ltb (getD s at 0) (lim .types) k, typeExtent)
 
 returns : tie.Need-returns
-returns c = missing standard _ _ (c .if1 .taken)
+returns c = missing (limitsOf (c .before .before .args .limits)) _ _ (c .if1 .taken)
 
 shared-slice-read-wide : tie.Need-shared-slice-read-wide
 shared-slice-read-wide c = search needs
@@ -33,20 +34,20 @@ shared-slice-read-wide c = search needs
 wide-requires : tie.Need-wide-requires
 wide-requires c κs = search needs
 
-add-t7 : tie.Need-add-t7
-add-t7 c = search needs
+add-t8 : tie.Need-add-t8
+add-t8 c = search needs
 
 returns-2 : tie.Need-returns-2
-unfolding standard
 returns-2 c =
-    let number = subst (λ (n : ℕ). n < 64) (c .before .wide .ensures .0) (c .if2 .taken) in
-    in-range standard _ _ (c .before .before .before .if1 .left) number
+    let limits = c .before .before .before .before .before .before .args .limits in
+    let number = subst (λ (n : ℕ). n < limits .rules) (c .before .before .wide .ensures .0) (c .if2 .taken) in
+    in-range (limitsOf limits) _ _ (c .before .before .before .before .if1 .left) number
 
 returns-3 : tie.Need-returns-3
-unfolding standard
 returns-3 c =
-    let number = subst (λ (n : ℕ). 64 ≤ n) (c .before .wide .ensures .0) (c .if2 .left) in
-    out-of-range standard _ _ (c .before .before .before .if1 .left) number
+    let limits = c .before .before .before .before .before .before .args .limits in
+    let number = subst (λ (n : ℕ). limits .rules ≤ n) (c .before .before .wide .ensures .0) (c .if2 .left) in
+    out-of-range (limitsOf limits) _ _ (c .before .before .before .before .if1 .left) number
 
 pub type-number-spec : {M : Type 1} → statement M
-type-number-spec = tie.close (tie.spec returns shared-slice-read-wide wide-requires add-t7 returns-2 returns-3)
+type-number-spec = tie.close (tie.spec returns shared-slice-read-wide wide-requires add-t8 returns-2 returns-3)

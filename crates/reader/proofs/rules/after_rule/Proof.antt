@@ -1,6 +1,7 @@
 -- `rules::after_rule` meets its contract.
 use native.Mathlib.Omega.{arith}
-use mathlib.Core.Path.{sym, _∙_}
+use mathlib.Core.Path.{sym, _∙_, ap, subst}
+use Rattle.reader.specs.TableIndex.{Reads}
 use Rattle.reader.proofs.TableSteps.{refused-reads, rule-room, rule-step}
 use borrow.Author.Needs.{needs}
 use Rattle.reader.proofs.rules.after_rule.Statement.{statement}
@@ -15,64 +16,26 @@ enum-known-r c = search needs
 enum-told : tie.Need-enum-told
 enum-told c = search needs
 
-shared-slice-read-more : tie.Need-shared-slice-read-more
-shared-slice-read-more c =
-    let x = c .before .before .before .before .before .pre .indexed .indexes in
-    let room = rule-room x (c .before .before .before .before .before .pre .inside) (sym (c .before .before .before .rule-answer .ensures (c .before .before .before .before .before .pre .indexed .table) x) ∙ c .before .enum-told .given .1) in
-    omega arith
+shared-slice-read-add-rule : tie.Need-shared-slice-read-add-rule
+shared-slice-read-add-rule c = let pre = c .before .before .before .before .before .before .before .pre .1 in let x = pre .indexed .indexes in let read = sym (c .before .before .before .before .rule-answer .ensures (pre .indexed .table) x) ∙ c .before .before .enum-told .given .1 in let room = rule-room (c .before .before .before .before .before .before .before .args .limits) (c .before .before .before .before .before .before .before .pre .0) x (pre .inside) read in omega arith
 
-element-write-more : tie.Need-element-write-more
-element-write-more c =
-    let x = c .before .before .before .before .before .pre .indexed .indexes in
-    let room = rule-room x (c .before .before .before .before .before .pre .inside) (sym (c .before .before .before .rule-answer .ensures (c .before .before .before .before .before .pre .indexed .table) x) ∙ c .before .enum-told .given .1) in
-    omega arith
+add-add-rule : tie.Need-add-add-rule
+add-add-rule c = search needs
 
-add-more : tie.Need-add-more
-add-more c = search needs
+shared-slice-read-add-rule-2 : tie.Need-shared-slice-read-add-rule-2
+shared-slice-read-add-rule-2 c = let pre = c .before .before .before .before .before .before .before .before .pre .1 in let x = pre .indexed .indexes in let read = sym (c .before .before .before .before .before .rule-answer .ensures (pre .indexed .table) x) ∙ c .before .before .before .enum-told .given .1 in let room = rule-room (c .before .before .before .before .before .before .before .before .args .limits) (c .before .before .before .before .before .before .before .before .pre .0) x (pre .inside) read in omega arith
 
-shared-slice-read-more-2 : tie.Need-shared-slice-read-more-2
-shared-slice-read-more-2 c =
-    let x = c .before .before .before .before .before .before .pre .indexed .indexes in
-    let room = rule-room x (c .before .before .before .before .before .before .pre .inside) (sym (c .before .before .before .before .rule-answer .ensures (c .before .before .before .before .before .before .pre .indexed .table) x) ∙ c .before .before .enum-told .given .1) in
-    omega arith
+add-add-rule-2 : tie.Need-add-add-rule-2
+add-add-rule-2 c = search needs
 
-element-write-more-2 : tie.Need-element-write-more-2
-element-write-more-2 c =
-    let x = c .before .before .before .before .before .before .pre .indexed .indexes in
-    let room = rule-room x (c .before .before .before .before .before .before .pre .inside) (sym (c .before .before .before .before .rule-answer .ensures (c .before .before .before .before .before .before .pre .indexed .table) x) ∙ c .before .before .enum-told .given .1) in
-    omega arith
-
-add-more-2 : tie.Need-add-more-2
-add-more-2 c = search needs
-
-mul-more : tie.Need-mul-more
-mul-more c = search needs
-
-element-write-more-3 : tie.Need-element-write-more-3
-element-write-more-3 c =
-    let x = c .before .before .before .before .before .before .pre .indexed .indexes in
-    let room = rule-room x (c .before .before .before .before .before .before .pre .inside) (sym (c .before .before .before .before .rule-answer .ensures (c .before .before .before .before .before .before .pre .indexed .table) x) ∙ c .before .before .enum-told .given .1) in
-    omega arith
-
-mul-more-2 : tie.Need-mul-more-2
-mul-more-2 c = search needs
-
-element-write-more-4 : tie.Need-element-write-more-4
-element-write-more-4 c =
-    let x = c .before .before .before .before .before .before .pre .indexed .indexes in
-    let room = rule-room x (c .before .before .before .before .before .before .pre .inside) (sym (c .before .before .before .before .rule-answer .ensures (c .before .before .before .before .before .before .pre .indexed .table) x) ∙ c .before .before .enum-told .given .1) in
-    omega arith
-
-add-more-3 : tie.Need-add-more-3
-add-more-3 c = search needs
+add-rule-requires : tie.Need-add-rule-requires
+add-rule-requires c κs = let pre = c .before .before .before .before .before .before .before .before .pre .1 in let x = pre .indexed .indexes in let read = sym (c .before .before .before .before .before .rule-answer .ensures (pre .indexed .table) x) ∙ c .before .before .before .enum-told .given .1 in let room = rule-room (c .before .before .before .before .before .before .before .before .args .limits) (c .before .before .before .before .before .before .before .before .pre .0) x (pre .inside) read in let short = pre .short in let within = pre .inside .within in (room .0, omega arith, omega arith)
 
 returns : tie.Need-returns
-returns c =
-    λ g x. refused-reads _ _ _ (c .before .before .before .before .before .args .index) (sym (c .before .before .before .rule-answer .ensures g x) ∙ c .before .r .given .1)
+returns c = λ g x. refused-reads _ _ _ _ (sym (c .before .before .before .rule-answer .ensures g x) ∙ c .before .r .given .1)
 
 returns-2 : tie.Need-returns-2
-returns-2 c =
-    λ g x. rule-step x (c .before .before .before .before .before .before .pre .inside) (sym (c .before .before .before .before .rule-answer .ensures g x) ∙ c .before .before .enum-told .given .1)
+returns-2 c = λ g x. subst (Reads _ _ _) (sym (c .add-rule .ensures)) (rule-step (c .before .before .before .before .before .before .before .before .before .args .limits) (c .before .before .before .before .before .before .before .before .before .pre .0) x (c .before .before .before .before .before .before .before .before .before .pre .1 .inside) (sym (c .before .before .before .before .before .before .rule-answer .ensures g x) ∙ c .before .before .before .before .enum-told .given .1))
 
 pub after-rule-spec : {M : Type 1} → statement M
 after-rule-spec =
@@ -81,16 +44,10 @@ after-rule-spec =
     rule-answer-requires
     enum-known-r
     enum-told
-    shared-slice-read-more
-    element-write-more
-    add-more
-    shared-slice-read-more-2
-    element-write-more-2
-    add-more-2
-    mul-more
-    element-write-more-3
-    mul-more-2
-    element-write-more-4
-    add-more-3
+    shared-slice-read-add-rule
+    add-add-rule
+    shared-slice-read-add-rule-2
+    add-add-rule-2
+    add-rule-requires
     returns
     returns-2)

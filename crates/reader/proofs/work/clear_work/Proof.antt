@@ -1,5 +1,7 @@
 -- `work::clear_work` meets its contract.
-use mathlib.Core.Path.{refl}
+use Prim.Native.Nat.{_-_}
+use native.Mathlib.Omega.{arith}
+use Rattle.grammar.specs.LimitSets.{limitsOf}
 use Rattle.reader.proofs.WorkLaws.{front-cleared}
 use borrow.Author.Needs.{needs}
 use Rattle.reader.proofs.work.clear_work.Statement.{statement}
@@ -21,7 +23,16 @@ same-length : tie.Need-same-length
 same-length c = search needs
 
 returns : tie.Need-returns
-returns c = front-cleared (c .before .before .before .before .before .args .work .now) (c .before .before .clear .last .0) 16384 refl (c .before .before .before .before .before .pre) (c .before .before .clear .ensures)
+returns c =
+    let start = c .before .before .before .before .before in
+    front-cleared
+    (limitsOf (start .args .limits))
+    (start .args .work .now)
+    (c .before .before .clear .last .0)
+    (start .args .limits .words - 0)
+    (omega arith)
+    (omega (arith, start .pre))
+    (c .before .before .clear .ensures)
 
 pub clear-work-spec : {M : Type 1} → statement M
 clear-work-spec =

@@ -9,7 +9,7 @@ use lib.ListN.{length}
 use borrow.Author.Needs.{needs}
 use borrow.Fn.Kinds.{In}
 use borrow.Fn.PlainCycle.{Measures, is, falls, and}
-use Rattle.grammar.specs.Limits.{standard}
+use Rattle.grammar.specs.Limits.{large}
 use Rattle.theory.specs.MarkedWalk.{Walked, isMarked}
 use Rattle.reader.specs.ContentAt.{ContentsAt}
 use Rattle.reader.proofs.ContentAtLaws.{content-inside, type-there, count-there, operands-there, operand-there}
@@ -107,7 +107,7 @@ abbrev each-Inv-loop : each-lts.InvT-loop
 each-Inv-loop content count from marks₀ incoming words base left₀ at₀ nullable₀ ends₀ marks left at nullable ends =
     (from ≤ at)
     × (length marks ≡ length marks₀)
-    × (ContentsAt standard content at left)
+    × (ContentsAt large content at left)
     × (walkEachAt content at left marks incoming (setAt words base) nullable ends
     ≡ walkEachAt content from count marks₀ incoming (setAt words base) false false)
 
@@ -118,7 +118,7 @@ abbrev in-turn-Inv-loop : in-turn-lts.InvT-loop
 in-turn-Inv-loop content count from marks₀ begun words base left₀ at₀ nullable₀ ends₀ incoming₀ marks left at nullable ends incoming =
     (from ≤ at)
     × (length marks ≡ length marks₀)
-    × (ContentsAt standard content at left)
+    × (ContentsAt large content at left)
     × (walkInTurnAt content at left marks incoming (setAt words base) nullable ends
     ≡ walkInTurnAt content from count marks₀ begun (setAt words base) true false)
 
@@ -133,7 +133,7 @@ each-operand-requires t c κs =
     let start = c .before .before .before .before .before .before in
     let now = c .before .before .loop in
     let s = start .args .content .now in
-    let first = laws.row-first standard s (now .at) (now .left) (now .inv .2) (c .before .loop-test .taken) .first in
+    let first = laws.row-first large s (now .at) (now .left) (now .inv .2) (c .before .loop-test .taken) .first in
     let room = start .pre .1 .1 in
     (omega arith, (first, record { few = room .few; mark-each = omega arith; four-words = room .four-words }))
 
@@ -149,11 +149,11 @@ each-loop-again t c =
     let marks2 = c .before .before .before .before .operand .last .1 .1 .0 in
     let p = c .before .before .before .before .operand .result in
     let first = c .before .before .before .before .operand .ensures in
-    let go = laws.rest-forward standard s (now .at) (now .left) row some (now .marks) b has marks2 p first in (
+    let go = laws.rest-forward large s (now .at) (now .left) row some (now .marks) b has marks2 p first in (
       omega arith,
       c .before .before .before .before .operand .kept .1 .1 .0 ∙ now .inv .1,
-      laws.rest-proper standard s (now .at) (now .left) row some (now .marks) b has marks2 p first,
-      laws.each-goes standard s (now .at) (now .left) row some (now .marks) b has marks2 p first (now .nullable) (now .ends)
+      laws.rest-proper large s (now .at) (now .left) row some (now .marks) b has marks2 p first,
+      laws.each-goes large s (now .at) (now .left) row some (now .marks) b has marks2 p first (now .nullable) (now .ends)
           (c .before .either .result) (c .either2 .result) (c .before .either .ensures) (c .either2 .ensures) ∙ now .inv .3,
     )
 
@@ -163,7 +163,7 @@ each-returns t c =
     let now = c .before .loop in
     let s = start .args .content .now in
     let has = setAt (start .args .words .now) (start .args .base) in
-    sym (laws.each-none standard s (now .at) (now .left) (now .inv .2) (c .loop-test .left) (now .nullable) (now .ends) (now .marks) (start .args .incoming) has)
+    sym (laws.each-none large s (now .at) (now .left) (now .inv .2) (c .loop-test .left) (now .nullable) (now .ends) (now .marks) (start .args .incoming) has)
     ∙ now .inv .3
 
 in-turn-loop-holds : (t : ℕ) → in-turn-lts.Need-loop-holds (in-turn-calls t) (in-turn-at t) in-turn.Post in-turn-Inv-loop in-turn-μ-loop
@@ -174,8 +174,8 @@ in-turn-slice-read-went-on t c =
     let start = c .before .before .before .before .before .before in
     let now = c .before .before .loop in
     let s = start .args .content .now in
-    let first = laws.row-first standard s (now .at) (now .left) (now .inv .2) (c .before .loop-test .taken) .first in
-    let inside = content-inside standard s (now .at) first in
+    let first = laws.row-first large s (now .at) (now .left) (now .inv .2) (c .before .loop-test .taken) .first in
+    let inside = content-inside large s (now .at) first in
     let room = start .pre .1 .1 in
     omega arith
 
@@ -184,7 +184,7 @@ in-turn-operand-in-turn-requires t c κs =
     let start = c .before .before .before .before .before .before .before in
     let now = c .before .before .before .loop in
     let s = start .args .content .now in
-    let first = laws.row-first standard s (now .at) (now .left) (now .inv .2) (c .before .before .loop-test .taken) .first in
+    let first = laws.row-first large s (now .at) (now .left) (now .inv .2) (c .before .before .loop-test .taken) .first in
     let room = start .pre .1 .1 in
     (omega arith, (first, record { few = room .few; mark-each = omega arith; four-words = room .four-words }))
 
@@ -201,11 +201,11 @@ in-turn-loop-again t c =
     let marks2 = c .before .before .before .before .before .before .before .operand-in-turn .last .1 .1 .0 in
     let p = c .before .before .before .before .before .before .before .operand-in-turn .result in
     let first = c .before .before .before .before .before .before .before .operand-in-turn .ensures in
-    let go = laws.rest-forward standard s (now .at) (now .left) row some (now .marks) b has marks2 p first in (
+    let go = laws.rest-forward large s (now .at) (now .left) row some (now .marks) b has marks2 p first in (
       omega arith,
       c .before .before .before .before .before .before .before .operand-in-turn .kept .1 .1 .0 ∙ now .inv .1,
-      laws.rest-proper standard s (now .at) (now .left) row some (now .marks) b has marks2 p first,
-      laws.in-turn-goes standard s (now .at) (now .left) row some (now .marks) b has marks2 p first (now .nullable) (now .ends)
+      laws.rest-proper large s (now .at) (now .left) row some (now .marks) b has marks2 p first,
+      laws.in-turn-goes large s (now .at) (now .left) row some (now .marks) b has marks2 p first (now .nullable) (now .ends)
           (c .either2 .result) (c .before .before .before .before .both .result) (c .before .before .either .result)
           (c .either2 .ensures ∙ ap (λ (x : Bool). x || isMarked (now .marks) (now .at)) (c .before .both3 .ensures)) (c .before .before .before .before .both .ensures)
           (c .before .before .either .ensures ∙ ap (λ (x : Bool). x || p .ends) (c .before .before .before .both2 .ensures)) ∙ now .inv .3,
@@ -217,21 +217,21 @@ in-turn-returns t c =
     let now = c .before .loop in
     let s = start .args .content .now in
     let has = setAt (start .args .words .now) (start .args .base) in
-    sym (laws.in-turn-none standard s (now .at) (now .left) (now .inv .2) (c .loop-test .left) (now .nullable) (now .ends) (now .marks) (now .incoming) has)
+    sym (laws.in-turn-none large s (now .at) (now .left) (now .inv .2) (c .loop-test .left) (now .nullable) (now .ends) (now .marks) (now .incoming) has)
     ∙ now .inv .3
 
 operand-shared-slice-read-if1 : (t : ℕ) → operand-lts.Need-shared-slice-read-if1 (operand-calls t) (operand-at t) operand.Post
-operand-shared-slice-read-if1 t c = omega (arith, content-inside standard _ _ (c .before .before .before .before .pre .1 .0) .0)
+operand-shared-slice-read-if1 t c = omega (arith, content-inside large _ _ (c .before .before .before .before .pre .1 .0) .0)
 
 operand-typed-requires : (t : ℕ) → operand-lts.Need-typed-requires (operand-calls t) (operand-at t) operand.Post
-unfolding standard
+unfolding large
 operand-typed-requires t c κs =
     let start = c .before .before .before .before .before .before in
     let s = start .args .content .now in
     let at = start .args .at in
     let stands = start .pre .1 .0 in
     let is-type = c .before .if1 .taken in
-    let there = type-there standard s at stands is-type in
+    let there = type-there large s at stands is-type in
     (there .0, there .1, start .pre .1 .1)
 
 operand-returns : (t : ℕ) → operand-lts.Need-returns (operand-calls t) (operand-at t) operand.Post
@@ -240,7 +240,7 @@ operand-returns t c =
     let s = start .args .content .now in
     let has = setAt (start .args .words .now) (start .args .base) in
     c .before .before .typed .ensures
-    ∙ sym (laws.walk-type standard s (start .args .at) (start .pre .1 .0) (start .args .marks .now) (start .args .incoming) has (c .before .before .before .before .if1 .taken))
+    ∙ sym (laws.walk-type large s (start .args .at) (start .pre .1 .0) (start .args .marks .now) (start .args .incoming) has (c .before .before .before .before .if1 .taken))
 
 operand-pass-requires : (t : ℕ) → operand-lts.Need-pass-requires (operand-calls t) (operand-at t) operand.Post
 operand-pass-requires t c κs = (omega arith, c .before .before .before .before .before .before .pre .1)
@@ -266,16 +266,16 @@ operand-in-turn-returns-2 : (t : ℕ) → operand-in-turn-lts.Need-returns-2 (op
 operand-in-turn-returns-2 t c = c .before .before .operand .ensures
 
 pass-shared-slice-read-wide : (t : ℕ) → pass-lts.Need-shared-slice-read-wide (pass-calls t) (pass-at t) pass.Post
-pass-shared-slice-read-wide t c = omega (arith, content-inside standard _ _ (c .before .before .before .before .pre .1 .0) .0)
+pass-shared-slice-read-wide t c = omega (arith, content-inside large _ _ (c .before .before .before .before .pre .1 .0) .0)
 
 pass-add-t20 : (t : ℕ) → pass-lts.Need-add-t20 (pass-calls t) (pass-at t) pass.Post
-pass-add-t20 t c = omega (arith, content-inside standard _ _ (c .before .before .before .before .before .before .pre .1 .0) .0)
+pass-add-t20 t c = omega (arith, content-inside large _ _ (c .before .before .before .before .before .before .pre .1 .0) .0)
 
 pass-add-t21 : (t : ℕ) → pass-lts.Need-add-t21 (pass-calls t) (pass-at t) pass.Post
-pass-add-t21 t c = omega (arith, content-inside standard _ _ (c .before .before .before .before .before .before .pre .1 .0) .0)
+pass-add-t21 t c = omega (arith, content-inside large _ _ (c .before .before .before .before .before .before .pre .1 .0) .0)
 
 pass-typed-requires : (t : ℕ) → pass-lts.Need-typed-requires (pass-calls t) (pass-at t) pass.Post
-unfolding standard
+unfolding large
 pass-typed-requires t c κs =
     let start = c .before .before .before .before .before .before .before in
     let s = start .args .content .now in
@@ -284,11 +284,11 @@ pass-typed-requires t c κs =
     let room = start .pre .1 .1 in
     let byte = sym (c .before .before .wide .ensures .0) in
     let k = byte ∙ c .before .match .keys3 in
-    let there = type-there standard s at stands k in
+    let there = type-there large s at stands k in
     (there .0, there .1, room)
 
 pass-add-wide : (t : ℕ) → pass-lts.Need-add-wide (pass-calls t) (pass-at t) pass.Post
-pass-add-wide t c = omega (arith, content-inside standard _ _ (c .before .before .before .before .before .before .pre .1 .0) .0)
+pass-add-wide t c = omega (arith, content-inside large _ _ (c .before .before .before .before .before .before .pre .1 .0) .0)
 
 pass-shared-slice-read-wide-2 : (t : ℕ) → pass-lts.Need-shared-slice-read-wide-2 (pass-calls t) (pass-at t) pass.Post
 pass-shared-slice-read-wide-2 t c =
@@ -297,14 +297,14 @@ pass-shared-slice-read-wide-2 t c =
     let at = start .args .at in
     let stands = start .pre .1 .0 in
     let room = start .pre .1 .1 in
-    let inside = content-inside standard s at stands in
+    let inside = content-inside large s at stands in
     let byte = sym (c .before .before .wide .ensures .0) in
     let op = byte ∙ c .before .match .keys4 in
-    let more = count-there standard s at stands (omega arith) (omega arith) in
+    let more = count-there large s at stands (omega arith) (omega arith) in
     omega arith
 
 pass-add-in-turn : (t : ℕ) → pass-lts.Need-add-in-turn (pass-calls t) (pass-at t) pass.Post
-pass-add-in-turn t c = omega (arith, content-inside standard _ _ (c .before .before .before .before .before .before .before .before .pre .1 .0) .0)
+pass-add-in-turn t c = omega (arith, content-inside large _ _ (c .before .before .before .before .before .before .before .before .pre .1 .0) .0)
 
 pass-in-turn-requires : (t : ℕ) → pass-lts.Need-in-turn-requires (pass-calls t) (pass-at t) pass.Post
 pass-in-turn-requires t c κs =
@@ -313,17 +313,17 @@ pass-in-turn-requires t c κs =
     let at = start .args .at in
     let stands = start .pre .1 .0 in
     let room = start .pre .1 .1 in
-    let inside = content-inside standard s at stands in
+    let inside = content-inside large s at stands in
     let byte = sym (c .before .before .before .before .wide .ensures .0) in
     let op = byte ∙ c .before .before .before .match .keys4 in
-    let more = count-there standard s at stands (omega arith) (omega arith) in
-    (omega arith, (subst (λ (n : ℕ). ContentsAt standard s (at + 2) n) (sym (c .before .wide2 .ensures .0)) (operands-there standard s at stands (omega arith) (omega arith)), room))
+    let more = count-there large s at stands (omega arith) (omega arith) in
+    (omega arith, (subst (λ (n : ℕ). ContentsAt large s (at + 2) n) (sym (c .before .wide2 .ensures .0)) (operands-there large s at stands (omega arith) (omega arith)), room))
 
 pass-sealed-requires : (t : ℕ) → pass-lts.Need-sealed-requires (pass-calls t) (pass-at t) pass.Post
-pass-sealed-requires t c κs = omega (arith, content-inside standard _ _ (c .before .before .before .before .before .before .before .before .before .before .before .before .before .pre .1 .0) .0)
+pass-sealed-requires t c κs = omega (arith, content-inside large _ _ (c .before .before .before .before .before .before .before .before .before .before .before .before .before .pre .1 .0) .0)
 
 pass-add-wide-2 : (t : ℕ) → pass-lts.Need-add-wide-2 (pass-calls t) (pass-at t) pass.Post
-pass-add-wide-2 t c = omega (arith, content-inside standard _ _ (c .before .before .before .before .before .before .pre .1 .0) .0)
+pass-add-wide-2 t c = omega (arith, content-inside large _ _ (c .before .before .before .before .before .before .pre .1 .0) .0)
 
 pass-shared-slice-read-wide-3 : (t : ℕ) → pass-lts.Need-shared-slice-read-wide-3 (pass-calls t) (pass-at t) pass.Post
 pass-shared-slice-read-wide-3 t c =
@@ -332,14 +332,14 @@ pass-shared-slice-read-wide-3 t c =
     let at = start .args .at in
     let stands = start .pre .1 .0 in
     let room = start .pre .1 .1 in
-    let inside = content-inside standard s at stands in
+    let inside = content-inside large s at stands in
     let byte = sym (c .before .before .wide .ensures .0) in
     let op = byte ∙ c .before .match .keys5 in
-    let more = count-there standard s at stands (omega arith) (omega arith) in
+    let more = count-there large s at stands (omega arith) (omega arith) in
     omega arith
 
 pass-add-each : (t : ℕ) → pass-lts.Need-add-each (pass-calls t) (pass-at t) pass.Post
-pass-add-each t c = omega (arith, content-inside standard _ _ (c .before .before .before .before .before .before .before .before .pre .1 .0) .0)
+pass-add-each t c = omega (arith, content-inside large _ _ (c .before .before .before .before .before .before .before .before .pre .1 .0) .0)
 
 pass-each-requires : (t : ℕ) → pass-lts.Need-each-requires (pass-calls t) (pass-at t) pass.Post
 pass-each-requires t c κs =
@@ -348,17 +348,17 @@ pass-each-requires t c κs =
     let at = start .args .at in
     let stands = start .pre .1 .0 in
     let room = start .pre .1 .1 in
-    let inside = content-inside standard s at stands in
+    let inside = content-inside large s at stands in
     let byte = sym (c .before .before .before .before .wide .ensures .0) in
     let op = byte ∙ c .before .before .before .match .keys5 in
-    let more = count-there standard s at stands (omega arith) (omega arith) in
-    (omega arith, (subst (λ (n : ℕ). ContentsAt standard s (at + 2) n) (sym (c .before .wide3 .ensures .0)) (operands-there standard s at stands (omega arith) (omega arith)), room))
+    let more = count-there large s at stands (omega arith) (omega arith) in
+    (omega arith, (subst (λ (n : ℕ). ContentsAt large s (at + 2) n) (sym (c .before .wide3 .ensures .0)) (operands-there large s at stands (omega arith) (omega arith)), room))
 
 pass-sealed-requires-2 : (t : ℕ) → pass-lts.Need-sealed-requires-2 (pass-calls t) (pass-at t) pass.Post
-pass-sealed-requires-2 t c κs = omega (arith, content-inside standard _ _ (c .before .before .before .before .before .before .before .before .before .before .before .before .before .pre .1 .0) .0)
+pass-sealed-requires-2 t c κs = omega (arith, content-inside large _ _ (c .before .before .before .before .before .before .before .before .before .before .before .before .before .pre .1 .0) .0)
 
 pass-add-either : (t : ℕ) → pass-lts.Need-add-either (pass-calls t) (pass-at t) pass.Post
-pass-add-either t c = omega (arith, content-inside standard _ _ (c .before .before .before .before .before .before .pre .1 .0) .0)
+pass-add-either t c = omega (arith, content-inside large _ _ (c .before .before .before .before .before .before .pre .1 .0) .0)
 
 pass-slice-read-either : (t : ℕ) → pass-lts.Need-slice-read-either (pass-calls t) (pass-at t) pass.Post
 pass-slice-read-either t c =
@@ -367,13 +367,13 @@ pass-slice-read-either t c =
     let at = start .args .at in
     let stands = start .pre .1 .0 in
     let room = start .pre .1 .1 in
-    let inside = content-inside standard s at stands in
+    let inside = content-inside large s at stands in
     let byte = sym (c .before .before .wide .ensures .0) in
-    let operand = content-inside standard s (at + 1) (operand-there standard s at stands (omega (arith, byte ∙ c .before .match .keys6))) in
+    let operand = content-inside large s (at + 1) (operand-there large s at stands (omega (arith, byte ∙ c .before .match .keys6))) in
     omega arith
 
 pass-add-operand : (t : ℕ) → pass-lts.Need-add-operand (pass-calls t) (pass-at t) pass.Post
-pass-add-operand t c = omega (arith, content-inside standard _ _ (c .before .before .before .before .before .before .before .before .pre .1 .0) .0)
+pass-add-operand t c = omega (arith, content-inside large _ _ (c .before .before .before .before .before .before .before .before .pre .1 .0) .0)
 
 pass-operand-requires : (t : ℕ) → pass-lts.Need-operand-requires (pass-calls t) (pass-at t) pass.Post
 pass-operand-requires t c κs =
@@ -382,17 +382,17 @@ pass-operand-requires t c κs =
     let at = start .args .at in
     let stands = start .pre .1 .0 in
     let room = start .pre .1 .1 in
-    let inside = content-inside standard s at stands in
+    let inside = content-inside large s at stands in
     let byte = sym (c .before .before .before .before .wide .ensures .0) in
-    let operand = operand-there standard s at stands (omega (arith, byte ∙ c .before .before .before .match .keys6)) in
-    let more = content-inside standard s (at + 1) operand in
+    let operand = operand-there large s at stands (omega (arith, byte ∙ c .before .before .before .match .keys6)) in
+    let more = content-inside large s (at + 1) operand in
     (omega arith, (operand, room))
 
 pass-sealed-requires-3 : (t : ℕ) → pass-lts.Need-sealed-requires-3 (pass-calls t) (pass-at t) pass.Post
-pass-sealed-requires-3 t c κs = omega (arith, content-inside standard _ _ (c .before .before .before .before .before .before .before .before .before .before .before .before .before .before .pre .1 .0) .0)
+pass-sealed-requires-3 t c κs = omega (arith, content-inside large _ _ (c .before .before .before .before .before .before .before .before .before .before .before .before .before .before .pre .1 .0) .0)
 
 pass-add-either-2 : (t : ℕ) → pass-lts.Need-add-either-2 (pass-calls t) (pass-at t) pass.Post
-pass-add-either-2 t c = omega (arith, content-inside standard _ _ (c .before .before .before .before .before .before .pre .1 .0) .0)
+pass-add-either-2 t c = omega (arith, content-inside large _ _ (c .before .before .before .before .before .before .pre .1 .0) .0)
 
 pass-slice-read-either-2 : (t : ℕ) → pass-lts.Need-slice-read-either-2 (pass-calls t) (pass-at t) pass.Post
 pass-slice-read-either-2 t c =
@@ -401,13 +401,13 @@ pass-slice-read-either-2 t c =
     let at = start .args .at in
     let stands = start .pre .1 .0 in
     let room = start .pre .1 .1 in
-    let inside = content-inside standard s at stands in
+    let inside = content-inside large s at stands in
     let byte = sym (c .before .before .wide .ensures .0) in
-    let operand = content-inside standard s (at + 1) (operand-there standard s at stands (omega (arith, byte ∙ c .before .match .keys7))) in
+    let operand = content-inside large s (at + 1) (operand-there large s at stands (omega (arith, byte ∙ c .before .match .keys7))) in
     omega arith
 
 pass-add-operand-2 : (t : ℕ) → pass-lts.Need-add-operand-2 (pass-calls t) (pass-at t) pass.Post
-pass-add-operand-2 t c = omega (arith, content-inside standard _ _ (c .before .before .before .before .before .before .before .before .pre .1 .0) .0)
+pass-add-operand-2 t c = omega (arith, content-inside large _ _ (c .before .before .before .before .before .before .before .before .pre .1 .0) .0)
 
 pass-operand-requires-2 : (t : ℕ) → pass-lts.Need-operand-requires-2 (pass-calls t) (pass-at t) pass.Post
 pass-operand-requires-2 t c κs =
@@ -416,17 +416,17 @@ pass-operand-requires-2 t c κs =
     let at = start .args .at in
     let stands = start .pre .1 .0 in
     let room = start .pre .1 .1 in
-    let inside = content-inside standard s at stands in
+    let inside = content-inside large s at stands in
     let byte = sym (c .before .before .before .before .wide .ensures .0) in
-    let operand = operand-there standard s at stands (omega (arith, byte ∙ c .before .before .before .match .keys7)) in
-    let more = content-inside standard s (at + 1) operand in
+    let operand = operand-there large s at stands (omega (arith, byte ∙ c .before .before .before .match .keys7)) in
+    let more = content-inside large s (at + 1) operand in
     (omega arith, (operand, room))
 
 pass-sealed-requires-4 : (t : ℕ) → pass-lts.Need-sealed-requires-4 (pass-calls t) (pass-at t) pass.Post
-pass-sealed-requires-4 t c κs = omega (arith, content-inside standard _ _ (c .before .before .before .before .before .before .before .before .before .before .before .before .before .pre .1 .0) .0)
+pass-sealed-requires-4 t c κs = omega (arith, content-inside large _ _ (c .before .before .before .before .before .before .before .before .before .before .before .before .before .pre .1 .0) .0)
 
 pass-add-operand-3 : (t : ℕ) → pass-lts.Need-add-operand-3 (pass-calls t) (pass-at t) pass.Post
-pass-add-operand-3 t c = omega (arith, content-inside standard _ _ (c .before .before .before .before .before .before .pre .1 .0) .0)
+pass-add-operand-3 t c = omega (arith, content-inside large _ _ (c .before .before .before .before .before .before .pre .1 .0) .0)
 
 pass-operand-requires-3 : (t : ℕ) → pass-lts.Need-operand-requires-3 (pass-calls t) (pass-at t) pass.Post
 pass-operand-requires-3 t c κs =
@@ -435,20 +435,20 @@ pass-operand-requires-3 t c κs =
     let at = start .args .at in
     let stands = start .pre .1 .0 in
     let room = start .pre .1 .1 in
-    let inside = content-inside standard s at stands in
+    let inside = content-inside large s at stands in
     let byte = sym (c .before .before .wide .ensures .0) in
     let rest = c .before .match .rest in
-    let known = content-inside standard s at stands .1 in
+    let known = content-inside large s at stands .1 in
     let last =
     laws.byte-last (c .before .before .wide .result) (subst (λ (n : ℕ). n ≤ 7) byte known) (rest .0 .0 .0 .0 .0 .0 .1) (rest .0 .0 .0 .0 .0 .1)
     (rest .0 .0 .0 .0 .1) (rest .0 .0 .0 .1) (rest .0 .0 .1) (rest .0 .1) (rest .1) in
     let op = byte ∙ last in
-    let operand = operand-there standard s at stands (omega arith) in
-    let more = content-inside standard s (at + 1) operand in
+    let operand = operand-there large s at stands (omega arith) in
+    let more = content-inside large s (at + 1) operand in
     (omega arith, (operand, room))
 
 pass-sealed-requires-5 : (t : ℕ) → pass-lts.Need-sealed-requires-5 (pass-calls t) (pass-at t) pass.Post
-pass-sealed-requires-5 t c κs = omega (arith, content-inside standard _ _ (c .before .before .before .before .before .before .before .before .before .before .before .before .pre .1 .0) .0)
+pass-sealed-requires-5 t c κs = omega (arith, content-inside large _ _ (c .before .before .before .before .before .before .before .before .before .before .before .before .pre .1 .0) .0)
 
 pass-returns : (t : ℕ) → pass-lts.Need-returns (pass-calls t) (pass-at t) pass.Post
 pass-returns t c =
@@ -460,7 +460,7 @@ pass-returns t c =
     let has = setAt (start .args .words .now) (start .args .base) in
     let marks = start .args .marks .now in
     let b = start .args .incoming in
-    sym (laws.walk-none standard s at stands marks b has (byte ∙ c .match .keys1))
+    sym (laws.walk-none large s at stands marks b has (byte ∙ c .match .keys1))
 
 pass-returns-2 : (t : ℕ) → pass-lts.Need-returns-2 (pass-calls t) (pass-at t) pass.Post
 pass-returns-2 t c =
@@ -472,7 +472,7 @@ pass-returns-2 t c =
     let has = setAt (start .args .words .now) (start .args .base) in
     let marks = start .args .marks .now in
     let b = start .args .incoming in
-    sym (laws.walk-empty standard s at stands marks b has (byte ∙ c .match .keys2))
+    sym (laws.walk-empty large s at stands marks b has (byte ∙ c .match .keys2))
 
 pass-returns-3 : (t : ℕ) → pass-lts.Need-returns-3 (pass-calls t) (pass-at t) pass.Post
 pass-returns-3 t c =
@@ -484,7 +484,7 @@ pass-returns-3 t c =
     let has = setAt (start .args .words .now) (start .args .base) in
     let marks = start .args .marks .now in
     let b = start .args .incoming in
-    c .before .before .typed .ensures ∙ sym (laws.walk-type standard s at stands marks b has (byte ∙ c .before .before .before .before .match .keys3))
+    c .before .before .typed .ensures ∙ sym (laws.walk-type large s at stands marks b has (byte ∙ c .before .before .before .before .match .keys3))
 
 pass-returns-4 : (t : ℕ) → pass-lts.Need-returns-4 (pass-calls t) (pass-at t) pass.Post
 pass-returns-4 t c =
@@ -498,7 +498,7 @@ pass-returns-4 t c =
     let b = start .args .incoming in
     c .before .before .sealed .ensures
     ∙ ap (ended at) (c .before .before .before .before .before .before .in-turn .ensures ∙ ap (λ (n : ℕ). walkInTurnAt s (at + 2) n marks b has true false) (c .before .before .before .before .before .before .before .before .wide2 .ensures .0))
-    ∙ sym (laws.walk-sequence standard s at stands marks b has (byte ∙ c .before .before .before .before .before .before .before .before .before .before .match .keys4))
+    ∙ sym (laws.walk-sequence large s at stands marks b has (byte ∙ c .before .before .before .before .before .before .before .before .before .before .match .keys4))
 
 pass-returns-5 : (t : ℕ) → pass-lts.Need-returns-5 (pass-calls t) (pass-at t) pass.Post
 pass-returns-5 t c =
@@ -512,7 +512,7 @@ pass-returns-5 t c =
     let b = start .args .incoming in
     c .before .before .sealed2 .ensures
     ∙ ap (ended at) (c .before .before .before .before .before .before .each .ensures ∙ ap (λ (n : ℕ). walkEachAt s (at + 2) n marks b has false false) (c .before .before .before .before .before .before .before .before .wide3 .ensures .0))
-    ∙ sym (laws.walk-choice standard s at stands marks b has (byte ∙ c .before .before .before .before .before .before .before .before .before .before .match .keys5))
+    ∙ sym (laws.walk-choice large s at stands marks b has (byte ∙ c .before .before .before .before .before .before .before .before .before .before .match .keys5))
 
 pass-returns-6 : (t : ℕ) → pass-lts.Need-returns-6 (pass-calls t) (pass-at t) pass.Post
 unfolding isMarked
@@ -528,7 +528,7 @@ pass-returns-6 t c =
     c .before .before .sealed3 .ensures
     ∙ ap (λ (p : Passed). ended at (walked (c .before .before .before .before .before .before .before .operand .last .1 .1 .0) p)) (c .before .before .before .or-none .ensures)
     ∙ ap (λ (w : Walked). ended at (laws.orNone w)) (c .before .before .before .before .before .before .before .operand .ensures ∙ ap (λ (x : Bool). walkAt s (at + 1) marks x has) (c .before .before .before .before .before .before .before .before .before .either .ensures))
-    ∙ sym (laws.walk-any-number standard s at stands marks b has (byte ∙ c .before .before .before .before .before .before .before .before .before .before .before .match .keys6))
+    ∙ sym (laws.walk-any-number large s at stands marks b has (byte ∙ c .before .before .before .before .before .before .before .before .before .before .before .match .keys6))
 
 pass-returns-7 : (t : ℕ) → pass-lts.Need-returns-7 (pass-calls t) (pass-at t) pass.Post
 unfolding isMarked
@@ -543,7 +543,7 @@ pass-returns-7 t c =
     let b = start .args .incoming in
     c .before .before .sealed4 .ensures
     ∙ ap (ended at) (c .before .before .before .before .before .before .operand2 .ensures ∙ ap (λ (x : Bool). walkAt s (at + 1) marks x has) (c .before .before .before .before .before .before .before .before .either2 .ensures))
-    ∙ sym (laws.walk-one-or-more standard s at stands marks b has (byte ∙ c .before .before .before .before .before .before .before .before .before .before .match .keys7))
+    ∙ sym (laws.walk-one-or-more large s at stands marks b has (byte ∙ c .before .before .before .before .before .before .before .before .before .before .match .keys7))
 
 pass-returns-8 : (t : ℕ) → pass-lts.Need-returns-8 (pass-calls t) (pass-at t) pass.Post
 pass-returns-8 t c =
@@ -556,7 +556,7 @@ pass-returns-8 t c =
     let marks = start .args .marks .now in
     let b = start .args .incoming in
     let rest = c .before .before .before .before .before .before .before .before .before .match .rest in
-    let known = content-inside standard s at stands .1 in
+    let known = content-inside large s at stands .1 in
     let last =
     laws.byte-last (c .before .before .before .before .before .before .before .before .before .before .wide .result) (subst (λ (n : ℕ). n ≤ 7) byte known) (rest .0 .0 .0 .0 .0 .0 .1) (rest .0 .0 .0 .0 .0 .1)
     (rest .0 .0 .0 .0 .1) (rest .0 .0 .0 .1) (rest .0 .0 .1) (rest .0 .1) (rest .1) in
@@ -564,7 +564,7 @@ pass-returns-8 t c =
     c .before .before .sealed5 .ensures
     ∙ ap (λ (p : Passed). ended at (walked (c .before .before .before .before .before .before .before .operand3 .last .1 .1 .0) p)) (c .before .before .before .or-none2 .ensures)
     ∙ ap (λ (w : Walked). ended at (laws.orNone w)) (c .before .before .before .before .before .before .before .operand3 .ensures)
-    ∙ sym (laws.walk-optional standard s at stands marks b has op)
+    ∙ sym (laws.walk-optional large s at stands marks b has op)
 
 pub +each+in-turn+operand+operand-in-turn+pass-spec : {M : Type 1} → statement M
 +each+in-turn+operand+operand-in-turn+pass-spec = close μ-each μ-in-turn μ-operand μ-operand-in-turn μ-pass (λ t. each-lts.spec (each-calls t)

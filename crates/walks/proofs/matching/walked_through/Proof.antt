@@ -7,7 +7,7 @@ use mathlib.Core.List.{List}
 use mathlib.Core.Path.{_≡_, refl, sym, _∙_, ap}
 use lib.Dec.{eqb}
 use lib.ListN.{length}
-use Rattle.grammar.specs.Limits.{standard}
+use Rattle.grammar.specs.Limits.{large}
 use Rattle.theory.specs.MarkedWalk.{isMarked}
 use Rattle.reader.proofs.ContentAtLaws.{content-inside}
 use Rattle.walks.specs.TypeSets.{testsAt}
@@ -50,13 +50,13 @@ loop-again c =
     let inv = c .before .before .before .before .before .loop .inv in
     let i = c .before .before .before .before .before .loop .i in
     let round =
-    walks-round standard (a .content .now) (a .words .now) (c .before .before .before .before .before .before .before .before .before .pre .0 .proper-at) (a .top) (a .count) i (c .before .before .before .before .before .loop .marks)
+    walks-round large (a .content .now) (a .words .now) (c .before .before .before .before .before .before .before .before .before .pre .0 .proper-at) (a .top) (a .count) i (c .before .before .before .before .before .loop .marks)
     (c .before .before .pass .last .1 .1 .0) (c .before .before .pass .result) (eqb i 0) (c .before .before .before .before .loop-test .taken) (c .before .before .pass .ensures) in
     (omega arith, c .before .before .pass .kept .1 .1 .0 ∙ inv .1, round ∙ inv .2)
 
 slice-read-result : tie.Need-slice-read-result Inv-loop μ-loop
 slice-read-result c =
-    let inside = content-inside standard (c .before .before .before .before .before .before .args .content .now) 0 (c .before .before .before .before .before .before .pre .0 .proper-at) in
+    let inside = content-inside large (c .before .before .before .before .before .before .args .content .now) 0 (c .before .before .before .before .before .before .pre .0 .proper-at) in
     let room = c .before .before .before .before .before .before .pre .2 in
     omega arith
 
@@ -66,7 +66,7 @@ returns c =
     let a = c .before .before .before .before .before .before .args in
     let inv = c .before .before .loop .inv in
     let over =
-    walks-over standard (a .content .now) (a .words .now) (c .before .before .before .before .before .before .pre .0 .proper-at) (a .top) (a .count) (c .before .before .loop .marks)
+    walks-over large (a .content .now) (a .words .now) (c .before .before .before .before .before .before .pre .0 .proper-at) (a .top) (a .count) (c .before .before .loop .marks)
     (eqb (c .before .before .loop .i) 0) (c .before .before .loop .i) (inv .0) (c .before .loop-test .left) in
     ap (λ (marks : List ℕ). isMarked marks 0) (sym over ∙ inv .2)
 

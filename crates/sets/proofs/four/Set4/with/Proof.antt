@@ -8,4 +8,6 @@ returns : tie.Need-returns
 returns c = put-first (c .before .args .t1 .words) (c .before .args .k)
 
 pub with-spec : {M : Type 1} → statement M
-with-spec = tie.close (tie.spec (λ c. search needs) (λ c. search needs) (λ c. search needs) (λ c. search needs) (λ c. search needs) (λ c. search needs) returns)
+with-spec =
+    tie.close (tie.spec
+    (λ c. search needs) (λ c. search needs) (λ c. search needs) (λ c. search needs) (λ c. search needs) (λ c. search needs) returns)

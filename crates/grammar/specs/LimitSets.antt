@@ -1,0 +1,24 @@
+-- The limits that a size sets, and which limits the code has room for.
+use Prim.Native.Nat.{_≤_}
+use Rattle.grammar.specs.Limits.{Limits, limitsFor, small, standard, large}
+use Rattle.grammar.specs.declared.Size.{Size}
+use Rattle.grammar.specs.declared.Size.the-variants.{Small, Standard, Large}
+use Rattle.grammar.specs.declared.SizeLimits.{SizeLimits}
+
+-- the limits of a size
+unfoldable pub sizeLimits : Size → Limits
+unfolding small standard large
+sizeLimits Small = small
+sizeLimits Standard = standard
+sizeLimits Large = large
+
+-- four limits, with those that are the same for all sizes
+abbrev pub limitsOf : SizeLimits → Limits
+limitsOf l = limitsFor (l .rules) (l .nodes) (l .levels) (l .words)
+
+-- None of the four is above that of the largest size, and the words are as many as the smallest has.
+pub record Within (l : SizeLimits) : Type 0 where
+  pub rules : l .rules ≤ 128
+  pub nodes : l .nodes ≤ 2048
+  pub levels : l .levels ≤ 64
+  pub words : 12288 ≤ l .words
