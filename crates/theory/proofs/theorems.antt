@@ -6,4 +6,5 @@ pub mod WideningCorollaries
 pub mod AnswerNumbers
 pub mod CallPromises
 pub mod SizedPromises
+pub mod AnyLimits
 pub mod PaperTheorem

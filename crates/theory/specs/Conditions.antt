@@ -5,7 +5,7 @@
 use Prim.Native.Nat.{_≤_, ℕ, _<_}
 use mathlib.Core.List.{List·Memᴰ}
 use lib.ListN.{length}
-use Rattle.grammar.specs.Limits.{Limits, standard}
+use Rattle.grammar.specs.Limits.{Limits, large}
 use Rattle.grammar.specs.Content.{
   Content,
   none,
@@ -41,8 +41,8 @@ abbrev mutual
 
 -- proper but for the width of its choices
 pub record Regular (c : Content) : Type 0 where
-  pub counted : Counted standard c
-  pub below : (k : ℕ) → List·Memᴰ k (typesIn c) → k < 64
+  pub counted : Counted large c
+  pub below : (k : ℕ) → List·Memᴰ k (typesIn c) → k < 128
 
 -- each rule's label is a label of the table
 abbrev pub Labelled : Table → Type 0

@@ -2,7 +2,7 @@
 --     numbered-within      such a table, of no more labels than rules and not too large, is one that a file can hold
 --     finished-numbered    it stays such when only its used labels are kept and its contents are tidied
 --     table-small          what not being too large says
--- where the limits agree, as those of the paper do (`standard-agree`).
+-- where the limits agree, as those of every size do (`sized-agree`).
 use Prim.Native.Nat.{ℕ, _≤_, _<_}
 use native.Mathlib.Omega.{arith}
 use mathlib.Core.Bool.{Bool, true, false}
@@ -12,7 +12,9 @@ use lib.ListN.{length, length-map, getD}
 use lib.Dec.{eqb, ltb}
 use borrow.Author.Tests.{ltb-false}
 use Rattle.grammar.specs.Lists.{anyPass, allDistinct}
-use Rattle.grammar.specs.Limits.{Limits, standard, LimitsAgree}
+use Rattle.grammar.specs.Limits.{Limits, LimitsAgree}
+use Rattle.grammar.specs.LimitSets.{limitsOf}
+use Rattle.grammar.specs.declared.SizeLimits.{SizeLimits}
 use Rattle.grammar.specs.Names.{Name, sameName, Classes}
 use Rattle.grammar.specs.Content.{Content, typesIn, nesting}
 use Rattle.grammar.specs.Table.{Rule, Table, DistinctNames}
@@ -32,10 +34,9 @@ use Rattle.theory.proofs.steps.FinishedForm.{finished}
 use Rattle.theory.proofs.tables.SameRules.{SameRules, same-labelled}
 use Rattle.theory.proofs.bytes.CountedTables.{RulesCounted, map-counted}
 
--- the limits of the paper agree
-pub standard-agree : LimitsAgree standard
-unfolding standard
-standard-agree = record { labels = omega arith; starts = omega arith; rules = omega arith; children = omega arith }
+-- the limits that a size sets agree, whatever its four numbers are
+pub sized-agree : (l : SizeLimits) → LimitsAgree (limitsOf l)
+sized-agree l = record { labels = omega arith; starts = omega arith; rules = omega arith; children = omega arith }
 
 pub record Numbered (lim : Limits) (classes : Classes) (g : Table) : Type 0 where
   pub names : (n : Name) → List·Memᴰ n (g .labels) → NameWithin lim classes n

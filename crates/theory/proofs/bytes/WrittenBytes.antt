@@ -21,7 +21,9 @@ use lib.ListN.{length, length-append, length-map, getD}
 use lib.Dec.{eqb, leb}
 use borrow.Author.Tests.{eqb-true, leb-true, ltb-true}
 use Rattle.grammar.specs.Lists.{allPass, joinedOf, numbersBelow}
-use Rattle.grammar.specs.Limits.{Limits, standard}
+use Rattle.grammar.specs.Limits.{Limits}
+use Rattle.grammar.specs.LimitSets.{limitsOf, Within}
+use Rattle.grammar.specs.declared.SizeLimits.{SizeLimits}
 use Rattle.grammar.specs.Names.{Name, Classes, isName, classOf, asciiClasses}
 use Rattle.grammar.specs.Content.{
   Content,
@@ -61,10 +63,11 @@ pub record BytesAgree (lim : Limits) (classes : Classes) : Type 0 where
   pub input : lim .input < 65536
   pub name-bytes : length classes ≤ 256
 
--- those of the paper
-pub standard-bytes : BytesAgree standard asciiClasses
-unfolding standard asciiClasses numbersBelow
-standard-bytes =
+-- those that the code has room for
+pub within-bytes : {l : SizeLimits} → Within l → BytesAgree (limitsOf l) asciiClasses
+unfolding asciiClasses numbersBelow
+within-bytes w =
+    let few = w .rules in
     let a = length-map (numbersBelow 256) classOf in
     let b = numbers-length 0 256 in
     record {
