@@ -7,7 +7,10 @@ use mathlib.Core.List.{List}
 use mathlib.Core.Path.{_≡_, refl, sym, ap, subst}
 use lib.ListN.{length}
 use lib.Dec.{ltb}
-use Rattle.grammar.specs.Limits.{standard, inputLimit}
+use Rattle.grammar.specs.Limits.{Limits, inputLimit, small, standard, large}
+use Rattle.grammar.specs.LimitSets.{sizeLimits}
+use Rattle.grammar.specs.declared.Size.{Size}
+use Rattle.grammar.specs.declared.Size.the-variants.{Small, Standard, Large}
 use Rattle.grammar.specs.Names.{asciiClasses}
 use Rattle.grammar.specs.Tree.{Tree}
 use Rattle.grammar.specs.Table.{Table}
@@ -47,56 +50,63 @@ table-below out g h = go (ltb (length out) (length (tableBytes g)))
     go true = omega arith
     go false = omega arith
 
-sample-size : (d : Tree) (g : Table) → sampleTable standard d ≡ given g → length (tableBytes g) ≤ inputLimit
-unfolding sampleTable ofSize standard
-sample-size d g e =
-    let (small, same) = had-no-fault (tooLarge standard (sample d)) ResultTooLarge (given (sample d)) g e in
-    subst (λ (r : Table). length (tableBytes r) ≤ inputLimit) (given-eq same) (table-small standard (sample d) small .size)
+module _ (lim : Limits) (same-input : lim .input ≡ inputLimit) where
+  sample-size : (d : Tree) (g : Table) → sampleTable lim d ≡ given g → length (tableBytes g) ≤ inputLimit
+  unfolding sampleTable ofSize
+  sample-size d g e =
+      let (small, same) = had-no-fault (tooLarge lim (sample d)) ResultTooLarge (given (sample d)) g e in
+      subst (λ (r : Table). length (tableBytes r) ≤ inputLimit) (given-eq same) (let size = table-small lim (sample d) small .size in omega arith)
 
-result-size : (kind : Kind) (old addition result : Table) → widenByTable standard kind old addition ≡ given result
-    → length (tableBytes result) ≤ inputLimit
-unfolding standard
-result-size kind old addition result e =
-    let w = widening.widened standard kind old addition result e in
-    subst (λ (r : Table). length (tableBytes r) ≤ inputLimit) (sym (w .made)) (w .small .size)
+  result-size : (kind : Kind) (old addition result : Table) → widenByTable lim kind old addition ≡ given result
+      → length (tableBytes result) ≤ inputLimit
+  result-size kind old addition result e =
+      let w = widening.widened lim kind old addition result e in
+      subst (λ (r : Table). length (tableBytes r) ≤ inputLimit) (sym (w .made)) (let size = w .small .size in omega arith)
 
-widen-size : (kind : Kind) (old : Table) (addition : Addition) (result : Table) → widen standard kind old addition ≡ given result
-    → length (tableBytes result) ≤ inputLimit
-unfolding widen
-widen-size kind old (byTable a) result e = result-size kind old a result e
-widen-size kind old (byDocument d) result e =
-    let (a, _, p) = was-given (sampleTable standard d) (λ a. widenByTable standard kind old a) result e in
-    result-size kind old a result p
+  widen-size : (kind : Kind) (old : Table) (addition : Addition) (result : Table) → widen lim kind old addition ≡ given result
+      → length (tableBytes result) ≤ inputLimit
+  unfolding widen
+  widen-size kind old (byTable a) result e = result-size kind old a result e
+  widen-size kind old (byDocument d) result e =
+      let (a, _, p) = was-given (sampleTable lim d) (λ a. widenByTable lim kind old a) result e in
+      result-size kind old a result p
 
-sample-below : (document out work : List ℕ)
-    → numbersOf length (documentSample standard asciiClasses document out work) .value < 4294967296
-unfolding documentSample
-sample-below document out work =
-    then-below (documentReads standard asciiClasses document work) _
-    (λ d _. then-below (sampleTable standard d) _ (λ g e. table-below out g (sample-size d g e)))
+  sample-below : (document out work : List ℕ)
+      → numbersOf length (documentSample lim asciiClasses document out work) .value < 4294967296
+  unfolding documentSample
+  sample-below document out work =
+      then-below (documentReads lim asciiClasses document work) _
+      (λ d _. then-below (sampleTable lim d) _ (λ g e. table-below out g (sample-size d g e)))
 
-widening-below : (kind : Kind) (source : Source) (old addition out work : List ℕ)
-    → numbersOf length (widened standard asciiClasses kind source old addition out work) .value < 4294967296
-unfolding widened
-widening-below kind source old addition out work =
-    then-below (tableReads standard asciiClasses old work) _
-    (λ g _.
-    then-below (readAddition standard asciiClasses source addition) _
-    (λ a _. then-below (widen standard kind g a) _ (λ r e. table-below out r (widen-size kind g a r e))))
+  widening-below : (kind : Kind) (source : Source) (old addition out work : List ℕ)
+      → numbersOf length (widened lim asciiClasses kind source old addition out work) .value < 4294967296
+  unfolding widened
+  widening-below kind source old addition out work =
+      then-below (tableReads lim asciiClasses old work) _
+      (λ g _.
+      then-below (readAddition lim asciiClasses source addition) _
+      (λ a _. then-below (widen lim kind g a) _ (λ r e. table-below out r (widen-size kind g a r e))))
+
+-- all sizes have inputs of one length
+size-input : (size : Size) → sizeLimits size .input ≡ inputLimit
+unfolding sizeLimits small standard large
+size-input Small = refl
+size-input Standard = refl
+size-input Large = refl
 
 -- so is the value of what a call promised
-pub sampled-value : (document out work left kept : List ℕ) (n : Numbers) → Sampling standard asciiClasses document out work (after n left kept)
+pub sampled-value : (size : Size) (document out work left kept : List ℕ) (n : Numbers) → Sampling (sizeLimits size) asciiClasses document out work (after n left kept)
     → n .value < 4294967296
 unfolding wrote
-sampled-value document out work left kept n s =
+sampled-value size document out work left kept n s =
     let same = ap (λ (a : After Numbers). a .answer .value) (s .settled) in
-    let below = sample-below document out work in
+    let below = sample-below (sizeLimits size) (size-input size) document out work in
     omega arith
 
-pub widened-value : (kind : Kind) (source : Source) (old addition out work left kept : List ℕ) (n : Numbers)
-    → Widening standard asciiClasses kind source old addition out work (after n left kept) → n .value < 4294967296
+pub widened-value : (size : Size) (kind : Kind) (source : Source) (old addition out work left kept : List ℕ) (n : Numbers)
+    → Widening (sizeLimits size) asciiClasses kind source old addition out work (after n left kept) → n .value < 4294967296
 unfolding wrote
-widened-value kind source old addition out work left kept n s =
+widened-value size kind source old addition out work left kept n s =
     let same = ap (λ (a : After Numbers). a .answer .value) (s .settled) in
-    let below = widening-below kind source old addition out work in
+    let below = widening-below (sizeLimits size) (size-input size) kind source old addition out work in
     omega arith

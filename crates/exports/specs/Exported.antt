@@ -20,6 +20,6 @@ placeNumbers (Refused r) = refusedBy r
 
 -- a name is short and begins early
 pub record ShortName (from to : ℕ) : Type 0 where
-  pub early : from ≤ 4227
+  pub early : from ≤ 8451
   pub order : from ≤ to
   pub short : to - from ≤ nameLimit

@@ -1,5 +1,7 @@
 -- The limits that a size sets, and which limits the code has room for.
-use Prim.Native.Nat.{_≤_}
+use Prim.Native.Nat.{ℕ, _≤_}
+use mathlib.Core.Bool.{true, false}
+use lib.Dec.{eqb}
 use Rattle.grammar.specs.Limits.{Limits, limitsFor, small, standard, large}
 use Rattle.grammar.specs.declared.Size.{Size}
 use Rattle.grammar.specs.declared.Size.the-variants.{Small, Standard, Large}
@@ -11,6 +13,14 @@ unfolding small standard large
 sizeLimits Small = small
 sizeLimits Standard = standard
 sizeLimits Large = large
+
+-- the size that a number stands for in calls from C: 0 the small one, 2 the large one, any other the standard one
+unfoldable pub sizeNumbered : ℕ → Size
+sizeNumbered n =
+    elim (eqb n 0) [
+      | true ↦ Small
+      | false ↦ elim (eqb n 2) [ true ↦ Large | false ↦ Standard ]
+    ]
 
 -- four limits, with those that are the same for all sizes
 abbrev pub limitsOf : SizeLimits → Limits
