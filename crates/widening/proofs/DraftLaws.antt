@@ -7,7 +7,9 @@ use lib.ListN.{length, take, drop, length-append}
 use lib.Seq.{paste, take-append-seam}
 use lib.Dec.{ltb}
 use borrow.Author.Tests.{lt-ltb, le-ltb}
-use Rattle.grammar.specs.Limits.{standard}
+use Rattle.grammar.specs.Limits.{Limits}
+use Rattle.grammar.specs.LimitSets.{limitsOf}
+use Rattle.grammar.specs.declared.SizeLimits.{SizeLimits}
 use Rattle.grammar.specs.Names.{asciiClasses}
 use Rattle.grammar.specs.Table.{Table}
 use Rattle.grammar.specs.Tree.{Tree}
@@ -25,16 +27,16 @@ use Rattle.grammar.specs.declared.Source.{Source}
 use Rattle.grammar.specs.declared.Source.the-variants.{Table as aTable, Document as aDocument}
 use Rattle.grammar.specs.declared.Refusal.{Refusal}
 use Rattle.grammar.specs.declared.Refusal.the-variants.{NoDocument, ResultTooLarge, OutputTooShort}
+use Rattle.grammar.specs.declared.Reading.{Reading}
 use Rattle.grammar.specs.declared.Reading.the-variants.{Readable, Refused as Unreadable}
 use Rattle.grammar.specs.declared.Written.{Written}
 use Rattle.grammar.specs.declared.Written.the-variants.{Length, Refused}
 use Rattle.theory.proofs.bytes.OutcomeLaws.{given-then, no-fault, was-given, given-eq}
-use Rattle.theory.proofs.bytes.NumberedTable.{standard-agree}
+use Rattle.theory.proofs.bytes.NumberedTable.{sized-agree}
 use Rattle.theory.proofs.bytes.DocumentWithin.{document-within}
 use Rattle.theory.proofs.theorems.ResultWithin.{sample-read-back}
 use Rattle.reader.specs.TableIndex.{Reads}
 use Rattle.reader.specs.DocumentNodes.{DocumentReads, nodesIn}
-use Rattle.reader.specs.declared.tables.TableRead.{TableRead}
 use Rattle.reader.specs.declared.documents.DocumentRead.{DocumentRead}
 use Rattle.reader.specs.Held.{Held}
 use Rattle.reader.proofs.AnswerLaws.{fault, never-given, written-length, written-refused}
@@ -148,144 +150,149 @@ module _ (o : Outcome Table) (draft out : List ℕ) (answer : Written) (i : InDr
 pub at-front : (out draft : List ℕ) (n : ℕ) → paste out 0 draft n ≡ take n draft ++ drop n out
 at-front out draft n = let z : 0 + n ≡ n = omega arith in ap (λ (k : ℕ). take n draft ++ drop k out) z
 
--- reading a table and going on with it
-module _ (table : List ℕ) (r : TableRead) (so : Reads table (readTable standard asciiClasses table) r) (next : Table → Outcome Table) where
-  table-refuses : (q : Refusal) → r .answer ≡ Unreadable q → (readTable standard asciiClasses table >>= next) ≡ refused q
-  table-refuses q e = ap (λ (o : Outcome Table). o >>= next) (table-refused table r so q e)
+module _ (l : SizeLimits) where
+  abbrev lim : Limits
+  lim = limitsOf l
 
-  table-goes-on : (e : r .answer ≡ Readable) → (readTable standard asciiClasses table >>= next) ≡ next (table-found table r so e .some .table)
-  table-goes-on e =
-      let f = table-found table r so e in
-      given-then (readTable standard asciiClasses table) (f .some .table) next (f .read)
+  -- reading a table and going on with it
+  module _ (table : List ℕ) (r : Reading) (index : List ℕ) (so : Reads table (readTable lim asciiClasses table) r index) (next : Table → Outcome Table) where
+    table-refuses : (q : Refusal) → r ≡ Unreadable q → (readTable lim asciiClasses table >>= next) ≡ refused q
+    table-refuses q e = ap (λ (o : Outcome Table). o >>= next) (table-refused lim table r index so q e)
 
-  -- the old table, with any outcome that begins by reading it
-  module _ (o : Outcome Table) (is : o ≡ (readTable standard asciiClasses table >>= next)) (draft : List ℕ) where
-    pub old-refuses : (q : Refusal) → r .answer ≡ Unreadable q → InDraft o draft (Refused q)
-    old-refuses q e = unmade o draft q (is ∙ table-refuses q e)
+    table-goes-on : (e : r ≡ Readable) → (readTable lim asciiClasses table >>= next) ≡ next (table-found lim table r index so e .some .table)
+    table-goes-on e =
+        let f = table-found lim table r index so e in
+        given-then (readTable lim asciiClasses table) (f .some .table) next (f .read)
 
-    pub old-goes-on : r .answer ≡ Readable → (answer : Written)
-        → ((g : Table) → Held standard asciiClasses table (r .index) g → InDraft (next g) draft answer) → InDraft o draft answer
-    old-goes-on e answer h =
-        let f = table-found table r so e in
-        subst (λ (x : Outcome Table). InDraft x draft answer) (sym (is ∙ table-goes-on e)) (h (f .some .table) (f .some .held))
+    -- the old table, with any outcome that begins by reading it
+    module _ (o : Outcome Table) (is : o ≡ (readTable lim asciiClasses table >>= next)) (draft : List ℕ) where
+      pub old-refuses : (q : Refusal) → r ≡ Unreadable q → InDraft o draft (Refused q)
+      old-refuses q e = unmade o draft q (is ∙ table-refuses q e)
 
-pub from-old : (source : Source) (kind : Kind) (old addition : List ℕ)
-    → widenedFrom source kind old addition ≡ (readTable standard asciiClasses old >>= λ g. widenedBy source kind g addition)
-unfolding widenedFrom
-from-old source kind old addition = refl
+      pub old-goes-on : r ≡ Readable → (answer : Written)
+          → ((g : Table) → Held lim asciiClasses table index g → InDraft (next g) draft answer) → InDraft o draft answer
+      old-goes-on e answer h =
+          let f = table-found lim table r index so e in
+          subst (λ (x : Outcome Table). InDraft x draft answer) (sym (is ∙ table-goes-on e)) (h (f .some .table) (f .some .held))
 
--- by a table, and by a document's sample
-by-table : (kind : Kind) (g : Table) (addition : List ℕ)
-    → widenedBy aTable kind g addition ≡ (readTable standard asciiClasses addition >>= λ a. widenByTable standard kind g a)
-unfolding widenedBy readAddition widen
-by-table kind g addition = go (readTable standard asciiClasses addition)
-  where
-    go : (o : Outcome Table) → ((o >>= λ a. given (byTable a)) >>= widen standard kind g) ≡ (o >>= λ a. widenByTable standard kind g a)
-    go (refused r) = refl
-    go (given a) = refl
+  pub from-old : (source : Source) (kind : Kind) (old addition : List ℕ)
+      → widenedFrom lim source kind old addition ≡ (readTable lim asciiClasses old >>= λ g. widenedBy lim source kind g addition)
+  unfolding widenedFrom
+  from-old source kind old addition = refl
 
-by-document : (kind : Kind) (g : Table) (document : List ℕ)
-    → widenedBy aDocument kind g document ≡ (sampleOf document >>= λ a. widenByTable standard kind g a)
-unfolding widenedBy readAddition widen sampleOf
-by-document kind g document = go (readDocument standard asciiClasses document)
-  where
-    go : (o : Outcome Tree) → ((o >>= λ d. given (byDocument d)) >>= widen standard kind g)
-        ≡ ((o >>= λ d. sampleTable standard d) >>= λ a. widenByTable standard kind g a)
-    go (refused r) = refl
-    go (given d) = refl
+  -- by a table, and by a document's sample
+  by-table : (kind : Kind) (g : Table) (addition : List ℕ)
+      → widenedBy lim aTable kind g addition ≡ (readTable lim asciiClasses addition >>= λ a. widenByTable lim kind g a)
+  unfolding widenedBy readAddition widen
+  by-table kind g addition = go (readTable lim asciiClasses addition)
+    where
+      go : (o : Outcome Table) → ((o >>= λ a. given (byTable a)) >>= widen lim kind g) ≡ (o >>= λ a. widenByTable lim kind g a)
+      go (refused r) = refl
+      go (given a) = refl
 
--- reading the addition, and widening by it
-module _ (kind : Kind) (g : Table) (addition : List ℕ) (r : TableRead) (so : Reads addition (readTable standard asciiClasses addition) r)
-    (draft : List ℕ) where
-  pub addition-refuses : (q : Refusal) → r .answer ≡ Unreadable q → InDraft (widenedBy aTable kind g addition) draft (Refused q)
-  addition-refuses q e =
-      unmade (widenedBy aTable kind g addition) draft q
-      (by-table kind g addition ∙ table-refuses addition r so (λ a. widenByTable standard kind g a) q e)
+  by-document : (kind : Kind) (g : Table) (document : List ℕ)
+      → widenedBy lim aDocument kind g document ≡ (sampleOf lim document >>= λ a. widenByTable lim kind g a)
+  unfolding widenedBy readAddition widen sampleOf
+  by-document kind g document = go (readDocument lim asciiClasses document)
+    where
+      go : (o : Outcome Tree) → ((o >>= λ d. given (byDocument d)) >>= widen lim kind g)
+          ≡ ((o >>= λ d. sampleTable lim d) >>= λ a. widenByTable lim kind g a)
+      go (refused r) = refl
+      go (given d) = refl
 
-  module _ (e : r .answer ≡ Readable) (before : List ℕ) (m : Made)
-      (w : (h : Table) → Held standard asciiClasses addition (r .index) h → Widens kind g h before draft m) where
-    abbrev found : TableFound addition (r .index)
-    found = table-found addition r so e
+  -- reading the addition, and widening by it
+  module _ (kind : Kind) (g : Table) (addition : List ℕ) (r : Reading) (index : List ℕ)
+      (so : Reads addition (readTable lim asciiClasses addition) r index)
+      (draft : List ℕ) where
+    pub addition-refuses : (q : Refusal) → r ≡ Unreadable q → InDraft (widenedBy lim aTable kind g addition) draft (Refused q)
+    addition-refuses q e =
+        unmade (widenedBy lim aTable kind g addition) draft q
+        (by-table kind g addition ∙ table-refuses addition r index so (λ a. widenByTable lim kind g a) q e)
 
-    so-widens : Widens kind g (found .some .table) before draft m
-    so-widens = w (found .some .table) (found .some .held)
+    module _ (e : r ≡ Readable) (before : List ℕ) (m : Made)
+        (w : (h : Table) → Held lim asciiClasses addition index h → Widens lim kind g h before draft m) where
+      abbrev found : TableFound lim addition index
+      found = table-found lim addition r index so e
 
-    added : widenedBy aTable kind g addition ≡ widenByTable standard kind g (found .some .table)
-    added = by-table kind g addition ∙ table-goes-on addition r so (λ a. widenByTable standard kind g a) e
+      so-widens : Widens lim kind g (found .some .table) before draft m
+      so-widens = w (found .some .table) (found .some .held)
 
-    pub widens-nothing : m ≡ Nothing → InDraft (widenedBy aTable kind g addition) draft (Refused NoDocument)
-    unfolding Widens
-    widens-nothing p =
-        unmade (widenedBy aTable kind g addition) draft NoDocument (added ∙ subst (Widens kind g (found .some .table) before draft) p so-widens)
+      added : widenedBy lim aTable kind g addition ≡ widenByTable lim kind g (found .some .table)
+      added = by-table kind g addition ∙ table-goes-on addition r index so (λ a. widenByTable lim kind g a) e
 
-    pub widens-too-far : m ≡ TooLarge → InDraft (widenedBy aTable kind g addition) draft (Refused ResultTooLarge)
-    unfolding Widens
-    widens-too-far p =
-        unmade (widenedBy aTable kind g addition) draft ResultTooLarge (added ∙ subst (Widens kind g (found .some .table) before draft) p so-widens)
+      pub widens-nothing : m ≡ Nothing → InDraft (widenedBy lim aTable kind g addition) draft (Refused NoDocument)
+      unfolding Widens
+      widens-nothing p =
+          unmade (widenedBy lim aTable kind g addition) draft NoDocument (added ∙ subst (Widens lim kind g (found .some .table) before draft) p so-widens)
 
-    pub widens-to : (n : ℕ) → m ≡ MadeTo n → InDraft (widenedBy aTable kind g addition) draft (Length n)
-    unfolding Widens
-    widens-to n p =
-        let d : ResultDrafted kind g (found .some .table) before draft n = subst (Widens kind g (found .some .table) before draft) p so-widens in
-        made (widenedBy aTable kind g addition) draft (d .result) n (drop n before) (added ∙ d .widened) (d .size) (d .bytes)
+      pub widens-too-far : m ≡ TooLarge → InDraft (widenedBy lim aTable kind g addition) draft (Refused ResultTooLarge)
+      unfolding Widens
+      widens-too-far p =
+          unmade (widenedBy lim aTable kind g addition) draft ResultTooLarge (added ∙ subst (Widens lim kind g (found .some .table) before draft) p so-widens)
 
--- the sample of a document
-module _ (document : List ℕ) (f : DocumentRead) (reads : DocumentReads document f) where
-  pub document-refuses : (draft : List ℕ) (q : Refusal) → f .answer ≡ Unreadable q → InDraft (sampleOf document) draft (Refused q)
+      pub widens-to : (n : ℕ) → m ≡ MadeTo n → InDraft (widenedBy lim aTable kind g addition) draft (Length n)
+      unfolding Widens
+      widens-to n p =
+          let d : ResultDrafted lim kind g (found .some .table) before draft n = subst (Widens lim kind g (found .some .table) before draft) p so-widens in
+          made (widenedBy lim aTable kind g addition) draft (d .result) n (drop n before) (added ∙ d .widened) (d .size) (d .bytes)
+
+  -- the sample of a document
+  module _ (document : List ℕ) (f : DocumentRead) (reads : DocumentReads lim document f) where
+    pub document-refuses : (draft : List ℕ) (q : Refusal) → f .answer ≡ Unreadable q → InDraft (sampleOf lim document) draft (Refused q)
+    unfolding sampleOf
+    document-refuses draft q e =
+        unmade (sampleOf lim document) draft q
+        (ap (λ (o : Outcome Tree). o >>= λ d. sampleTable lim d) (document-unread lim document f reads q e))
+
+    module _ (e : f .answer ≡ Readable) where
+      pub nodes-indexed : HoldsNodes document (f .index)
+      nodes-indexed = record { reads = nodes-read lim document f reads e; indexed = reads .indexed }
+
+      module _ (before draft : List ℕ) (m : Drafted)
+          (s : (d : Tree) → treeOf (nodesIn document (f .index)) ≡ given d → SampleDrafted lim d before draft m) where
+        abbrev tree-read : (t : Tree) × (treeOf (nodesIn document (f .index)) ≡ given t) × (readDocument lim asciiClasses document ≡ given t)
+        tree-read = document-tree lim asciiClasses document (nodesIn document (f .index)) (nodes-read lim document f reads e)
+
+        sample-is : sampleOf lim document ≡ sampleTable lim (tree-read .0)
+        unfolding sampleOf
+        sample-is = given-then (readDocument lim asciiClasses document) (tree-read .0) (λ d. sampleTable lim d) (tree-read .2)
+
+        sample-drafted : (x : Drafted) → m ≡ x → SampleDrafted lim (tree-read .0) before draft x
+        sample-drafted x p = subst (SampleDrafted lim (tree-read .0) before draft) p (s (tree-read .0) (tree-read .1))
+
+        pub sample-too-large : m ≡ Undrafted → InDraft (sampleOf lim document) draft (Refused ResultTooLarge)
+        sample-too-large p = unmade (sampleOf lim document) draft ResultTooLarge (sample-is ∙ sample-drafted Undrafted p)
+
+        pub sample-made : (n : ℕ) → m ≡ DraftedTo n → InDraft (sampleOf lim document) draft (Length n)
+        sample-made n p =
+            let d = sample-drafted (DraftedTo n) p in
+            made (sampleOf lim document) draft (sample (tree-read .0)) n (drop n before) (sample-is ∙ d .0) (d .2) (d .1)
+
+  -- its bytes read as the sample
+  sample-reads-back : (document : List ℕ) (a : Table) → sampleOf lim document ≡ given a → readTable lim asciiClasses (tableBytes a) ≡ given a
   unfolding sampleOf
-  document-refuses draft q e =
-      unmade (sampleOf document) draft q
-      (ap (λ (o : Outcome Tree). o >>= λ d. sampleTable standard d) (document-unread document f reads q e))
+  sample-reads-back document a e =
+      let (d, p, q) = was-given (readDocument lim asciiClasses document) (λ d. sampleTable lim d) a e in
+      sample-read-back lim asciiClasses (sized-agree l) d (document-within lim asciiClasses document d p) a q
 
-  module _ (e : f .answer ≡ Readable) where
-    pub nodes-indexed : HoldsNodes document (f .index)
-    nodes-indexed = record { reads = nodes-read document f reads e; indexed = reads .indexed }
+  -- widening by the sample of a document, whose bytes stand at the front of a draft
+  module _ (kind : Kind) (g : Table) (document drafted : List ℕ) (answer : Written) (i : InDraft (sampleOf lim document) drafted answer)
+      (draft : List ℕ) where
+    pub sample-refuses : (q : Refusal) → answer ≡ Refused q → InDraft (widenedBy lim aDocument kind g document) draft (Refused q)
+    sample-refuses q e =
+        unmade (widenedBy lim aDocument kind g document) draft q
+        (by-document kind g document
+        ∙ ap (λ (o : Outcome Table). o >>= λ a. widenByTable lim kind g a) (was-unmade (sampleOf lim document) drafted answer i q e))
 
-    module _ (before draft : List ℕ) (m : Drafted)
-        (s : (d : Tree) → treeOf (nodesIn document (f .index)) ≡ given d → SampleDrafted d before draft m) where
-      abbrev tree-read : (t : Tree) × (treeOf (nodesIn document (f .index)) ≡ given t) × (readDocument standard asciiClasses document ≡ given t)
-      tree-read = document-tree standard asciiClasses document (nodesIn document (f .index)) (nodes-read document f reads e)
-
-      sample-is : sampleOf document ≡ sampleTable standard (tree-read .0)
-      unfolding sampleOf
-      sample-is = given-then (readDocument standard asciiClasses document) (tree-read .0) (λ d. sampleTable standard d) (tree-read .2)
-
-      sample-drafted : (x : Drafted) → m ≡ x → SampleDrafted (tree-read .0) before draft x
-      sample-drafted x p = subst (SampleDrafted (tree-read .0) before draft) p (s (tree-read .0) (tree-read .1))
-
-      pub sample-too-large : m ≡ Undrafted → InDraft (sampleOf document) draft (Refused ResultTooLarge)
-      sample-too-large p = unmade (sampleOf document) draft ResultTooLarge (sample-is ∙ sample-drafted Undrafted p)
-
-      pub sample-made : (n : ℕ) → m ≡ DraftedTo n → InDraft (sampleOf document) draft (Length n)
-      sample-made n p =
-          let d = sample-drafted (DraftedTo n) p in
-          made (sampleOf document) draft (sample (tree-read .0)) n (drop n before) (sample-is ∙ d .0) (d .2) (d .1)
-
--- its bytes read as the sample
-sample-reads-back : (document : List ℕ) (a : Table) → sampleOf document ≡ given a → readTable standard asciiClasses (tableBytes a) ≡ given a
-unfolding sampleOf
-sample-reads-back document a e =
-    let (d, p, q) = was-given (readDocument standard asciiClasses document) (λ d. sampleTable standard d) a e in
-    sample-read-back standard asciiClasses standard-agree d (document-within standard asciiClasses document d p) a q
-
--- widening by the sample of a document, whose bytes stand at the front of a draft
-module _ (kind : Kind) (g : Table) (document drafted : List ℕ) (answer : Written) (i : InDraft (sampleOf document) drafted answer)
-    (draft : List ℕ) where
-  pub sample-refuses : (q : Refusal) → answer ≡ Refused q → InDraft (widenedBy aDocument kind g document) draft (Refused q)
-  sample-refuses q e =
-      unmade (widenedBy aDocument kind g document) draft q
-      (by-document kind g document
-      ∙ ap (λ (o : Outcome Table). o >>= λ a. widenByTable standard kind g a) (was-unmade (sampleOf document) drafted answer i q e))
-
-  pub by-sample : (n : ℕ) → answer ≡ Length n → (m : ℕ) → m ≡ n → (said : Written)
-      → InDraft (widenedBy aTable kind g (take m drafted)) draft said → InDraft (widenedBy aDocument kind g document) draft said
-  by-sample n e m same said d =
-      let (a, p, size) = was-made (sampleOf document) drafted answer i n e in
-      let back : readTable standard asciiClasses (take m drafted) ≡ given a =
-      ap (readTable standard asciiClasses) (ap (λ (k : ℕ). take k drafted) (same ∙ size) ∙ i .bytes a p)
-      ∙ sample-reads-back document a p in
-      subst (λ (x : Outcome Table). InDraft x draft said)
-      (by-table kind g (take m drafted)
-      ∙ given-then (readTable standard asciiClasses (take m drafted)) a (λ a. widenByTable standard kind g a) back
-      ∙ sym (by-document kind g document ∙ given-then (sampleOf document) a (λ a. widenByTable standard kind g a) p))
-      d
+    pub by-sample : (n : ℕ) → answer ≡ Length n → (m : ℕ) → m ≡ n → (said : Written)
+        → InDraft (widenedBy lim aTable kind g (take m drafted)) draft said → InDraft (widenedBy lim aDocument kind g document) draft said
+    by-sample n e m same said d =
+        let (a, p, size) = was-made (sampleOf lim document) drafted answer i n e in
+        let back : readTable lim asciiClasses (take m drafted) ≡ given a =
+        ap (readTable lim asciiClasses) (ap (λ (k : ℕ). take k drafted) (same ∙ size) ∙ i .bytes a p)
+        ∙ sample-reads-back document a p in
+        subst (λ (x : Outcome Table). InDraft x draft said)
+        (by-table kind g (take m drafted)
+        ∙ given-then (readTable lim asciiClasses (take m drafted)) a (λ a. widenByTable lim kind g a) back
+        ∙ sym (by-document kind g document ∙ given-then (sampleOf lim document) a (λ a. widenByTable lim kind g a) p))
+        d

@@ -3,7 +3,7 @@ use Prim.Native.Nat.{ℕ, _≤_}
 use mathlib.Core.List.{List}
 use mathlib.Core.Path.{_≡_}
 use lib.ListN.{length, take}
-use Rattle.grammar.specs.Limits.{standard}
+use Rattle.grammar.specs.Limits.{Limits}
 use Rattle.grammar.specs.Names.{asciiClasses}
 use Rattle.grammar.specs.Table.{Table}
 use Rattle.grammar.specs.Kinds.{Kind}
@@ -18,22 +18,22 @@ use Rattle.grammar.specs.declared.Source.{Source}
 use Rattle.grammar.specs.declared.Written.{Written}
 use Rattle.grammar.specs.declared.Written.the-variants.{Length, Refused}
 
-unfoldable pub sampleOf : List ℕ → Outcome Table
-sampleOf document = do
-  d ← readDocument standard asciiClasses document
-  sampleTable standard d
+unfoldable pub sampleOf : Limits → List ℕ → Outcome Table
+sampleOf lim document = do
+  d ← readDocument lim asciiClasses document
+  sampleTable lim d
 
 -- a table that was read, widened
-unfoldable pub widenedBy : Source → Kind → Table → List ℕ → Outcome Table
-widenedBy source kind g addition = do
-  a ← readAddition standard asciiClasses source addition
-  widen standard kind g a
+unfoldable pub widenedBy : Limits → Source → Kind → Table → List ℕ → Outcome Table
+widenedBy lim source kind g addition = do
+  a ← readAddition lim asciiClasses source addition
+  widen lim kind g a
 
-unfoldable pub widenedFrom : Source → Kind → List ℕ → List ℕ → Outcome Table
+unfoldable pub widenedFrom : Limits → Source → Kind → List ℕ → List ℕ → Outcome Table
 unfolding widenedBy
-widenedFrom source kind old addition = do
-  g ← readTable standard asciiClasses old
-  widenedBy source kind g addition
+widenedFrom lim source kind old addition = do
+  g ← readTable lim asciiClasses old
+  widenedBy lim source kind g addition
 
 -- the table stands at the front of the draft; or the answer is why there is none
 pub record InDraft (o : Outcome Table) (draft : List ℕ) (made : Written) : Type 0 where

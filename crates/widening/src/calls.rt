@@ -4,13 +4,14 @@ use crate::drafting::deliver;
 use crate::drafting::draft_sample;
 use crate::drafting::draft_widened;
 use grammar::Refusal;
+use grammar::Size;
 use grammar::Source;
 use grammar::Written;
 use reader::limits::INPUT;
-use reader::limits::WORDS;
+use reader::limits::limits_of;
 use reader::work::clear_work;
 use results::widen::Kind;
-ghost use Rattle.grammar.specs.Limits.{standard};
+ghost use Rattle.grammar.specs.LimitSets.{sizeLimits};
 ghost use Rattle.grammar.specs.Names.{asciiClasses};
 ghost use Rattle.grammar.specs.Kinds.{local, singleType};
 ghost use Rattle.grammar.specs.Answers.{writtenNumbers};
@@ -20,21 +21,23 @@ ghost use Rattle.grammar.specs.declared.Source.the-variants.{Table as aTable, D
 ghost use Rattle.results.specs.Widened.{kindOf};
 
 // The sample of a document, as a table.
-pub fn sample(document: &[u8], out: &mut [u8], work: &mut [u32]) -> Written
-    ensures { λ r. ⌜ Sampling standard asciiClasses (now (document .entry)) (now (out .entry)) (now (work .entry))
+pub fn sample(size: Size, document: &[u8], out: &mut [u8], work: &mut [u32]) -> Written
+    ensures { λ r. ⌜ Sampling (sizeLimits size) asciiClasses (now (document .entry)) (now (out .entry)) (now (work .entry))
         (after (writtenNumbers r) (now (out .exit)) (now (work .exit))) ⌝ }
 {
-    if work.len() < WORDS {
+    let limits = limits_of(size);
+    if work.len() < limits.words {
         return Written::Refused(Refusal::WorkTooShort);
     }
     let mut draft = [0u8; INPUT];
-    let made = draft_sample(document, &mut draft);
-    clear_work(work);
+    let made = draft_sample(limits, document, &mut draft);
+    clear_work(limits, work);
     deliver(&draft, made, out)
 }
 
 // A widening, to either kind and by either sort of addition.
 fn widen(
+    size: Size,
     kind: Kind,
     source: Source,
     old: &[u8],
@@ -42,66 +45,72 @@ fn widen(
     out: &mut [u8],
     work: &mut [u32],
 ) -> Written
-    ensures { λ r. ⌜ Widening standard asciiClasses (kindOf kind) source (now (old .entry)) (now (addition .entry)) (now (out .entry))
+    ensures { λ r. ⌜ Widening (sizeLimits size) asciiClasses (kindOf kind) source (now (old .entry)) (now (addition .entry)) (now (out .entry))
         (now (work .entry)) (after (writtenNumbers r) (now (out .exit)) (now (work .exit))) ⌝ }
 {
-    if work.len() < WORDS {
+    let limits = limits_of(size);
+    let words = limits.words;
+    if work.len() < words {
         return Written::Refused(Refusal::WorkTooShort);
     }
     let mut draft = [0u8; INPUT];
-    let made = draft_widened(kind, source, old, addition, &mut work[0..WORDS], &mut draft);
-    clear_work(work);
+    let made = draft_widened(limits, kind, source, old, addition, &mut work[0..words], &mut draft);
+    clear_work(limits, work);
     deliver(&draft, made, out)
 }
 
 // The least local table that lets in all that the old table and the addition let in.
 pub fn widen_local_by_table(
+    size: Size,
     old: &[u8],
     addition: &[u8],
     out: &mut [u8],
     work: &mut [u32],
 ) -> Written
-    ensures { λ r. ⌜ Widening standard asciiClasses local aTable (now (old .entry)) (now (addition .entry)) (now (out .entry))
+    ensures { λ r. ⌜ Widening (sizeLimits size) asciiClasses local aTable (now (old .entry)) (now (addition .entry)) (now (out .entry))
         (now (work .entry)) (after (writtenNumbers r) (now (out .exit)) (now (work .exit))) ⌝ }
 {
-    widen(Kind::Local, Source::Table, old, addition, out, work)
+    widen(size, Kind::Local, Source::Table, old, addition, out, work)
 }
 
 // The least single-type table that lets in all that the old table and the addition let in.
 pub fn widen_single_type_by_table(
+    size: Size,
     old: &[u8],
     addition: &[u8],
     out: &mut [u8],
     work: &mut [u32],
 ) -> Written
-    ensures { λ r. ⌜ Widening standard asciiClasses singleType aTable (now (old .entry)) (now (addition .entry)) (now (out .entry))
+    ensures { λ r. ⌜ Widening (sizeLimits size) asciiClasses singleType aTable (now (old .entry)) (now (addition .entry)) (now (out .entry))
         (now (work .entry)) (after (writtenNumbers r) (now (out .exit)) (now (work .exit))) ⌝ }
 {
-    widen(Kind::SingleType, Source::Table, old, addition, out, work)
+    widen(size, Kind::SingleType, Source::Table, old, addition, out, work)
 }
 
 // The least local table that lets in all that the old table lets in, and the document.
 pub fn widen_local_by_document(
+    size: Size,
     old: &[u8],
     document: &[u8],
     out: &mut [u8],
     work: &mut [u32],
 ) -> Written
-    ensures { λ r. ⌜ Widening standard asciiClasses local aDocument (now (old .entry)) (now (document .entry)) (now (out .entry))
+    ensures { λ r. ⌜ Widening (sizeLimits size) asciiClasses local aDocument (now (old .entry)) (now (document .entry)) (now (out .entry))
         (now (work .entry)) (after (writtenNumbers r) (now (out .exit)) (now (work .exit))) ⌝ }
 {
-    widen(Kind::Local, Source::Document, old, document, out, work)
+    widen(size, Kind::Local, Source::Document, old, document, out, work)
 }
 
 // The least single-type table that lets in all that the old table lets in, and the document.
 pub fn widen_single_type_by_document(
+    size: Size,
     old: &[u8],
     document: &[u8],
     out: &mut [u8],
     work: &mut [u32],
 ) -> Written
-    ensures { λ r. ⌜ Widening standard asciiClasses singleType aDocument (now (old .entry)) (now (document .entry)) (now (out .entry))
+    ensures { λ r. ⌜ Widening (sizeLimits size) asciiClasses singleType aDocument (now (old .entry)) (now (document .entry)) (now (out .entry))
         (now (work .entry)) (after (writtenNumbers r) (now (out .exit)) (now (work .exit))) ⌝ }
 {
-    widen(Kind::SingleType, Source::Document, old, document, out, work)
+    widen(size, Kind::SingleType, Source::Document, old, document, out, work)
 }

@@ -1,11 +1,12 @@
 // A call's table made in a draft, so that a refusal leaves the output as it came, and handed over.
 use grammar::Reading;
 use grammar::Refusal;
+use grammar::SizeLimits;
 use grammar::Source;
 use grammar::Written;
 use reader::documents::read_document;
+use reader::index::INDEX;
 use reader::limits::INPUT;
-use reader::tables::TableIndex;
 use reader::tables::read_table;
 use results::widen::Kind;
 use results::widen::Made;
@@ -16,7 +17,8 @@ ghost use Prim.Native.Nat.{_≤_};
 ghost use mathlib.Core.List.{_++_};
 ghost use mathlib.Core.Path.{_≡_};
 ghost use lib.ListN.{length, take, drop};
-ghost use Rattle.grammar.specs.Limits.{standard, inputLimit};
+ghost use Rattle.grammar.specs.Limits.{inputLimit};
+ghost use Rattle.grammar.specs.LimitSets.{limitsOf, Within};
 ghost use Rattle.grammar.specs.Names.{asciiClasses};
 ghost use Rattle.grammar.specs.Table.{Table};
 ghost use Rattle.grammar.specs.Outcome.{Outcome};
@@ -59,23 +61,24 @@ pub fn deliver(draft: &[u8], made: Written, out: &mut [u8]) -> Written
 
 // Reads the addition and widens by it a table that was read.
 fn read_and_widen(
+    limits: SizeLimits,
     kind: Kind,
     old: &[u8],
-    index: TableIndex,
+    index: &[u16; 899],
     addition: &[u8],
     words: &mut [u32],
     draft: &mut [u8],
 ) -> Written
-    requires { ⌜ (SomeHeld standard asciiClasses (now old) index) × (16384 ≤ length (now words)) × (inputLimit ≤ length (now draft)) ⌝ }
-    ensures { λ r. ⌜ ((g : Table) → Held standard asciiClasses (now (old .entry)) index g
-        → InDraft (widenedBy aTable (kindOf kind) g (now (addition .entry))) (now (draft .exit)) r) ⌝ }
+    requires { ⌜ (Within limits) × (SomeHeld (limitsOf limits) asciiClasses (now old) (now index)) × (12288 ≤ length (now words)) × (inputLimit ≤ length (now draft)) ⌝ }
+    ensures { λ r. ⌜ ((g : Table) → Held (limitsOf limits) asciiClasses (now (old .entry)) (now (index .entry)) g
+        → InDraft (widenedBy (limitsOf limits) aTable (kindOf kind) g (now (addition .entry))) (now (draft .exit)) r) ⌝ }
 {
-    let added = read_table(addition);
-    let readable = added.answer;
+    let mut added = [0u16; INDEX];
+    let readable = read_table(limits, addition, &mut added);
     if let Reading::Refused(r) = readable {
         return Written::Refused(r);
     }
-    match widen_tables(kind, old, index, addition, added.index, words, draft) {
+    match widen_tables(limits, kind, old, index, addition, &added, words, draft) {
         Made::NoDocument => Written::Refused(Refusal::NoDocument),
         Made::TooLarge => Written::Refused(Refusal::ResultTooLarge),
         Made::Length(n) => Written::Length(n),
@@ -83,16 +86,16 @@ fn read_and_widen(
 }
 
 // Reads a document and makes its sample in the draft.
-pub fn draft_sample(document: &[u8], draft: &mut [u8]) -> Written
-    requires { ⌜ inputLimit ≤ length (now draft) ⌝ }
-    ensures { λ r. ⌜ InDraft (sampleOf (now (document .entry))) (now (draft .exit)) r ⌝ }
+pub fn draft_sample(limits: SizeLimits, document: &[u8], draft: &mut [u8]) -> Written
+    requires { ⌜ (Within limits) × (inputLimit ≤ length (now draft)) ⌝ }
+    ensures { λ r. ⌜ InDraft (sampleOf (limitsOf limits) (now (document .entry))) (now (draft .exit)) r ⌝ }
 {
-    let found = read_document(document);
+    let found = read_document(limits, document);
     let readable = found.answer;
     if let Reading::Refused(r) = readable {
         return Written::Refused(r);
     }
-    match sample_table(document, found.index, draft) {
+    match sample_table(limits, document, found.index, draft) {
         Drafted::TooLarge => Written::Refused(Refusal::ResultTooLarge),
         Drafted::Length(n) => Written::Length(n),
     }
@@ -100,46 +103,49 @@ pub fn draft_sample(document: &[u8], draft: &mut [u8]) -> Written
 
 // Widens by the sample of a document a table that was read.
 fn widen_by_sample(
+    limits: SizeLimits,
     kind: Kind,
     old: &[u8],
-    index: TableIndex,
+    index: &[u16; 899],
     document: &[u8],
     words: &mut [u32],
     draft: &mut [u8],
 ) -> Written
-    requires { ⌜ (SomeHeld standard asciiClasses (now old) index) × (16384 ≤ length (now words)) × (inputLimit ≤ length (now draft)) ⌝ }
-    ensures { λ r. ⌜ ((g : Table) → Held standard asciiClasses (now (old .entry)) index g
-        → InDraft (widenedBy aDocument (kindOf kind) g (now (document .entry))) (now (draft .exit)) r) ⌝ }
+    requires { ⌜ (Within limits) × (SomeHeld (limitsOf limits) asciiClasses (now old) (now index)) × (12288 ≤ length (now words)) × (inputLimit ≤ length (now draft)) ⌝ }
+    ensures { λ r. ⌜ ((g : Table) → Held (limitsOf limits) asciiClasses (now (old .entry)) (now (index .entry)) g
+        → InDraft (widenedBy (limitsOf limits) aDocument (kindOf kind) g (now (document .entry))) (now (draft .exit)) r) ⌝ }
 {
     let mut sample = [0u8; INPUT];
-    match draft_sample(document, &mut sample) {
+    match draft_sample(limits, document, &mut sample) {
         Written::Refused(r) => Written::Refused(r),
-        Written::Length(n) => read_and_widen(kind, old, index, &sample[0..n], words, draft),
+        Written::Length(n) => read_and_widen(limits, kind, old, index, &sample[0..n], words, draft),
     }
 }
 
 // Widens by an addition of either sort a table that was read.
 fn widen_read(
+    limits: SizeLimits,
     kind: Kind,
     source: Source,
     old: &[u8],
-    index: TableIndex,
+    index: &[u16; 899],
     addition: &[u8],
     words: &mut [u32],
     draft: &mut [u8],
 ) -> Written
-    requires { ⌜ (SomeHeld standard asciiClasses (now old) index) × (16384 ≤ length (now words)) × (inputLimit ≤ length (now draft)) ⌝ }
-    ensures { λ r. ⌜ ((g : Table) → Held standard asciiClasses (now (old .entry)) index g
-        → InDraft (widenedBy source (kindOf kind) g (now (addition .entry))) (now (draft .exit)) r) ⌝ }
+    requires { ⌜ (Within limits) × (SomeHeld (limitsOf limits) asciiClasses (now old) (now index)) × (12288 ≤ length (now words)) × (inputLimit ≤ length (now draft)) ⌝ }
+    ensures { λ r. ⌜ ((g : Table) → Held (limitsOf limits) asciiClasses (now (old .entry)) (now (index .entry)) g
+        → InDraft (widenedBy (limitsOf limits) source (kindOf kind) g (now (addition .entry))) (now (draft .exit)) r) ⌝ }
 {
     match source {
-        Source::Table => read_and_widen(kind, old, index, addition, words, draft),
-        Source::Document => widen_by_sample(kind, old, index, addition, words, draft),
+        Source::Table => read_and_widen(limits, kind, old, index, addition, words, draft),
+        Source::Document => widen_by_sample(limits, kind, old, index, addition, words, draft),
     }
 }
 
 // Reads the old table, then the addition, and makes the result in the draft.
 pub fn draft_widened(
+    limits: SizeLimits,
     kind: Kind,
     source: Source,
     old: &[u8],
@@ -147,13 +153,13 @@ pub fn draft_widened(
     words: &mut [u32],
     draft: &mut [u8],
 ) -> Written
-    requires { ⌜ (16384 ≤ length (now words)) × (inputLimit ≤ length (now draft)) ⌝ }
-    ensures { λ r. ⌜ InDraft (widenedFrom source (kindOf kind) (now (old .entry)) (now (addition .entry))) (now (draft .exit)) r ⌝ }
+    requires { ⌜ (Within limits) × (12288 ≤ length (now words)) × (inputLimit ≤ length (now draft)) ⌝ }
+    ensures { λ r. ⌜ InDraft (widenedFrom (limitsOf limits) source (kindOf kind) (now (old .entry)) (now (addition .entry))) (now (draft .exit)) r ⌝ }
 {
-    let known = read_table(old);
-    let readable = known.answer;
+    let mut index = [0u16; INDEX];
+    let readable = read_table(limits, old, &mut index);
     if let Reading::Refused(r) = readable {
         return Written::Refused(r);
     }
-    widen_read(kind, source, old, known.index, addition, words, draft)
+    widen_read(limits, kind, source, old, &index, addition, words, draft)
 }
