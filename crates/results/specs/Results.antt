@@ -14,7 +14,7 @@ use Rattle.grammar.specs.ReadTable.{labelTag, startTag}
 use Rattle.grammar.specs.Kinds.{Kind}
 use Rattle.grammar.specs.SingleTypeForm.{TypeSet}
 use Rattle.theory.specs.Conditions.{Labelled, Regular}
-use Rattle.sets.specs.Sets.{setAt}
+use Rattle.sets.specs.Sets.{setOfEightAt}
 use Rattle.union.specs.declared.labels.Names.{Names}
 use Rattle.union.specs.declared.united.United.{United}
 use Rattle.union.specs.View.{Views}
@@ -38,7 +38,7 @@ abbrev pub isUsed : Table → List TypeSet → ℕ → Bool
 isUsed u sets l = anyPass (λ s. eqb (setLabel u s) l) sets
 
 -- the labels of a union stand in the bytes of its two tables: the old names, then the addition's new ones
-pub record LabelsIn (old add : List ℕ) (olds news : Names) : Type 0 where
+pub record LabelsIn (old add : List ℕ) (olds : List ℕ) (news : Names) : Type 0 where
   pub first : List Name
   pub second : List Name
   pub old-names : NamesHeld old olds first
@@ -50,7 +50,7 @@ pub record SetsIn (old add : List ℕ) (v : United) (words : List ℕ) (count : 
   pub sets : List TypeSet
   pub views : Views old add v table
   pub labelled : Labelled table
-  pub labels-few : length (table .labels) ≤ 128
+  pub labels-few : length (table .labels) ≤ 256
   pub held : SetsHeld words sets
   pub count-is : count ≡ length sets
   pub some : (s : TypeSet) → List·Memᴰ s sets → 0 < length s
@@ -61,22 +61,22 @@ pub record RulesFrom (old add : List ℕ) (plan : Plan) (words : List ℕ) : Typ
   pub in-words : SetsIn old add (plan .union) words (plan .count)
   pub labels-are : plan .labels ≡ length (in-words .table .labels)
   pub lists-are : ListsOf (fruitfulOf (in-words .table)) (plan .lists)
-  pub room : 16384 ≤ length words
-  pub left-is : setAt words leftAt ≡ isLeft (in-words .table)
+  pub room : 12288 ≤ length words
+  pub left-is : setOfEightAt words leftAt ≡ isLeft (in-words .table)
   pub shallow : Shallow (in-words .table)
   pub regular : (i : ℕ) → i < plan .count → Regular (resultRule (in-words .table) (in-words .sets) (kindOf (plan .kind)) i .content)
 
 -- with the labels that are used
 pub record RulesWith (old add : List ℕ) (plan : Plan) (words : List ℕ) : Type 0 where
   pub rules : RulesFrom old add plan words
-  pub used-are : setAt words usedAt ≡ isUsed (rules .in-words .table) (rules .in-words .sets)
+  pub used-are : setOfEightAt words usedAt ≡ isUsed (rules .in-words .table) (rules .in-words .sets)
 
 -- the rule of a number
 abbrev pub ruleFrom : {old add : List ℕ} {plan : Plan} {words : List ℕ} → RulesFrom old add plan words → ℕ → Rule
 ruleFrom {plan = plan} q = resultRule (q .in-words .table) (q .in-words .sets) (kindOf (plan .kind))
 
 -- What a result is written from: its rules, and where the labels stand.
-pub record ResultFrom (old add : List ℕ) (plan : Plan) (olds news : Names) (words : List ℕ) : Type 0 where
+pub record ResultFrom (old add : List ℕ) (plan : Plan) (olds : List ℕ) (news : Names) (words : List ℕ) : Type 0 where
   pub rules : RulesFrom old add plan words
   pub names : LabelsIn old add olds news
   pub same : rules .in-words .table .labels ≡ names .first ++ names .second

@@ -4,7 +4,7 @@ use mathlib.Core.Bool.{true}
 use mathlib.Core.List.{List, _++_}
 use mathlib.Core.Path.{_≡_}
 use lib.ListN.{length, drop}
-use Rattle.grammar.specs.Limits.{standard, inputLimit}
+use Rattle.grammar.specs.Limits.{Limits, large, inputLimit}
 use Rattle.grammar.specs.Names.{asciiClasses}
 use Rattle.grammar.specs.Table.{Table}
 use Rattle.grammar.specs.Kinds as kinds
@@ -12,7 +12,7 @@ use Rattle.grammar.specs.Outcome.{given, refused}
 use Rattle.grammar.specs.WriteTable.{tableBytes}
 use Rattle.grammar.specs.WithinLimits.{TableWithin}
 use Rattle.grammar.specs.Unite.{unite}
-use Rattle.sets.specs.Sets.{setAt}
+use Rattle.sets.specs.Sets.{setOfEightAt}
 use Rattle.union.specs.declared.lists.TypeLists.{TypeLists}
 use Rattle.union.specs.declared.united.Union.{Union}
 use Rattle.union.specs.View.{UnionSeen}
@@ -36,17 +36,17 @@ kindOf Local = kinds.local
 kindOf SingleType = kinds.singleType
 
 -- the result's bytes stand at the front of the draft, and the rest of it is kept
-pub record ResultDrafted (kind : kinds.Kind) (g h : Table) (before after : List ℕ) (n : ℕ) : Type 0 where
+pub record ResultDrafted (lim : Limits) (kind : kinds.Kind) (g h : Table) (before after : List ℕ) (n : ℕ) : Type 0 where
   pub result : Table
-  pub widened : widenByTable standard kind g h ≡ given result
+  pub widened : widenByTable lim kind g h ≡ given result
   pub size : n ≡ length (tableBytes result)
   pub small : n ≤ inputLimit
   pub bytes : after ≡ tableBytes result ++ drop n before
 
-unfoldable pub Widens : kinds.Kind → (g h : Table) → (before after : List ℕ) → Made → Type 0
-Widens kind g h before after (Length n) = ResultDrafted kind g h before after n
-Widens kind g h before after NoDocument = widenByTable standard kind g h ≡ refused Nothing
-Widens kind g h before after TooLarge = widenByTable standard kind g h ≡ refused ResultTooLarge
+unfoldable pub Widens : Limits → kinds.Kind → (g h : Table) → (before after : List ℕ) → Made → Type 0
+Widens lim kind g h before after (Length n) = ResultDrafted lim kind g h before after n
+Widens lim kind g h before after NoDocument = widenByTable lim kind g h ≡ refused Nothing
+Widens lim kind g h before after TooLarge = widenByTable lim kind g h ≡ refused ResultTooLarge
 
 -- what was drafted of a result
 unfoldable pub madeOf : Drafted → Made
@@ -55,25 +55,25 @@ madeOf Over = TooLarge
 
 -- What is known of two tables once their union is reduced: its view, its fruitful pairs by type, and in the words the start pairs, of
 -- which there is one, and the pairs that are left.
-pub record UnionReduced (old add : List ℕ) (union : Union) (lists : TypeLists) (words : List ℕ) (g h : Table) : Type 0 where
-  pub first-within : TableWithin standard asciiClasses g
-  pub second-within : TableWithin standard asciiClasses h
-  pub seen : UnionSeen old add g h union
-  pub lists-are : ListsOf (fruitfulOf (unite standard g h)) lists
-  pub starts-are : setAt words startsAt ≡ isStart (unite standard g h)
-  pub left-are : setAt words leftAt ≡ isLeft (unite standard g h)
-  pub some-start : (p : ℕ) × (isStart (unite standard g h) p ≡ true)
+pub record UnionReduced (lim : Limits) (old add index : List ℕ) (union : Union) (lists : TypeLists) (words : List ℕ) (g h : Table) : Type 0 where
+  pub first-within : TableWithin lim asciiClasses g
+  pub second-within : TableWithin lim asciiClasses h
+  pub seen : UnionSeen old index add g h union
+  pub lists-are : ListsOf (fruitfulOf (unite large g h)) lists
+  pub starts-are : setOfEightAt words startsAt ≡ isStart (unite large g h)
+  pub left-are : setOfEightAt words leftAt ≡ isLeft (unite large g h)
+  pub some-start : (p : ℕ) × (isStart (unite large g h) p ≡ true)
 
 -- it is known of some tables
-pub record SomeReduced (old add : List ℕ) (union : Union) (lists : TypeLists) (words : List ℕ) : Type 0 where
+pub record SomeReduced (lim : Limits) (old add index : List ℕ) (union : Union) (lists : TypeLists) (words : List ℕ) : Type 0 where
   pub first : Table
   pub second : Table
-  pub reduced : UnionReduced old add union lists words first second
+  pub reduced : UnionReduced lim old add index union lists words first second
 
 -- and the start sets stand in the words
-pub record StartSetsHeld (old add : List ℕ) (union : Union) (lists : TypeLists) (words : List ℕ) (count : ℕ) : Type 0 where
+pub record StartSetsHeld (lim : Limits) (old add index : List ℕ) (union : Union) (lists : TypeLists) (words : List ℕ) (count : ℕ) : Type 0 where
   pub first : Table
   pub second : Table
-  pub reduced : UnionReduced old add union lists words first second
-  pub held : SetsHeld words (labelSets (unite standard first second) (isStart (unite standard first second)))
-  pub many : count ≡ length (labelSets (unite standard first second) (isStart (unite standard first second)))
+  pub reduced : UnionReduced lim old add index union lists words first second
+  pub held : SetsHeld words (labelSets (unite large first second) (isStart (unite large first second)))
+  pub many : count ≡ length (labelSets (unite large first second) (isStart (unite large first second)))

@@ -34,7 +34,7 @@ use Rattle.grammar.specs.declared.Written.{Written}
 use Rattle.grammar.specs.declared.Written.the-variants.{Refused}
 use Rattle.theory.proofs.bytes.NumberedTable.{sized-agree}
 use Rattle.theory.proofs.theorems.AnswerNumbers.{written-numbers}
-use Rattle.theory.proofs.theorems.CallPromises.{sampling, widening}
+use Rattle.theory.proofs.theorems.CallPromises.{lent-short, lent-enough, sampling, widening}
 use Rattle.reader.proofs.AnswerLaws.{both-then-last}
 use Rattle.reader.proofs.WorkLaws.{work-kept}
 use Rattle.widening.specs.Drafting.{sampleOf, widenedBy, widenedFrom, HandedOver}
