@@ -12,6 +12,7 @@ use Rattle.grammar.specs.Outcome.{given, refused}
 use Rattle.grammar.specs.WriteTable.{tableBytes}
 use Rattle.grammar.specs.WithinLimits.{TableWithin}
 use Rattle.grammar.specs.Unite.{unite}
+use Rattle.reader.specs.Held.{Held}
 use Rattle.sets.specs.Sets.{setOfEightAt}
 use Rattle.union.specs.declared.lists.TypeLists.{TypeLists}
 use Rattle.union.specs.declared.united.Union.{Union}
@@ -56,9 +57,9 @@ madeOf Over = TooLarge
 -- What is known of two tables once their union is reduced: its view, its fruitful pairs by type, and in the words the start pairs, of
 -- which there is one, and the pairs that are left.
 pub record UnionReduced (lim : Limits) (old add index : List ℕ) (union : Union) (lists : TypeLists) (words : List ℕ) (g h : Table) : Type 0 where
-  pub first-within : TableWithin lim asciiClasses g
+  pub old-held : Held lim asciiClasses old index g
   pub second-within : TableWithin lim asciiClasses h
-  pub seen : UnionSeen old index add g h union
+  pub seen : UnionSeen old add g h union
   pub lists-are : ListsOf (fruitfulOf (unite large g h)) lists
   pub starts-are : setOfEightAt words startsAt ≡ isStart (unite large g h)
   pub left-are : setOfEightAt words leftAt ≡ isLeft (unite large g h)

@@ -1,9 +1,13 @@
 // The labels of a result: those that its sets have, in label order.
 use forms::label_sets::set_label;
+use reader::index::label_count;
+use reader::index::label_from;
+use reader::index::label_to;
+use reader::numbers::wider;
 use reader::tags::LABEL_TAG;
-use sets::four::Set4;
-use sets::words::load;
-use sets::words::store;
+use sets::eight::Set8;
+use sets::words::load_eight;
+use sets::words::store_eight;
 use union::labels::Names;
 use union::places::USED;
 use union::united::United;
@@ -20,33 +24,34 @@ ghost use Rattle.grammar.specs.Limits.{inputLimit};
 ghost use Rattle.grammar.specs.Lists.{keep, place, numbersBelow};
 ghost use Rattle.grammar.specs.Fields.{fieldBytes};
 ghost use Rattle.grammar.specs.ReadTable.{labelTag};
+ghost use Rattle.reader.specs.TableIndex.{labelCount};
 ghost use Rattle.theory.specs.Alternatives.{onlyIf};
-ghost use Rattle.sets.specs.Sets.{member, setAt, OthersKept};
+ghost use Rattle.sets.specs.Sets.{member, setOfEightAt, KeptAround};
 ghost use Rattle.union.specs.Places.{usedAt};
 ghost use Rattle.writer.specs.Writing.{Puts};
 ghost use Rattle.results.specs.Results.{isUsed, LabelsIn, SetsIn, labelsBytes};
 
 // Finds the labels that the sets in the words have.
 pub fn labels_used(v: United, words: &mut [u32], count: usize)
-    requires { ⌜ ((old : List ℕ) × (add : List ℕ) × SetsIn old add v (now words) count) × (16384 ≤ length (now words)) ⌝ }
+    requires { ⌜ ((old : List ℕ) × (add : List ℕ) × SetsIn old add v (now words) count) × (12288 ≤ length (now words)) ⌝ }
     ensures { λ r. ⌜ ((old add : List ℕ) (q : SetsIn old add v (now (words .entry)) count)
-        → setAt (now (words .exit)) usedAt ≡ isUsed (q .table) (q .sets))
-        × OthersKept usedAt (now (words .entry)) (now (words .exit)) ⌝ }
+        → setOfEightAt (now (words .exit)) usedAt ≡ isUsed (q .table) (q .sets))
+        × KeptAround usedAt 8 (now (words .entry)) (now (words .exit)) ⌝ }
 {
-    let mut used = Set4::empty();
+    let mut used = Set8::empty();
     let mut i: usize = 0;
     while i < count {
-        let set = load(words, 4 * i);
+        let set = load_eight(words, 8 * i);
         let more = used.with(set_label(v, set));
         used = more;
         i += 1;
     }
-    store(words, USED, used);
+    store_eight(words, USED, used);
 }
 
 // A number, with one more if asked.
 fn one_more(n: usize, on: bool) -> usize
-    requires { ⌜ n < 128 ⌝ }
+    requires { ⌜ n < 256 ⌝ }
     ensures { λ r. ⌜ ((on ≡ true) × (r ≡ n + 1)) ⊎ ((on ≡ false) × (r ≡ n)) ⌝ }
 {
     if on {
@@ -56,8 +61,8 @@ fn one_more(n: usize, on: bool) -> usize
 }
 
 // The place of a label among those used: how many of them come before it.
-pub fn label_place(used: Set4, label: usize) -> usize
-    requires { ⌜ label < 128 ⌝ }
+pub fn label_place(used: Set8, label: usize) -> usize
+    requires { ⌜ label < 256 ⌝ }
     ensures { λ r. ⌜ ((n : ℕ) → label < n → member (used .words) 0 label ≡ true
         → r ≡ place eqb label (keep (member (used .words) 0) (numbersBelow n)))
         × (r ≤ label) ⌝ }
@@ -77,23 +82,24 @@ fn put_name(
     at: usize,
     old: &[u8],
     add: &[u8],
-    olds: Names,
+    olds: &[u16; 899],
     news: Names,
     label: usize,
 ) -> Drafted
-    requires { ⌜ (at ≤ inputLimit) × (inputLimit ≤ length (now draft)) × (label < olds .count + news .count)
-        × LabelsIn (now old) (now add) olds news ⌝ }
-    ensures { λ r. ⌜ ((q : LabelsIn (now (old .entry)) (now (add .entry)) olds news)
+    requires { ⌜ (at ≤ inputLimit) × (inputLimit ≤ length (now draft)) × (label < labelCount (now olds) + news .count)
+        × LabelsIn (now old) (now add) (now olds) news ⌝ }
+    ensures { λ r. ⌜ ((q : LabelsIn (now (old .entry)) (now (add .entry)) (now (olds .entry)) news)
         → Puts (now (draft .entry)) at (fieldBytes labelTag (getD (q .first ++ q .second) label [])) (now (draft .exit)) r) ⌝ }
 {
-    if label < olds.count {
-        let from = olds.from[label];
-        let to = olds.to[label];
+    let count = label_count(olds);
+    if label < count {
+        let from = label_from(olds, label);
+        let to = label_to(olds, label);
         return put_field(draft, at, LABEL_TAG, &old[from..to]);
     }
-    let l = label - olds.count;
-    let from = news.from[l];
-    let to = news.to[l];
+    let l = label - count;
+    let from = wider(news.places[l]);
+    let to = wider(news.places[128 + l]);
     put_field(draft, at, LABEL_TAG, &add[from..to])
 }
 
@@ -103,14 +109,14 @@ fn put_label(
     at: usize,
     old: &[u8],
     add: &[u8],
-    olds: Names,
+    olds: &[u16; 899],
     news: Names,
     label: usize,
     on: bool,
 ) -> Drafted
-    requires { ⌜ (at ≤ inputLimit) × (inputLimit ≤ length (now draft)) × (label < olds .count + news .count)
-        × LabelsIn (now old) (now add) olds news ⌝ }
-    ensures { λ r. ⌜ ((q : LabelsIn (now (old .entry)) (now (add .entry)) olds news)
+    requires { ⌜ (at ≤ inputLimit) × (inputLimit ≤ length (now draft)) × (label < labelCount (now olds) + news .count)
+        × LabelsIn (now old) (now add) (now olds) news ⌝ }
+    ensures { λ r. ⌜ ((q : LabelsIn (now (old .entry)) (now (add .entry)) (now (olds .entry)) news)
         → Puts (now (draft .entry)) at (onlyIf on (fieldBytes labelTag (getD (q .first ++ q .second) label []))) (now (draft .exit)) r) ⌝ }
 {
     if on {
@@ -124,16 +130,16 @@ pub fn put_labels(
     draft: &mut [u8],
     old: &[u8],
     add: &[u8],
-    olds: Names,
+    olds: &[u16; 899],
     news: Names,
     words: &[u32],
 ) -> Drafted
-    requires { ⌜ (inputLimit ≤ length (now draft)) × (16384 ≤ length (now words)) × LabelsIn (now old) (now add) olds news ⌝ }
-    ensures { λ r. ⌜ ((q : LabelsIn (now (old .entry)) (now (add .entry)) olds news)
-        → Puts (now (draft .entry)) 0 (labelsBytes (q .first ++ q .second) (setAt (now (words .entry)) usedAt)) (now (draft .exit)) r) ⌝ }
+    requires { ⌜ (inputLimit ≤ length (now draft)) × (12288 ≤ length (now words)) × LabelsIn (now old) (now add) (now olds) news ⌝ }
+    ensures { λ r. ⌜ ((q : LabelsIn (now (old .entry)) (now (add .entry)) (now (olds .entry)) news)
+        → Puts (now (draft .entry)) 0 (labelsBytes (q .first ++ q .second) (setOfEightAt (now (words .entry)) usedAt)) (now (draft .exit)) r) ⌝ }
 {
-    let used = load(words, USED);
-    let labels = olds.count + news.count;
+    let used = load_eight(words, USED);
+    let labels = label_count(olds) + news.count;
     let mut end: usize = 0;
     let mut l: usize = 0;
     while l < labels {

@@ -11,7 +11,7 @@ ghost use lib.ListN.{length};
 ghost use Rattle.grammar.specs.Limits.{inputLimit};
 ghost use Rattle.grammar.specs.Lists.{keep, numbersBelow};
 ghost use Rattle.grammar.specs.WriteTable.{tableBytes};
-ghost use Rattle.sets.specs.Sets.{setAt};
+ghost use Rattle.sets.specs.Sets.{setOfEightAt};
 ghost use Rattle.union.specs.Places.{startTypesAt};
 ghost use Rattle.contents.specs.Drafts.{draftLength};
 ghost use Rattle.forms.specs.SetForms.{tableBySets, pairsWithin};
@@ -33,7 +33,7 @@ fn put_body(
         × RulesWith (now old) (now add) plan (now words) ⌝ }
     ensures { λ r. ⌜ ((q : RulesWith (now (old .entry)) (now (add .entry)) plan (now (words .entry)))
         → TablePut (now (draft .entry)) at (ruleFrom (q .rules)) (plan .count)
-        (bodyBytes (setAt (now (words .entry)) startTypesAt) (ruleFrom (q .rules)) (plan .count)) (now (draft .exit)) r) ⌝ }
+        (bodyBytes (setOfEightAt (now (words .entry)) startTypesAt) (ruleFrom (q .rules)) (plan .count)) (now (draft .exit)) r) ⌝ }
 {
     match put_starts(draft, at, words, plan.count) {
         Drafted::TooLarge => Drafted::TooLarge,
@@ -48,17 +48,17 @@ pub fn put_result(
     old: &[u8],
     add: &[u8],
     plan: Plan,
-    olds: Names,
+    olds: &[u16; 899],
     news: Names,
     words: &mut [u32],
 ) -> Drafted
     requires { ⌜ (inputLimit ≤ length (now draft)) × (2 + draftLength ≤ length (now scratch))
-        × ResultFrom (now old) (now add) plan olds news (now words) ⌝ }
-    ensures { λ r. ⌜ ((q : ResultFrom (now (old .entry)) (now (add .entry)) plan olds news (now (words .entry)))
+        × ResultFrom (now old) (now add) plan (now olds) news (now words) ⌝ }
+    ensures { λ r. ⌜ ((q : ResultFrom (now (old .entry)) (now (add .entry)) plan (now (olds .entry)) news (now (words .entry)))
         → TablePut (now (draft .entry)) 0 (ruleFrom (q .rules)) (plan .count)
         (tableBytes (tableBySets (q .rules .in-words .table) (q .rules .in-words .sets)
         (pairsWithin (kindOf (plan .kind)) (q .rules .in-words .table))
-        (keep (setAt (now (words .entry)) startTypesAt) (numbersBelow (plan .count))))) (now (draft .exit)) r) ⌝ }
+        (keep (setOfEightAt (now (words .entry)) startTypesAt) (numbersBelow (plan .count))))) (now (draft .exit)) r) ⌝ }
 {
     labels_used(plan.union, words, plan.count);
     match put_labels(draft, old, add, olds, news, words) {

@@ -13,8 +13,8 @@ use reader::tags::RULE_TAG;
 use reader::tags::TABLE_END_TAG;
 use reducing::meeting::met_set;
 use reducing::type_lists::types_listed;
-use sets::four::Set4;
-use sets::words::load;
+use sets::eight::Set8;
+use sets::words::load_eight;
 use union::places::LEFT;
 use union::places::USED;
 use writer::writing::Drafted;
@@ -41,12 +41,12 @@ ghost use Rattle.results.specs.Widened.{kindOf};
 pub const SCRATCH: usize = 2 + DRAFT;
 
 // The pairs that form the sets named in the content of a set.
-fn pairs_within(old: &[u8], add: &[u8], plan: Plan, left: Set4, set: Set4) -> Set4
+fn pairs_within(old: &[u8], add: &[u8], plan: Plan, left: Set8, set: Set8) -> Set8
     requires { ⌜ ((u : Table) × Views (now old) (now add) (plan .union) u × ListsOf (fruitfulOf u) (plan .lists))
-        × (length (left .words) ≡ 4) × (length (set .words) ≡ 4) ⌝ }
+        × (length (left .words) ≡ 8) × (length (set .words) ≡ 8) ⌝ }
     ensures { λ r. ⌜ ((u : Table) (s : TypeSet) → Views (now (old .entry)) (now (add .entry)) (plan .union) u
         → ListsOf (fruitfulOf u) (plan .lists) → member (left .words) 0 ≡ isLeft u → member (set .words) 0 ≡ (λ p. isIn p s)
-        → member (r .words) 0 ≡ pairsWithin (kindOf (plan .kind)) u s) × (length (r .words) ≡ 4) ⌝ }
+        → member (r .words) 0 ≡ pairsWithin (kindOf (plan .kind)) u s) × (length (r .words) ≡ 8) ⌝ }
 {
     let kind = plan.kind;
     match kind {
@@ -63,15 +63,15 @@ fn set_content(
     plan: Plan,
     words: &[u32],
     i: usize,
-    set: Set4,
+    set: Set8,
 ) -> ContentMade
-    requires { ⌜ (draftLength ≤ length (now scratch)) × (i < plan .count) × (set .words ≡ wordsAt (now words) (4 * i) 4)
+    requires { ⌜ (draftLength ≤ length (now scratch)) × (i < plan .count) × (set .words ≡ wordsAt (now words) (8 * i) 8)
         × RulesFrom (now old) (now add) plan (now words) ⌝ }
     ensures { λ r. ⌜ ((q : RulesFrom (now (old .entry)) (now (add .entry)) plan (now (words .entry)))
         → Made (now (scratch .exit)) (ruleFrom q i .content) r) ⌝ }
 {
     let v = plan.union;
-    let left = load(words, LEFT);
+    let left = load_eight(words, LEFT);
     let within = pairs_within(old, add, plan, left, set);
     let numbers = label_numbers(v, plan.labels, within, words, plan.count);
     let lists = result_lists(v, plan.lists, left, numbers);
@@ -95,8 +95,8 @@ fn put_rule(
     ensures { λ r. ⌜ ((q : RulesWith (now (old .entry)) (now (add .entry)) plan (now (words .entry)))
         → RulePuts (now (draft .entry)) at (ruleFrom (q .rules) i) (now (draft .exit)) r) ⌝ }
 {
-    let set = load(words, 4 * i);
-    let used = load(words, USED);
+    let set = load_eight(words, 8 * i);
+    let used = load_eight(words, USED);
     let label = label_place(used, set_label(plan.union, set));
     match set_content(&mut scratch[2..], old, add, plan, words, i, set) {
         ContentMade::TooLarge => Drafted::TooLarge,

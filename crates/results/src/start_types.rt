@@ -1,9 +1,9 @@
 // The start types of a result, a set of numbers in the words.
 use forms::label_sets::Numbers;
 use reader::numbers::wide;
-use sets::four::Set4;
-use sets::words::load;
-use sets::words::store;
+use sets::eight::Set8;
+use sets::words::load_eight;
+use sets::words::store_eight;
 use union::fruitful::put_if;
 use union::places::START_TYPES;
 use union::places::STARTS;
@@ -12,46 +12,45 @@ ghost use mathlib.Core.Bool.{true};
 ghost use mathlib.Core.Path.{_≡_};
 ghost use Prim.Native.Nat.{ℕ, _≤_, _<_};
 ghost use lib.ListN.{length, getD};
-ghost use Rattle.sets.specs.Sets.{setAt, nothing, OthersKept};
+ghost use Rattle.sets.specs.Sets.{setOfEightAt, nothing, KeptAround};
 ghost use Rattle.union.specs.Places.{startsAt, startTypesAt};
 ghost use Rattle.union.specs.Rounds.{puts};
 ghost use Rattle.union.specs.View.{ViewSized, labelIn};
-ghost use Rattle.forms.specs.Worklist.{LabelsSized};
 
 // Local: the numbers of the sets of the start pairs. `numbers` are those of the labels.
 pub fn start_numbers(v: United, numbers: Numbers, words: &mut [u32])
-    requires { ⌜ (ViewSized v) × (LabelsSized v) × (16384 ≤ length (now words)) × ((l : ℕ) → getD (numbers .of) l 0 ≤ 64) ⌝ }
-    ensures { λ r. ⌜ (setAt (now (words .exit)) startTypesAt
-        ≡ puts (setAt (now (words .entry)) startsAt) (λ p. getD (numbers .of) (labelIn v p) 0) nothing (v .rules))
-        × OthersKept startTypesAt (now (words .entry)) (now (words .exit)) ⌝ }
+    requires { ⌜ (ViewSized v) × (12288 ≤ length (now words)) × ((l : ℕ) → getD (numbers .of) l 0 ≤ 128) ⌝ }
+    ensures { λ r. ⌜ (setOfEightAt (now (words .exit)) startTypesAt
+        ≡ puts (setOfEightAt (now (words .entry)) startsAt) (λ p. getD (numbers .of) (labelIn v p) 0) nothing (v .rules))
+        × KeptAround startTypesAt 8 (now (words .entry)) (now (words .exit)) ⌝ }
 {
-    let starts = load(words, STARTS);
+    let starts = load_eight(words, STARTS);
     let labels = v.labels;
     let of = numbers.of;
     let rules = v.rules;
-    let mut set = Set4::empty();
+    let mut set = Set8::empty();
     let mut p: usize = 0;
     while p < rules {
-        let label = labels[p];
+        let label = wide(labels[p]);
         let more = put_if(starts.has(p), set, wide(of[label]));
         set = more;
         p += 1;
     }
-    store(words, START_TYPES, set);
+    store_eight(words, START_TYPES, set);
 }
 
 // Single-type: the numbers of the first sets.
 pub fn first_numbers(n: usize, words: &mut [u32])
-    requires { ⌜ (n ≤ 64) × (16384 ≤ length (now words)) ⌝ }
-    ensures { λ r. ⌜ (setAt (now (words .exit)) startTypesAt ≡ puts (λ t. true) (λ t. t) nothing n)
-        × OthersKept startTypesAt (now (words .entry)) (now (words .exit)) ⌝ }
+    requires { ⌜ (n ≤ 128) × (12288 ≤ length (now words)) ⌝ }
+    ensures { λ r. ⌜ (setOfEightAt (now (words .exit)) startTypesAt ≡ puts (λ t. true) (λ t. t) nothing n)
+        × KeptAround startTypesAt 8 (now (words .entry)) (now (words .exit)) ⌝ }
 {
-    let mut set = Set4::empty();
+    let mut set = Set8::empty();
     let mut t: usize = 0;
     while t < n {
         let more = put_if(true, set, t);
         set = more;
         t += 1;
     }
-    store(words, START_TYPES, set);
+    store_eight(words, START_TYPES, set);
 }

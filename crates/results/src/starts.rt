@@ -1,6 +1,6 @@
 // The starts of a result.
 use reader::tags::START_TAG;
-use sets::words::load;
+use sets::words::load_eight;
 use union::places::START_TYPES;
 use writer::writing::Drafted;
 use writer::writing::put_field;
@@ -11,7 +11,7 @@ ghost use Rattle.grammar.specs.Limits.{inputLimit};
 ghost use Rattle.grammar.specs.Fields.{fieldBytes};
 ghost use Rattle.grammar.specs.ReadTable.{startTag};
 ghost use Rattle.theory.specs.Alternatives.{onlyIf};
-ghost use Rattle.sets.specs.Sets.{setAt};
+ghost use Rattle.sets.specs.Sets.{setOfEightAt};
 ghost use Rattle.union.specs.Places.{startTypesAt};
 ghost use Rattle.writer.specs.Writing.{Puts};
 ghost use Rattle.results.specs.Results.{startsBytes};
@@ -30,10 +30,10 @@ fn put_start(draft: &mut [u8], at: usize, ty: usize, on: bool) -> Drafted
 
 // Writes the starts, ascending.
 pub fn put_starts(draft: &mut [u8], at: usize, words: &[u32], count: usize) -> Drafted
-    requires { ⌜ (at ≤ inputLimit) × (inputLimit ≤ length (now draft)) × (16384 ≤ length (now words)) × (count ≤ 128) ⌝ }
-    ensures { λ r. ⌜ Puts (now (draft .entry)) at (startsBytes (setAt (now (words .entry)) startTypesAt) count) (now (draft .exit)) r ⌝ }
+    requires { ⌜ (at ≤ inputLimit) × (inputLimit ≤ length (now draft)) × (12288 ≤ length (now words)) × (count ≤ 128) ⌝ }
+    ensures { λ r. ⌜ Puts (now (draft .entry)) at (startsBytes (setOfEightAt (now (words .entry)) startTypesAt) count) (now (draft .exit)) r ⌝ }
 {
-    let starts = load(words, START_TYPES);
+    let starts = load_eight(words, START_TYPES);
     let mut end = at;
     let mut t: usize = 0;
     while t < count {

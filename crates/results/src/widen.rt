@@ -9,11 +9,12 @@ use forms::label_sets::label_numbers;
 use forms::label_sets::label_sets;
 use forms::set_words::Counted;
 use forms::worklist::more_sets;
-use reader::tables::TableIndex;
+use grammar::SizeLimits;
+use reader::index::label_count;
 use reducing::leaving::pairs_left;
 use reducing::leaving::start_pairs;
 use reducing::type_lists::fruitful_lists;
-use sets::words::load;
+use sets::words::load_eight;
 use union::fruitful::fruitful_pairs;
 use union::lists::TypeLists;
 use union::places::LEFT;
@@ -25,7 +26,8 @@ use writer::writing::Drafted;
 ghost use mathlib.Core.Path.{_≡_};
 ghost use Prim.Native.Nat.{_+_, _≤_};
 ghost use lib.ListN.{length};
-ghost use Rattle.grammar.specs.Limits.{standard, inputLimit};
+ghost use Rattle.grammar.specs.Limits.{large, inputLimit};
+ghost use Rattle.grammar.specs.LimitSets.{limitsOf, Within};
 ghost use Rattle.grammar.specs.Names.{asciiClasses};
 ghost use Rattle.grammar.specs.Table.{Table};
 ghost use Rattle.grammar.specs.Unite.{unite};
@@ -58,34 +60,27 @@ fn told(drafted: Drafted) -> Made
     }
 }
 
-// How many labels a union has.
-fn label_count(union: Union) -> usize
-    requires { ⌜ (union .«old_names» .count ≤ 64) × (union .«new_names» .count ≤ 64) ⌝ }
-    ensures { λ r. ⌜ r ≡ union .«old_names» .count + union .«new_names» .count ⌝ }
-{
-    let olds = union.old_names;
-    let news = union.new_names;
-    olds.count + news.count
-}
-
 // To local: one set a label, of the pairs left.
 fn widen_local(
+    limits: SizeLimits,
     old: &[u8],
     add: &[u8],
+    index: &[u16; 899],
     union: Union,
     lists: TypeLists,
     words: &mut [u32],
     draft: &mut [u8],
 ) -> Made
-    requires { ⌜ (SomeReduced (now old) (now add) union lists (now words)) × (16384 ≤ length (now words))
+    requires { ⌜ (Within limits) × (SomeReduced (limitsOf limits) (now old) (now add) (now index) union lists (now words)) × (12288 ≤ length (now words))
         × (inputLimit ≤ length (now draft)) ⌝ }
-    ensures { λ r. ⌜ ((g h : Table) → UnionReduced (now (old .entry)) (now (add .entry)) union lists (now (words .entry)) g h
-        → Widens local g h (now (draft .entry)) (now (draft .exit)) r) ⌝ }
+    ensures { λ r. ⌜ ((g h : Table) → UnionReduced (limitsOf limits) (now (old .entry)) (now (add .entry)) (now (index .entry)) union lists (now (words .entry)) g h
+        → Widens (limitsOf limits) local g h (now (draft .entry)) (now (draft .exit)) r) ⌝ }
 {
     let v = union.rules;
-    let labels = label_count(union);
-    let left = load(words, LEFT);
-    match label_sets(v, labels, left, &mut words[0..SETS]) {
+    let news = union.new_names;
+    let labels = label_count(index) + news.count;
+    let left = load_eight(words, LEFT);
+    match label_sets(limits.rules, v, labels, left, &mut words[0..SETS]) {
         Counted::TooMany => Made::TooLarge,
         Counted::Count(count) => {
             let numbers = label_numbers(v, labels, left, words, count);
@@ -104,8 +99,8 @@ fn widen_local(
                 old,
                 add,
                 plan,
-                union.old_names,
-                union.new_names,
+                index,
+                news,
                 words,
             ))
         }
@@ -114,24 +109,27 @@ fn widen_local(
 
 // To single-type, once the start sets stand in the words: those met in them, and so on.
 fn widen_from_starts(
+    limits: SizeLimits,
     old: &[u8],
     add: &[u8],
+    index: &[u16; 899],
     union: Union,
     lists: TypeLists,
     words: &mut [u32],
     first: usize,
     draft: &mut [u8],
 ) -> Made
-    requires { ⌜ (StartSetsHeld (now old) (now add) union lists (now words) first) × (16384 ≤ length (now words))
+    requires { ⌜ (Within limits) × (StartSetsHeld (limitsOf limits) (now old) (now add) (now index) union lists (now words) first) × (12288 ≤ length (now words))
         × (inputLimit ≤ length (now draft)) ⌝ }
-    ensures { λ r. ⌜ ((g h : Table) → UnionReduced (now (old .entry)) (now (add .entry)) union lists (now (words .entry)) g h
-        → SetsHeld (now (words .entry)) (labelSets (unite standard g h) (isStart (unite standard g h)))
-        → first ≡ length (labelSets (unite standard g h) (isStart (unite standard g h)))
-        → Widens singleType g h (now (draft .entry)) (now (draft .exit)) r) ⌝ }
+    ensures { λ r. ⌜ ((g h : Table) → UnionReduced (limitsOf limits) (now (old .entry)) (now (add .entry)) (now (index .entry)) union lists (now (words .entry)) g h
+        → SetsHeld (now (words .entry)) (labelSets (unite large g h) (isStart (unite large g h)))
+        → first ≡ length (labelSets (unite large g h) (isStart (unite large g h)))
+        → Widens (limitsOf limits) singleType g h (now (draft .entry)) (now (draft .exit)) r) ⌝ }
 {
     let v = union.rules;
-    let labels = label_count(union);
-    match more_sets(old, add, v, lists, &mut words[0..SETS], first) {
+    let news = union.new_names;
+    let labels = label_count(index) + news.count;
+    match more_sets(limits.rules, old, add, v, lists, &mut words[0..SETS], first) {
         Counted::TooMany => Made::TooLarge,
         Counted::Count(count) => {
             first_numbers(first, words);
@@ -149,8 +147,8 @@ fn widen_from_starts(
                 old,
                 add,
                 plan,
-                union.old_names,
-                union.new_names,
+                index,
+                news,
                 words,
             ))
         }
@@ -159,54 +157,58 @@ fn widen_from_starts(
 
 // To single-type: the start sets, one a label, and the sets met.
 fn widen_single_type(
+    limits: SizeLimits,
     old: &[u8],
     add: &[u8],
+    index: &[u16; 899],
     union: Union,
     lists: TypeLists,
     words: &mut [u32],
     draft: &mut [u8],
 ) -> Made
-    requires { ⌜ (SomeReduced (now old) (now add) union lists (now words)) × (16384 ≤ length (now words))
+    requires { ⌜ (Within limits) × (SomeReduced (limitsOf limits) (now old) (now add) (now index) union lists (now words)) × (12288 ≤ length (now words))
         × (inputLimit ≤ length (now draft)) ⌝ }
-    ensures { λ r. ⌜ ((g h : Table) → UnionReduced (now (old .entry)) (now (add .entry)) union lists (now (words .entry)) g h
-        → Widens singleType g h (now (draft .entry)) (now (draft .exit)) r) ⌝ }
+    ensures { λ r. ⌜ ((g h : Table) → UnionReduced (limitsOf limits) (now (old .entry)) (now (add .entry)) (now (index .entry)) union lists (now (words .entry)) g h
+        → Widens (limitsOf limits) singleType g h (now (draft .entry)) (now (draft .exit)) r) ⌝ }
 {
     let v = union.rules;
-    let labels = label_count(union);
-    let starts = load(words, STARTS);
-    match label_sets(v, labels, starts, &mut words[0..SETS]) {
+    let news = union.new_names;
+    let labels = label_count(index) + news.count;
+    let starts = load_eight(words, STARTS);
+    match label_sets(limits.rules, v, labels, starts, &mut words[0..SETS]) {
         Counted::TooMany => Made::TooLarge,
-        Counted::Count(first) => widen_from_starts(old, add, union, lists, words, first, draft),
+        Counted::Count(first) => widen_from_starts(limits, old, add, index, union, lists, words, first, draft),
     }
 }
 
 // The widening of one table by another, from the draft's beginning.
 pub fn widen_tables(
+    limits: SizeLimits,
     kind: Kind,
     old: &[u8],
-    index: TableIndex,
+    index: &[u16; 899],
     add: &[u8],
-    addition: TableIndex,
+    addition: &[u16; 899],
     words: &mut [u32],
     draft: &mut [u8],
 ) -> Made
-    requires { ⌜ (SomeHeld standard asciiClasses (now old) index) × (SomeHeld standard asciiClasses (now add) addition)
-        × (16384 ≤ length (now words)) × (inputLimit ≤ length (now draft)) ⌝ }
-    ensures { λ r. ⌜ ((g h : Table) → Held standard asciiClasses (now (old .entry)) index g
-        → Held standard asciiClasses (now (add .entry)) addition h
-        → Widens (kindOf kind) g h (now (draft .entry)) (now (draft .exit)) r) ⌝ }
+    requires { ⌜ (Within limits) × (SomeHeld (limitsOf limits) asciiClasses (now old) (now index))
+        × (SomeHeld (limitsOf limits) asciiClasses (now add) (now addition)) × (12288 ≤ length (now words)) × (inputLimit ≤ length (now draft)) ⌝ }
+    ensures { λ r. ⌜ ((g h : Table) → Held (limitsOf limits) asciiClasses (now (old .entry)) (now (index .entry)) g
+        → Held (limitsOf limits) asciiClasses (now (add .entry)) (now (addition .entry)) h
+        → Widens (limitsOf limits) (kindOf kind) g h (now (draft .entry)) (now (draft .exit)) r) ⌝ }
 {
     let union = unite_tables(old, index, add, addition);
     let v = union.rules;
     fruitful_pairs(old, add, v, words);
     let lists = fruitful_lists(v, words);
     start_pairs(lists, index, addition, words);
-    if load(words, STARTS).is_empty() {
+    if load_eight(words, STARTS).is_empty() {
         return Made::NoDocument;
     }
     pairs_left(old, add, v, lists, words);
     match kind {
-        Kind::Local => widen_local(old, add, union, lists, words, draft),
-        Kind::SingleType => widen_single_type(old, add, union, lists, words, draft),
+        Kind::Local => widen_local(limits, old, add, index, union, lists, words, draft),
+        Kind::SingleType => widen_single_type(limits, old, add, index, union, lists, words, draft),
     }
 }
