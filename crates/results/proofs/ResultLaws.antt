@@ -12,8 +12,8 @@ use mathlib.Core.Path.{_≡_, sym, _∙_, ap, subst}
 use lib.ListN.{length, length-append, getD, set, take, List·getD-append}
 use lib.Seq.{take-append-le, getD-append-add}
 use Rattle.grammar.specs.Lists.{keep, joinedOf, numbersBelow}
-use Rattle.grammar.specs.Limits.{standard}
-use Rattle.grammar.specs.Names.{Name}
+use Rattle.grammar.specs.Limits.{Limits, large}
+use Rattle.grammar.specs.Names.{Name, asciiClasses}
 use Rattle.grammar.specs.Content.{Content}
 use Rattle.grammar.specs.Table.{Table}
 use Rattle.grammar.specs.Kinds.{Kind}
@@ -30,6 +30,9 @@ use Rattle.reader.proofs.LabelSearch.{name-at}
 use Rattle.union.specs.declared.labels.Names.{Names}
 use Rattle.union.specs.declared.united.Union.{Union}
 use Rattle.union.specs.UnitedLabels.{newNames}
+use Rattle.reader.specs.Held.{Held}
+use Rattle.reader.specs.TableIndex.{labelCount}
+use Rattle.reader.proofs.LabelSearch.{index-names}
 use Rattle.union.specs.View.{UnionSeen}
 use Rattle.contents.specs.declared.completing.ContentMade.{ContentMade}
 use Rattle.contents.specs.declared.completing.ContentMade.the-variants.{TooLarge, Upto}
@@ -116,31 +119,32 @@ table-bytes u sets kind count names on starts e n o =
     ∙ ap (λ (x : List ℕ). joinedOf (fieldBytes 0x10) (map (λ l. getD (u .labels) l []) (labelsOf u sets)) ++ s ++ x ++ end) last
 
 -- the labels of the union of two tables
-module _ {old add : List ℕ} {g h : Table} {r : Union} (x : UnionSeen old add g h r) where
-  abbrev pub union-names : LabelsIn old add (r .«old_names») (r .«new_names»)
+module _ {lim : Limits} {old add index : List ℕ} {g h : Table} {r : Union} (x : UnionSeen old add g h r)
+    (held : Held lim asciiClasses old index g) where
+  abbrev pub union-names : LabelsIn old add index (r .«new_names»)
   union-names =
       record {
         first = g .labels;
         second = newNames (g .labels) (h .labels);
-        old-names = x .old-names;
+        old-names = index-names (held .indexes) refl;
         new-names = x .new-names;
       }
 
-  pub union-same : unite standard g h .labels ≡ g .labels ++ newNames (g .labels) (h .labels)
+  pub union-same : unite large g h .labels ≡ g .labels ++ newNames (g .labels) (h .labels)
   unfolding unite
   union-same = x .labels
 
-  pub union-count : r .«old_names» .count + r .«new_names» .count ≡ length (unite standard g h .labels)
+  pub union-count : labelCount index + r .«new_names» .count ≡ length (unite large g h .labels)
   union-count =
-      let a = x .old-names .at .count in
-      let b = x .new-names .at .count in
+      let a = held .indexes .labels in
+      let b = x .new-names .count in
       let c = ap length union-same in
       let d = length-append (g .labels) (newNames (g .labels) (h .labels)) in
       omega arith
 
-  pub union-few : length (unite standard g h .labels) ≤ 128
+  pub union-few : length (unite large g h .labels) ≤ 256
   union-few =
-      let a = x .old-names .few in
+      let a = held .indexes .few-labels in
       let b = x .new-names .few in
       let c = union-count in
       omega arith
@@ -169,6 +173,6 @@ pub made-stored : (draft : List ℕ) (c : Content) (r : ContentMade) {end : ℕ}
 unfolding Made
 made-stored draft c r m e = subst (λ (x : ContentMade). Made draft c x) e m
 
-pub made-over : (draft : List ℕ) (c : Content) (r : ContentMade) → Made draft c r → r ≡ TooLarge → contentTooLarge standard c ≡ true
+pub made-over : (draft : List ℕ) (c : Content) (r : ContentMade) → Made draft c r → r ≡ TooLarge → contentTooLarge large c ≡ true
 unfolding Made
 made-over draft c r m e = subst (λ (x : ContentMade). Made draft c x) e m

@@ -21,6 +21,8 @@ use Rattle.union.specs.View.{Views}
 use Rattle.union.specs.TypeLists.{ListsOf}
 use Rattle.union.specs.Places.{leftAt, usedAt}
 use Rattle.union.specs.PairNumbers.{fruitfulOf, isLeft}
+use Rattle.reader.specs.NamePlaces.{NamesAt}
+use Rattle.reader.specs.TableIndex.{labelCount}
 use Rattle.union.specs.UnitedLabels.{NamesHeld}
 use Rattle.contents.specs.Joining.{Shallow}
 use Rattle.forms.specs.SetForms.{setLabel, ruleBySet, pairsWithin}
@@ -41,7 +43,7 @@ isUsed u sets l = anyPass (λ s. eqb (setLabel u s) l) sets
 pub record LabelsIn (old add : List ℕ) (olds : List ℕ) (news : Names) : Type 0 where
   pub first : List Name
   pub second : List Name
-  pub old-names : NamesHeld old olds first
+  pub old-names : NamesAt old olds (labelCount olds) first
   pub new-names : NamesHeld add news second
 
 -- sets of pairs of a union stand in the words

@@ -14,7 +14,7 @@ use lib.Dec.{ltb}
 use borrow.Author.Tests.{ltb-true, ltb-false}
 use lib.ListN.{length, length-append}
 use Rattle.grammar.specs.Lists.{joinedOf, numbersBelow}
-use Rattle.grammar.specs.Limits.{standard, inputLimit}
+use Rattle.grammar.specs.Limits.{large, inputLimit}
 use Rattle.grammar.specs.Table.{Rule}
 use Rattle.grammar.specs.Fields.{fieldBytes}
 use Rattle.grammar.specs.ReadTable.{ruleTag}
@@ -68,7 +68,7 @@ module _ (f : ℕ → List ℕ) where
           (up-more (subst (λ (l : List ℕ). Put draft end l after m) same (x .0)), x .1)
 
 pub rule-puts : (before after : List ℕ) (at : ℕ) (value : List ℕ) (rule : Rule) (r : Drafted) → value ≡ ruleBytes rule
-    → contentTooLarge standard (rule .content) ≡ false → Puts before at (fieldBytes ruleTag value) after r → RulePuts before at rule after r
+    → contentTooLarge large (rule .content) ≡ false → Puts before at (fieldBytes ruleTag value) after r → RulePuts before at rule after r
 rule-puts before after at value rule (Length n) e f p =
     (subst (λ (v : List ℕ). Put before at (fieldBytes ruleTag v) after n) e (p .0), p .1, f)
 rule-puts before after at value rule TooLarge e f p = inr (subst (λ (v : List ℕ). inputLimit < at + length (fieldBytes ruleTag v)) e p)
@@ -81,7 +81,7 @@ module _ (rule : ℕ → Rule) (t : ℕ) {before : List ℕ} {at : ℕ} {draft :
       ⊎-elim (λ x. inl (t, h, x)) (λ x. inr (up-stop (ruleField rule) t p n x h)) (subst (λ (x : Drafted). RulePuts draft end (rule t) after x) e g)
 
   pub rules-more : {m : ℕ} → r ≡ Length m
-      → Put before at (joinedOf (ruleField rule) (numbersBelow (t + 1))) after m × (m ≤ inputLimit) × (contentTooLarge standard (rule t .content) ≡ false)
+      → Put before at (joinedOf (ruleField rule) (numbersBelow (t + 1))) after m × (m ≤ inputLimit) × (contentTooLarge large (rule t .content) ≡ false)
   rules-more {m} e =
       let x = subst (λ (x : Drafted). RulePuts draft end (rule t) after x) e g in
       (up-more (ruleField rule) t p (x .0), x .1, x .2)
@@ -114,7 +114,7 @@ module _ (before : List ℕ) (at : ℕ) (rule : ℕ → Rule) (count : ℕ) (xs 
       ⊎-elim inl (λ o. inr (omega arith)) (subst (λ (x : Drafted). TablePut before at rule count xs mid x) e p)
 
   pub table-length-is : TablePut before at rule count xs mid r → {n : ℕ} → r ≡ Length n
-      → Put before at xs mid n × (n ≤ inputLimit) × ((t : ℕ) → t < count → contentTooLarge standard (rule t .content) ≡ false)
+      → Put before at xs mid n × (n ≤ inputLimit) × ((t : ℕ) → t < count → contentTooLarge large (rule t .content) ≡ false)
   table-length-is p e = subst (λ (x : Drafted). TablePut before at rule count xs mid x) e p
 
   pub table-then : TablePut before at rule count xs mid r → {n : ℕ} → r ≡ Length n → (z : Drafted) → Puts mid n ys after z

@@ -9,7 +9,9 @@ use mathlib.Core.Path.{_≡_, ap}
 use lib.Dec.{ltb}
 use lib.ListN.{length}
 use Rattle.grammar.specs.Lists.{anyPass}
-use Rattle.grammar.specs.Limits.{standard, inputLimit}
+use Rattle.grammar.specs.Limits.{Limits, large, inputLimit}
+use Rattle.grammar.specs.LimitSets.{limitsOf}
+use Rattle.grammar.specs.declared.SizeLimits.{SizeLimits}
 use Rattle.grammar.specs.Table.{Rule, Table}
 use Rattle.grammar.specs.Outcome.{given, refused, _>>_, turnBack}
 use Rattle.grammar.specs.WriteTable.{tableBytes}
@@ -20,42 +22,46 @@ use borrow.Author.Tests.{lt-ltb, le-ltb}
 use Rattle.theory.proofs.lists.BoolLaws.{or-left, or-right, or-none, false-of, not-both}
 use Rattle.theory.proofs.lists.ListLaws.{any-of, any-found}
 
-module _ (g : Table) where
+module _ (l : SizeLimits) (g : Table) where
+  abbrev lim : Limits
+  lim = limitsOf l
+
   abbrev over : Rule → Bool
-  over r = contentTooLarge standard (r .content)
+  over r = contentTooLarge lim (r .content)
 
   abbrev many : Bool
-  many = ltb 64 (length (g .rules))
+  many = ltb (l .rules) (length (g .rules))
 
   abbrev long : Bool
   long = ltb inputLimit (length (tableBytes g))
 
-  pub size-over : tooLarge standard g ≡ true → ofSize standard g ≡ refused ResultTooLarge
+  pub size-over : tooLarge lim g ≡ true → ofSize lim g ≡ refused ResultTooLarge
   unfolding ofSize
   size-over e = ap (λ (b : Bool). turnBack b ResultTooLarge >> given g) e
 
-  pub size-fits : tooLarge standard g ≡ false → ofSize standard g ≡ given g
+  pub size-fits : tooLarge lim g ≡ false → ofSize lim g ≡ given g
   unfolding ofSize
   size-fits e = ap (λ (b : Bool). turnBack b ResultTooLarge >> given g) e
 
-  pub types-over : 64 < length (g .rules) → tooLarge standard g ≡ true
-  unfolding tooLarge standard
-  types-over h = or-left (many || anyPass over (g .rules)) long (or-left many (anyPass over (g .rules)) (lt-ltb 64 (length (g .rules)) h))
+  pub types-over : l .rules < length (g .rules) → tooLarge lim g ≡ true
+  unfolding tooLarge
+  types-over h = or-left (many || anyPass over (g .rules)) long (or-left many (anyPass over (g .rules)) (lt-ltb (l .rules) (length (g .rules)) h))
 
-  pub content-over : {r : Rule} → List·Memᴰ r (g .rules) → contentTooLarge standard (r .content) ≡ true → tooLarge standard g ≡ true
-  unfolding tooLarge standard
+  -- the limits of a content are the same for all sizes
+  pub content-over : {r : Rule} → List·Memᴰ r (g .rules) → contentTooLarge large (r .content) ≡ true → tooLarge lim g ≡ true
+  unfolding tooLarge contentTooLarge large
   content-over m e = or-left (many || anyPass over (g .rules)) long (or-right many (anyPass over (g .rules)) (any-of over m e))
 
-  pub bytes-over : inputLimit < length (tableBytes g) → tooLarge standard g ≡ true
-  unfolding tooLarge standard
+  pub bytes-over : inputLimit < length (tableBytes g) → tooLarge lim g ≡ true
+  unfolding tooLarge
   bytes-over h = or-right (many || anyPass over (g .rules)) long (lt-ltb inputLimit (length (tableBytes g)) h)
 
-  pub all-fit : length (g .rules) ≤ 64 → ((r : Rule) → List·Memᴰ r (g .rules) → contentTooLarge standard (r .content) ≡ false)
-      → length (tableBytes g) ≤ inputLimit → tooLarge standard g ≡ false
-  unfolding tooLarge standard
+  pub all-fit : length (g .rules) ≤ l .rules → ((r : Rule) → List·Memᴰ r (g .rules) → contentTooLarge large (r .content) ≡ false)
+      → length (tableBytes g) ≤ inputLimit → tooLarge lim g ≡ false
+  unfolding tooLarge contentTooLarge large
   all-fit a b c =
       or-none (many || anyPass over (g .rules)) long
-      (or-none many (anyPass over (g .rules)) (le-ltb 64 (length (g .rules)) a)
+      (or-none many (anyPass over (g .rules)) (le-ltb (l .rules) (length (g .rules)) a)
       (false-of (anyPass over (g .rules))
       (λ o.
       let (x, m, w) = any-found over (g .rules) o in

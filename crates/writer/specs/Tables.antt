@@ -6,7 +6,7 @@ use mathlib.Core.Logic.{_⊎_}
 use mathlib.Core.Path.{_≡_}
 use lib.ListN.{length}
 use Rattle.grammar.specs.Lists.{joinedOf, numbersBelow}
-use Rattle.grammar.specs.Limits.{standard, inputLimit}
+use Rattle.grammar.specs.Limits.{large, inputLimit}
 use Rattle.grammar.specs.Table.{Rule}
 use Rattle.grammar.specs.Fields.{fieldBytes}
 use Rattle.grammar.specs.ReadTable.{ruleTag, tableEndTag}
@@ -19,9 +19,9 @@ use Rattle.writer.specs.Writing.{Put}
 -- a rule is written; or its content, or the whole, is too large
 abbrev pub RulePuts : List ℕ → ℕ → Rule → List ℕ → Drafted → Type 0
 RulePuts before at r after (Length n) =
-    Put before at (fieldBytes ruleTag (ruleBytes r)) after n × (n ≤ inputLimit) × (contentTooLarge standard (r .content) ≡ false)
+    Put before at (fieldBytes ruleTag (ruleBytes r)) after n × (n ≤ inputLimit) × (contentTooLarge large (r .content) ≡ false)
 RulePuts before at r after TooLarge =
-    (contentTooLarge standard (r .content) ≡ true) ⊎ (inputLimit < at + length (fieldBytes ruleTag (ruleBytes r)))
+    (contentTooLarge large (r .content) ≡ true) ⊎ (inputLimit < at + length (fieldBytes ruleTag (ruleBytes r)))
 
 -- the field of a rule, by number
 abbrev pub ruleField : (ℕ → Rule) → ℕ → List ℕ
@@ -30,9 +30,9 @@ ruleField rule t = fieldBytes ruleTag (ruleBytes (rule t))
 -- these bytes are written, and the rules' contents are not too large; or one of them, or the whole, is
 abbrev pub TablePut : List ℕ → ℕ → (ℕ → Rule) → ℕ → List ℕ → List ℕ → Drafted → Type 0
 TablePut before at rule count bytes after (Length n) =
-    Put before at bytes after n × (n ≤ inputLimit) × ((t : ℕ) → t < count → contentTooLarge standard (rule t .content) ≡ false)
+    Put before at bytes after n × (n ≤ inputLimit) × ((t : ℕ) → t < count → contentTooLarge large (rule t .content) ≡ false)
 TablePut before at rule count bytes after TooLarge =
-    ((t : ℕ) × (t < count) × (contentTooLarge standard (rule t .content) ≡ true)) ⊎ (inputLimit < at + length bytes)
+    ((t : ℕ) × (t < count) × (contentTooLarge large (rule t .content) ≡ true)) ⊎ (inputLimit < at + length bytes)
 
 abbrev pub rulesBytes : (ℕ → Rule) → ℕ → List ℕ
 rulesBytes rule count = joinedOf (ruleField rule) (numbersBelow count)
