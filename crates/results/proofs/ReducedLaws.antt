@@ -22,8 +22,10 @@ use Rattle.grammar.specs.Unite.{unite}
 use Rattle.grammar.specs.WriteTable.{tableBytes}
 use Rattle.theory.specs.Conditions.{Regular}
 use Rattle.theory.proofs.lists.ListLaws.{mem-at, at-below}
-use Rattle.sets.specs.Sets.{setAt, nothing, OthersKept}
-use Rattle.sets.proofs.SetLaws.{set-after, kept-before}
+use Rattle.theory.proofs.tables.RoomierLimits.{within-large, table-roomier}
+use Rattle.reader.specs.TableIndex.{labelCount}
+use Rattle.sets.specs.Sets.{setOfEightAt, nothing, KeptAround}
+use Rattle.sets.proofs.SetLaws.{eight-before, eight-after}
 use Rattle.union.specs.declared.lists.TypeLists.{TypeLists}
 use Rattle.union.specs.declared.united.Union.{Union}
 use Rattle.union.specs.View.{labelIn}

@@ -17,8 +17,8 @@ use Rattle.grammar.specs.Outcome.{refused}
 use Rattle.grammar.specs.Unite.{unite}
 use Rattle.grammar.specs.Widen.{widenByTable}
 use Rattle.grammar.specs.declared.Refusal.the-variants.{NoDocument}
-use Rattle.sets.specs.Sets.{member, wordsAt, setAt, Empties, OthersKept}
-use Rattle.sets.proofs.SetLaws.{kept-before}
+use Rattle.sets.specs.Sets.{member, wordsAt, setOfEightAt, Empties, KeptAround}
+use Rattle.sets.proofs.SetLaws.{eight-before}
 use Rattle.reader.specs.Held.{Held}
 use Rattle.union.specs.declared.lists.TypeLists.{TypeLists}
 use Rattle.union.specs.declared.united.Union.{Union}

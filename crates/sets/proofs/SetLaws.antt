@@ -32,7 +32,7 @@ use Rattle.sets.specs.Sets.{
   member,
   putAt,
   wordsAt,
-  setAt,
+  setAt, setOfEightAt,
   storeAt,
   unionOf,
   nothing,
@@ -221,6 +221,16 @@ module _ (words : List ℕ) (base : ℕ) (set after : List ℕ) (room : base + 4
 pub kept-before : {base : ℕ} {before after : List ℕ} → OthersKept base before after → (other : ℕ) → other + 4 ≤ base
     → setAt after other ≡ setAt before other
 kept-before {base} {before} {after} k other h = set-before before after base other (k .front) h
+
+-- the same of sets of eight words
+pub eight-before : {base n : ℕ} {before after : List ℕ} → KeptAround base n before after → (other : ℕ) → other + 8 ≤ base
+    → setOfEightAt after other ≡ setOfEightAt before other
+eight-before {base} {n} {before} {after} k other h =
+    ap (λ (w : List ℕ). member w 0) (words-before before after base other 8 (k .front) h)
+
+pub eight-after : (before after : List ℕ) (n other : ℕ) → drop n after ≡ drop n before → n ≤ other
+    → setOfEightAt after other ≡ setOfEightAt before other
+eight-after before after n other e h = ap (λ (w : List ℕ). member w 0) (words-after before after n other 8 e h)
 
 -- ---- no member, and both sets' members
 
