@@ -1,11 +1,11 @@
 // What the lister prints for the files of the folder where it runs.
+use grammar::Size;
 use grammar::Written;
 use libc::STDOUT_FILENO;
 use lister_lines::limits::TEXT;
 use lister_lines::lines::list_bytes;
 use lister_lines::lines::refusal_line;
 use reader::limits::INPUT;
-use reader::limits::WORDS;
 use widening::calls::widen_local_by_document;
 ghost use Prim.Native.Nat.{_≤_};
 ghost use lib.ListN.{length};
@@ -17,13 +17,16 @@ ghost use Rattle.writer.specs.Writing.{Put};
 // Bytes of a file that are read: one more than it may have shows that it is too long.
 const FILE: usize = INPUT + 1;
 
+// Working words that a call of the standard size needs.
+const WORDS: usize = 16384;
+
 // The text for the bytes of an old table and a document: of the local widening, or of the refusal.
 pub fn list(old: &[u8], document: &[u8], out: &mut [u8], work: &mut [u32], text: &mut [u8]) -> usize
-    requires { ⌜ (inputLimit ≤ length (now out)) × (16384 ≤ length (now work)) × (202000 ≤ length (now text)) ⌝ }
+    requires { ⌜ (inputLimit ≤ length (now out)) × (16384 ≤ length (now work)) × (404000 ≤ length (now text)) ⌝ }
     ensures { λ r. ⌜ Put (now (text .entry)) 0 (listing standard asciiClasses (now (old .entry)) (now (document .entry)))
         (now (text .exit)) r ⌝ }
 {
-    match widen_local_by_document(old, document, out, work) {
+    match widen_local_by_document(Size::Standard, old, document, out, work) {
         Written::Refused(refusal) => refusal_line(refusal, text),
         Written::Length(n) => list_bytes(&out[0..n], text),
     }

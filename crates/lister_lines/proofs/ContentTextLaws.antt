@@ -7,7 +7,7 @@ use mathlib.Core.List.{List, [], _∷_, _++_}
 use mathlib.Core.Option.{some as just}
 use mathlib.Core.Path.{_≡_, refl, sym, _∙_, ap}
 use lib.ListN.{getD, getElem?}
-use Rattle.grammar.specs.Limits.{standard}
+use Rattle.grammar.specs.Limits.{large}
 use Rattle.grammar.specs.Content.{
   Content,
   none,
@@ -62,7 +62,7 @@ row-cons : (first mark : ℕ) (c : Content) (cs : Contents)
 unfolding rowText
 row-cons first mark c cs = ap (λ (x : Text). (first ∷ contentText c) ++ x) (row-continued mark cs)
 
-module _ {s : List ℕ} {at : ℕ} (q : ContentAt standard s at) where
+module _ {s : List ℕ} {at : ℕ} (q : ContentAt large s at) where
   abbrev b : ℕ
   b = getD s at 0
 
@@ -85,16 +85,16 @@ module _ {s : List ℕ} {at : ℕ} (q : ContentAt standard s at) where
       (ap contentText (sym (w .0)), sym (w .1))
 
   -- operands in brackets
-  module _ {n : ℕ} (o : ContentsAt standard s (at + 2) n) (counts : n ≡ getD s (at + 1) 0) where
+  module _ {n : ℕ} (o : ContentsAt large s (at + 2) n) (counts : n ≡ getD s (at + 1) 0) where
     bracketed : (f : Contents → Content) (mark : ℕ) → getElem? operators b ≡ just (counted f)
         → ((cs : Contents) → contentText (f cs) ≡ (0x28 ∷ separated (mark ∷ []) cs) ++ (0x29 ∷ []))
-        → ((cs : Contents) → isProper standard (f cs) ≡ true → 2 ≤ operandCount cs)
+        → ((cs : Contents) → isProper large (f cs) ≡ true → 2 ≤ operandCount cs)
         → (contentText (q .content) ≡ rowText 0x28 mark (o .contents) ++ (0x29 ∷ [])) × (o .next ≡ q .next)
     bracketed f mark i text two =
         let w = counted-was s at (q .content) (q .next) (q .stands) f i in
         let cs = w .0 in
         let p = same-placed (sym (w .1) ∙ ap (exprsAt s (at + 2)) (sym counts) ∙ o .stand) in
-        let some = two cs (ap (isProper standard) (w .2) ∙ q .proper) in (
+        let some = two cs (ap (isProper large) (w .2) ∙ q .proper) in (
           ap contentText (sym (w .2))
               ∙ text cs
               ∙ ap (λ (x : Text). x ++ (0x29 ∷ [])) (row-separated 0x28 mark cs some)
@@ -111,16 +111,16 @@ module _ {s : List ℕ} {at : ℕ} (q : ContentAt standard s at) where
             → (contentText (q .content) ≡ rowText 0x28 (markOf b) (o .contents) ++ (0x29 ∷ [])) × (o .next ≡ q .next)
         go zero e =
             let z : b ≡ 3 = omega arith in
-            let r = bracketed sequence 0x2C (ap (getElem? operators) z ∙ operator-sequence) (λ cs. refl) (λ cs p. proper-sequence standard cs p .0) in
+            let r = bracketed sequence 0x2C (ap (getElem? operators) z ∙ operator-sequence) (λ cs. refl) (λ cs p. proper-sequence large cs p .0) in
             (r .0 ∙ ap (λ (m : ℕ). rowText 0x28 m (o .contents) ++ (0x29 ∷ [])) (sym (ap markOf z)), r .1)
         go (suc zero) e =
             let z : b ≡ 4 = omega arith in
-            let r = bracketed choice 0x7C (ap (getElem? operators) z ∙ operator-choice) (λ cs. refl) (λ cs p. proper-choice standard cs p .0) in
+            let r = bracketed choice 0x7C (ap (getElem? operators) z ∙ operator-choice) (λ cs. refl) (λ cs p. proper-choice large cs p .0) in
             (r .0 ∙ ap (λ (m : ℕ). rowText 0x28 m (o .contents) ++ (0x29 ∷ [])) (sym (ap markOf z)), r .1)
         go (suc (suc k)) e = absurd (omega arith)
 
   -- one operand and a mark
-  module _ (o : ContentAt standard s (at + 1)) where
+  module _ (o : ContentAt large s (at + 1)) where
     suffixed : (f : Content → Content) (mark : ℕ) → getElem? operators b ≡ just (single f)
         → ((c : Content) → contentText (f c) ≡ contentText c ++ (mark ∷ [])) → markOf b ≡ mark
         → (contentText (q .content) ≡ contentText (o .content) ++ (markOf b ∷ [])) × (o .next ≡ q .next)
@@ -139,7 +139,7 @@ module _ {s : List ℕ} {at : ℕ} (q : ContentAt standard s at) where
     suffix-text low = go (b - 5) refl
       where
         high : b ≤ 7
-        high = content-inside standard s at q .1
+        high = content-inside large s at q .1
 
         go : (k : ℕ) → b - 5 ≡ k
             → (contentText (q .content) ≡ contentText (o .content) ++ (markOf b ∷ [])) × (o .next ≡ q .next)
@@ -155,6 +155,6 @@ module _ {s : List ℕ} {at : ℕ} (q : ContentAt standard s at) where
             suffixed optional 0x3F (ap (getElem? operators) z ∙ operator-optional) (λ c. refl) (ap markOf z)
 
 -- of so many contents, the first and the others
-pub row-text : {s : List ℕ} {at n : ℕ} {q : ContentsAt standard s at n} (first mark : ℕ) (p : FirstThere standard s at n q)
+pub row-text : {s : List ℕ} {at n : ℕ} {q : ContentsAt large s at n} (first mark : ℕ) (p : FirstThere large s at n q)
     → rowText first mark (q .contents) ≡ ((first ∷ []) ++ contentText (p .first .content)) ++ rowText mark mark (p .others .contents)
 row-text first mark p = ap (rowText first mark) (p .both) ∙ row-cons first mark (p .first .content) (p .others .contents)

@@ -1,6 +1,7 @@
 -- The lines of a table that was read:
---   name-stands, name-size : a label's name ; content-asks, content-put, content-size : a rule's content
---   rule-type-is, rule-label-is, line-joined : a rule's line ; start-line-size : a start's line ; joined-place, lines-next : one line more
+--   name-stands, name-size : a label's name ; content-stands, content-asks, content-put, content-size : a rule's content
+--   rule-type-is, rule-type-size, rule-label-is, line-joined : a rule's line ; start-line-size : a start's line
+--   starts-next, lines-next : one line more
 use Prim.Native.Nat.{ℕ, _+_, _-_, _≤_, _<_}
 use native.Mathlib.Omega.{arith}
 use native.Mathlib.Numerals.{add-one}
@@ -9,18 +10,32 @@ use mathlib.Core.Path.{_≡_, sym, _∙_, ap, subst}
 use lib.ListN.{length, getD, take, length-append}
 use lib.Seq.{take-suc}
 use Rattle.grammar.specs.Lists.{joinedOf}
-use Rattle.grammar.specs.Limits.{standard}
-use Rattle.grammar.specs.Names.{Name, asciiClasses}
+use Rattle.grammar.specs.Limits.{large}
+use Rattle.grammar.specs.Names.{asciiClasses}
 use Rattle.grammar.specs.Content.{none}
 use Rattle.grammar.specs.Table.{Rule, Table}
 use Rattle.grammar.specs.ReadContent.{contentBytes}
 use Rattle.grammar.specs.WithinLimits.{ContentWithin}
 use Rattle.grammar.specs.Listing.{Text, typeText, contentText, startLine, ruleLine}
 use Rattle.theory.proofs.lists.ListLaws.{at-else, joined-end}
-use Rattle.reader.specs.declared.tables.TableIndex.{TableIndex}
 use Rattle.reader.specs.ContentAt.{ContentAt}
-use Rattle.reader.specs.TableIndex.{labelFrom, labelTo, ruleType, ruleLabel, contentFrom, contentTo, part, BytesStand, RuleAt}
+use Rattle.reader.specs.TableIndex.{
+  labelFrom,
+  labelTo,
+  startType,
+  ruleType,
+  ruleLabel,
+  contentFrom,
+  contentTo,
+  labelCount,
+  startCount,
+  ruleCount,
+  part,
+  BytesStand,
+  RuleAt,
+}
 use Rattle.reader.specs.Held.{SomeHeld}
+use Rattle.reader.proofs.TableIndexLaws.{start-at}
 use Rattle.reader.proofs.TableFoundLaws.{RuleFound, label-found-at, rule-found-at, content-in-part}
 use Rattle.union.specs.PairNumbers.{ruleNumbered}
 use Rattle.writer.specs.Writing.{Put}
@@ -29,31 +44,38 @@ use Rattle.lister_lines.specs.Printing.{Printable, Printed}
 use Rattle.lister_lines.proofs.DecimalLaws.{type-size}
 use Rattle.lister_lines.proofs.RoomLaws.{content-short}
 
-pub joined-place : {A : Type 0} (f : A → Text) (xs : List A) (i : ℕ) (d : A) → i < length xs
+joined-place : {A : Type 0} (f : A → Text) (xs : List A) (i : ℕ) (d : A) → i < length xs
     → joinedOf f (take i xs) ++ f (getD xs i d) ≡ joinedOf f (take (i + 1) xs)
 joined-place f xs i d h =
     sym (ap (λ (n : ℕ). joinedOf f (take n xs)) (add-one i) ∙ ap (joinedOf f) (take-suc xs i d h) ∙ joined-end f (take i xs) (getD xs i d))
 
-module _ {s : List ℕ} {index : TableIndex} (f : SomeHeld standard asciiClasses s index) where
+module _ {s index : List ℕ} (f : SomeHeld large asciiClasses s index) where
   abbrev g : Table
   g = f .table
 
-  module _ (l : ℕ) (h : l < index .labels) where
-    pub name-stands : BytesStand s (labelFrom index l) (labelTo index l) (getD (g .labels) l [])
-    name-stands =
+  module _ (l : ℕ) (h : l < labelCount index) where
+    pub name-stands : {from to : ℕ} → from ≡ labelFrom index l → to ≡ labelTo index l → BytesStand s from to (getD (g .labels) l [])
+    name-stands begins ends =
         let a = label-found-at (f .held .indexes) (f .held .within) l h in
-        subst (λ (n : Name). BytesStand s (labelFrom index l) (labelTo index l) n) (sym (at-else (g .labels) l [] (a .1))) (a .2)
+        rw (begins, ends, at-else (g .labels) l [] (a .1)) (a .2)
 
     pub name-size : length (getD (g .labels) l []) ≤ 63
-    unfolding standard
+    unfolding large
     name-size =
         let a = label-found-at (f .held .indexes) (f .held .within) l h in
         let e = ap length (at-else (g .labels) l [] (a .1)) in
         let b = a .3 .size in
         omega arith
 
+  pub starts-next : (i : ℕ) → i < startCount index
+      → joinedOf startLine (take i (g .starts)) ++ startLine (startType index i) ≡ joinedOf startLine (take (i + 1) (g .starts))
+  starts-next i h =
+      let x = f .held .indexes in
+      ap (λ (k : ℕ). joinedOf startLine (take i (g .starts)) ++ startLine k) (sym (at-else (g .starts) i 0 (start-at x i h)))
+      ∙ joined-place startLine (g .starts) i 0 (omega (arith, x .starts))
+
   -- a rule
-  module _ (i : ℕ) (h : i < index .rules) where
+  module _ (i : ℕ) (h : i < ruleCount index) where
     found : RuleFound s index g i
     found = rule-found-at (f .held .indexes) (f .held .within) i h
 
@@ -63,48 +85,51 @@ module _ {s : List ℕ} {index : TableIndex} (f : SomeHeld standard asciiClasses
     rule-stands : RuleAt s index i (ruleNumbered g i)
     rule-stands = subst (RuleAt s index i) rule-is (found .at)
 
-    content-within : ContentWithin standard (ruleNumbered g i .content)
-    content-within = subst (λ (r : Rule). ContentWithin standard (r .content)) rule-is (found .within .content)
+    content-within : ContentWithin large (ruleNumbered g i .content)
+    content-within = subst (λ (r : Rule). ContentWithin large (r .content)) rule-is (found .within .content)
 
     pub rule-type-is : ruleType index i ≡ ruleNumbered g i .type
     rule-type-is = rule-stands .type
 
+    pub rule-type-size : {k : ℕ} → k ≡ ruleType index i → length (typeText k) ≤ 4
+    rule-type-size {k} e = let small = found .type-below in type-size k (omega arith)
+
     pub rule-label-is : ruleLabel index i ≡ ruleNumbered g i .label
     rule-label-is = rule-stands .label
 
-    pub content-stands : BytesStand s (contentFrom index i) (contentTo index i) (contentBytes (ruleNumbered g i .content))
-    content-stands = rule-stands .content
-
     pub content-size : length (contentText (ruleNumbered g i .content)) ≤ 3071
-    unfolding standard
+    unfolding large
     content-size =
         let b = content-short (ruleNumbered g i .content) (content-within .proper) in
         let c = content-within .size in
         omega arith
 
-    abbrev content-there : ContentAt standard (part s (contentFrom index i) (contentTo index i)) 0
-    content-there =
-        record {
-          content = ruleNumbered g i .content;
-          next = contentTo index i - contentFrom index i;
-          stands = content-in-part (ruleNumbered g i .content) content-stands;
-          proper = content-within .proper;
-        }
+    module _ {from to : ℕ} (begins : from ≡ contentFrom index i) (ends : to ≡ contentTo index i) where
+      pub content-stands : BytesStand s from to (contentBytes (ruleNumbered g i .content))
+      content-stands = rw (begins, ends) (rule-stands .content)
 
-    content-room : (at room : ℕ) → at + 3071 ≤ room → at + length (contentText (ruleNumbered g i .content)) ≤ room
-    content-room at room r = let z = content-size in omega arith
+      abbrev content-there : ContentAt large (part s from to) 0
+      content-there =
+          record {
+            content = ruleNumbered g i .content;
+            next = to - from;
+            stands = content-in-part (ruleNumbered g i .content) content-stands;
+            proper = content-within .proper;
+          }
 
-    pub content-asks : {text : List ℕ} {at : ℕ} → at + 3071 ≤ length text
-        → Printable (part s (contentFrom index i) (contentTo index i)) 0 text at
-    content-asks {text} {at} r = record { there = content-there; room = content-room at (length text) r }
+      content-room : (at room : ℕ) → at + 3071 ≤ room → at + length (contentText (ruleNumbered g i .content)) ≤ room
+      content-room at room r = let z = content-size in omega arith
 
-    pub content-put : {text : List ℕ} {at : ℕ} {after : List ℕ} {r : Ends} → at + 3071 ≤ length text
-        → ((q : Printable (part s (contentFrom index i) (contentTo index i)) 0 text at)
-        → Printed text at (contentText (q .there .content)) (q .there .next) after r)
-        → Put text at (contentText (ruleNumbered g i .content)) after (r .text)
-    content-put {text} {at} r walk = walk (record { there = content-there; room = content-room at (length text) r }) .put
+      pub content-asks : {text : List ℕ} {at : ℕ} → at + 3071 ≤ length text → Printable (part s from to) 0 text at
+      content-asks {text} {at} r = record { there = content-there; room = content-room at (length text) r }
 
-    pub lines-next : joinedOf (ruleLine g) (take i (g .rules)) ++ ruleLine g (ruleNumbered g i) ≡ joinedOf (ruleLine g) (take (i + 1) (g .rules))
+      pub content-put : {text : List ℕ} {at : ℕ} {after : List ℕ} {r : Ends} → at + 3071 ≤ length text
+          → ((q : Printable (part s from to) 0 text at) → Printed text at (contentText (q .there .content)) (q .there .next) after r)
+          → Put text at (contentText (ruleNumbered g i .content)) after (r .text)
+      content-put {text} {at} r walk = walk (record { there = content-there; room = content-room at (length text) r }) .put
+
+    pub lines-next : joinedOf (ruleLine g) (take i (g .rules)) ++ ruleLine g (ruleNumbered g i)
+        ≡ joinedOf (ruleLine g) (take (i + 1) (g .rules))
     lines-next =
         joined-place (ruleLine g) (g .rules) i (record { type = 0; label = 0; content = none }) (omega (arith, f .held .indexes .rules))
 
@@ -124,6 +149,6 @@ line-joined g x k l {before} {at} {after} {end} p q w =
     (typeText k ++ (0x20 ∷ []) ++ getD (g .labels) m [] ++ (0x20 ∷ []) ++ contentText (x .content) ++ (0x0A ∷ [])) after end)
     q w)
 
-pub start-line-size : (k : ℕ) → k < 100 → length (startLine k) ≤ 10
+pub start-line-size : (k : ℕ) → k < 128 → length (startLine k) ≤ 11
 unfolding startLine
 start-line-size k h = omega (arith, type-size k h, length-append (typeText k) (0x0A ∷ []))

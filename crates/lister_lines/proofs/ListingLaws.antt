@@ -1,5 +1,6 @@
 -- What the lister prints, by what the widening call gives, where the call is lent enough: a refusal is the lister's own, and bytes read as
 -- the table that the lister prints.
+--   standard-size, standard-read : the limits that it reads with
 --   listing-refused, listing-written : by the call's outcome ; list-refused, list-inside, list-written : by its answer and the output
 use Prim.Native.Nat.{ℕ, _-_, _≤_}
 use native.Mathlib.Omega.{arith}
@@ -9,7 +10,8 @@ use lib.ListN.{length, take, drop, length-append}
 use lib.Seq.{take-append-seam}
 use lib.Dec.{ltb}
 use borrow.Author.Tests.{le-ltb}
-use Rattle.grammar.specs.Limits.{standard, inputLimit}
+use Rattle.grammar.specs.Limits.{Limits, standard, inputLimit}
+use Rattle.grammar.specs.LimitSets.{sizeLimits, limitsOf}
 use Rattle.grammar.specs.Names.{asciiClasses}
 use Rattle.grammar.specs.Tree.{Tree}
 use Rattle.grammar.specs.Table.{Table}
@@ -23,6 +25,8 @@ use Rattle.grammar.specs.WithinLimits.{TableWithin}
 use Rattle.grammar.specs.Widen.{widen}
 use Rattle.grammar.specs.Calls.{tableReads, outAfter, writtenTo, readAddition, widened, After, after, wrote}
 use Rattle.grammar.specs.Answers.{Numbers, writtenNumbers, numbersOf}
+use Rattle.grammar.specs.declared.Size.the-variants.{Standard}
+use Rattle.grammar.specs.declared.SizeLimits.{SizeLimits}
 use Rattle.grammar.specs.declared.Source.the-variants.{Document as aDocument}
 use Rattle.grammar.specs.Listing.{outcomeText, listing}
 use Rattle.grammar.specs.declared.Refusal.{Refusal}
@@ -35,10 +39,19 @@ use Rattle.theory.proofs.bytes.ReadWithin.{read-within}
 use Rattle.theory.proofs.bytes.DocumentWithin.{document-within}
 use Rattle.theory.proofs.theorems.ResultWithin.{document-result-within, document-result-read-back}
 use Rattle.theory.proofs.theorems.AnswerNumbers.{was-written, was-unwritten}
+use Rattle.theory.proofs.theorems.CallPromises.{lent-enough}
 use Rattle.reader.proofs.AnswerLaws.{never-given}
-use Rattle.reader.proofs.WorkLaws.{lent-enough}
 use Rattle.writer.specs.Writing.{Put}
 use Rattle.lister_lines.proofs.PrintSteps.{put-as}
+
+-- the limits of the standard size are those of the lister
+pub standard-size : sizeLimits Standard ≡ standard
+unfolding sizeLimits
+standard-size = refl
+
+pub standard-read : (l : SizeLimits) → limitsOf l ≡ sizeLimits Standard → (s : List ℕ)
+    → readTable (limitsOf l) asciiClasses s ≡ readTable standard asciiClasses s
+standard-read l same s = ap (λ (lim : Limits). readTable lim asciiClasses s) (same ∙ standard-size)
 
 refused-eq : {A : Type 0} {q r : Refusal} → _≡_ {A = Outcome A} (refused q) (refused r) → q ≡ r
 refused-eq e = cc
@@ -52,6 +65,10 @@ module _ (old document out work : List ℕ) (words : 16384 ≤ length work) (roo
   abbrev called : Outcome (List ℕ)
   called = widened standard asciiClasses local aDocument old document out work
 
+  enough : standard .words ≤ length work
+  unfolding standard
+  enough = words
+
   called-is : called ≡ (result >>= writtenTo out)
   unfolding widened tableReads readAddition
   called-is =
@@ -60,7 +77,7 @@ module _ (old document out work : List ℕ) (words : 16384 ≤ length work) (roo
       o
       >>= λ g. ((readDocument standard asciiClasses document >>= λ d. given (byDocument d))
       >>= λ a. (widen standard local g a >>= λ r. writtenTo out r)))
-      (lent-enough work (readTable standard asciiClasses old) words)
+      (lent-enough standard work (readTable standard asciiClasses old) enough)
       ∙ through (readTable standard asciiClasses old) (readDocument standard asciiClasses document)
     where
       through : (x : Outcome Table) (y : Outcome Tree)

@@ -5,11 +5,11 @@ use native.Mathlib.Omega.{arith}
 use mathlib.Core.List.{List, [], _∷_, _++_}
 use mathlib.Core.Path.{_≡_, refl, sym, _∙_, ap, subst}
 use lib.ListN.{length, getD, length-append}
-use Rattle.grammar.specs.Limits.{standard}
+use Rattle.grammar.specs.Limits.{large}
 use Rattle.grammar.specs.Listing.{Text, typeText, contentText}
 use Rattle.reader.specs.ExprAt.{exprsAt}
 use Rattle.reader.specs.ContentAt.{ContentAt, ContentsAt}
-use Rattle.reader.proofs.ContentAtLaws.{FirstThere, type-there, operands-there, operand-there, first-of, none-there}
+use Rattle.reader.proofs.ContentAtLaws.{FirstThere, operands-there, operand-there, first-of, none-there}
 use Rattle.writer.specs.Writing.{Put}
 use Rattle.writer.proofs.PutLaws.{put-length, put-join, put-none}
 use Rattle.lister_lines.specs.declared.content_text.Ends.{Ends}
@@ -28,7 +28,7 @@ pub put-as : {before : List ℕ} {at : ℕ} {x y : Text} {after : List ℕ} {r :
 put-as {before} {at} {x} {y} {after} {r} e p = subst (λ (z : Text). Put before at z after r) e p
 
 -- so many contents from the same place, told otherwise
-abbrev moved : {s : List ℕ} {at to m n : ℕ} → at ≡ to → m ≡ n → ContentsAt standard s at m → ContentsAt standard s to n
+abbrev moved : {s : List ℕ} {at to m n : ℕ} → at ≡ to → m ≡ n → ContentsAt large s at m → ContentsAt large s to n
 moved {s} {at} {to} {m} {n} e h q =
     record {
       contents = q .contents;
@@ -67,13 +67,11 @@ module _ {s : List ℕ} {at : ℕ} {text : List ℕ} {end : ℕ} (q : Printable 
     type-is : contentText (q .there .content) ≡ typeText k
     type-is = type-text (q .there) e .0 ∙ ap typeText (sym same)
 
-    pub type-asks : (k < 100) × (end + length (typeText k) ≤ length text)
-    unfolding standard
-    type-asks =
-        let small = type-there standard s at (q .there) e .1 in
+    pub type-room : end + length (typeText k) ≤ length text
+    type-room =
         let l = ap length type-is in
         let h = q .room in
-        (omega arith, omega arith)
+        omega arith
 
     pub type-done : {after : List ℕ} {r : ℕ} → Put text end (typeText k) after r
         → Printed text end (contentText (q .there .content)) (q .there .next) after (record { content = at + 2; text = r })
@@ -82,8 +80,8 @@ module _ {s : List ℕ} {at : ℕ} {text : List ℕ} {end : ℕ} (q : Printable 
   -- operands in brackets
   module _ (low : 3 ≤ getD s at 0) (high : getD s at 0 ≤ 4) (n : ℕ) (counts : n ≡ getD s (at + 1) 0) (mark : ℕ)
       (marks : mark ≡ markOf (getD s at 0)) where
-    list-there : ContentsAt standard s (at + 2) n
-    list-there = moved refl (sym counts) (operands-there standard s at (q .there) low high)
+    list-there : ContentsAt large s (at + 2) n
+    list-there = moved refl (sym counts) (operands-there large s at (q .there) low high)
 
     list-is : contentText (q .there .content) ≡ rowText 0x28 mark (list-there .contents) ++ (0x29 ∷ [])
     list-is =
@@ -123,8 +121,8 @@ module _ {s : List ℕ} {at : ℕ} {text : List ℕ} {end : ℕ} (q : Printable 
 
   -- one operand and its mark
   module _ (low : 5 ≤ getD s at 0) (mark : ℕ) (marks : mark ≡ markOf (getD s at 0)) where
-    operand : ContentAt standard s (at + 1)
-    operand = operand-there standard s at (q .there) low
+    operand : ContentAt large s (at + 1)
+    operand = operand-there large s at (q .there) low
 
     operand-is : contentText (q .there .content) ≡ contentText (operand .content) ++ (mark ∷ [])
     operand-is =
@@ -166,13 +164,13 @@ module _ {s : List ℕ} {at n first mark : ℕ} {text : List ℕ} {end : ℕ} (q
       → Printed text end (rowText first mark (q .there .contents)) (q .there .next) text (record { content = at; text = end })
   unfolding rowText
   row-end e =
-      let w = none-there standard s at n (q .there) e in
+      let w = none-there large s at n (q .there) e in
       let h = q .room in
       record { content = w .1; put = put-as (sym (ap (rowText first mark) (w .0))) (put-none text end (omega arith)) }
 
   module _ (some : n ≡ 0 → ⊥) where
-    parts : FirstThere standard s at n (q .there)
-    parts = first-of standard s at n (q .there) some
+    parts : FirstThere large s at n (q .there)
+    parts = first-of large s at n (q .there) some
 
     row-room : end + 1 + length (contentText (parts .first .content)) + length (rowText mark mark (parts .others .contents)) ≤ length text
     row-room =

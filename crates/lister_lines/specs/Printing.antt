@@ -3,12 +3,11 @@ use Prim.Native.Nat.{ℕ, _+_, _≤_}
 use mathlib.Core.List.{List, [], _∷_, _++_}
 use mathlib.Core.Path.{_≡_}
 use lib.ListN.{length, getD}
-use Rattle.grammar.specs.Limits.{standard}
+use Rattle.grammar.specs.Limits.{large}
 use Rattle.grammar.specs.Names.{asciiClasses}
 use Rattle.grammar.specs.Content.{Contents, []ᶜ, _∷ᶜ_}
 use Rattle.grammar.specs.Table.{Table}
 use Rattle.grammar.specs.Listing.{Text, contentText, continued}
-use Rattle.reader.specs.declared.tables.TableIndex.{TableIndex}
 use Rattle.reader.specs.ContentAt.{ContentAt, ContentsAt}
 use Rattle.reader.specs.Held.{SomeHeld}
 use Rattle.writer.specs.Writing.{Put}
@@ -26,12 +25,12 @@ rowText first mark (c ∷ᶜ cs) = (first ∷ contentText c) ++ continued (mark 
 
 -- A proper content stands at a place, and there is room for its text.
 pub record Printable (content : List ℕ) (at : ℕ) (text : List ℕ) (end : ℕ) : Type 0 where
-  pub there : ContentAt standard content at
+  pub there : ContentAt large content at
   pub room : end + length (contentText (there .content)) ≤ length text
 
 -- the same for so many, one after the other
 pub record RowPrintable (content : List ℕ) (at n first mark : ℕ) (text : List ℕ) (end : ℕ) : Type 0 where
-  pub there : ContentsAt standard content at n
+  pub there : ContentsAt large content at n
   pub room : end + length (rowText first mark (there .contents)) ≤ length text
 
 -- These bytes are written, and the walk goes on at the next place.
@@ -40,7 +39,7 @@ pub record Printed (before : List ℕ) (at : ℕ) (bytes : Text) (next : ℕ) (a
   pub put : Put before at bytes after (r .text)
 
 -- This text of the table that was read is written, and it is no longer than so much.
-pub record TextPut (s : List ℕ) (index : TableIndex) (words : Table → Text) (most : ℕ) (before : List ℕ) (at : ℕ) (after : List ℕ)
+pub record TextPut (s index : List ℕ) (words : Table → Text) (most : ℕ) (before : List ℕ) (at : ℕ) (after : List ℕ)
     (r : ℕ) : Type 0 where
-  pub put : (f : SomeHeld standard asciiClasses s index) → Put before at (words (f .table)) after r
+  pub put : (f : SomeHeld large asciiClasses s index) → Put before at (words (f .table)) after r
   pub short : r ≤ at + most

@@ -24,21 +24,21 @@ pub fn put_bytes(text: &mut [u8], at: usize, bytes: &[u8]) -> usize
     at + bytes.len()
 }
 
-// A number of one or two digits.
+// A number, its last digit after the others.
 pub fn put_decimal(text: &mut [u8], at: usize, k: usize) -> usize
-    requires { ⌜ (k < 100) × (at + length (decimal k) ≤ length (now text)) ⌝ }
+    requires { ⌜ at + length (decimal k) ≤ length (now text) ⌝ }
     ensures { λ r. ⌜ Put (now (text .entry)) at (decimal k) (now (text .exit)) r ⌝ }
 {
     if k < 10 {
         return put_byte(text, at, (48 + k) as u8);
     }
-    let ones = put_byte(text, at, (48 + k / 10) as u8);
-    put_byte(text, ones, (48 + k % 10) as u8)
+    let last = put_decimal(text, at, k / 10);
+    put_byte(text, last, (48 + k % 10) as u8)
 }
 
 // A type.
 pub fn put_type(text: &mut [u8], at: usize, k: usize) -> usize
-    requires { ⌜ (k < 100) × (at + length (typeText k) ≤ length (now text)) ⌝ }
+    requires { ⌜ at + length (typeText k) ≤ length (now text) ⌝ }
     ensures { λ r. ⌜ Put (now (text .entry)) at (typeText k) (now (text .exit)) r ⌝ }
 {
     let number = put_byte(text, at, b't');

@@ -1,28 +1,32 @@
 -- `list` meets its contract: the call's refusal, or the bytes that it wrote.
 use borrow.Author.Needs.{needs}
-use Rattle.lister_lines.proofs.ListingLaws.{list-refused, list-inside, list-written}
+use Rattle.theory.proofs.theorems.SizedPromises.{widening-sized}
+use Rattle.lister_lines.proofs.ListingLaws.{standard-size, list-refused, list-inside, list-written}
 use Rattle.lister_folder.proofs.list.Statement.{statement}
 use Rattle.lister_folder.proofs.list.Tie as tie
 
 part-list-bytes-end : tie.Need-part-list-bytes-end
 part-list-bytes-end c =
-    let a = c .before .before .before .before .before .before .before .before .before .before .before .before .before .before .before .before .args in
-    let w = c .before .before .before .before .before .before .before .before .widen-local-by-document .ensures in
-    list-inside (a .old .now) (a .document .now) (a .out .now) (a .work .now) (c .before .before .before .before .before .before .before .before .before .before .before .before .before .before .before .before .pre .1) (c .before .before .before .before .before .before .before .before .before .before .before .before .before .before .before .before .pre .0) _ _ _ (w .settled)
+    let start = c .before .before .before .before .before .before .before .before .before .before .before .before .before .before .before .before in
+    let a = start .args in
+    let w = widening-sized standard-size (c .before .before .before .before .before .before .before .before .widen-local-by-document .ensures) in
+    list-inside (a .old .now) (a .document .now) (a .out .now) (a .work .now) (start .pre .1) (start .pre .0) _ _ _ (w .settled)
     _ (c .before .before .n .given .1)
 
 returns : tie.Need-returns
 returns c =
-    let a = c .before .before .before .before .before .before .before .before .before .before .before .before .before .before .before .before .before .before .before .args in
-    let w = c .before .before .before .before .before .before .before .before .before .before .before .widen-local-by-document .ensures in
-    list-refused (a .old .now) (a .document .now) (a .out .now) (a .work .now) (c .before .before .before .before .before .before .before .before .before .before .before .before .before .before .before .before .before .before .before .pre .1) (c .before .before .before .before .before .before .before .before .before .before .before .before .before .before .before .before .before .before .before .pre .0) _ _ _ (w .settled)
+    let start = c .before .before .before .before .before .before .before .before .before .before .before .before .before .before .before .before .before .before .before in
+    let a = start .args in
+    let w = widening-sized standard-size (c .before .before .before .before .before .before .before .before .before .before .before .widen-local-by-document .ensures) in
+    list-refused (a .old .now) (a .document .now) (a .out .now) (a .work .now) (start .pre .1) (start .pre .0) _ _ _ (w .settled)
     _ (c .before .before .before .before .before .refusal .given .1) (c .before .before .refusal-line .ensures)
 
 returns-2 : tie.Need-returns-2
 returns-2 c =
-    let a = c .before .before .before .before .before .before .before .before .before .before .before .before .before .before .before .before .before .before .before .before .before .args in
-    let w = c .before .before .before .before .before .before .before .before .before .before .before .before .before .widen-local-by-document .ensures in
-    list-written (a .old .now) (a .document .now) (a .out .now) (a .work .now) (c .before .before .before .before .before .before .before .before .before .before .before .before .before .before .before .before .before .before .before .before .before .pre .1) (c .before .before .before .before .before .before .before .before .before .before .before .before .before .before .before .before .before .before .before .before .before .pre .0) _ _ _ (w .settled)
+    let start = c .before .before .before .before .before .before .before .before .before .before .before .before .before .before .before .before .before .before .before .before .before in
+    let a = start .args in
+    let w = widening-sized standard-size (c .before .before .before .before .before .before .before .before .before .before .before .before .before .widen-local-by-document .ensures) in
+    list-written (a .old .now) (a .document .now) (a .out .now) (a .work .now) (start .pre .1) (start .pre .0) _ _ _ (w .settled)
     _ (c .before .before .before .before .before .before .before .n .given .1) (c .before .before .list-bytes .ensures)
 
 pub list-spec : {M : Type 1} → statement M

@@ -29,7 +29,7 @@ list-folder-spec =
     (λ c. search needs)
     (λ c. search needs)
     (λ c. search needs)
-    (λ c κs. search needs)
+    (λ c κs. (omega arith, omega arith, omega arith))
     (λ c. search needs)
     (λ c. search needs)
     part-write-all-end

@@ -7,7 +7,7 @@ use lib.ListN.{length, getD}
 use borrow.Author.Needs.{needs}
 use borrow.Fn.Kinds.{In}
 use borrow.Fn.PlainCycle.{Measures, is, falls, and}
-use Rattle.grammar.specs.Limits.{standard}
+use Rattle.grammar.specs.Limits.{large}
 use Rattle.reader.proofs.ContentAtLaws.{content-inside, type-there, count-there}
 use Rattle.lister_lines.specs.Printing.{markOf}
 use Rattle.lister_lines.proofs.PrintSteps.{
@@ -15,7 +15,7 @@ use Rattle.lister_lines.proofs.PrintSteps.{
   none-done,
   empty-room,
   empty-done,
-  type-asks,
+  type-room,
   type-done,
   list-asks,
   list-mark,
@@ -90,7 +90,7 @@ put-row-calls t = (put-byte-reads.Asked, put-byte-reads.Learnt, put-content-belo
 
 put-content-shared-slice-read-wide : (t : ℕ) → put-content-lts.Need-shared-slice-read-wide (put-content-calls t) (put-content-at t) put-content.Post
 put-content-shared-slice-read-wide t c =
-    content-inside standard _ _ (c .before .before .before .pre .1 .there) .0
+    content-inside large _ _ (c .before .before .before .pre .1 .there) .0
 
 put-content-wide-requires : (t : ℕ) → put-content-lts.Need-wide-requires (put-content-calls t) (put-content-at t) put-content.Post
 put-content-wide-requires t c κs =
@@ -102,7 +102,7 @@ put-content-put-byte-requires t c κs =
 
 put-content-add-t20 : (t : ℕ) → put-content-lts.Need-add-t20 (put-content-calls t) (put-content-at t) put-content.Post
 put-content-add-t20 t c =
-    let i = content-inside standard _ _ (c .before .before .before .before .before .before .before .before .before .pre .1 .there) in
+    let i = content-inside large _ _ (c .before .before .before .before .before .before .before .before .before .pre .1 .there) in
     omega arith
 
 put-content-slice-aggregate-put-bytes : (t : ℕ) → put-content-lts.Need-slice-aggregate-put-bytes (put-content-calls t) (put-content-at t) put-content.Post
@@ -115,17 +115,17 @@ put-content-put-bytes-requires t c κs =
 
 put-content-add-t25 : (t : ℕ) → put-content-lts.Need-add-t25 (put-content-calls t) (put-content-at t) put-content.Post
 put-content-add-t25 t c =
-    let i = content-inside standard _ _ (c .before .before .before .before .before .before .before .before .before .before .pre .1 .there) in
+    let i = content-inside large _ _ (c .before .before .before .before .before .before .before .before .before .before .pre .1 .there) in
     omega arith
 
 put-content-add-wide : (t : ℕ) → put-content-lts.Need-add-wide (put-content-calls t) (put-content-at t) put-content.Post
 put-content-add-wide t c =
-    let i = content-inside standard _ _ (c .before .before .before .before .before .before .pre .1 .there) in
+    let i = content-inside large _ _ (c .before .before .before .before .before .before .pre .1 .there) in
     omega arith
 
 put-content-shared-slice-read-wide-2 : (t : ℕ) → put-content-lts.Need-shared-slice-read-wide-2 (put-content-calls t) (put-content-at t) put-content.Post
 put-content-shared-slice-read-wide-2 t c =
-    type-there standard _ _ (c .before .before .before .before .before .before .before .pre .1 .there) (sym (c .before .before .before .wide .ensures .0) ∙ c .before .before .match .keys3) .0
+    type-there large _ _ (c .before .before .before .before .before .before .before .pre .1 .there) (sym (c .before .before .before .wide .ensures .0) ∙ c .before .before .match .keys3) .0
 
 put-content-wide-requires-2 : (t : ℕ) → put-content-lts.Need-wide-requires-2 (put-content-calls t) (put-content-at t) put-content.Post
 put-content-wide-requires-2 t c κs =
@@ -133,16 +133,16 @@ put-content-wide-requires-2 t c κs =
 
 put-content-put-type-requires : (t : ℕ) → put-content-lts.Need-put-type-requires (put-content-calls t) (put-content-at t) put-content.Post
 put-content-put-type-requires t c κs =
-    type-asks (c .before .before .before .before .before .before .before .before .pre .1) (sym (c .before .before .before .before .wide .ensures .0) ∙ c .before .before .before .match .keys3) _ (c .wide2 .ensures .0)
+    type-room (c .before .before .before .before .before .before .before .before .pre .1) (sym (c .before .before .before .before .wide .ensures .0) ∙ c .before .before .before .match .keys3) _ (c .wide2 .ensures .0)
 
 put-content-add-t28 : (t : ℕ) → put-content-lts.Need-add-t28 (put-content-calls t) (put-content-at t) put-content.Post
 put-content-add-t28 t c =
-    let i = type-there standard _ _ (c .before .before .before .before .before .before .before .before .before .before .before .pre .1 .there) (sym (c .before .before .before .before .before .before .before .wide .ensures .0) ∙ c .before .before .before .before .before .before .match .keys3) in
+    let i = type-there large _ _ (c .before .before .before .before .before .before .before .before .before .before .before .pre .1 .there) (sym (c .before .before .before .before .before .before .before .wide .ensures .0) ∙ c .before .before .before .before .before .before .match .keys3) in
     omega arith
 
 put-content-add-wide-2 : (t : ℕ) → put-content-lts.Need-add-wide-2 (put-content-calls t) (put-content-at t) put-content.Post
 put-content-add-wide-2 t c =
-    let i = content-inside standard _ _ (c .before .before .before .before .before .before .pre .1 .there) in
+    let i = content-inside large _ _ (c .before .before .before .before .before .before .pre .1 .there) in
     omega arith
 
 put-content-shared-slice-read-wide-3 : (t : ℕ) → put-content-lts.Need-shared-slice-read-wide-3 (put-content-calls t) (put-content-at t) put-content.Post
@@ -156,7 +156,7 @@ put-content-shared-slice-read-wide-3 t c =
     let n0 = r .0 .0 .1 in
     let low : 3 ≤ getD (start .args .content .now) (start .args .at) 0 = omega arith in
     let high : getD (start .args .content .now) (start .args .at) 0 ≤ 4 = omega arith in
-    count-there standard _ _ (start .pre .1 .there) low high
+    count-there large _ _ (start .pre .1 .there) low high
 
 put-content-wide-requires-3 : (t : ℕ) → put-content-lts.Need-wide-requires-3 (put-content-calls t) (put-content-at t) put-content.Post
 put-content-wide-requires-3 t c κs =
@@ -178,7 +178,7 @@ put-content-add-put-row t c =
     let n0 = r .0 .0 .1 in
     let low : 3 ≤ getD (start .args .content .now) (start .args .at) 0 = omega arith in
     let high : getD (start .args .content .now) (start .args .at) 0 ≤ 4 = omega arith in
-    let i = count-there standard _ _ (start .pre .1 .there) low high in
+    let i = count-there large _ _ (start .pre .1 .there) low high in
     omega arith
 
 put-content-put-row-requires : (t : ℕ) → put-content-lts.Need-put-row-requires (put-content-calls t) (put-content-at t) put-content.Post
@@ -192,7 +192,7 @@ put-content-put-row-requires t c κs =
     let n0 = r .0 .0 .1 in
     let low : 3 ≤ getD (start .args .content .now) (start .args .at) 0 = omega arith in
     let high : getD (start .args .content .now) (start .args .at) 0 ≤ 4 = omega arith in
-    let i = count-there standard _ _ (start .pre .1 .there) low high in
+    let i = count-there large _ _ (start .pre .1 .there) low high in
     let m = start .pre .0 in
     (omega arith, list-asks (start .pre .1) low high _ (c .before .before .wide3 .ensures .0) _ (c .before .mark-of .ensures ∙ ap markOf (c .before .before .before .before .before .before .wide .ensures .0)))
 
@@ -211,13 +211,13 @@ put-content-marked-requires t c κs =
 
 put-content-mark-of-requires-2 : (t : ℕ) → put-content-lts.Need-mark-of-requires-2 (put-content-calls t) (put-content-at t) put-content.Post
 put-content-mark-of-requires-2 t c κs =
-    let i = content-inside standard _ _ (c .before .before .before .before .before .before .pre .1 .there) .1 in
+    let i = content-inside large _ _ (c .before .before .before .before .before .before .pre .1 .there) .1 in
     let e = c .before .before .wide .ensures .0 in
     omega arith
 
 put-content-add-put-content : (t : ℕ) → put-content-lts.Need-add-put-content (put-content-calls t) (put-content-at t) put-content.Post
 put-content-add-put-content t c =
-    let i = content-inside standard _ _ (c .before .before .before .before .before .before .before .pre .1 .there) in
+    let i = content-inside large _ _ (c .before .before .before .before .before .before .before .pre .1 .there) in
     omega arith
 
 put-content-put-content-requires : (t : ℕ) → put-content-lts.Need-put-content-requires (put-content-calls t) (put-content-at t) put-content.Post
@@ -226,7 +226,7 @@ put-content-put-content-requires t c κs =
     let e = c .before .before .before .before .wide .ensures .0 in
     let x = c .before .before .if1 .left in
     let low : 5 ≤ getD (start .args .content .now) (start .args .at) 0 = omega arith in
-    let i = content-inside standard _ _ (start .pre .1 .there) .0 in
+    let i = content-inside large _ _ (start .pre .1 .there) .0 in
     let m = start .pre .0 in
     (omega arith, operand-asks (start .pre .1) low _ (c .before .mark-of2 .ensures ∙ ap markOf (c .before .before .before .before .wide .ensures .0)))
 

@@ -5,53 +5,55 @@ use borrow.Author.Needs.{needs}
 use Rattle.reader.proofs.TableFoundLaws.{rule-found-at}
 use Rattle.union.specs.PairNumbers.{ruleNumbered}
 use Rattle.writer.proofs.PutLaws.{put-join}
-use Rattle.lister_lines.proofs.DecimalLaws.{type-size}
-use Rattle.lister_lines.proofs.LineLaws.{rule-type-is, rule-label-is, line-joined}
+use Rattle.lister_lines.proofs.LineLaws.{rule-type-is, rule-type-size, rule-label-is, line-joined}
 use Rattle.lister_lines.proofs.lines.put_rule_line.Statement.{statement}
 use Rattle.lister_lines.proofs.lines.put_rule_line.Tie as tie
 
+rule-type-requires : tie.Need-rule-type-requires
+rule-type-requires c κs =
+    let few = c .before .before .before .pre .0 .held .indexes .few-rules in
+    let h = c .before .before .before .pre .1 in
+    omega arith
+
 put-type-requires : tie.Need-put-type-requires
 put-type-requires c κs =
-    let pre = c .before .before .before .before .before .before .pre in
-    let small = rule-found-at (pre .0 .held .indexes) (pre .0 .held .within) _ (pre .1) .type-below in
-    let e = c .wide .ensures .0 in
-    let n = type-size (c .wide .result) (omega arith) in
+    let pre = c .before .before .before .before .pre in
+    let n = rule-type-size (pre .0) _ (pre .1) (c .rule-type .ensures) in
     let h = pre .2 in
-    (omega arith, omega arith)
+    omega arith
 
 put-byte-requires : tie.Need-put-byte-requires
 put-byte-requires c κs =
-    let pre = c .before .before .before .before .before .before .before .before .before .before .pre in
-    let small = rule-found-at (pre .0 .held .indexes) (pre .0 .held .within) _ (pre .1) .type-below in
-    let e = c .before .before .before .before .wide .ensures .0 in
-    let n = type-size (c .before .before .before .before .wide .result) (omega arith) in
+    let pre = c .before .before .before .before .before .before .before .before .pre in
+    let n = rule-type-size (pre .0) _ (pre .1) (c .before .before .before .before .rule-type .ensures) in
     let h = pre .2 in
     let a = c .before .before .before .put-type .ensures .next-is in
     let b = c .before .before .before .put-type .kept .0 in
     omega arith
 
+rule-label-requires : tie.Need-rule-label-requires
+rule-label-requires c κs =
+    let few = c .before .before .before .before .before .before .before .before .before .before .before .pre .0 .held .indexes .few-rules in
+    let h = c .before .before .before .before .before .before .before .before .before .before .before .pre .1 in
+    omega arith
+
 put-name-requires : tie.Need-put-name-requires
 put-name-requires c κs =
-    let pre = c .before .before .before .before .before .before .before .before .before .before .before .before .before .before .before .pre in
-    let rule = rule-found-at (pre .0 .held .indexes) (pre .0 .held .within) _ (pre .1) in
-    let small = rule .type-below in
-    let label = rule .label-below in
-    let e = c .before .before .before .before .before .before .before .before .before .wide .ensures .0 in
-    let m = c .before .wide2 .ensures .0 in
-    let n = type-size (c .before .before .before .before .before .before .before .before .before .wide .result) (omega arith) in
+    let pre = c .before .before .before .before .before .before .before .before .before .before .before .before .before .pre in
+    let label = rule-found-at (pre .0 .held .indexes) (pre .0 .held .within) _ (pre .1) .label-below in
+    let m = c .before .rule-label .ensures in
+    let n = rule-type-size (pre .0) _ (pre .1) (c .before .before .before .before .before .before .before .before .before .rule-type .ensures) in
     let h = pre .2 in
     let a1 = c .before .before .before .before .before .before .before .before .put-type .ensures .next-is in
     let b1 = c .before .before .before .before .before .before .before .before .put-type .kept .0 in
     let a2 = c .before .before .before .before .put-byte .ensures .next-is in
     let b2 = c .before .before .before .before .put-byte .kept .0 in
-    (c .before .before .before .before .before .before .before .before .before .before .before .before .before .before .before .pre .0, omega arith, omega arith)
+    (c .before .before .before .before .before .before .before .before .before .before .before .before .before .pre .0, omega arith, omega arith)
 
 put-byte-requires-2 : tie.Need-put-byte-requires-2
 put-byte-requires-2 c κs =
-    let pre = c .before .before .before .before .before .before .before .before .before .before .before .before .before .before .before .before .before .before .before .pre in
-    let small = rule-found-at (pre .0 .held .indexes) (pre .0 .held .within) _ (pre .1) .type-below in
-    let e = c .before .before .before .before .before .before .before .before .before .before .before .before .before .wide .ensures .0 in
-    let n = type-size (c .before .before .before .before .before .before .before .before .before .before .before .before .before .wide .result) (omega arith) in
+    let pre = c .before .before .before .before .before .before .before .before .before .before .before .before .before .before .before .before .before .pre in
+    let n = rule-type-size (pre .0) _ (pre .1) (c .before .before .before .before .before .before .before .before .before .before .before .before .before .rule-type .ensures) in
     let h = pre .2 in
     let a1 = c .before .before .before .before .before .before .before .before .before .before .before .before .put-type .ensures .next-is in
     let b1 = c .before .before .before .before .before .before .before .before .before .before .before .before .put-type .kept .0 in
@@ -63,10 +65,8 @@ put-byte-requires-2 c κs =
 
 put-rule-content-requires : tie.Need-put-rule-content-requires
 put-rule-content-requires c κs =
-    let pre = c .before .before .before .before .before .before .before .before .before .before .before .before .before .before .before .before .before .before .before .before .before .before .before .pre in
-    let small = rule-found-at (pre .0 .held .indexes) (pre .0 .held .within) _ (pre .1) .type-below in
-    let e = c .before .before .before .before .before .before .before .before .before .before .before .before .before .before .before .before .before .wide .ensures .0 in
-    let n = type-size (c .before .before .before .before .before .before .before .before .before .before .before .before .before .before .before .before .before .wide .result) (omega arith) in
+    let pre = c .before .before .before .before .before .before .before .before .before .before .before .before .before .before .before .before .before .before .before .before .before .pre in
+    let n = rule-type-size (pre .0) _ (pre .1) (c .before .before .before .before .before .before .before .before .before .before .before .before .before .before .before .before .before .rule-type .ensures) in
     let h = pre .2 in
     let a1 = c .before .before .before .before .before .before .before .before .before .before .before .before .before .before .before .before .put-type .ensures .next-is in
     let b1 = c .before .before .before .before .before .before .before .before .before .before .before .before .before .before .before .before .put-type .kept .0 in
@@ -76,14 +76,12 @@ put-rule-content-requires c κs =
     let b3 = c .before .before .before .before .before .before .before .put-name .kept .1 .1 .1 .0 in
     let a4 = c .before .before .before .put-byte2 .ensures .next-is in
     let b4 = c .before .before .before .put-byte2 .kept .0 in
-    (c .before .before .before .before .before .before .before .before .before .before .before .before .before .before .before .before .before .before .before .before .before .before .before .pre .0, c .before .before .before .before .before .before .before .before .before .before .before .before .before .before .before .before .before .before .before .before .before .before .before .pre .1, omega arith)
+    (c .before .before .before .before .before .before .before .before .before .before .before .before .before .before .before .before .before .before .before .before .before .pre .0, c .before .before .before .before .before .before .before .before .before .before .before .before .before .before .before .before .before .before .before .before .before .pre .1, omega arith)
 
 put-byte-requires-3 : tie.Need-put-byte-requires-3
 put-byte-requires-3 c κs =
-    let pre = c .before .before .before .before .before .before .before .before .before .before .before .before .before .before .before .before .before .before .before .before .before .before .before .before .before .before .before .pre in
-    let small = rule-found-at (pre .0 .held .indexes) (pre .0 .held .within) _ (pre .1) .type-below in
-    let e = c .before .before .before .before .before .before .before .before .before .before .before .before .before .before .before .before .before .before .before .before .before .wide .ensures .0 in
-    let n = type-size (c .before .before .before .before .before .before .before .before .before .before .before .before .before .before .before .before .before .before .before .before .before .wide .result) (omega arith) in
+    let pre = c .before .before .before .before .before .before .before .before .before .before .before .before .before .before .before .before .before .before .before .before .before .before .before .before .before .pre in
+    let n = rule-type-size (pre .0) _ (pre .1) (c .before .before .before .before .before .before .before .before .before .before .before .before .before .before .before .before .before .before .before .before .before .rule-type .ensures) in
     let h = pre .2 in
     let a1 = c .before .before .before .before .before .before .before .before .before .before .before .before .before .before .before .before .before .before .before .before .put-type .ensures .next-is in
     let b1 = c .before .before .before .before .before .before .before .before .before .before .before .before .before .before .before .before .before .before .before .before .put-type .kept .0 in
@@ -99,12 +97,11 @@ put-byte-requires-3 c κs =
 
 returns : tie.Need-returns
 returns c =
-    let start = c .before .before .before .before .before .before .before .before .before .before .before .before .before .before .before .before .before .before .before .before .before .before .before .before .before .before .before .before .before .before in
+    let start = c .before .before .before .before .before .before .before .before .before .before .before .before .before .before .before .before .before .before .before .before .before .before .before .before .before .before .before .before in
     let h = start .pre .1 in
-    let small = rule-found-at (start .pre .0 .held .indexes) (start .pre .0 .held .within) _ h .type-below in
-    let e = c .before .before .before .before .before .before .before .before .before .before .before .before .before .before .before .before .before .before .before .before .before .before .before .before .wide .ensures .0 in
-    let m = c .before .before .before .before .before .before .before .before .before .before .before .before .before .before .before .before .wide2 .ensures .0 in
-    let n = type-size (c .before .before .before .before .before .before .before .before .before .before .before .before .before .before .before .before .before .before .before .before .before .before .before .before .wide .result) (omega arith) in
+    let e = c .before .before .before .before .before .before .before .before .before .before .before .before .before .before .before .before .before .before .before .before .before .before .before .before .rule-type .ensures in
+    let m = c .before .before .before .before .before .before .before .before .before .before .before .before .before .before .before .before .rule-label .ensures in
+    let n = rule-type-size (start .pre .0) _ h e in
     let typed = c .before .before .before .before .before .before .before .before .before .before .before .before .before .before .before .before .before .before .before .before .before .before .before .put-type .ensures in
     let gap = c .before .before .before .before .before .before .before .before .before .before .before .before .before .before .before .before .before .before .before .put-byte .ensures in
     let named = c .before .before .before .before .before .before .before .before .before .before .before .before .before .before .put-name .ensures in
@@ -129,12 +126,10 @@ pub put-rule-line-spec : {M : Type 1} → statement M
 put-rule-line-spec =
     tie.close
     (tie.spec
-    (λ c. search needs)
-    (λ c κs. search needs)
+    rule-type-requires
     put-type-requires
     put-byte-requires
-    (λ c. search needs)
-    (λ c κs. search needs)
+    rule-label-requires
     put-name-requires
     put-byte-requires-2
     put-rule-content-requires

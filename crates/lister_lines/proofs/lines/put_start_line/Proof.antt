@@ -13,7 +13,7 @@ put-type-requires c κs =
     let e = c .before .before .before .put-bytes .ensures .next-is in
     let l = c .before .before .before .put-bytes .kept .0 in
     let h = c .before .before .before .before .before .before .before .pre .1 in
-    (c .before .before .before .before .before .before .before .pre .0, omega arith)
+    omega arith
 
 put-byte-requires : tie.Need-put-byte-requires
 put-byte-requires c κs =

@@ -20,7 +20,7 @@ put-decimal-requires c κs =
     let e = c .before .before .before .before .put-bytes .ensures .next-is in
     let l = c .before .before .before .before .put-bytes .kept .0 in
     let h = c .before .before .before .before .before .before .before .before .pre in
-    (omega arith, omega arith)
+    omega arith
 
 put-byte-requires : tie.Need-put-byte-requires
 put-byte-requires c κs =

@@ -12,16 +12,16 @@ use Rattle.lister_lines.proofs.pieces.put_type.Tie as tie
 put-byte-requires : tie.Need-put-byte-requires
 put-byte-requires c κs =
     let l = ap length (type-is (c .before .before .args .k)) in
-    let h = c .before .before .pre .1 in
+    let h = c .before .before .pre in
     omega arith
 
 put-decimal-requires : tie.Need-put-decimal-requires
 put-decimal-requires c κs =
     let l = ap length (type-is (c .before .before .before .before .before .before .args .k)) in
-    let h = c .before .before .before .before .before .before .pre .1 in
+    let h = c .before .before .before .before .before .before .pre in
     let e = c .before .before .before .put-byte .ensures .next-is in
     let n = c .before .before .before .put-byte .kept .0 in
-    (c .before .before .before .before .before .before .pre .0, omega arith)
+    omega arith
 
 returns : tie.Need-returns
 returns c = put-as (sym (type-is (c .before .before .before .before .before .before .before .before .before .args .k))) (put-join (c .before .before .before .before .before .before .put-byte .ensures) (c .before .before .put-decimal .ensures))
