@@ -10,7 +10,7 @@ use lib.ListN.{length, take, drop, length-append}
 use lib.Seq.{take-append-seam}
 use lib.Dec.{ltb}
 use borrow.Author.Tests.{le-ltb}
-use Rattle.grammar.specs.Limits.{Limits, standard, inputLimit}
+use Rattle.grammar.specs.Limits.{Limits, standard, inputLimit, LimitsAgree}
 use Rattle.grammar.specs.LimitSets.{sizeLimits, limitsOf}
 use Rattle.grammar.specs.Names.{asciiClasses}
 use Rattle.grammar.specs.Tree.{Tree}
@@ -34,7 +34,7 @@ use Rattle.grammar.specs.declared.Refusal.the-variants.{OutputTooShort}
 use Rattle.grammar.specs.declared.Written.{Written}
 use Rattle.grammar.specs.declared.Written.the-variants.{Length, Refused as Unwritten}
 use Rattle.theory.proofs.bytes.OutcomeLaws.{no-fault, was-given, given-eq}
-use Rattle.theory.proofs.bytes.NumberedTable.{standard-agree}
+use Rattle.theory.proofs.bytes.NumberedTable.{sized-agree}
 use Rattle.theory.proofs.bytes.ReadWithin.{read-within}
 use Rattle.theory.proofs.bytes.DocumentWithin.{document-within}
 use Rattle.theory.proofs.theorems.ResultWithin.{document-result-within, document-result-read-back}
@@ -43,6 +43,10 @@ use Rattle.theory.proofs.theorems.CallPromises.{lent-enough}
 use Rattle.reader.proofs.AnswerLaws.{never-given}
 use Rattle.writer.specs.Writing.{Put}
 use Rattle.lister_lines.proofs.PrintSteps.{put-as}
+
+standard-agree : LimitsAgree standard
+unfolding standard
+standard-agree = sized-agree (record { rules = 64; nodes = 1024; levels = 64; words = 16384 })
 
 -- the limits of the standard size are those of the lister
 pub standard-size : sizeLimits Standard ≡ standard
