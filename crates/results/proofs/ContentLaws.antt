@@ -8,7 +8,7 @@ use Rattle.grammar.specs.Normalise.{pairsOf, normalise}
 use Rattle.grammar.specs.Reduce.{fruitful}
 use Rattle.theory.specs.Alternatives.{someLeft, resultsOf}
 use Rattle.sets.specs.Sets.{member}
-use Rattle.sets.specs.declared.four.Set4.{Set4}
+use Rattle.sets.specs.declared.eight.Set8.{Set8}
 use Rattle.union.specs.declared.lists.TypeLists.{TypeLists}
 use Rattle.union.specs.TypeLists.{ListsOf}
 use Rattle.contents.specs.Joining.{Joining}
@@ -27,8 +27,8 @@ module _ {old add : List ℕ} {plan : Plan} {words : List ℕ} (q : RulesFrom ol
   resultsIn within =
       resultsOf (pairsOf (q .in-words .table)) (fruitful (normalise (q .in-words .table))) (setNumber (q .in-words .table) (q .in-words .sets) within)
 
-  abbrev pub merged : (within : ℕ → Bool) (types : Set4) (results : TypeLists) → ListsOf (resultsIn within) results → length (types .words) ≡ 4
-      → ((of : ℕ → List ℕ) → ListsOf of results → (k : ℕ) → k < 128 → member (types .words) 0 k ≡ someLeft of k)
+  abbrev pub merged : (within : ℕ → Bool) (types : Set8) (results : TypeLists) → ListsOf (resultsIn within) results → length (types .words) ≡ 8
+      → ((of : ℕ → List ℕ) → ListsOf of results → (k : ℕ) → k < 256 → member (types .words) 0 k ≡ someLeft of k)
       → Joining old add (plan .union) (record { types = types; lists = results })
   merged within types results x l t =
       record {

@@ -19,8 +19,8 @@ use Rattle.grammar.specs.SingleTypeForm.{TypeSet}
 use Rattle.theory.specs.Alternatives.{alts, oneContent, resultsOf}
 use Rattle.theory.specs.Conditions.{Labelled}
 use Rattle.theory.proofs.lists.ListLaws.{any-of, at-mem, at-or-else}
-use Rattle.sets.specs.Sets.{member, wordsAt, OthersKept}
-use Rattle.sets.proofs.SetLaws.{length-words, kept-before}
+use Rattle.sets.specs.Sets.{member, wordsAt, KeptAround}
+use Rattle.sets.proofs.SetLaws.{length-words, eight-before}
 use Rattle.reader.proofs.TableFaults.{is-some}
 use Rattle.union.specs.declared.united.United.{United}
 use Rattle.union.specs.Places.{leftAt, usedAt}
@@ -28,7 +28,6 @@ use Rattle.union.specs.View.{Views}
 use Rattle.union.specs.PairNumbers.{ruleNumbered, contentsIn}
 use Rattle.union.proofs.ViewLaws.{seen}
 use Rattle.forms.specs.SetWords.{Ascending}
-use Rattle.forms.specs.Worklist.{LabelsSized}
 use Rattle.forms.specs.SetForms.{setLabel, labelsOf, setNumber, contentBySet, ruleBySet, pairsWithin}
 use Rattle.forms.proofs.SetWordLaws.{sets-stay}
 use Rattle.results.specs.declared.plan.Plan.{Plan}
@@ -36,14 +35,6 @@ use Rattle.results.specs.Results.{resultRule, isUsed, SetsIn, RulesFrom}
 
 first-there : (s : List ℕ) → 0 < length s → List·Memᴰ (getD s 0 0) s
 first-there s h = at-mem s 0 (at-or-else s 0 0 h)
-
--- the labels of the rules in a view are small numbers
-pub labels-sized : {old add : List ℕ} {v : United} {u : Table} → Views old add v u → Labelled u → length (u .labels) ≤ 128 → LabelsSized v
-labels-sized {u = u} views labels few i h =
-    let (r, at, s) = seen views i h in
-    let b = labels r (at-mem (u .rules) i at) in
-    let e = s .label in
-    omega arith
 
 module _ {old add : List ℕ} {v : United} {words : List ℕ} {count : ℕ} (q : SetsIn old add v words count) where
   module _ (i : ℕ) (h : i < count) where
@@ -53,18 +44,18 @@ module _ {old add : List ℕ} {v : United} {words : List ℕ} {count : ℕ} (q :
     among : List·Memᴰ (getD (q .sets) i []) (q .sets)
     among = at-mem (q .sets) i there
 
-    pub set-held : (set : List ℕ) → set ≡ wordsAt words (4 * i) 4 → member set 0 ≡ (λ p. isIn p (getD (q .sets) i []))
+    pub set-held : (set : List ℕ) → set ≡ wordsAt words (8 * i) 8 → member set 0 ≡ (λ p. isIn p (getD (q .sets) i []))
     set-held set e = ap (λ (w : List ℕ). member w 0) e ∙ q .held .set i (getD (q .sets) i []) there
 
-    pub set-room : 4 * i + 4 ≤ length words
+    pub set-room : 8 * i + 8 ≤ length words
     set-room =
         let a = q .held .few in
         let b = q .held .room in
         let c = q .count-is in
         omega arith
 
-    pub set-four : (set : List ℕ) → set ≡ wordsAt words (4 * i) 4 → length set ≡ 4
-    set-four set e = ap length e ∙ length-words words (4 * i) 4 set-room
+    pub set-eight : (set : List ℕ) → set ≡ wordsAt words (8 * i) 8 → length set ≡ 8
+    set-eight set e = ap length e ∙ length-words words (8 * i) 8 set-room
 
     pub set-ascending : Ascending (getD (q .sets) i [])
     set-ascending = q .held .ascending (getD (q .sets) i []) among
@@ -81,7 +72,7 @@ module _ {old add : List ℕ} {v : United} {words : List ℕ} {count : ℕ} (q :
         q .labelled (ruleNumbered (q .table) p)
         (at-mem (q .table .rules) p (at-or-else (q .table .rules) p (record { type = 0; label = 0; content = none }) below))
 
-    pub label-small : (l : ℕ) → l ≡ setLabel (q .table) (getD (q .sets) i []) → l < 128
+    pub label-small : (l : ℕ) → l ≡ setLabel (q .table) (getD (q .sets) i []) → l < 256
     label-small l e =
         let a = set-labelled in
         let b = q .labels-few in
@@ -120,7 +111,7 @@ module _ (u : Table) (sets : List TypeSet) (kind : Kind) (i : ℕ) where
 
 -- what the rules are made from stays when the labels used are laid down
 module _ {old add : List ℕ} {plan : Plan} {before after : List ℕ} where
-  abbrev pub rules-stay : RulesFrom old add plan before → OthersKept usedAt before after → length after ≡ length before
+  abbrev pub rules-stay : RulesFrom old add plan before → KeptAround usedAt 8 before after → length after ≡ length before
       → RulesFrom old add plan after
   rules-stay q kept same =
       let s = q .in-words in
@@ -141,7 +132,7 @@ module _ {old add : List ℕ} {plan : Plan} {before after : List ℕ} where
         labels-are = q .labels-are;
         lists-are = q .lists-are;
         room = omega arith;
-        left-is = kept-before kept leftAt (omega arith) ∙ q .left-is;
+        left-is = eight-before kept leftAt (omega arith) ∙ q .left-is;
         shallow = q .shallow;
         regular = q .regular;
       }

@@ -10,6 +10,7 @@ use mathlib.Core.Path.{_≡_, refl, sym, _∙_, ap, fun-ext, subst}
 use lib.Dec.{eqb}
 use lib.ListN.{length, getD}
 use borrow.Author.Tests.{eqb-true, eq-eqb}
+use Rattle.grammar.specs.Limits.{Limits}
 use Rattle.grammar.specs.Lists.{anyPass, keep, place, isIn, sameNumbers, numbersBelow}
 use Rattle.grammar.specs.Table.{Table}
 use Rattle.grammar.specs.Normalise.{normalise}
@@ -66,7 +67,7 @@ module _ (u : Table) where
           subst (λ (x : ℕ). puts (isStart u) key nothing (length (u .rules)) x ≡ true) f
           (puts-has (isStart u) key nothing (length (u .rules)) (q .0) (start-below (q .0) s .1) s)
 
-  pub start-key : {old add : List ℕ} {v : United} → Views old add v u → UnionFit u → (of : List ℕ)
+  pub start-key : {lim : Limits} {old add : List ℕ} {v : United} → Views old add v u → UnionFit lim u → (of : List ℕ)
       → ((l : ℕ) → l < length (u .labels) → getD of l 0 ≡ place sameNumbers (pairsLabelled u (isLeft u) l) (localSets u))
       → (p : ℕ) → isStart u p ≡ true → getD of (labelIn v p) 0 ≡ setNumber u (localSets u) (isLeft u) p
   unfolding setNumber

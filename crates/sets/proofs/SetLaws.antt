@@ -232,6 +232,10 @@ pub eight-after : (before after : List ℕ) (n other : ℕ) → drop n after ≡
     → setOfEightAt after other ≡ setOfEightAt before other
 eight-after before after n other e h = ap (λ (w : List ℕ). member w 0) (words-after before after n other 8 e h)
 
+pub eight-set : (words : List ℕ) (base : ℕ) (set after : List ℕ) → base + 8 ≤ length words → length set ≡ 8 → after ≡ storeAt words base set
+    → setOfEightAt after base ≡ member set 0
+eight-set words base set after room eight stored = ap (λ (w : List ℕ). member w 0) (words-stored words base 8 set after room eight stored)
+
 -- ---- no member, and both sets' members
 
 zero-word : (n i : ℕ) → _≡_ {A = ℕ} (getD (replicate n 0) i 0) 0

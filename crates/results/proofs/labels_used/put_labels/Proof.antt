@@ -28,8 +28,8 @@ Inv-loop draft₀ old add olds news words used labels end₀ l₀ draft end l =
 abbrev μ-loop : tie.MeasureT-loop
 μ-loop draft₀ old add olds news words used labels end₀ l₀ draft end l = labels - l
 
-load-requires : tie.Need-load-requires Inv-loop μ-loop
-load-requires c κs =
+load-eight-requires : tie.Need-load-eight-requires Inv-loop μ-loop
+load-eight-requires c κs =
     let room = c .before .before .before .before .pre .1 in
     omega arith
 
@@ -45,7 +45,7 @@ loop-holds c = (
   omega arith,
   omega arith,
   refl,
-  λ q. up-start (nameField q (member (c .before .before .load .result .words) 0)) (c .before .before .before .before .before .before .before .args .draft .now) 0 (omega arith),
+  λ q. up-start (nameField q (member (c .before .before .load-eight .result .words) 0)) (c .before .before .before .before .before .before .before .args .draft .now) 0 (omega arith),
 )
 
 has-requires : tie.Need-has-requires Inv-loop μ-loop
@@ -69,7 +69,7 @@ same-length c = search needs
 returns : tie.Need-returns Inv-loop μ-loop
 returns c =
     λ q.
-    let on = member (c .before .before .before .before .before .before .before .before .before .before .before .load .result .words) 0 in
+    let on = member (c .before .before .before .before .before .before .before .before .before .before .before .load-eight .result .words) 0 in
     let field = nameField q on in
     let over =
     step-stop field (c .before .before .before .before .before .before .before .before .loop .l) (c .before .before .before .before .before .before .before .before .loop .inv .3 q) _ (c .before .before .before .before .put-label .last .0) (c .before .before .before .before .put-label .result) (ap (λ (b : Bool). onlyIf b (fieldBytes 0x10 (getD (q .first ++ q .second) (c .before .before .before .before .before .before .before .before .loop .l) []))) (c .before .before .before .before .before .has .ensures)) (c .before .before .before .before .put-label .ensures q)
@@ -77,7 +77,7 @@ returns c =
     _
     (c .before .before .before .before .before .before .before .loop-test .taken) in
     subst (λ (b : List ℕ). inputLimit < 0 + length b)
-    (labels-joined q on ∙ ap (labelsBytes (q .first ++ q .second)) (ap (λ (w : List ℕ). member w 0) (c .before .before .before .before .before .before .before .before .before .before .before .load .ensures)))
+    (labels-joined q on ∙ ap (labelsBytes (q .first ++ q .second)) (ap (λ (w : List ℕ). member w 0) (c .before .before .before .before .before .before .before .before .before .before .before .load-eight .ensures)))
     over
 
 enum-known-more : tie.Need-enum-known-more Inv-loop μ-loop
@@ -91,7 +91,7 @@ loop-less c = omega arith
 
 loop-again : tie.Need-loop-again Inv-loop μ-loop
 loop-again c =
-    let on = member (c .before .before .before .before .before .before .before .before .before .before .before .before .load .result .words) 0 in
+    let on = member (c .before .before .before .before .before .before .before .before .before .before .before .before .load-eight .result .words) 0 in
     let p = c .before .before .before .before .before .before .before .before .before .before .before .before .before .before .before .before .before .pre .2 in (
       omega arith,
       step-more (nameField p on) (c .before .before .before .before .before .before .before .before .before .loop .l) (c .before .before .before .before .before .before .before .before .before .loop .inv .3 p) _ (c .before .before .before .before .before .put-label .last .0) (c .before .before .before .before .before .put-label .result) (ap (λ (b : Bool). onlyIf b (fieldBytes 0x10 (getD (p .first ++ p .second) (c .before .before .before .before .before .before .before .before .before .loop .l) []))) (c .before .before .before .before .before .before .has .ensures)) (c .before .before .before .before .before .put-label .ensures p) (c .before .more .given .1) .1,
@@ -106,14 +106,14 @@ returns-2 : tie.Need-returns-2 Inv-loop μ-loop
 returns-2 c =
     let start = c .before .before .before .before .before .before .before .before .before in
     λ q.
-    let on = member (c .before .before .before .before .load .result .words) 0 in
+    let on = member (c .before .before .before .before .load-eight .result .words) 0 in
     let olds = start .args .olds in
     let news = start .args .news in
     let e : c .before .loop .l ≡ olds .count + news .count = omega arith in (
       subst (λ (b : List ℕ). Put (start .args .draft .now) 0 b (c .before .loop .draft) (c .before .loop .end))
           (ap (λ (n : ℕ). joinedOf (nameField q on) (numbersBelow n)) e
           ∙ labels-joined q on
-          ∙ ap (labelsBytes (q .first ++ q .second)) (ap (λ (w : List ℕ). member w 0) (c .before .before .before .before .load .ensures)))
+          ∙ ap (labelsBytes (q .first ++ q .second)) (ap (λ (w : List ℕ). member w 0) (c .before .before .before .before .load-eight .ensures)))
           (c .before .loop .inv .3 q),
       c .before .loop .inv .1,
     )
@@ -124,7 +124,7 @@ put-labels-spec =
     (tie.spec
     Inv-loop
     μ-loop
-    load-requires
+    load-eight-requires
     add-labels
     loop-holds
     has-requires

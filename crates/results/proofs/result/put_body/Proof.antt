@@ -4,7 +4,7 @@ use mathlib.Core.List.{[]}
 use mathlib.Core.Path.{_≡_}
 use lib.ListN.{length}
 use borrow.Author.Needs.{needs}
-use Rattle.sets.specs.Sets.{setAt}
+use Rattle.sets.specs.Sets.{setOfEightAt}
 use Rattle.union.specs.Places.{startTypesAt}
 use Rattle.writer.specs.Tables.{restBytes}
 use Rattle.writer.proofs.TableLaws.{put-length-is, put-over, put-then}
@@ -33,7 +33,7 @@ put-rest-requires c κs =
     let n = a .plan .count in
     let rule = ruleFrom (start .pre .3 .rules) in
     let h =
-    put-length-is (a .draft .now) (a .at) rule n (startsBytes (setAt (a .words .now) startTypesAt) n) (restBytes rule n) (starts .last .0) []
+    put-length-is (a .draft .now) (a .at) rule n (startsBytes (setOfEightAt (a .words .now) startTypesAt) n) (restBytes rule n) (starts .last .0) []
     (starts .result)
     (starts .ensures)
     (c .before .before .before .end .given .1) in
@@ -50,7 +50,7 @@ returns c =
     let n = a .plan .count in
     λ q.
     let rule = ruleFrom (q .rules) in
-    put-over (a .draft .now) (a .at) rule n (startsBytes (setAt (a .words .now) startTypesAt) n) (restBytes rule n) (starts .last .0)
+    put-over (a .draft .now) (a .at) rule n (startsBytes (setOfEightAt (a .words .now) startTypesAt) n) (restBytes rule n) (starts .last .0)
     (starts .last .0)
     (starts .result)
     (starts .ensures)
@@ -70,7 +70,7 @@ returns-2 c =
     let n = a .plan .count in
     λ q.
     let rule = ruleFrom (q .rules) in
-    put-then (a .draft .now) (a .at) rule n (startsBytes (setAt (a .words .now) startTypesAt) n) (restBytes rule n) (starts .last .0)
+    put-then (a .draft .now) (a .at) rule n (startsBytes (setOfEightAt (a .words .now) startTypesAt) n) (restBytes rule n) (starts .last .0)
     (rest .last .0)
     (starts .result)
     (starts .ensures)

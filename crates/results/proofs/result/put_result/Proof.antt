@@ -8,8 +8,8 @@ use lib.ListN.{length}
 use borrow.Author.Needs.{needs}
 use Rattle.grammar.specs.Lists.{keep, numbersBelow}
 use Rattle.grammar.specs.WriteTable.{tableBytes}
-use Rattle.sets.specs.Sets.{setAt}
-use Rattle.sets.proofs.SetLaws.{kept-before}
+use Rattle.sets.specs.Sets.{setOfEightAt}
+use Rattle.sets.proofs.SetLaws.{eight-before}
 use Rattle.union.specs.Places.{startTypesAt, usedAt}
 use Rattle.writer.specs.declared.writing.Drafted.the-variants.{TooLarge}
 use Rattle.writer.specs.Tables.{TablePut}
@@ -51,11 +51,11 @@ put-body-requires c κs =
     let a = start .args in
     let n = a .plan .count in
     let q = start .pre .2 in
-    let on = setAt (used .last .1 .0) usedAt in
+    let on = setOfEightAt (used .last .1 .0) usedAt in
     let rule = ruleFrom (q .rules) in
     let h =
     put-length-is (a .draft .now) 0 rule n (labelsBytes (q .names .first ++ q .names .second) on)
-    (bodyBytes (setAt (a .words .now) startTypesAt) rule n)
+    (bodyBytes (setOfEightAt (a .words .now) startTypesAt) rule n)
     (labels .last .0)
     []
     (labels .result)
@@ -80,8 +80,8 @@ returns c =
     let n = a .plan .count in
     λ q.
     let s = q .rules .in-words in
-    let on = setAt (used .last .1 .0) usedAt in
-    let starts = setAt (a .words .now) startTypesAt in
+    let on = setOfEightAt (used .last .1 .0) usedAt in
+    let starts = setOfEightAt (a .words .now) startTypesAt in
     let rule = ruleFrom (q .rules) in
     let names = q .names .first ++ q .names .second in
     subst (λ (b : List ℕ). TablePut (a .draft .now) 0 rule n b (labels .last .0) TooLarge)
@@ -104,14 +104,14 @@ returns-2 c =
     let used-are = used .ensures .0 _ _ s in
     let fits = used .kept .1 .0 in
     let same : length (used .last .1 .0) ≡ length (a .words .now) = search needs in
-    let on = setAt (used .last .1 .0) usedAt in
-    let starts = setAt (used .last .1 .0) startTypesAt in
+    let on = setOfEightAt (used .last .1 .0) usedAt in
+    let starts = setOfEightAt (used .last .1 .0) startTypesAt in
     let rule = ruleFrom (q .rules) in
     let names = q .names .first ++ q .names .second in
     subst (λ (b : List ℕ). TablePut (a .draft .now) 0 rule n b (body .last .0) (body .result))
     (table-bytes (s .table) (s .sets) kind n names on starts (q .same) (s .count-is) used-are
     ∙ ap (λ (t : ℕ → Bool). tableBytes (tableBySets (s .table) (s .sets) (pairsWithin kind (s .table)) (keep t (numbersBelow n))))
-    (kept-before (used .ensures .1) startTypesAt (omega arith)))
+    (eight-before (used .ensures .1) startTypesAt (omega arith)))
     (put-then (a .draft .now) 0 rule n (labelsBytes names on) (bodyBytes starts rule n) (labels .last .0) (body .last .0)
     (labels .result)
     (labels .ensures (q .names))

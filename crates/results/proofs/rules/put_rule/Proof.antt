@@ -15,7 +15,7 @@ use Rattle.writer.specs.Tables.{RulePuts}
 use Rattle.writer.proofs.TableLaws.{rule-puts}
 use Rattle.results.specs.Results.{ruleFrom}
 use Rattle.results.specs.Widened.{kindOf}
-use Rattle.results.proofs.SetLaws.{set-held, set-room, set-four, set-ascending, set-some, set-labelled, label-small, label-used, rule-is}
+use Rattle.results.proofs.SetLaws.{set-held, set-room, set-eight, set-ascending, set-some, set-labelled, label-small, label-used, rule-is}
 use Rattle.results.proofs.ResultLaws.{rule-value, scratch-long, scratch-room, made-stored, made-over}
 use Rattle.results.proofs.rules.put_rule.Statement.{statement}
 use Rattle.results.proofs.rules.put_rule.Tie as tie
@@ -23,12 +23,12 @@ use Rattle.results.proofs.rules.put_rule.Tie as tie
 mul-load : tie.Need-mul-load
 mul-load c = search needs
 
-load-requires : tie.Need-load-requires
-load-requires c κs =
+load-eight-requires : tie.Need-load-eight-requires
+load-eight-requires c κs =
     let start = c .before .before .before .before .before in set-room (start .pre .4 .rules .in-words) (start .args .i) (start .pre .3)
 
-load-requires-2 : tie.Need-load-requires-2
-load-requires-2 c κs =
+load-eight-requires-2 : tie.Need-load-eight-requires-2
+load-eight-requires-2 c κs =
     let room = c .before .before .before .before .before .before .pre .4 .rules .room in
     omega arith
 
@@ -36,7 +36,7 @@ set-label-requires : tie.Need-set-label-requires
 set-label-requires c κs =
     let start = c .before .before .before .before .before .before .before in
     let s = start .pre .4 .rules .in-words in
-    (views-sized (s .views), set-four s (start .args .i) (start .pre .3) _ (c .before .load .ensures))
+    (views-sized (s .views), set-eight s (start .args .i) (start .pre .3) _ (c .before .load-eight .ensures))
 
 label-place-requires : tie.Need-label-place-requires
 label-place-requires c κs =
@@ -45,7 +45,7 @@ label-place-requires c κs =
     let i = start .args .i in
     let h = start .pre .3 in
     label-small s i h _
-    (c .set-label .ensures _ _ (s .table) _ (s .views) (set-held s i h _ (c .before .before .load .ensures)) (set-ascending s i h) (set-some s i h))
+    (c .set-label .ensures _ _ (s .table) _ (s .views) (set-held s i h _ (c .before .before .load-eight .ensures)) (set-ascending s i h) (set-some s i h))
 
 sub-set-content : tie.Need-sub-set-content
 sub-set-content c = search needs
@@ -83,7 +83,7 @@ cast-scratch-2 c =
     let s = start .pre .4 .rules .in-words in
     let i = start .args .i in
     let h = start .pre .3 in
-    let loaded = c .before .before .before .before .before .before .before .before .before .before .load in
+    let loaded = c .before .before .before .before .before .before .before .before .before .before .load-eight in
     let label = c .before .before .before .before .before .before .before .before .set-label in
     let small =
     label-small s i h (label .result)
@@ -147,8 +147,8 @@ same-length-3 c = search needs
 returns-2 : tie.Need-returns-2
 returns-2 c =
     let start = c .before .before .before .before .before .before .before .before .before .before .before .before .before .before .before .before .before .before .before .before .before .before in
-    let loaded = c .before .before .before .before .before .before .before .before .before .before .before .before .before .before .before .before .load in
-    let used-set = c .before .before .before .before .before .before .before .before .before .before .before .before .before .before .before .load2 in
+    let loaded = c .before .before .before .before .before .before .before .before .before .before .before .before .before .before .before .before .load-eight in
+    let used-set = c .before .before .before .before .before .before .before .before .before .before .before .before .before .before .before .load-eight2 in
     let labelled = c .before .before .before .before .before .before .before .before .before .before .before .before .before .before .set-label in
     let place-of = c .before .before .before .before .before .before .before .before .before .before .before .before .before .label-place in
     let content = c .before .before .before .before .before .before .before .before .before .before .before .set-content in
@@ -183,8 +183,8 @@ put-rule-spec =
     tie.close
     (tie.spec
     mul-load
-    load-requires
-    load-requires-2
+    load-eight-requires
+    load-eight-requires-2
     set-label-requires
     label-place-requires
     sub-set-content

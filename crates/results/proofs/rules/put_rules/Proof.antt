@@ -7,7 +7,7 @@ use lib.ListN.{length}
 use borrow.Author.Count.{below-more}
 use borrow.Author.Needs.{needs}
 use Rattle.grammar.specs.Lists.{joinedOf, numbersBelow}
-use Rattle.grammar.specs.Limits.{standard, inputLimit}
+use Rattle.grammar.specs.Limits.{large, inputLimit}
 use Rattle.grammar.specs.Size.{contentTooLarge}
 use Rattle.writer.specs.Writing.{Put}
 use Rattle.writer.specs.Tables.{ruleField}
@@ -27,7 +27,7 @@ Inv-loop draft₀ at scratch₀ old add plan words end₀ i₀ draft scratch end
     × ((q : RulesWith old add plan words)
     → (j : ℕ)
     → j < i
-    → contentTooLarge standard (ruleFrom (q .rules) j .content) ≡ false)
+    → contentTooLarge large (ruleFrom (q .rules) j .content) ≡ false)
 
 abbrev μ-loop : tie.MeasureT-loop
 μ-loop draft₀ at scratch₀ old add plan words end₀ i₀ draft scratch end i = plan .count - i
@@ -99,7 +99,7 @@ loop-again c =
       search needs,
       λ q. rules-more (ruleFrom (q .rules)) (l .i) (l .inv .4 q) (rule .last .0) (rule .result) (rule .ensures q) next .0,
       λ q.
-          below-more (λ j. contentTooLarge standard (ruleFrom (q .rules) j .content) ≡ false) (l .i) (l .inv .5 q)
+          below-more (λ j. contentTooLarge large (ruleFrom (q .rules) j .content) ≡ false) (l .i) (l .inv .5 q)
           (rules-more (ruleFrom (q .rules)) (l .i) (l .inv .4 q) (rule .last .0) (rule .result) (rule .ensures q) next .2),
     )
 

@@ -14,13 +14,13 @@ use Rattle.union.proofs.ViewLaws.{views-sized}
 use Rattle.contents.specs.Completing.{Made}
 use Rattle.forms.specs.SetForms.{pairsLabelled}
 use Rattle.results.specs.Widened.{kindOf}
-use Rattle.results.proofs.SetLaws.{labels-sized, set-held, set-four, content-is}
+use Rattle.results.proofs.SetLaws.{labels-sized, set-held, set-eight, content-is}
 use Rattle.results.proofs.ContentLaws.{all-labels, merged}
 use Rattle.results.proofs.rules.set_content.Statement.{statement}
 use Rattle.results.proofs.rules.set_content.Tie as tie
 
-load-requires : tie.Need-load-requires
-load-requires c κs =
+load-eight-requires : tie.Need-load-eight-requires
+load-eight-requires c κs =
     let room = c .before .before .before .before .before .pre .3 .room in
     omega arith
 
@@ -30,8 +30,8 @@ pairs-within-requires c κs =
     let q = start .pre .3 in
     let room = q .room in (
       (q .in-words .table, q .in-words .views, q .lists-are),
-      ap length (c .load .ensures) ∙ length-words _ _ 4 (omega arith),
-      set-four (q .in-words) (start .args .i) (start .pre .1) _ (start .pre .2),
+      ap length (c .load-eight .ensures) ∙ length-words _ _ 4 (omega arith),
+      set-eight (q .in-words) (start .args .i) (start .pre .1) _ (start .pre .2),
     )
 
 label-numbers-requires : tie.Need-label-numbers-requires
@@ -52,7 +52,7 @@ result-lists-requires c κs =
     let room = q .room in (
       views-sized (q .in-words .views),
       labels-sized (q .in-words .views) (q .in-words .labelled) (q .in-words .labels-few),
-      ap length (c .before .before .load .ensures) ∙ length-words _ _ 4 (omega arith),
+      ap length (c .before .before .load-eight .ensures) ∙ length-words _ _ 4 (omega arith),
       c .label-numbers .ensures .1,
       q .lists-are .old-listed .below,
       q .lists-are .added-listed .below,
@@ -68,7 +68,7 @@ content-of-set-requires c κs =
     let counted = c .before .before .before .label-numbers in
     let results = c .before .before .result-lists in
     let types = c .before .types-listed in
-    let loaded = c .before .before .before .before .before .load in
+    let loaded = c .before .before .before .before .before .load-eight in
     let q = start .pre .3 in
     let s = q .in-words in
     let within = member (pairs .result .words) 0 in
@@ -90,7 +90,7 @@ returns c =
     let results = c .before .before .before .before .before .result-lists in
     let types = c .before .before .before .before .types-listed in
     let content = c .before .before .content-of-set in
-    let loaded = c .before .before .before .before .before .before .before .before .load in
+    let loaded = c .before .before .before .before .before .before .before .before .load-eight in
     λ q.
     let s = q .in-words in
     let within = member (pairs .result .words) 0 in
@@ -113,7 +113,7 @@ pub set-content-spec : {M : Type 1} → statement M
 set-content-spec =
     tie.close
     (tie.spec
-    load-requires
+    load-eight-requires
     pairs-within-requires
     label-numbers-requires
     result-lists-requires

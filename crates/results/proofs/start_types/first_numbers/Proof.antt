@@ -7,7 +7,7 @@ use mathlib.Core.Path.{_≡_, refl, _∙_, ap}
 use lib.ListN.{length, length-replicate}
 use borrow.Author.Needs.{needs}
 use Rattle.sets.specs.Sets.{member, nothing}
-use Rattle.sets.proofs.SetLaws.{member-zeros, store-set, store-kept}
+use Rattle.sets.proofs.SetLaws.{member-zeros, eight-set, stored-kept}
 use Rattle.union.specs.Places.{startTypesAt}
 use Rattle.union.specs.Rounds.{puts}
 use Rattle.union.proofs.PutsLaws.{puts-start, puts-step}
@@ -46,8 +46,8 @@ loop-again c = (
   c .put-if .ensures .1,
 )
 
-store-requires : tie.Need-store-requires Inv-loop μ-loop
-store-requires c κs =
+store-eight-requires : tie.Need-store-eight-requires Inv-loop μ-loop
+store-eight-requires c κs =
     let room = c .before .before .before .before .before .pre .1 in
     omega arith
 
@@ -56,10 +56,10 @@ returns c =
     let start = c .before .before .before .before .before .before .before .before in
     let room = start .pre .1 in
     let e : c .before .before .before .before .before .loop .t ≡ start .args .n = omega arith in (
-      store-set _ startTypesAt _ _ (omega arith) (c .before .before .before .before .before .loop .inv .2) (c .before .before .store .ensures)
+      eight-set _ startTypesAt _ _ (omega arith) (c .before .before .before .before .before .loop .inv .2) (c .before .before .store-eight .ensures)
           ∙ c .before .before .before .before .before .loop .inv .1
           ∙ ap (puts (λ s. true) (λ s. s) nothing) e,
-      store-kept _ startTypesAt _ _ (omega arith) (c .before .before .before .before .before .loop .inv .2) (c .before .before .store .ensures),
+      stored-kept _ startTypesAt 8 _ _ (omega arith) (c .before .before .before .before .before .loop .inv .2) (c .before .before .store-eight .ensures),
     )
 
 pub first-numbers-spec : {M : Type 1} → statement M
@@ -74,6 +74,6 @@ first-numbers-spec =
     add-t
     (λ c. omega arith)
     loop-again
-    store-requires
+    store-eight-requires
     (λ c. search needs)
     returns)

@@ -6,7 +6,7 @@ use mathlib.Core.Path.{_≡_, _∙_, ap}
 use lib.ListN.{length, getD, length-replicate}
 use borrow.Author.Needs.{needs}
 use Rattle.sets.specs.Sets.{member, nothing}
-use Rattle.sets.proofs.SetLaws.{member-zeros, store-set, store-kept}
+use Rattle.sets.proofs.SetLaws.{member-zeros, eight-set, stored-kept}
 use Rattle.union.specs.Places.{startTypesAt}
 use Rattle.union.specs.Rounds.{puts}
 use Rattle.union.proofs.PutsLaws.{puts-start, puts-step}
@@ -22,8 +22,8 @@ Inv-loop words starts labels of rules set₀ p₀ set p =
 abbrev μ-loop : tie.MeasureT-loop
 μ-loop words starts labels of rules set₀ p₀ set p = rules - p
 
-load-requires : tie.Need-load-requires Inv-loop μ-loop
-load-requires c κs =
+load-eight-requires : tie.Need-load-eight-requires Inv-loop μ-loop
+load-eight-requires c κs =
     let room = c .before .before .pre .2 in
     omega arith
 
@@ -74,8 +74,8 @@ loop-again c = (
   c .put-if .ensures .1,
 )
 
-store-requires : tie.Need-store-requires Inv-loop μ-loop
-store-requires c κs =
+store-eight-requires : tie.Need-store-eight-requires Inv-loop μ-loop
+store-eight-requires c κs =
     let room = c .before .before .before .before .before .before .before .before .before .pre .2 in
     omega arith
 
@@ -86,11 +86,11 @@ returns c =
     let room = start .pre .2 in
     let key : ℕ → ℕ = λ q. getD (args .numbers .of) (getD (args .v .labels) q 0) 0 in
     let e : c .before .before .before .before .before .loop .p ≡ args .v .rules = omega arith in (
-      store-set _ startTypesAt _ _ (omega arith) (c .before .before .before .before .before .loop .inv .2) (c .before .before .store .ensures)
+      eight-set _ startTypesAt _ _ (omega arith) (c .before .before .before .before .before .loop .inv .2) (c .before .before .store-eight .ensures)
           ∙ c .before .before .before .before .before .loop .inv .1
-          ∙ ap (puts (member (c .before .before .before .before .before .before .before .before .before .load .result .words) 0) key nothing) e
-          ∙ ap (λ (w : List ℕ). puts (member w 0) key nothing (args .v .rules)) (c .before .before .before .before .before .before .before .before .before .load .ensures),
-      store-kept _ startTypesAt _ _ (omega arith) (c .before .before .before .before .before .loop .inv .2) (c .before .before .store .ensures),
+          ∙ ap (puts (member (c .before .before .before .before .before .before .before .before .before .load-eight .result .words) 0) key nothing) e
+          ∙ ap (λ (w : List ℕ). puts (member w 0) key nothing (args .v .rules)) (c .before .before .before .before .before .before .before .before .before .load-eight .ensures),
+      stored-kept _ startTypesAt 8 _ _ (omega arith) (c .before .before .before .before .before .loop .inv .2) (c .before .before .store-eight .ensures),
     )
 
 pub start-numbers-spec : {M : Type 1} → statement M
@@ -99,7 +99,7 @@ start-numbers-spec =
     (tie.spec
     Inv-loop
     μ-loop
-    load-requires
+    load-eight-requires
     (λ c κs. search needs)
     loop-holds
     mul-label
@@ -111,6 +111,6 @@ start-numbers-spec =
     add-p
     (λ c. omega arith)
     loop-again
-    store-requires
+    store-eight-requires
     (λ c. search needs)
     returns)

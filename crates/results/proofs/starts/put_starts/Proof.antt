@@ -31,8 +31,8 @@ Inv-loop draft₀ at words count starts end₀ t₀ draft end t =
 abbrev μ-loop : tie.MeasureT-loop
 μ-loop draft₀ at words count starts end₀ t₀ draft end t = count - t
 
-load-requires : tie.Need-load-requires Inv-loop μ-loop
-load-requires c κs =
+load-eight-requires : tie.Need-load-eight-requires Inv-loop μ-loop
+load-eight-requires c κs =
     let room = c .before .before .pre .2 in
     omega arith
 
@@ -42,7 +42,7 @@ loop-holds c =
       omega arith,
       start .pre .0,
       refl,
-      up-start (startField (member (c .load .result .words) 0)) (start .args .draft .now) (start .args .at) (omega arith),
+      up-start (startField (member (c .load-eight .result .words) 0)) (start .args .draft .now) (start .args .at) (omega arith),
     )
 
 has-requires : tie.Need-has-requires Inv-loop μ-loop
@@ -62,10 +62,10 @@ same-length c = search needs
 returns : tie.Need-returns Inv-loop μ-loop
 returns c =
     let start = c .before .before .before .before .before .before .before .before .before .before .before .before in
-    let on = member (c .before .before .before .before .before .before .before .before .before .load .result .words) 0 in
+    let on = member (c .before .before .before .before .before .before .before .before .before .load-eight .result .words) 0 in
     subst (λ (b : List ℕ). inputLimit < start .args .at + length b)
     (joined-only on (λ k. fieldBytes 0x11 (k ∷ [])) (numbersBelow (start .args .count))
-    ∙ ap (λ (t : ℕ → Bool). startsBytes t (start .args .count)) (ap (λ (w : List ℕ). member w 0) (c .before .before .before .before .before .before .before .before .before .load .ensures)))
+    ∙ ap (λ (t : ℕ → Bool). startsBytes t (start .args .count)) (ap (λ (w : List ℕ). member w 0) (c .before .before .before .before .before .before .before .before .before .load-eight .ensures)))
     (step-stop (startField on) (c .before .before .before .before .before .before .before .before .loop .t) (c .before .before .before .before .before .before .before .before .loop .inv .3) _ (c .before .before .before .before .put-start .last .0) (c .before .before .before .before .put-start .result)
     (ap (λ (b : Bool). onlyIf b (fieldBytes 0x11 (c .before .before .before .before .before .before .before .before .loop .t ∷ []))) (c .before .before .before .before .before .has .ensures))
     (c .before .before .before .before .put-start .ensures)
@@ -84,7 +84,7 @@ loop-less c = omega arith
 
 loop-again : tie.Need-loop-again Inv-loop μ-loop
 loop-again c =
-    let on = member (c .before .before .before .before .before .before .before .before .before .before .load .result .words) 0 in
+    let on = member (c .before .before .before .before .before .before .before .before .before .before .load-eight .result .words) 0 in
     let more =
     step-more (startField on) (c .before .before .before .before .before .before .before .before .before .loop .t) (c .before .before .before .before .before .before .before .before .before .loop .inv .3) _ (c .before .before .before .before .before .put-start .last .0) (c .before .before .before .before .before .put-start .result)
     (ap (λ (b : Bool). onlyIf b (fieldBytes 0x11 (c .before .before .before .before .before .before .before .before .before .loop .t ∷ []))) (c .before .before .before .before .before .before .has .ensures))
@@ -98,13 +98,13 @@ same-length-2 c = search needs
 returns-2 : tie.Need-returns-2 Inv-loop μ-loop
 returns-2 c =
     let start = c .before .before .before .before .before in
-    let on = member (c .before .before .load .result .words) 0 in
+    let on = member (c .before .before .load-eight .result .words) 0 in
     let count = start .args .count in
     let e : c .before .loop .t ≡ count = omega arith in (
       subst (λ (b : List ℕ). Put (start .args .draft .now) (start .args .at) b (c .before .loop .draft) (c .before .loop .end))
           (ap (λ (n : ℕ). joinedOf (startField on) (numbersBelow n)) e
           ∙ joined-only on (λ k. fieldBytes 0x11 (k ∷ [])) (numbersBelow count)
-          ∙ ap (λ (t : ℕ → Bool). startsBytes t count) (ap (λ (w : List ℕ). member w 0) (c .before .before .load .ensures)))
+          ∙ ap (λ (t : ℕ → Bool). startsBytes t count) (ap (λ (w : List ℕ). member w 0) (c .before .before .load-eight .ensures)))
           (c .before .loop .inv .3),
       c .before .loop .inv .1,
     )
@@ -115,7 +115,7 @@ put-starts-spec =
     (tie.spec
     Inv-loop
     μ-loop
-    load-requires
+    load-eight-requires
     loop-holds
     has-requires
     put-start-requires

@@ -23,8 +23,8 @@ use Rattle.results.proofs.widen.widen_local.Tie as tie
 label-count-requires : tie.Need-label-count-requires
 label-count-requires c κs = laws.names-few (c .before .before .before .before .before .pre .0 .reduced)
 
-load-requires : tie.Need-load-requires
-load-requires c κs =
+load-eight-requires : tie.Need-load-eight-requires
+load-eight-requires c κs =
     let room = c .before .before .before .before .before .before .before .pre .1 in
     omega arith
 
@@ -42,14 +42,14 @@ label-sets-requires c κs =
       record {
         few = omega arith;
         room = laws.lent-room (start .args .words .now) room;
-        four = ap length (c .before .load .ensures) ∙ length-words _ leftAt 4 (omega arith);
+        four = ap length (c .before .load-eight .ensures) ∙ length-words _ leftAt 4 (omega arith);
       },
     )
 
 label-numbers-requires : tie.Need-label-numbers-requires
 label-numbers-requires c κs =
     let start = c .before .before .before .before .before .before .before .before .before .before .before .before .before .before .before .before in
-    let loaded = c .before .before .before .before .before .before .before .before .load in
+    let loaded = c .before .before .before .before .before .before .before .before .load-eight in
     let counted = c .before .before .before .before .before .before .before .before .before .before .label-count in
     let s = c .before .before .before .before .before .before .label-sets in
     let r = start .pre .0 .reduced in
@@ -86,7 +86,7 @@ put-result-requires : tie.Need-put-result-requires
 unfolding kindOf
 put-result-requires c κs =
     let start = c .before .before .before .before .before .before .before .before .before .before .before .before .before .before .before .before .before .before .before .before .before .before .before .before in
-    let loaded = c .before .before .before .before .before .before .before .before .before .before .before .before .before .before .before .before .load in
+    let loaded = c .before .before .before .before .before .before .before .before .before .before .before .before .before .before .before .before .load-eight in
     let counted = c .before .before .before .before .before .before .before .before .before .before .before .before .before .before .before .before .before .before .label-count in
     let s = c .before .before .before .before .before .before .before .before .before .before .before .before .before .before .label-sets in
     let count = c .before .before .before .before .before .before .before .before .before .before .count in
@@ -104,7 +104,7 @@ put-result-requires c κs =
 
 returns : tie.Need-returns
 returns c g h r =
-    let loaded = c .before .before .before .before .before .before .load in
+    let loaded = c .before .before .before .before .before .before .load-eight in
     let counted = c .before .before .before .before .before .before .before .before .label-count in
     let s = c .before .before .before .before .label-sets in
     let n = counted .ensures ∙ laws.label-count-is r in
@@ -115,7 +115,7 @@ returns-2 : tie.Need-returns-2
 unfolding setsOf kindOf
 returns-2 c g h r =
     let start = c .before .before .before .before .before .before .before .before .before .before .before .before .before .before .before .before .before .before .before .before .before .before .before .before .before .before .before .before .before .before .before in
-    let loaded = c .before .before .before .before .before .before .before .before .before .before .before .before .before .before .before .before .before .before .before .before .before .before .before .load in
+    let loaded = c .before .before .before .before .before .before .before .before .before .before .before .before .before .before .before .before .before .before .before .before .before .before .before .load-eight in
     let counted = c .before .before .before .before .before .before .before .before .before .before .before .before .before .before .before .before .before .before .before .before .before .before .before .before .before .label-count in
     let s = c .before .before .before .before .before .before .before .before .before .before .before .before .before .before .before .before .before .before .before .before .before .label-sets in
     let count = c .before .before .before .before .before .before .before .before .before .before .before .before .before .before .before .before .before .count in
@@ -142,7 +142,7 @@ widen-local-spec =
     tie.close
     (tie.spec
     label-count-requires
-    load-requires
+    load-eight-requires
     (λ c. search needs)
     (λ c. search needs)
     part-label-sets-end

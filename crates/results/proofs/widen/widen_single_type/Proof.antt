@@ -16,8 +16,8 @@ use Rattle.results.proofs.widen.widen_single_type.Tie as tie
 label-count-requires : tie.Need-label-count-requires
 label-count-requires c κs = laws.names-few (c .before .before .before .before .before .pre .0 .reduced)
 
-load-requires : tie.Need-load-requires
-load-requires c κs =
+load-eight-requires : tie.Need-load-eight-requires
+load-eight-requires c κs =
     let room = c .before .before .before .before .before .before .before .pre .1 in
     omega arith
 
@@ -35,7 +35,7 @@ label-sets-requires c κs =
       record {
         few = omega arith;
         room = laws.lent-room (start .args .words .now) room;
-        four = ap length (c .before .load .ensures) ∙ length-words _ startsAt 4 (omega arith);
+        four = ap length (c .before .load-eight .ensures) ∙ length-words _ startsAt 4 (omega arith);
       },
     )
 
@@ -50,7 +50,7 @@ widen-from-starts-requires c κs =
     let front = s .last .1 .1 .1 .0 in
     let fits-same = s .kept .1 .1 .1 .0 in
     let same : length front ≡ length (take setsEnd (start .args .words .now)) = search needs in
-    let (many, held) = laws.start-counted r front (s .result) _ (ap (λ (w : List ℕ). member w 0) (c .before .before .before .before .before .before .before .before .before .load .ensures) ∙ r .starts-are) (s .ensures _ _ _ (r .seen .rules) n) _ (c .before .before .before .first .given .1) in (
+    let (many, held) = laws.start-counted r front (s .result) _ (ap (λ (w : List ℕ). member w 0) (c .before .before .before .before .before .before .before .before .before .load-eight .ensures) ∙ r .starts-are) (s .ensures _ _ _ (r .seen .rules) n) _ (c .before .before .before .first .given .1) in (
       record {
         first = q .first;
         second = q .second;
@@ -66,7 +66,7 @@ returns : tie.Need-returns
 returns c g h r =
     let n = c .before .before .before .before .before .before .before .before .label-count .ensures ∙ laws.label-count-is r in
     let s = c .before .before .before .before .label-sets in
-    laws.start-over r _ (s .result) _ (ap (λ (w : List ℕ). member w 0) (c .before .before .before .before .before .before .load .ensures) ∙ r .starts-are) (s .ensures _ _ _ (r .seen .rules) n) (c .enum-told .given .1) _ _
+    laws.start-over r _ (s .result) _ (ap (λ (w : List ℕ). member w 0) (c .before .before .before .before .before .before .load-eight .ensures) ∙ r .starts-are) (s .ensures _ _ _ (r .seen .rules) n) (c .enum-told .given .1) _ _
 
 returns-2 : tie.Need-returns-2
 returns-2 c g h r =
@@ -77,7 +77,7 @@ returns-2 c g h r =
     let front = s .last .1 .1 .1 .0 in
     let fits-same = s .kept .1 .1 .1 .0 in
     let same : length front ≡ length (take setsEnd (start .args .words .now)) = search needs in
-    let (many, held) = laws.start-counted r front (s .result) _ (ap (λ (w : List ℕ). member w 0) (c .before .before .before .before .before .before .before .before .before .before .before .before .before .before .load .ensures) ∙ r .starts-are) (s .ensures _ _ _ (r .seen .rules) n) _ (c .before .before .before .before .before .before .before .before .first .given .1) in
+    let (many, held) = laws.start-counted r front (s .result) _ (ap (λ (w : List ℕ). member w 0) (c .before .before .before .before .before .before .before .before .before .before .before .before .before .before .load-eight .ensures) ∙ r .starts-are) (s .ensures _ _ _ (r .seen .rules) n) _ (c .before .before .before .before .before .before .before .before .first .given .1) in
     c .before .before .before .before .widen-from-starts .ensures g h (laws.reduced-stay r room front same) (laws.sets-held (start .args .words .now) room front same held) many
 
 pub widen-single-type-spec : {M : Type 1} → statement M
@@ -85,7 +85,7 @@ widen-single-type-spec =
     tie.close
     (tie.spec
     label-count-requires
-    load-requires
+    load-eight-requires
     (λ c. search needs)
     (λ c. search needs)
     part-label-sets-end

@@ -30,8 +30,8 @@ start-pairs-requires c κs =
     let lists = c .before .fruitful-lists .ensures _ _ _ (seen .rules) known in
     (laws.listed-both lists, starts-small (p .held), starts-small (q .held), search needs)
 
-load-requires : tie.Need-load-requires
-load-requires c κs =
+load-eight-requires : tie.Need-load-eight-requires
+load-eight-requires c κs =
     let start = c .before .before .before .before .before .before .before .before .before .before .before .before .before .before .before .before .before in
     let (p, q, words, draft) = start .pre in
     let same : length (c .before .before .before .start-pairs .last .1 .1 .1 .0) ≡ length (start .args .words .now) = search needs in
@@ -44,7 +44,7 @@ returns c g h p q =
     let known = c .before .before .before .before .before .before .before .before .before .before .before .before .fruitful-pairs .ensures _ (seen .rules) in
     let lists = c .before .before .before .before .before .before .before .before .fruitful-lists .ensures _ _ _ (seen .rules) known in
     let are = c .before .before .before .before .before .before .start-pairs .ensures _ _ g h p q lists in
-    laws.none-started p q (c .before .before .before .before .before .before .before .before .before .before .before .before .before .before .before .before .before .before .before .before .args .kind) _ are (c .before .before .load .ensures) (c .before .is-empty .ensures) (c .if1 .taken)
+    laws.none-started p q (c .before .before .before .before .before .before .before .before .before .before .before .before .before .before .before .before .before .before .before .before .args .kind) _ are (c .before .before .load-eight .ensures) (c .before .is-empty .ensures) (c .if1 .taken)
 
 pairs-left-requires : tie.Need-pairs-left-requires
 pairs-left-requires c κs =
@@ -65,7 +65,7 @@ widen-local-requires c κs =
       record {
         first = p .table;
         second = q .table;
-        reduced = laws.reduced (p .held) (q .held) seen lists are (left .0 _ (seen .rules) lists are) (left .1) (c .before .before .before .before .before .before .before .before .before .before .load .ensures) (c .before .before .before .before .before .before .before .before .before .is-empty .ensures) (c .before .before .before .before .before .before .before .before .if1 .left);
+        reduced = laws.reduced (p .held) (q .held) seen lists are (left .0 _ (seen .rules) lists are) (left .1) (c .before .before .before .before .before .before .before .before .before .before .load-eight .ensures) (c .before .before .before .before .before .before .before .before .before .is-empty .ensures) (c .before .before .before .before .before .before .before .before .if1 .left);
       },
       search needs,
       draft,
@@ -82,7 +82,7 @@ widen-single-type-requires c κs =
       record {
         first = p .table;
         second = q .table;
-        reduced = laws.reduced (p .held) (q .held) seen lists are (left .0 _ (seen .rules) lists are) (left .1) (c .before .before .before .before .before .before .before .before .before .before .load .ensures) (c .before .before .before .before .before .before .before .before .before .is-empty .ensures) (c .before .before .before .before .before .before .before .before .if1 .left);
+        reduced = laws.reduced (p .held) (q .held) seen lists are (left .0 _ (seen .rules) lists are) (left .1) (c .before .before .before .before .before .before .before .before .before .before .load-eight .ensures) (c .before .before .before .before .before .before .before .before .before .is-empty .ensures) (c .before .before .before .before .before .before .before .before .if1 .left);
       },
       search needs,
       draft,
@@ -98,7 +98,7 @@ returns-2 c g h p q =
     let are = c .before .before .before .before .before .before .before .before .before .before .before .before .before .before .before .before .before .before .before .start-pairs .ensures _ _ g h p q lists in
     laws.for-kind g h _ _ _ _ Local (c .before .before .before .before .before .before .before .enum-told .given .1)
     (c .before .before .before .before .widen-local .ensures g h
-    (laws.reduced p q seen lists are (left .0 _ (seen .rules) lists are) (left .1) (c .before .before .before .before .before .before .before .before .before .before .before .before .before .before .before .load .ensures) (c .before .before .before .before .before .before .before .before .before .before .before .before .before .before .is-empty .ensures) (c .before .before .before .before .before .before .before .before .before .before .before .before .before .if1 .left)))
+    (laws.reduced p q seen lists are (left .0 _ (seen .rules) lists are) (left .1) (c .before .before .before .before .before .before .before .before .before .before .before .before .before .before .before .load-eight .ensures) (c .before .before .before .before .before .before .before .before .before .before .before .before .before .before .is-empty .ensures) (c .before .before .before .before .before .before .before .before .before .before .before .before .before .if1 .left)))
 
 returns-3 : tie.Need-returns-3
 unfolding kindOf
@@ -110,7 +110,7 @@ returns-3 c g h p q =
     let are = c .before .before .before .before .before .before .before .before .before .before .before .before .before .before .before .before .before .before .before .start-pairs .ensures _ _ g h p q lists in
     laws.for-kind g h _ _ _ _ SingleType (c .before .before .before .before .before .before .before .enum-told2 .given .1)
     (c .before .before .before .before .widen-single-type .ensures g h
-    (laws.reduced p q seen lists are (left .0 _ (seen .rules) lists are) (left .1) (c .before .before .before .before .before .before .before .before .before .before .before .before .before .before .before .load .ensures) (c .before .before .before .before .before .before .before .before .before .before .before .before .before .before .is-empty .ensures) (c .before .before .before .before .before .before .before .before .before .before .before .before .before .if1 .left)))
+    (laws.reduced p q seen lists are (left .0 _ (seen .rules) lists are) (left .1) (c .before .before .before .before .before .before .before .before .before .before .before .before .before .before .before .load-eight .ensures) (c .before .before .before .before .before .before .before .before .before .before .before .before .before .before .is-empty .ensures) (c .before .before .before .before .before .before .before .before .before .before .before .before .before .if1 .left)))
 
 pub widen-tables-spec : {M : Type 1} → statement M
 widen-tables-spec =
@@ -120,7 +120,7 @@ widen-tables-spec =
     fruitful-pairs-requires
     fruitful-lists-requires
     start-pairs-requires
-    load-requires
+    load-eight-requires
     (λ c κs. search needs)
     (λ c. search needs)
     returns
