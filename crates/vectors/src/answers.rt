@@ -5,6 +5,7 @@ ghost use Rattle.vectors.specs.Checksum.{checksum};
 use crate::places::place_of;
 use crate::sums::byte_sum;
 use grammar::Reading;
+use grammar::Size;
 use grammar::Verdict;
 use grammar::Written;
 use reader::calls::document_reads;
@@ -114,25 +115,33 @@ fn of_name(refusal: u32, table: &[u8], name: &[u8]) -> Told
 }
 
 // The name of a label.
-fn label_told(table: &[u8], label: usize, work: &mut [u32]) -> Told {
+fn label_told(size: Size, table: &[u8], label: usize, work: &mut [u32]) -> Told {
     let mut refusal: u32 = 0;
-    let name = label_name(table, label, work, &mut refusal);
+    let name = label_name(size, table, label, work, &mut refusal);
     of_name(refusal, table, name)
 }
 
 // The widening of this number, of the first input by the second.
-fn widened(call: u8, first: &[u8], second: &[u8], out: &mut [u8], work: &mut [u32]) -> Written {
+fn widened(
+    call: u8,
+    size: Size,
+    first: &[u8],
+    second: &[u8],
+    out: &mut [u8],
+    work: &mut [u32],
+) -> Written {
     match call {
-        8 => widen_local_by_table(first, second, out, work),
-        9 => widen_local_by_document(first, second, out, work),
-        10 => widen_single_type_by_table(first, second, out, work),
-        _ => widen_single_type_by_document(first, second, out, work),
+        8 => widen_local_by_table(size, first, second, out, work),
+        9 => widen_local_by_document(size, first, second, out, work),
+        10 => widen_single_type_by_table(size, first, second, out, work),
+        _ => widen_single_type_by_document(size, first, second, out, work),
     }
 }
 
 // Runs the call of this number on its inputs and lent slices.
 pub fn answer(
     call: u8,
+    size: Size,
     label: u32,
     first: &[u8],
     second: &[u8],
@@ -140,14 +149,14 @@ pub fn answer(
     work: &mut [u32],
 ) -> Told {
     match call {
-        1 => of_reading(table_reads(first, work), byte_sum(out)),
-        2 => of_reading(document_reads(first, work), byte_sum(out)),
-        3 => label_told(first, label as usize, work),
-        4 => of_verdict(lets_in(first, second, work), byte_sum(out)),
-        5 => of_verdict(is_local(first, work), byte_sum(out)),
-        6 => of_verdict(is_single_type(first, work), byte_sum(out)),
-        7 => of_written(sample(first, out, work), byte_sum(out)),
-        8..=11 => of_written(widened(call, first, second, out, work), byte_sum(out)),
+        1 => of_reading(table_reads(size, first, work), byte_sum(out)),
+        2 => of_reading(document_reads(size, first, work), byte_sum(out)),
+        3 => label_told(size, first, label as usize, work),
+        4 => of_verdict(lets_in(size, first, second, work), byte_sum(out)),
+        5 => of_verdict(is_local(size, first, work), byte_sum(out)),
+        6 => of_verdict(is_single_type(size, first, work), byte_sum(out)),
+        7 => of_written(sample(size, first, out, work), byte_sum(out)),
+        8..=11 => of_written(widened(call, size, first, second, out, work), byte_sum(out)),
         _ => Told {
             refusal: 99,
             value: 0,

@@ -6,6 +6,7 @@ use crate::answers::answer;
 use crate::fills::fill_output;
 use crate::fills::fill_work;
 use crate::numbers::number;
+use crate::sizes::size_numbered;
 use crate::sums::word_sum;
 use libc::STDIN_FILENO;
 use libc::STDOUT_FILENO;
@@ -54,6 +55,7 @@ fn print_line(call: u8, told: Told, worksum: u32) {
 // Fills the lent slices, runs the call and prints the line.
 fn run(
     call: u8,
+    size: u32,
     label: u32,
     word: u32,
     first: &[u8],
@@ -63,18 +65,18 @@ fn run(
 ) {
     fill_output(out);
     fill_work(work, word);
-    let told = answer(call, label, first, second, out, work);
+    let told = answer(call, size_numbered(size), label, first, second, out, work);
     let worksum = word_sum(work);
     print_line(call, told, worksum);
 }
 
 // Reads the inputs of a case and runs it, with lent slices of these lengths.
-fn run_lent(call: u8, words: usize, word: u32, bytes: usize, label: u32) -> bool {
+fn run_lent(call: u8, size: u32, words: usize, word: u32, bytes: usize, label: u32) -> bool {
     let mut first = [0u8; 65600];
     let mut second = [0u8; 65600];
     let mut out = [0u8; 33000];
-    let mut work = [0u32; 16500];
-    if 16500 < words {
+    let mut work = [0u32; 32900];
+    if 32900 < words {
         return false;
     }
     if 33000 < bytes {
@@ -84,6 +86,7 @@ fn run_lent(call: u8, words: usize, word: u32, bytes: usize, label: u32) -> bool
     let m = read_input(&mut second);
     run(
         call,
+        size,
         label,
         word,
         &first[0..n],
@@ -100,9 +103,10 @@ pub fn run_next() -> bool {
     if call == 0 {
         return false;
     }
+    let size = read_number();
     let words = read_number();
     let word = read_number();
     let bytes = read_number();
     let label = read_number();
-    run_lent(call, words as usize, word, bytes as usize, label)
+    run_lent(call, size, words as usize, word, bytes as usize, label)
 }

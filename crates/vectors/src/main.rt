@@ -5,6 +5,7 @@ mod cases;
 mod fills;
 mod numbers;
 mod places;
+mod sizes;
 mod sums;
 
 use cases::run_next;
