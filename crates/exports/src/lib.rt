@@ -2,19 +2,18 @@
 // A slice is a pointer and a length; every answer is one number: the refusal's number times 2^32, and the value (1 for yes and readable,
 // 0 for no, the length of a table written, offset times 65,536 and length for a name).
 mod answers;
-mod sizes;
 
 use crate::answers::of_place;
 use crate::answers::of_reading;
 use crate::answers::of_refusal;
 use crate::answers::of_verdict;
 use crate::answers::of_written;
-use crate::sizes::size_numbered;
 use grammar::Refusal;
 use reader::calls::document_reads;
 use reader::calls::table_reads;
 use reader::label_places::find_label;
 use reader::limits::limits_of;
+use reader::limits::size_numbered;
 use reader::work::clear_work;
 use validator::calls::is_local;
 use validator::calls::is_single_type;

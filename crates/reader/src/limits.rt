@@ -2,7 +2,7 @@
 use grammar::Size;
 use grammar::SizeLimits;
 ghost use mathlib.Core.Path.{_≡_};
-ghost use Rattle.grammar.specs.LimitSets.{sizeLimits, limitsOf, Within};
+ghost use Rattle.grammar.specs.LimitSets.{sizeLimits, sizeNumbered, limitsOf, Within};
 
 // Bytes of an input.
 pub const INPUT: usize = 32768;
@@ -40,4 +40,17 @@ pub fn limits_of(size: Size) -> SizeLimits
             words: 32768,
         },
     }
+}
+
+// The size that a number stands for in calls from C: 0 the small one, 2 the large one, any other number the standard one.
+pub fn size_numbered(number: u32) -> Size
+    ensures { λ r. ⌜ r ≡ sizeNumbered number ⌝ }
+{
+    if number == 0 {
+        return Size::Small;
+    }
+    if number == 2 {
+        return Size::Large;
+    }
+    Size::Standard
 }

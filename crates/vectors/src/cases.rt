@@ -6,10 +6,10 @@ use crate::answers::answer;
 use crate::fills::fill_output;
 use crate::fills::fill_work;
 use crate::numbers::number;
-use crate::sizes::size_numbered;
 use crate::sums::word_sum;
 use libc::STDIN_FILENO;
 use libc::STDOUT_FILENO;
+use reader::limits::size_numbered;
 
 // The next byte; 0 where the input has ended.
 fn read_byte() -> u8 {

@@ -5,7 +5,6 @@ mod cases;
 mod fills;
 mod numbers;
 mod places;
-mod sizes;
 mod sums;
 
 use cases::run_next;
