@@ -8,8 +8,18 @@
  * its length: to read for inputs, to read and write for `out` and `work`. With length 0 it must still not be null. `out` and `work`
  * overlap nothing else. Inputs may have any bytes and any length.
  *
- * Working memory. Every call is lent `work`, of at least COGARRUNE_WORK_WORDS words, with any content. Afterwards its first
- * COGARRUNE_WORK_WORDS words are zero, and words beyond are as they came. With fewer words the call answers refusal 1 and changes none.
+ * Sizes. Every call picks one of three sets of limits by its first argument. Any other number counts as COGARRUNE_STANDARD. What reads
+ * at one size reads at every larger one.
+ *
+ *     size                  rules, labels, starts, types   nodes   levels   working words
+ *     COGARRUNE_SMALL                                 16     256       16          12,288
+ *     COGARRUNE_STANDARD                              64   1,024       64          16,384
+ *     COGARRUNE_LARGE                                128   2,048       64          32,768
+ *
+ * Type numbers run below the limit on types. A table that is written keeps the limits of its call, so it reads at the same size.
+ *
+ * Working memory. Every call is lent `work`, of at least as many words as its size needs, with any content. Afterwards just these words
+ * are zero, and words beyond are as they came. With fewer words the call answers refusal 1 and changes none.
  *
  * Answers. Every answer is one number: refusal x 2^32 + value. The refusal is 0, or the first fault of the list below that the
  * input has; the value is then 0, and nothing is written to `out`.
@@ -24,8 +34,13 @@
 extern "C" {
 #endif
 
-/* Words that every call needs. */
-#define COGARRUNE_WORK_WORDS 16384
+/* The sizes. */
+enum cogarrune_size { COGARRUNE_SMALL = 0, COGARRUNE_STANDARD = 1, COGARRUNE_LARGE = 2 };
+
+/* Words that a call of each size needs. */
+#define COGARRUNE_WORDS_SMALL 12288
+#define COGARRUNE_WORDS_STANDARD 16384
+#define COGARRUNE_WORDS_LARGE 32768
 
 /* Stack that a thread should leave for a call: twice what the hardest inputs known take (tests/stack/run). */
 #define COGARRUNE_STACK_BYTES 1048576
@@ -35,20 +50,20 @@ extern "C" {
 
 /* Why a call turned its input back, in the order in which the reasons are tried. */
 enum cogarrune_refusal {
-    COGARRUNE_WORK_TOO_SHORT = 1,    /* fewer than COGARRUNE_WORK_WORDS words are lent */
+    COGARRUNE_WORK_TOO_SHORT = 1,    /* fewer words are lent than the size needs */
     COGARRUNE_INPUT_TOO_LONG = 2,    /* an input is longer than 32,768 bytes */
     COGARRUNE_FIELD_PAST_END = 3,    /* a field runs past the input's end, or the input stops before an end field */
     COGARRUNE_BAD_FIELD = 4,         /* a tag is foreign or out of order, or its length is not one of its own */
     COGARRUNE_BAD_NAME = 5,          /* a name breaks the name rule */
     COGARRUNE_REPEATED = 6,          /* a label name or a start type repeats an earlier one */
-    COGARRUNE_TOO_MANY = 7,          /* a 65th label, start or rule */
-    COGARRUNE_OUT_OF_RANGE = 8,      /* a start or rule type above 63, or a label number that is not among the labels */
-    COGARRUNE_BAD_CONTENT = 9,       /* a content is not exactly one expression, or names a type above 63 */
+    COGARRUNE_TOO_MANY = 7,          /* a label, start or rule more than the size allows */
+    COGARRUNE_OUT_OF_RANGE = 8,      /* a start or rule type not below the size's limit, or a label number not among the labels */
+    COGARRUNE_BAD_CONTENT = 9,       /* a content is not exactly one expression, or names a type not below the size's limit */
     COGARRUNE_NESTED_TOO_DEEP = 10,  /* a content nests more than 32 deep */
     COGARRUNE_BAD_TREE = 11,         /* a node too many, too many children, too deep, after or before the tree is complete */
     COGARRUNE_BYTES_AFTER_END = 12,  /* bytes follow the end field */
     COGARRUNE_NO_DOCUMENT = 13,      /* the united tables derive no document */
-    COGARRUNE_RESULT_TOO_LARGE = 14, /* the sample or the result breaks a limit of table files */
+    COGARRUNE_RESULT_TOO_LARGE = 14, /* the sample or the result breaks a limit of table files of that size */
     COGARRUNE_OUTPUT_TOO_SHORT = 15  /* `out` is shorter than the result */
 };
 
@@ -60,40 +75,48 @@ static inline uint32_t cogarrune_value_of(uint64_t answer) { return (uint32_t)an
 static inline size_t cogarrune_name_offset(uint32_t value) { return value >> 16; }
 static inline size_t cogarrune_name_length(uint32_t value) { return value & 0xFFFF; }
 
+/* Words that a call of a size needs. */
+static inline size_t cogarrune_words_of(uint32_t size) {
+    return size == COGARRUNE_SMALL ? COGARRUNE_WORDS_SMALL : size == COGARRUNE_LARGE ? COGARRUNE_WORDS_LARGE : COGARRUNE_WORDS_STANDARD;
+}
+
 /* Does a table read? Value 1. */
-uint64_t cogarrune_table_reads(const uint8_t *table, size_t table_length, uint32_t *work, size_t work_length);
+uint64_t cogarrune_table_reads(uint32_t size, const uint8_t *table, size_t table_length, uint32_t *work, size_t work_length);
 
 /* Does a document read? Value 1. */
-uint64_t cogarrune_document_reads(const uint8_t *document, size_t document_length, uint32_t *work, size_t work_length);
+uint64_t cogarrune_document_reads(uint32_t size, const uint8_t *document, size_t document_length, uint32_t *work, size_t work_length);
 
 /* The name of a label, counted from 0, as a part of the table's own bytes. Value: offset x 65,536 + length. */
-uint64_t cogarrune_label_name(const uint8_t *table, size_t table_length, size_t label, uint32_t *work, size_t work_length);
+uint64_t cogarrune_label_name(uint32_t size, const uint8_t *table, size_t table_length, size_t label, uint32_t *work,
+                              size_t work_length);
 
 /* Does the table let in the document? Value 1 for yes, 0 for no. A name that the table does not know means no. */
-uint64_t cogarrune_lets_in(const uint8_t *table, size_t table_length, const uint8_t *document, size_t document_length,
+uint64_t cogarrune_lets_in(uint32_t size, const uint8_t *table, size_t table_length, const uint8_t *document, size_t document_length,
                            uint32_t *work, size_t work_length);
 
 /* Is the table local: has no label two rules? Value 1 for yes, 0 for no. */
-uint64_t cogarrune_is_local(const uint8_t *table, size_t table_length, uint32_t *work, size_t work_length);
+uint64_t cogarrune_is_local(uint32_t size, const uint8_t *table, size_t table_length, uint32_t *work, size_t work_length);
 
 /* Is the table single-type: neither among its starts nor within one content do two types have rules with one label, and no two
  * rules share type and label? Value 1 for yes, 0 for no. */
-uint64_t cogarrune_is_single_type(const uint8_t *table, size_t table_length, uint32_t *work, size_t work_length);
+uint64_t cogarrune_is_single_type(uint32_t size, const uint8_t *table, size_t table_length, uint32_t *work, size_t work_length);
 
 /* Writes the sample table of a document. Value: how many bytes of `out` it takes; bytes past them stay as they came. */
-uint64_t cogarrune_sample(const uint8_t *document, size_t document_length, uint8_t *out, size_t out_length,
+uint64_t cogarrune_sample(uint32_t size, const uint8_t *document, size_t document_length, uint8_t *out, size_t out_length,
                           uint32_t *work, size_t work_length);
 
 /* Writes the least local (or single-type) table that lets in all that the old table and the addition let in. Value as for
  * cogarrune_sample. A document is added through its sample; the result is least over the old table and that one document. */
-uint64_t cogarrune_widen_local_by_table(const uint8_t *old, size_t old_length, const uint8_t *addition, size_t addition_length,
-                                        uint8_t *out, size_t out_length, uint32_t *work, size_t work_length);
-uint64_t cogarrune_widen_local_by_document(const uint8_t *old, size_t old_length, const uint8_t *document, size_t document_length,
-                                           uint8_t *out, size_t out_length, uint32_t *work, size_t work_length);
-uint64_t cogarrune_widen_single_type_by_table(const uint8_t *old, size_t old_length, const uint8_t *addition,
+uint64_t cogarrune_widen_local_by_table(uint32_t size, const uint8_t *old, size_t old_length, const uint8_t *addition,
+                                        size_t addition_length, uint8_t *out, size_t out_length, uint32_t *work,
+                                        size_t work_length);
+uint64_t cogarrune_widen_local_by_document(uint32_t size, const uint8_t *old, size_t old_length, const uint8_t *document,
+                                           size_t document_length, uint8_t *out, size_t out_length, uint32_t *work,
+                                           size_t work_length);
+uint64_t cogarrune_widen_single_type_by_table(uint32_t size, const uint8_t *old, size_t old_length, const uint8_t *addition,
                                               size_t addition_length, uint8_t *out, size_t out_length, uint32_t *work,
                                               size_t work_length);
-uint64_t cogarrune_widen_single_type_by_document(const uint8_t *old, size_t old_length, const uint8_t *document,
+uint64_t cogarrune_widen_single_type_by_document(uint32_t size, const uint8_t *old, size_t old_length, const uint8_t *document,
                                                  size_t document_length, uint8_t *out, size_t out_length, uint32_t *work,
                                                  size_t work_length);
 

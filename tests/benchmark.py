@@ -2,8 +2,9 @@
 """Membership and widening, measured: the proved program crates/vectors (target/bin/vectors, made by `rt check vectors`) on growing
 inputs. Not part of the gate; a test never looks at time.
 
-Prints, for each input, the time of one call less that of a call on the smallest inputs (the program fills and sums the lent words
-for each case), side by side in one run. For membership also the product of children and content bytes that bounds the work, and the
+Prints, for each input, the time of one call less that of a call on the smallest inputs at the same size (the program fills and sums the
+lent words for each case), side by side in one run: first at the standard size, then at the large one, with a document of 2,048 nodes and
+tables of 128 rules. For membership also the product of children and content bytes that bounds the work, and the
 time for each unit of it: growth is linear where the last column does not rise. For widening, each table by itself, to either kind,
 also how many times the time of the size before it is: each size is twice the one before.
 
@@ -14,6 +15,8 @@ import argparse, itertools, pathlib, re, resource, subprocess, sys, tempfile
 ROOT = pathlib.Path(__file__).resolve().parent.parent
 LETS_IN, LOCAL, SINGLE_TYPE = 4, 8, 10
 OUTPUT = 32768
+STANDARD, LARGE = 1, 2
+WORDS = {STANDARD: 16384, LARGE: 32768}
 
 
 def field(tag, value):
@@ -40,6 +43,14 @@ def flat(cards):
     return table(["list", "card", "name", "door"], [0], rules), document(node("list", *[card] * cards)), cards * 3 + cards * 2 * 7
 
 
+def lists(count):
+    """So many lists of 170 cards each, with names; four of them are 2,045 nodes."""
+    rules = [(0, 0, [5, 2, 1]), (1, 1, [5, 2, 2]), (2, 2, [3, 2, 2, 3, 7, 2, 4]), (3, 3, [1]), (4, 4, [1])]
+    card = node("card", node("name"), node("door"))
+    made = node("site", *[node("list", *[card] * 170)] * count)
+    return table(["site", "list", "card", "name", "door"], [0], rules), document(made), count * (3 + 170 * 3 + 170 * 2 * 7)
+
+
 def deep(chains, levels):
     chain = b""
     for level in range(levels - 1):
@@ -54,13 +65,13 @@ def stars(children, nesting=32):
     return table(["list", "card"], [0], rules), document(node("list", *[node("card")] * children)), children * len(content)
 
 
-def full(children, bytes_each=496):
-    """64 rules, 63 of them with the root's label and a content of some 500 bytes each."""
-    operands = bytes_each // 2 - 1
+def full(children, count=64):
+    """As many rules, all but one with the root's label and a content of some 500 bytes each for 64 rules, 240 for 128."""
+    operands = 31744 // count // 2 - 1
     content = [4, operands] + [2, 1] * (operands - 1) + [2, 2]
-    rules = [(0, 0, [5] + content)] * 63 + [(1, 1, [1])]
+    rules = [(0, 0, [5] + content)] * (count - 1) + [(1, 1, [1])]
     name_table = table(["list", "card"], [0], rules)
-    return name_table, document(node("list", *[node("card")] * children)), children * 63 * (len(content) + 1)
+    return name_table, document(node("list", *[node("card")] * children)), children * (count - 1) * (len(content) + 1)
 
 
 def choice(operands):
@@ -74,9 +85,9 @@ def leaves(kind, names):
     return [(kind, label, [1]) for label in names]
 
 
-def full_rules(count):
-    """Each rule a type and a label of its own, with a content of some 500 bytes that names all types."""
-    rules = [(k, k, choice([[2, (k + i) % count] for i in range(245)] + [[1]])) for k in range(count)]
+def full_rules(count, operands=245):
+    """Each rule a type and a label of its own, with a content of so many operands that names all types."""
+    rules = [(k, k, choice([[2, (k + i) % count] for i in range(operands)] + [[1]])) for k in range(count)]
     return table([f"n{k}" for k in range(count)], [0], rules)
 
 
@@ -105,20 +116,23 @@ def many_sets(count):
     return table(["a"], [0], [(k, 0, later(k)) for k in range(count - 1)] + leaves(count - 1, [0]))
 
 
-def equal_operands(count):
+def equal_operands(count, named_in_all=430):
     """Types of one label in many sets, whose contents name, after many other operands, a type of many labels as
     often as they can. Each time each of its labels is looked for among the operands kept."""
     others = [list(marks) + [1] for n in (1, 2, 3, 4, 5) for marks in itertools.product([5, 6, 7], repeat=n)][:170]
     named = lambda k: [[2, 0]] + [[2, i] for i in range(k + 1, count)]
-    first = (0, 0, choice(others + [[2, 63]]))
-    rules = [first] + [(k, 0, choice(named(k) + [[2, 63]] * (430 - count))) for k in range(1, count)]
-    return table([f"n{k}" for k in range(33)], [1], rules + leaves(63, range(1, 33)))
+    last = max(count, 63)
+    first = (0, 0, choice(others + [[2, last]]))
+    rules = [first] + [(k, 0, choice(named(k) + [[2, last]] * (named_in_all - count))) for k in range(1, count)]
+    return table([f"n{k}" for k in range(33)], [1], rules + leaves(last, range(1, 33)))
 
 
-def case(call, first, second, words=16384):
+def case(size, call, first, second):
+    """A case as tests/second_validator/README.md lays it down."""
     number = lambda n: n.to_bytes(4, "big")
     part = lambda b: number(len(b)) + b
-    return bytes([call]) + number(words) + number(0) + number(0 if call == LETS_IN else OUTPUT) + number(0) + part(first) + part(second)
+    lent = number(WORDS[size]) + number(0) + number(0 if call == LETS_IN else OUTPUT)
+    return bytes([call]) + number(size) + lent + number(0) + part(first) + part(second)
 
 
 def seconds(program, one, repeats):
@@ -153,45 +167,60 @@ def instructions(program, one):
     return int(re.search(r"Collected : (\d+)", run.stderr).group(1)), answers
 
 
+MEMBERSHIP = [
+    ("flat list, cards:", STANDARD, flat, (50, 100, 200)),
+    ("64 levels, chains:", STANDARD, lambda n: deep(n, 64), (4, 8, 16)),
+    ("stars nested 32 deep, children:", STANDARD, stars, (50, 100, 200)),
+    ("64 rules, full contents, children:", STANDARD, full, (50, 100, 200)),
+    ("large: lists of 170 cards:", LARGE, lists, (1, 2, 4)),
+    ("large: 64 levels, chains:", LARGE, lambda n: deep(n, 64), (8, 16, 32)),
+    ("large: 128 rules, full, children:", LARGE, lambda n: full(n, 128), (50, 100, 200)),
+]
+
+WIDENING = [
+    ("full contents, rules:", STANDARD, full_rules, (16, 32, 64)),
+    ("two labels a type, rules:", STANDARD, full_pairs, (16, 32, 64)),
+    ("labels of one type:", STANDARD, many_labels, (16, 32, 64)),
+    ("contents nested 30 deep, rules:", STANDARD, deep_contents, (16, 32, 64)),
+    ("one label, types:", STANDARD, many_sets, (16, 32, 64)),
+    ("equal operands, types:", STANDARD, equal_operands, (8, 16, 32)),
+    ("large: full contents, rules:", LARGE, lambda n: full_rules(n, 110), (32, 64, 128)),
+    ("large: two labels a type, rules:", LARGE, full_pairs, (32, 64, 128)),
+    ("large: labels of one type:", LARGE, many_labels, (32, 64, 128)),
+    ("large: nested 30 deep, rules:", LARGE, deep_contents, (32, 64, 128)),
+    ("large: one label, types:", LARGE, many_sets, (32, 64, 128)),
+    ("large: equal operands, types:", LARGE, lambda n: equal_operands(n, 220), (16, 32, 64)),
+]
+
+
 def membership(measure, counted):
-    least, _ = measure(case(LETS_IN, *flat(0)[:2]))
+    least = {size: measure(case(size, LETS_IN, *flat(0)[:2]))[0] for size in WORDS}
     scale, call, unit = (1, "a call", "a unit") if counted else (1e3, "ms a call", "ns a unit")
     print(f"{'membership':36} {'answer':>8} {call:>13} {'children x bytes':>17} {unit:>10}")
-    for name, make, sizes in [
-        ("flat list, cards:", flat, (50, 100, 200)),
-        ("64 levels, chains:", lambda n: deep(n, 64), (4, 8, 16)),
-        ("stars nested 32 deep, children:", stars, (50, 100, 200)),
-        ("64 rules, full contents, children:", full, (50, 100, 200)),
-    ]:
-        for size in sizes:
-            first, second, units = make(size)
-            spent, answers = measure(case(LETS_IN, first, second))
-            spent = max(spent - least, 0)
+    for name, size, make, counts in MEMBERSHIP:
+        for count in counts:
+            first, second, units = make(count)
+            spent, answers = measure(case(size, LETS_IN, first, second))
+            spent = max(spent - least[size], 0)
             each = spent * (1 if counted else 1e9) / units
-            print(f"{name + ' ' + str(size):36} {'/'.join(sorted(answers)):>8} {spent * scale:13.3f} {units:17} {each:10.1f}")
+            print(f"{name + ' ' + str(count):36} {'/'.join(sorted(answers)):>8} {spent * scale:13.3f} {units:17} {each:10.1f}")
 
 
 def widening(measure, counted):
     scale, call = (1, "a call") if counted else (1e3, "ms a call")
     print(f"\n{'widening of a table by itself':36} {'bytes':>6} {'kind':>12} {'answer':>8} {call:>13} {'times':>7}")
-    for name, make, sizes in [
-        ("full contents, rules:", full_rules, (16, 32, 64)),
-        ("two labels a type, rules:", full_pairs, (16, 32, 64)),
-        ("labels of one type:", many_labels, (16, 32, 64)),
-        ("contents nested 30 deep, rules:", deep_contents, (16, 32, 64)),
-        ("one label, types:", many_sets, (16, 32, 64)),
-        ("equal operands, types:", equal_operands, (8, 16, 32)),
-    ]:
+    for name, size, make, counts in WIDENING:
         for kind, number in (("local", LOCAL), ("single-type", SINGLE_TYPE)):
-            least, _ = measure(case(number, field(0x1F, []), field(0x1F, [])))
+            least, _ = measure(case(size, number, field(0x1F, []), field(0x1F, [])))
             before = None
-            for size in sizes:
-                made = make(size)
-                spent, answers = measure(case(number, made, made))
+            for count in counts:
+                made = make(count)
+                spent, answers = measure(case(size, number, made, made))
                 spent = max(spent - least, 0)
                 times = f"{spent / before:7.1f}" if before else ""
                 before = spent
-                print(f"{name + ' ' + str(size):36} {len(made):6} {kind:>12} {'/'.join(sorted(answers)):>8} {spent * scale:13.3f} {times:>7}")
+                told = f"{len(made):6} {kind:>12} {'/'.join(sorted(answers)):>8}"
+                print(f"{name + ' ' + str(count):36} {told} {spent * scale:13.3f} {times:>7}")
 
 
 def main():

@@ -10,7 +10,7 @@
 
 /* One byte more than an input may have, so that a longer file is refused and not cut. */
 static uint8_t table[COGARRUNE_MOST_BYTES + 1], document[COGARRUNE_MOST_BYTES + 1];
-static uint32_t work[COGARRUNE_WORK_WORDS];
+static uint32_t work[COGARRUNE_WORDS_STANDARD];
 
 /* The bytes of a file; a file that cannot be read counts as no bytes. */
 static size_t read_file(const char *path, uint8_t *bytes) {
@@ -28,7 +28,8 @@ int main(int count, char **arguments) {
     }
     size_t table_length = read_file(arguments[1], table);
     size_t document_length = read_file(arguments[2], document);
-    uint64_t answer = cogarrune_lets_in(table, table_length, document, document_length, work, COGARRUNE_WORK_WORDS);
+    uint64_t answer = cogarrune_lets_in(COGARRUNE_STANDARD, table, table_length, document, document_length, work,
+                                        COGARRUNE_WORDS_STANDARD);
     if (cogarrune_refusal_of(answer) != 0) {
         printf("refused %u\n", cogarrune_refusal_of(answer));
         return 2;

@@ -6,7 +6,7 @@ use std::fmt;
 #[derive(Clone, Copy, Debug, PartialEq, Eq, Hash)]
 #[repr(u8)]
 pub enum Refusal {
-    /// Fewer than [`WORK_WORDS`](crate::WORK_WORDS) words are lent.
+    /// Fewer words are lent than the [`Size`](crate::Size) needs.
     WorkTooShort = 1,
     /// An input is longer than 32,768 bytes.
     InputTooLong,
@@ -18,11 +18,11 @@ pub enum Refusal {
     BadName,
     /// A label name or a start type repeats an earlier one of its table.
     Repeated,
-    /// A 65th label, start or rule.
+    /// A label, start or rule more than the size allows.
     TooMany,
-    /// A start or rule type above 63, or a label number that is not among the labels.
+    /// A start or rule type not below the size's limit, or a label number that is not among the labels.
     OutOfRange,
-    /// A content is not exactly one expression, or names a type above 63.
+    /// A content is not exactly one expression, or names a type not below the size's limit.
     BadContent,
     /// A content nests more than 32 deep.
     NestedTooDeep,
@@ -32,7 +32,7 @@ pub enum Refusal {
     BytesAfterEnd,
     /// The united tables derive no document.
     NoDocument,
-    /// The sample or the result breaks a limit of table files.
+    /// The sample or the result breaks a limit of table files of that size.
     ResultTooLarge,
     /// The lent output is shorter than the result.
     OutputTooShort,

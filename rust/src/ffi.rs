@@ -2,16 +2,26 @@
 //! length, which is all that the archive asks of its callers.
 #![allow(unsafe_code)]
 
+use crate::Size;
+
 mod archive {
     extern "C" {
-        pub fn cogarrune_table_reads(table: *const u8, table_length: usize, work: *mut u32, work_length: usize) -> u64;
+        pub fn cogarrune_table_reads(
+            size: u32,
+            table: *const u8,
+            table_length: usize,
+            work: *mut u32,
+            work_length: usize,
+        ) -> u64;
         pub fn cogarrune_document_reads(
+            size: u32,
             document: *const u8,
             document_length: usize,
             work: *mut u32,
             work_length: usize,
         ) -> u64;
         pub fn cogarrune_label_name(
+            size: u32,
             table: *const u8,
             table_length: usize,
             label: usize,
@@ -19,6 +29,7 @@ mod archive {
             work_length: usize,
         ) -> u64;
         pub fn cogarrune_lets_in(
+            size: u32,
             table: *const u8,
             table_length: usize,
             document: *const u8,
@@ -26,14 +37,22 @@ mod archive {
             work: *mut u32,
             work_length: usize,
         ) -> u64;
-        pub fn cogarrune_is_local(table: *const u8, table_length: usize, work: *mut u32, work_length: usize) -> u64;
+        pub fn cogarrune_is_local(
+            size: u32,
+            table: *const u8,
+            table_length: usize,
+            work: *mut u32,
+            work_length: usize,
+        ) -> u64;
         pub fn cogarrune_is_single_type(
+            size: u32,
             table: *const u8,
             table_length: usize,
             work: *mut u32,
             work_length: usize,
         ) -> u64;
         pub fn cogarrune_sample(
+            size: u32,
             document: *const u8,
             document_length: usize,
             out: *mut u8,
@@ -42,6 +61,7 @@ mod archive {
             work_length: usize,
         ) -> u64;
         pub fn cogarrune_widen_local_by_table(
+            size: u32,
             old: *const u8,
             old_length: usize,
             addition: *const u8,
@@ -52,6 +72,7 @@ mod archive {
             work_length: usize,
         ) -> u64;
         pub fn cogarrune_widen_local_by_document(
+            size: u32,
             old: *const u8,
             old_length: usize,
             document: *const u8,
@@ -62,6 +83,7 @@ mod archive {
             work_length: usize,
         ) -> u64;
         pub fn cogarrune_widen_single_type_by_table(
+            size: u32,
             old: *const u8,
             old_length: usize,
             addition: *const u8,
@@ -72,6 +94,7 @@ mod archive {
             work_length: usize,
         ) -> u64;
         pub fn cogarrune_widen_single_type_by_document(
+            size: u32,
             old: *const u8,
             old_length: usize,
             document: *const u8,
@@ -85,23 +108,32 @@ mod archive {
 }
 
 /// A call on one input.
-type OneInput = unsafe extern "C" fn(*const u8, usize, *mut u32, usize) -> u64;
+type OneInput = unsafe extern "C" fn(u32, *const u8, usize, *mut u32, usize) -> u64;
 
 /// A call on two inputs.
-type TwoInputs = unsafe extern "C" fn(*const u8, usize, *const u8, usize, *mut u32, usize) -> u64;
+type TwoInputs = unsafe extern "C" fn(u32, *const u8, usize, *const u8, usize, *mut u32, usize) -> u64;
 
 /// A call that widens.
-type Widening = unsafe extern "C" fn(*const u8, usize, *const u8, usize, *mut u8, usize, *mut u32, usize) -> u64;
+type Widening = unsafe extern "C" fn(u32, *const u8, usize, *const u8, usize, *mut u8, usize, *mut u32, usize) -> u64;
 
-fn one_input(call: OneInput, input: &[u8], work: &mut [u32]) -> u64 {
+fn one_input(call: OneInput, size: Size, input: &[u8], work: &mut [u32]) -> u64 {
     // SAFETY: both pointers come from slices of these lengths, and no two of the slices overlap.
-    unsafe { call(input.as_ptr(), input.len(), work.as_mut_ptr(), work.len()) }
+    unsafe {
+        call(
+            size.number(),
+            input.as_ptr(),
+            input.len(),
+            work.as_mut_ptr(),
+            work.len(),
+        )
+    }
 }
 
-fn two_inputs(call: TwoInputs, first: &[u8], second: &[u8], work: &mut [u32]) -> u64 {
+fn two_inputs(call: TwoInputs, size: Size, first: &[u8], second: &[u8], work: &mut [u32]) -> u64 {
     // SAFETY: as above; the two inputs are only read.
     unsafe {
         call(
+            size.number(),
             first.as_ptr(),
             first.len(),
             second.as_ptr(),
@@ -112,35 +144,45 @@ fn two_inputs(call: TwoInputs, first: &[u8], second: &[u8], work: &mut [u32]) ->
     }
 }
 
-pub fn table_reads(table: &[u8], work: &mut [u32]) -> u64 {
-    one_input(archive::cogarrune_table_reads, table, work)
+pub fn table_reads(size: Size, table: &[u8], work: &mut [u32]) -> u64 {
+    one_input(archive::cogarrune_table_reads, size, table, work)
 }
 
-pub fn document_reads(document: &[u8], work: &mut [u32]) -> u64 {
-    one_input(archive::cogarrune_document_reads, document, work)
+pub fn document_reads(size: Size, document: &[u8], work: &mut [u32]) -> u64 {
+    one_input(archive::cogarrune_document_reads, size, document, work)
 }
 
-pub fn label_name(table: &[u8], label: usize, work: &mut [u32]) -> u64 {
+pub fn label_name(size: Size, table: &[u8], label: usize, work: &mut [u32]) -> u64 {
     // SAFETY: as above.
-    unsafe { archive::cogarrune_label_name(table.as_ptr(), table.len(), label, work.as_mut_ptr(), work.len()) }
+    unsafe {
+        archive::cogarrune_label_name(
+            size.number(),
+            table.as_ptr(),
+            table.len(),
+            label,
+            work.as_mut_ptr(),
+            work.len(),
+        )
+    }
 }
 
-pub fn lets_in(table: &[u8], document: &[u8], work: &mut [u32]) -> u64 {
-    two_inputs(archive::cogarrune_lets_in, table, document, work)
+pub fn lets_in(size: Size, table: &[u8], document: &[u8], work: &mut [u32]) -> u64 {
+    two_inputs(archive::cogarrune_lets_in, size, table, document, work)
 }
 
-pub fn is_local(table: &[u8], work: &mut [u32]) -> u64 {
-    one_input(archive::cogarrune_is_local, table, work)
+pub fn is_local(size: Size, table: &[u8], work: &mut [u32]) -> u64 {
+    one_input(archive::cogarrune_is_local, size, table, work)
 }
 
-pub fn is_single_type(table: &[u8], work: &mut [u32]) -> u64 {
-    one_input(archive::cogarrune_is_single_type, table, work)
+pub fn is_single_type(size: Size, table: &[u8], work: &mut [u32]) -> u64 {
+    one_input(archive::cogarrune_is_single_type, size, table, work)
 }
 
-pub fn sample(document: &[u8], out: &mut [u8], work: &mut [u32]) -> u64 {
+pub fn sample(size: Size, document: &[u8], out: &mut [u8], work: &mut [u32]) -> u64 {
     // SAFETY: as above; `out` is written within its length.
     unsafe {
         archive::cogarrune_sample(
+            size.number(),
             document.as_ptr(),
             document.len(),
             out.as_mut_ptr(),
@@ -151,10 +193,11 @@ pub fn sample(document: &[u8], out: &mut [u8], work: &mut [u32]) -> u64 {
     }
 }
 
-fn widen(call: Widening, old: &[u8], added: &[u8], out: &mut [u8], work: &mut [u32]) -> u64 {
+fn widen(call: Widening, size: Size, old: &[u8], added: &[u8], out: &mut [u8], work: &mut [u32]) -> u64 {
     // SAFETY: as above.
     unsafe {
         call(
+            size.number(),
             old.as_ptr(),
             old.len(),
             added.as_ptr(),
@@ -167,21 +210,36 @@ fn widen(call: Widening, old: &[u8], added: &[u8], out: &mut [u8], work: &mut [u
     }
 }
 
-pub fn widen_local_by_table(old: &[u8], addition: &[u8], out: &mut [u8], work: &mut [u32]) -> u64 {
-    widen(archive::cogarrune_widen_local_by_table, old, addition, out, work)
+pub fn widen_local_by_table(size: Size, old: &[u8], addition: &[u8], out: &mut [u8], work: &mut [u32]) -> u64 {
+    widen(archive::cogarrune_widen_local_by_table, size, old, addition, out, work)
 }
 
-pub fn widen_local_by_document(old: &[u8], document: &[u8], out: &mut [u8], work: &mut [u32]) -> u64 {
-    widen(archive::cogarrune_widen_local_by_document, old, document, out, work)
+pub fn widen_local_by_document(size: Size, old: &[u8], document: &[u8], out: &mut [u8], work: &mut [u32]) -> u64 {
+    widen(
+        archive::cogarrune_widen_local_by_document,
+        size,
+        old,
+        document,
+        out,
+        work,
+    )
 }
 
-pub fn widen_single_type_by_table(old: &[u8], addition: &[u8], out: &mut [u8], work: &mut [u32]) -> u64 {
-    widen(archive::cogarrune_widen_single_type_by_table, old, addition, out, work)
+pub fn widen_single_type_by_table(size: Size, old: &[u8], addition: &[u8], out: &mut [u8], work: &mut [u32]) -> u64 {
+    widen(
+        archive::cogarrune_widen_single_type_by_table,
+        size,
+        old,
+        addition,
+        out,
+        work,
+    )
 }
 
-pub fn widen_single_type_by_document(old: &[u8], document: &[u8], out: &mut [u8], work: &mut [u32]) -> u64 {
+pub fn widen_single_type_by_document(size: Size, old: &[u8], document: &[u8], out: &mut [u8], work: &mut [u32]) -> u64 {
     widen(
         archive::cogarrune_widen_single_type_by_document,
+        size,
         old,
         document,
         out,

@@ -1,32 +1,42 @@
-//! The paper's examples.
+//! The paper's examples, at the standard size.
 #[allow(dead_code)] // each test uses a part of it
 mod common;
 
 use cogarrune::*;
 use common::*;
 
+const STANDARD: Size = Size::Standard;
 const P1: [u8; 17] = [0x10, 0, 1, b'a', 0x11, 0, 1, 0, 0x12, 0, 3, 0, 0, 1, 0x1F, 0, 0];
 const P2: [u8; 8] = [0x30, 0, 2, 0, b'a', 0x3F, 0, 0];
 
 #[test]
 fn p1_is_a_table() {
-    assert_eq!(table_reads(&P1, &mut new_work()), Ok(()));
-    assert_eq!(label_name(&P1, 0, &mut new_work()), Ok(&b"a"[..]));
-    assert_eq!(label_name(&P1, 1, &mut new_work()), Err(Refusal::OutOfRange));
+    assert_eq!(table_reads(STANDARD, &P1, &mut new_work(STANDARD)), Ok(()));
+    assert_eq!(label_name(STANDARD, &P1, 0, &mut new_work(STANDARD)), Ok(&b"a"[..]));
+    assert_eq!(
+        label_name(STANDARD, &P1, 1, &mut new_work(STANDARD)),
+        Err(Refusal::OutOfRange)
+    );
 }
 
 #[test]
 fn p2_is_let_in() {
-    assert_eq!(document_reads(&P2, &mut new_work()), Ok(()));
-    assert_eq!(lets_in(&P1, &P2, &mut new_work()), Ok(Verdict::Yes));
+    assert_eq!(document_reads(STANDARD, &P2, &mut new_work(STANDARD)), Ok(()));
+    assert_eq!(lets_in(STANDARD, &P1, &P2, &mut new_work(STANDARD)), Ok(Verdict::Yes));
     let other = document(node("b", &[]));
-    assert_eq!(lets_in(&P1, &other, &mut new_work()), Ok(Verdict::No));
+    assert_eq!(lets_in(STANDARD, &P1, &other, &mut new_work(STANDARD)), Ok(Verdict::No));
 }
 
 #[test]
 fn p3_no_bytes_are_refused() {
-    assert_eq!(table_reads(&[], &mut new_work()), Err(Refusal::FieldPastEnd));
-    assert_eq!(document_reads(&[], &mut new_work()), Err(Refusal::FieldPastEnd));
+    assert_eq!(
+        table_reads(STANDARD, &[], &mut new_work(STANDARD)),
+        Err(Refusal::FieldPastEnd)
+    );
+    assert_eq!(
+        document_reads(STANDARD, &[], &mut new_work(STANDARD)),
+        Err(Refusal::FieldPastEnd)
+    );
     assert_eq!(Refusal::FieldPastEnd.number(), 3);
 }
 
@@ -44,11 +54,16 @@ fn p5_doors_merge_in_local_work_only() {
         &[node("floor", &[door("code")]), node("lift", &[door("time")])],
     ));
     assert_eq!(
-        lets_in(&local(&p5(), E).unwrap(), &crossed, &mut new_work()),
+        lets_in(STANDARD, &local(&p5(), E).unwrap(), &crossed, &mut new_work(STANDARD)),
         Ok(Verdict::Yes)
     );
     assert_eq!(
-        lets_in(&single_type(&p5(), E).unwrap(), &crossed, &mut new_work()),
+        lets_in(
+            STANDARD,
+            &single_type(&p5(), E).unwrap(),
+            &crossed,
+            &mut new_work(STANDARD)
+        ),
         Ok(Verdict::No)
     );
 }
@@ -86,38 +101,55 @@ fn p8_two_labels_of_one_type_do_not_compete() {
 fn a_widening_by_a_document_lets_it_in() {
     let added = document(node("list", &[node("door", &[]), node("zone", &[])]));
     let mut out = vec![0; MOST_BYTES];
-    let mut work = new_work();
-    let wider = widen_local_by_document(&p8(), &added, &mut out, &mut work)
+    let mut work = new_work(STANDARD);
+    let wider = widen_local_by_document(STANDARD, &p8(), &added, &mut out, &mut work)
         .unwrap()
         .to_vec();
-    assert_eq!(is_local(&wider, &mut work), Ok(Verdict::Yes));
-    assert_eq!(lets_in(&wider, &added, &mut work), Ok(Verdict::Yes));
-    let wider = widen_single_type_by_document(&p8(), &added, &mut out, &mut work)
+    assert_eq!(is_local(STANDARD, &wider, &mut work), Ok(Verdict::Yes));
+    assert_eq!(lets_in(STANDARD, &wider, &added, &mut work), Ok(Verdict::Yes));
+    let wider = widen_single_type_by_document(STANDARD, &p8(), &added, &mut out, &mut work)
         .unwrap()
         .to_vec();
-    assert_eq!(is_single_type(&wider, &mut work), Ok(Verdict::Yes));
-    assert_eq!(lets_in(&wider, &added, &mut work), Ok(Verdict::Yes));
-    let taken = sample(&added, &mut out, &mut work).unwrap().to_vec();
-    assert_eq!(lets_in(&taken, &added, &mut work), Ok(Verdict::Yes));
-    assert_eq!(sample(&added, &mut out[..3], &mut work), Err(Refusal::OutputTooShort));
+    assert_eq!(is_single_type(STANDARD, &wider, &mut work), Ok(Verdict::Yes));
+    assert_eq!(lets_in(STANDARD, &wider, &added, &mut work), Ok(Verdict::Yes));
+    let taken = sample(STANDARD, &added, &mut out, &mut work).unwrap().to_vec();
+    assert_eq!(lets_in(STANDARD, &taken, &added, &mut work), Ok(Verdict::Yes));
+    assert_eq!(
+        sample(STANDARD, &added, &mut out[..3], &mut work),
+        Err(Refusal::OutputTooShort)
+    );
 }
 
 /// The local widening by a table.
 fn local(old: &[u8], addition: &[u8]) -> Result<Vec<u8>, Refusal> {
-    widen_local_by_table(old, addition, &mut vec![0; MOST_BYTES], &mut new_work()).map(<[u8]>::to_vec)
+    widen_local_by_table(
+        STANDARD,
+        old,
+        addition,
+        &mut vec![0; MOST_BYTES],
+        &mut new_work(STANDARD),
+    )
+    .map(<[u8]>::to_vec)
 }
 
 /// The single-type widening by a table.
 fn single_type(old: &[u8], addition: &[u8]) -> Result<Vec<u8>, Refusal> {
-    widen_single_type_by_table(old, addition, &mut vec![0; MOST_BYTES], &mut new_work()).map(<[u8]>::to_vec)
+    widen_single_type_by_table(
+        STANDARD,
+        old,
+        addition,
+        &mut vec![0; MOST_BYTES],
+        &mut new_work(STANDARD),
+    )
+    .map(<[u8]>::to_vec)
 }
 
 #[test]
 fn kinds_of_p5_to_p8() {
     let both = |bytes: &[u8]| {
         (
-            is_local(bytes, &mut new_work()).unwrap(),
-            is_single_type(bytes, &mut new_work()).unwrap(),
+            is_local(STANDARD, bytes, &mut new_work(STANDARD)).unwrap(),
+            is_single_type(STANDARD, bytes, &mut new_work(STANDARD)).unwrap(),
         )
     };
     assert_eq!(both(&p5()), (Verdict::No, Verdict::Yes));

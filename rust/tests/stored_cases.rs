@@ -29,6 +29,7 @@ impl Cases {
 
 struct Case {
     call: u8,
+    size: Size,
     label: usize,
     first: Vec<u8>,
     second: Vec<u8>,
@@ -36,16 +37,27 @@ struct Case {
     work: Vec<u32>,
 }
 
+/// The size of a number; any other number counts as the standard size.
+fn size_of(number: u32) -> Size {
+    match number {
+        0 => Size::Small,
+        2 => Size::Large,
+        _ => Size::Standard,
+    }
+}
+
 fn next_case(cases: &mut Cases) -> Option<Case> {
     let call = cases.byte();
     if call == 0 {
         return None;
     }
+    let size = size_of(cases.number());
     let (words, fill, out_length, label) = (cases.number(), cases.number(), cases.number(), cases.number());
     let out = (0..out_length).map(|i| ((165 + 7 * i) % 256) as u8).collect();
     let work = vec![fill; words as usize];
     Some(Case {
         call,
+        size,
         label: label as usize,
         first: cases.slice(),
         second: cases.slice(),
@@ -64,24 +76,24 @@ fn of_verdict(answer: Result<Verdict, Refusal>) -> Result<usize, Refusal> {
 
 /// The value and the checksum of what was written, or of the part that came back.
 fn answered(case: &mut Case) -> (Result<usize, Refusal>, u32) {
-    let (first, second, out, work) = (&case.first, &case.second, &mut case.out, &mut case.work);
+    let (size, first, second, out, work) = (case.size, &case.first, &case.second, &mut case.out, &mut case.work);
     let value = match case.call {
-        1 => table_reads(first, work).map(|()| 1),
-        2 => document_reads(first, work).map(|()| 1),
+        1 => table_reads(size, first, work).map(|()| 1),
+        2 => document_reads(size, first, work).map(|()| 1),
         3 => {
-            let name = label_name(first, case.label, work);
+            let name = label_name(size, first, case.label, work);
             let sum = checksum(name.unwrap_or(&[]).iter().map(|byte| u32::from(*byte)));
             let place = |name: &[u8]| (name.as_ptr() as usize - first.as_ptr() as usize) * 65_536 + name.len();
             return (name.map(place), sum);
         }
-        4 => of_verdict(lets_in(first, second, work)),
-        5 => of_verdict(is_local(first, work)),
-        6 => of_verdict(is_single_type(first, work)),
-        7 => sample(first, out, work).map(<[u8]>::len),
-        8 => widen_local_by_table(first, second, out, work).map(<[u8]>::len),
-        9 => widen_local_by_document(first, second, out, work).map(<[u8]>::len),
-        10 => widen_single_type_by_table(first, second, out, work).map(<[u8]>::len),
-        11 => widen_single_type_by_document(first, second, out, work).map(<[u8]>::len),
+        4 => of_verdict(lets_in(size, first, second, work)),
+        5 => of_verdict(is_local(size, first, work)),
+        6 => of_verdict(is_single_type(size, first, work)),
+        7 => sample(size, first, out, work).map(<[u8]>::len),
+        8 => widen_local_by_table(size, first, second, out, work).map(<[u8]>::len),
+        9 => widen_local_by_document(size, first, second, out, work).map(<[u8]>::len),
+        10 => widen_single_type_by_table(size, first, second, out, work).map(<[u8]>::len),
+        11 => widen_single_type_by_document(size, first, second, out, work).map(<[u8]>::len),
         other => panic!("no call {other}"),
     };
     (value, checksum(out.iter().map(|byte| u32::from(*byte))))

@@ -1,4 +1,4 @@
-"""Cases for the calls of document 01, with the answers of reference.py.
+"""Cases for the calls of document 01, at the three sizes of Card 13, with the answers of reference.py.
 
     python3 generate.py --write DIR [--seed N] [--count M]    writes DIR/cases.bin, DIR/expected.txt
     python3 generate.py --check DIR [--seed N] [--count M]    recomputes both and compares
@@ -16,6 +16,7 @@ cases.bin, front to back; all numbers unsigned, high byte first:
 
     repeated for each case
         1 byte   call, 1 to 11 (below)
+        4 bytes  size: 0 small, 1 standard, 2 large; any other number counts as 1
         4 bytes  W, the length of the working slice in words
         4 bytes  F, the word that fills the working slice before the call
         4 bytes  O, the length of the output slice in bytes (0 for calls without one)
@@ -52,14 +53,16 @@ import argparse
 import os
 import sys
 from collections import Counter, namedtuple
+from functools import lru_cache, partial
 
 sys.dont_write_bytecode = True
 sys.path.insert(0, os.path.dirname(os.path.abspath(__file__)))
 import reference as ref  # noqa: E402
 
-MOST_INPUT, MOST_OUTPUT, MOST_WORK = 65600, 33000, 16500
-DEFAULT_SEED, DEFAULT_COUNT = 1, 1600
+MOST_INPUT, MOST_OUTPUT, MOST_WORK = 65600, 33000, 32900
+DEFAULT_SEED, DEFAULT_COUNT = 1, 1800
 
+SMALL, STANDARD, LARGE = SIZES = range(3)
 TABLE_READS, DOCUMENT_READS, LABEL_NAME, LETS_IN, IS_LOCAL, IS_SINGLE_TYPE, SAMPLE = range(1, 8)
 LOCAL_BY_TABLE, LOCAL_BY_DOCUMENT, SINGLE_BY_TABLE, SINGLE_BY_DOCUMENT = range(8, 12)
 CALL_NAMES = {1: 'table_reads', 2: 'document_reads', 3: 'label_name', 4: 'lets_in', 5: 'is_local',
@@ -70,22 +73,31 @@ WRITING = (SAMPLE, LOCAL_BY_TABLE, LOCAL_BY_DOCUMENT, SINGLE_BY_TABLE, SINGLE_BY
 BY_TABLE = (LOCAL_BY_TABLE, SINGLE_BY_TABLE)
 BY_DOCUMENT = (LOCAL_BY_DOCUMENT, SINGLE_BY_DOCUMENT)
 
-Case = namedtuple('Case', 'call work_len work_fill out_len label first second')
+Case = namedtuple('Case', 'call size work_len work_fill out_len label first second')
 
 
 # ---------------------------------------------------------------- answers
 
+def limits_of(case):
+    return ref.limits_of(case.size)
+
+
 def answer_of(case):
+    return answer_under(limits_of(case), case)
+
+
+def answer_under(limits, case):
+    """The answer under any set of limits, whatever the case's size."""
     w, o, a, b = case.work_len, case.out_len, case.first, case.second
     if case.call == LABEL_NAME:
-        return ref.label_name(a, case.label, w)
+        return ref.label_name(limits, a, case.label, w)
     if case.call == LETS_IN:
-        return ref.lets_in(a, b, w)
+        return ref.lets_in(limits, a, b, w)
     if case.call == SAMPLE:
-        return ref.sample(a, o, w)
+        return ref.sample(limits, a, o, w)
     if case.call in WRITING:
-        return getattr(ref, CALL_NAMES[case.call])(a, b, o, w)
-    return getattr(ref, CALL_NAMES[case.call])(a, w)
+        return getattr(ref, CALL_NAMES[case.call])(limits, a, b, o, w)
+    return getattr(ref, CALL_NAMES[case.call])(limits, a, w)
 
 
 def checksum(items, h=17):
@@ -95,18 +107,20 @@ def checksum(items, h=17):
 
 
 OUTPUT_FILL = bytes((165 + 7 * i) % 256 for i in range(MOST_OUTPUT))
-UNCHANGED_WORK = {}      # (length, word) -> checksum of an unchanged working slice
+
+
+@lru_cache(maxsize=None)
+def run_checksum(word, times, h=17):
+    """The checksum of one word so many times."""
+    return checksum([word] * times, h)
 
 
 def work_checksum(case, answer):
-    """checksum(ref.work_after(...)), with the run of zeros taken in one step."""
+    """checksum(ref.work_after(...)), run by run."""
     if answer.refusal == 1:
-        key = (case.work_len, case.work_fill)
-        if key not in UNCHANGED_WORK:
-            UNCHANGED_WORK[key] = checksum([case.work_fill] * case.work_len)
-        return UNCHANGED_WORK[key]
-    zeros = 17 * pow(31, ref.WORK_WORDS, 2**32) % 2**32
-    return checksum([case.work_fill] * (case.work_len - ref.WORK_WORDS), zeros)
+        return run_checksum(case.work_fill, case.work_len)
+    words = limits_of(case).words
+    return run_checksum(case.work_fill, case.work_len - words, run_checksum(0, words))
 
 
 def expected_line(case):
@@ -123,7 +137,7 @@ def expected_line(case):
 def case_bytes(case):
     def number(value):
         return value.to_bytes(4, 'big')
-    return (bytes([case.call]) + number(case.work_len) + number(case.work_fill)
+    return (bytes([case.call]) + number(case.size) + number(case.work_len) + number(case.work_fill)
             + number(case.out_len) + number(case.label) + number(len(case.first)) + case.first
             + number(len(case.second)) + case.second)
 
@@ -132,10 +146,10 @@ def cases_in(data):
     """The cases of a case file, read front to back."""
     at = 0
 
-    def number(size=4):
+    def number(count=4):
         nonlocal at
-        at += size
-        return int.from_bytes(data[at - size:at], 'big')
+        at += count
+        return int.from_bytes(data[at - count:at], 'big')
 
     def slice_():
         nonlocal at
@@ -148,8 +162,8 @@ def cases_in(data):
         if call == 0:
             assert at == len(data)
             return
-        work_len, work_fill, out_len, label_ = number(), number(), number(), number()
-        yield Case(call, work_len, work_fill, out_len, label_, slice_(), slice_())
+        size, work_len, work_fill, out_len, label_ = (number() for _ in range(5))
+        yield Case(call, size, work_len, work_fill, out_len, label_, slice_(), slice_())
 
 
 # ---------------------------------------------------------------- a generator of numbers
@@ -275,6 +289,10 @@ def chain(length, name='a'):
 
 FILLS = (0xFFFFFFFF, 0x00000001, 0x80000000, 0xDEADBEEF, 0x00010001, 0x00000000)
 
+# Words lent beyond those that a size needs. Small calls are lent, at times, what the larger ones need.
+BEYOND = (0, 0, 0, 1, 0, 7, 0, 0, 100)
+BEYOND_SMALL = (0, 0, 0, 1, 0, 4096, 0, 0, 20480)
+
 
 class Cases:
     """The cases so far.  Working slices and fills change from case to case."""
@@ -282,15 +300,16 @@ class Cases:
     def __init__(self):
         self.all = []
 
-    def add(self, call, first, second=b'', label=0, out=None, work=None, fill=None):
+    def add(self, call, first, second=b'', label=0, out=None, work=None, fill=None, size=STANDARD):
         """`out`: None for a few bytes more than the result, 'exact', 'short' by one, or a length;
         only calls that write have an output."""
         turn = len(self.all)
         if work is None:
-            work = ref.WORK_WORDS + (0, 0, 0, 1, 0, 7, 0, 0, 100)[turn % 9]
+            beyond = BEYOND_SMALL if size == SMALL else BEYOND
+            work = ref.limits_of(size).words + beyond[turn % len(beyond)]
         if fill is None:
             fill = FILLS[turn % len(FILLS)]
-        case = Case(call, work, fill, MOST_OUTPUT, label, first, second)
+        case = Case(call, size, work, fill, MOST_OUTPUT, label, first, second)
         if call not in WRITING:
             case = case._replace(out_len=0)
         elif isinstance(out, int):
@@ -315,9 +334,9 @@ class Cases:
         for call in BY_DOCUMENT:
             self.add(call, old, a_document, **options)
 
-    def kinds(self, a_table):
-        self.add(IS_LOCAL, a_table)
-        self.add(IS_SINGLE_TYPE, a_table)
+    def kinds(self, a_table, **options):
+        for call in (IS_LOCAL, IS_SINGLE_TYPE):
+            self.add(call, a_table, **options)
 
     def result_questions(self, old, addition, documents):
         """Widens, asks the results for their kinds and for documents, and widens them by E."""
@@ -526,6 +545,12 @@ def refused_documents():
     }
 
 
+def good_inputs(call):
+    """Inputs that no call turns back."""
+    first = GOOD_DOC if call in (DOCUMENT_READS, SAMPLE) else GOOD_TABLE
+    return first, GOOD_DOC if call in (LETS_IN,) + BY_DOCUMENT else GOOD_TABLE if call in BY_TABLE else b''
+
+
 def refusal_cases(cases):
     for number, faulty in enumerate(sum(refused_tables().values(), [])):
         cases.add(TABLE_READS, faulty)
@@ -578,15 +603,14 @@ def refusal_cases(cases):
 
     # 1, with good inputs, with bad ones, and with a short output.
     for call in CALL_NAMES:
-        first = GOOD_DOC if call in (DOCUMENT_READS, SAMPLE) else GOOD_TABLE
-        second = GOOD_DOC if call in (LETS_IN,) + BY_DOCUMENT else GOOD_TABLE if call in BY_TABLE else b''
+        first, second = good_inputs(call)
         for work in (0, 1, 16383):
             cases.add(call, first, second, work=work, out=100)
         cases.add(call, b'', b'', work=16383, out=0)
         cases.add(call, first, second, work=16384, fill=0xFFFFFFFF)
         cases.add(call, first, second, work=16384, fill=0)
         cases.add(call, first, second, work=16385, fill=0xFFFFFFFF)
-        cases.add(call, first, second, work=MOST_WORK, fill=0xFFFFFFFF, out=0)
+        cases.add(call, first, second, work=16500, fill=0xFFFFFFFF, out=0)
         if call in WRITING:
             for out in ('exact', 'short', 0, 1, 2, 1000):
                 cases.add(call, first, second, out=out)
@@ -637,6 +661,14 @@ def big_doc(count):
     return tree('list', *cards)
 
 
+def crowd(count, names=('a',)):
+    """Exactly `count` nodes, 200 children a node as long as there are nodes left; names in turn, parents first."""
+    made = [tree(names[i % len(names)]) for i in range(count)]
+    for number in range(1, count):
+        made[(number - 1) // 200][1].append(made[number])
+    return made[0]
+
+
 CARDS = table([0], [(0, 'list', any_of(t(1))), (1, 'card', any_of(t(2))), (2, 'name', EMPTY)])
 CHAIN = table([0], [(0, 'a', optional(t(0)))])
 
@@ -653,21 +685,21 @@ def padded_document(length):
     return document(tree(names[0], *(groups + rest)))
 
 
-def padded_table(length):
-    """A table of exactly `length` bytes (30,000 to 32,800) that widening by E only copies: 64
+def padded_table(length, count=64):
+    """A table of exactly `length` bytes (30,000 to 32,800) that widening by E only copies: `count`
     labels, one rule each, all types reached from the start 0 in their order."""
-    names = names_of(64, 3)
-    contents = [choice(*[t(i) for i in range(1, 64)])] + [EMPTY] * 63
-    fixed = 64 * 6 + 4 + 64 * 5 + len(contents[0]) + 1 + 3     # rule 63 stays empty
+    names, last = names_of(count, 3), count - 1
+    contents = [choice(*[t(i) for i in range(1, count)])] + [EMPTY] * last
+    # The last rule stays empty.
+    fixed = sum(3 + len(name) for name in names) + 4 + count * 5 + len(contents[0]) + 1 + 3
     spare = length - fixed
-    for i in range(1, 63):
-        size = spare // (63 - i)
-        spare -= size
-        types = (size - 2) // 2
-        types = min(types, 200)
-        marks = size - 2 - 2 * types
-        contents[i] = seq(*[any_of(t(63)) if k < marks else t(63) for k in range(types)])
-    made = table([0], [(i, names[i], contents[i]) for i in range(64)])
+    for i in range(1, last):
+        room = spare // (last - i)
+        spare -= room
+        types = min((room - 2) // 2, 200)
+        marks = room - 2 - 2 * types
+        contents[i] = seq(*[any_of(t(last)) if k < marks else t(last) for k in range(types)])
+    made = table([0], [(i, names[i], contents[i]) for i in range(count)])
     assert len(made) == length, (len(made), length)
     return made
 
@@ -779,6 +811,15 @@ def operands(count):
     return made[:count]
 
 
+def automaton(more):
+    """Single-type sets as of a word automaton: an a, then `more` further letters to the end."""
+    states = [(0, 'a', choice(t(0), t(1))), (0, 'b', t(0))]
+    for state in range(1, more + 1):
+        following = EMPTY if state == more else t(state + 1)
+        states += [(state, 'a', following), (state, 'b', following)]
+    return table([0], states)
+
+
 def limit_cases(cases):
     # 64 and 65 types.
     for count in (62, 63):
@@ -799,19 +840,14 @@ def limit_cases(cases):
         cases.add(SAMPLE, a_document)
         cases.widen_doc(E, a_document)
         cases.widen_doc(P8, a_document)
-    # Single-type sets as of a word automaton: an a, then `more` further letters to the end.
     for more in (1, 2, 3, 4, 5, 6, 7, 20):
-        states = [(0, 'a', choice(t(0), t(1))), (0, 'b', t(0))]
-        for state in range(1, more + 1):
-            following = EMPTY if state == more else t(state + 1)
-            states += [(state, 'a', following), (state, 'b', following)]
-        cases.widen(table([0], states), E)
+        cases.widen(automaton(more), E)
         letters = 'abbaabab' + 'a' + 'b' * more
         made = tree(letters[-1])
         for letter in reversed(letters[:-1]):
             made = tree(letter, made)
-        cases.add(LETS_IN, table([0], states), document(made))
-        cases.widen_doc(table([0], states), document(made))
+        cases.add(LETS_IN, automaton(more), document(made))
+        cases.widen_doc(automaton(more), document(made))
     # Unfruitful types do not count.
     old = table([0], [(0, 'n00', choice(*[t(i) for i in range(1, 64)]))] + leaves(62)
                 + [(63, 'n63', t(63))])
@@ -976,7 +1012,8 @@ def meaning_cases(cases):
         cases.add(SAMPLE, document(a_tree), out='exact')
         cases.widen_doc(E, document(a_tree))
         cases.widen_doc(P5, document(a_tree))
-        cases.add(LETS_IN, ref.sample(document(a_tree), 33000, 16384).written, document(a_tree))
+        sampled = ref.sample(ref.STANDARD, document(a_tree), MOST_OUTPUT, ref.STANDARD.words)
+        cases.add(LETS_IN, sampled.written, document(a_tree))
 
 
 # ---------------------------------------------------------------- wide tables
@@ -991,10 +1028,11 @@ def many_labels(type_, count):
     return [(type_, 'm%02d' % i, EMPTY) for i in range(count)]
 
 
-def crossed(modulus, step):
-    """64 rules over `modulus` labels; each content leads to a later type and back to an earlier one."""
-    return table([0, 1], [(i, 'x%02d' % (i % modulus), choice(seq(t((i + step) % 64), optional(t((i + 2) % 64))),
-                                                              any_of(t(i // 2)), EMPTY)) for i in range(64)])
+def crossed(modulus, step, count=64):
+    """`count` rules over `modulus` labels; each content leads to a later type and back to an earlier one."""
+    def content(i):
+        return choice(seq(t((i + step) % count), optional(t((i + 2) % count))), any_of(t(i // 2)), EMPTY)
+    return table([0, 1], [(i, 'x%02d' % (i % modulus), content(i)) for i in range(count)])
 
 
 def gone_cases(cases):
@@ -1077,6 +1115,371 @@ def wide_cases(cases):
         cases.add(BY_DOCUMENT[number % 2], first, random_document(numbers, first, WIDE_POOL))
 
 
+# ---------------------------------------------------------------- the edges of the three sizes
+
+# An edge is an input with the refusals at the small, the standard and the large size, 0 for none.
+# They are numbered by hand; selftest.py holds the second validator to them.
+
+def table_edges():
+    def labels(count, *more):
+        return b''.join(label(name) for name in names_of(count, 4) + list(more)) + END
+
+    def starts(count, *more):
+        return b''.join(start(type_) for type_ in list(range(count)) + list(more)) + END
+
+    def rules(count, more=b''):
+        return HEAD + b''.join(rule(i % 16, i % 2, EMPTY) for i in range(count)) + more + END
+
+    return [
+        (labels(16), 0, 0, 0), (labels(17), 7, 0, 0), (labels(64), 7, 0, 0), (labels(65), 7, 7, 0),
+        (labels(128), 7, 7, 0), (labels(129), 7, 7, 7),
+        (labels(16, 'n000'), 6, 6, 6), (labels(64, 'n063'), 7, 6, 6), (labels(128, 'n127'), 7, 7, 6),
+        (labels(16, '9'), 5, 5, 5), (labels(64, '9'), 7, 5, 5), (labels(128, '9'), 7, 7, 5),
+        # One start too many is 6 or 7, never 8.
+        (starts(16), 0, 0, 0), (starts(17), 7, 0, 0), (starts(64), 7, 0, 0), (starts(65), 7, 7, 0),
+        (starts(128), 7, 7, 0), (starts(129), 7, 7, 7),
+        (starts(16, 0), 6, 6, 6), (starts(16, 15), 6, 6, 6), (starts(16, 255), 7, 8, 8),
+        (starts(64, 63), 7, 6, 6), (starts(64, 255), 7, 7, 8), (starts(128, 127), 7, 7, 6),
+        (starts(128, 255), 7, 7, 7), (starts(15, 16), 8, 0, 0), (starts(63, 64), 7, 8, 0),
+        (starts(127, 128), 7, 7, 8), (starts(15, 16, 16), 8, 6, 6), (starts(15, 200, 200), 8, 8, 8),
+        (starts(0, *range(15, -1, -1)), 0, 0, 0), (starts(0, *range(127, -1, -1)), 8, 8, 0),
+        (rules(16), 0, 0, 0), (rules(17), 7, 0, 0), (rules(64), 7, 0, 0), (rules(65), 7, 7, 0),
+        (rules(128), 7, 7, 0), (rules(129), 7, 7, 7),
+        (rules(16, rule(16, 9, b'\x09')), 7, 8, 8), (rules(16, rule(16, 0, b'\x09')), 7, 9, 9),
+        (rules(64, rule(64, 1, t(64))), 7, 7, 0), (rules(64, rule(0, 0, deep(33))), 7, 7, 10),
+        (rules(128, rule(128, 9, b'\x09')), 7, 7, 7),
+        # Types in starts, in rules and in contents.
+        (starts(0, 15), 0, 0, 0), (starts(0, 16), 8, 0, 0), (starts(0, 63), 8, 0, 0),
+        (starts(0, 64), 8, 8, 0), (starts(0, 127), 8, 8, 0), (starts(0, 128), 8, 8, 8),
+        (rules(0, rule(15, 0, EMPTY)), 0, 0, 0), (rules(0, rule(16, 0, EMPTY)), 8, 0, 0),
+        (rules(0, rule(63, 0, EMPTY)), 8, 0, 0), (rules(0, rule(64, 0, EMPTY)), 8, 8, 0),
+        (rules(0, rule(127, 0, EMPTY)), 8, 8, 0), (rules(0, rule(128, 0, EMPTY)), 8, 8, 8),
+        (one_rule(t(15)), 0, 0, 0), (one_rule(t(16)), 9, 0, 0), (one_rule(t(63)), 9, 0, 0),
+        (one_rule(t(64)), 9, 9, 0), (one_rule(t(127)), 9, 9, 0), (one_rule(t(128)), 9, 9, 9),
+        (one_rule(seq(t(15), any_of(t(16)))), 9, 0, 0), (one_rule(choice(t(63), some_of(t(64)))), 9, 9, 0),
+        (one_rule(optional(choice(t(127), t(128)))), 9, 9, 9),
+        (one_rule(seq(deep(33), t(16))), 9, 10, 10), (one_rule(seq(deep(33), t(64))), 9, 9, 10),
+        # 8 of a rule before 9 of its content; a label is among those of its table, whatever the size.
+        (rules(0, rule(16, 0, t(16))), 8, 0, 0), (rules(0, rule(63, 1, t(127))), 8, 9, 0),
+        (rules(0, rule(127, 0, t(128))), 8, 8, 9), (rules(0, rule(0, 2, t(16))), 8, 8, 8),
+        (flat_table(16), 0, 0, 0), (flat_table(64), 7, 0, 0), (flat_table(128), 7, 7, 0),
+        (flat_table(128)[:-3] + rule(0, 128, EMPTY) + END, 7, 7, 7),
+        (flat_table(127)[:-3] + rule(0, 127, EMPTY) + END, 7, 7, 8),
+    ]
+
+
+def name_edges():
+    """With a caller's label number."""
+    return [(flat_table(16), 15, 0, 0, 0), (flat_table(16), 16, 8, 8, 8), (flat_table(17), 16, 7, 0, 0),
+            (flat_table(64), 63, 7, 0, 0), (flat_table(64), 64, 7, 8, 8), (flat_table(65), 64, 7, 7, 0),
+            (flat_table(128), 64, 7, 7, 0), (flat_table(128), 127, 7, 7, 0), (flat_table(128), 128, 7, 7, 8),
+            (flat_table(128), 255, 7, 7, 8), (flat_table(128), 256 + 127, 7, 7, 8),
+            (flat_table(128), 2**32 - 1, 7, 7, 8), (flat_table(129), 0, 7, 7, 7)]
+
+
+def document_edges():
+    open_levels = node_field(1, 'a') * 16
+    return [
+        (document(crowd(256)), 0, 0, 0), (document(crowd(257)), 11, 0, 0), (document(crowd(1024)), 11, 0, 0),
+        (document(crowd(1025)), 11, 11, 0), (document(crowd(2048)), 11, 11, 0), (document(crowd(2049)), 11, 11, 11),
+        (document(chain(16)), 0, 0, 0), (document(chain(17)), 11, 0, 0), (document(chain(64)), 11, 0, 0),
+        (document(chain(65)), 11, 11, 11),
+        (document(tree('a', *[chain(15)] * 17)), 0, 0, 0),               # 256 nodes on 16 levels
+        (document(tree('a', *[chain(15)] * 17 + [tree('b')])), 11, 0, 0),
+        (document(tree('a', *[chain(63)] * 32)), 11, 11, 0),             # 2,017 nodes on 64 levels
+        (document(wide_doc(200)), 0, 0, 0), (document(wide_doc(201)), 11, 11, 11),
+        # 5 before 11, and what is 11 at every size.
+        (open_levels + node_field(0, '!') + DOC_END, 5, 5, 5), (open_levels + DOC_END, 11, 11, 11),
+        (nodes(crowd(256)) + node_field(0, '!') + DOC_END, 5, 5, 5),
+        (nodes(crowd(256)) + node_field(0, 'a') + DOC_END, 11, 11, 11),
+        (document(crowd(256)) + b'\x00', 12, 12, 12), (document(crowd(257)) + b'\x00', 11, 12, 12),
+    ]
+
+
+def sample_edges():
+    """As a sample, and added to E."""
+    def root(count):
+        return doc('root', *[tree('c%02d' % i) for i in range(count)])
+
+    def groups(count):            # 1 + 3 * count paths with few names
+        return doc('r', *[tree('g%d' % i, tree('x'), tree('y')) for i in range(count)])
+
+    def two_chains(length, more):  # 1 + 2 * length + more paths
+        return doc('r', chain(length, 'a'), chain(length, 'b'), *[tree('c%d' % i) for i in range(more)])
+
+    return [(root(15), 0, 0, 0), (root(16), 14, 0, 0), (root(63), 14, 0, 0), (root(64), 14, 14, 0),
+            (root(127), 14, 14, 0), (root(128), 14, 14, 14),
+            (groups(5), 0, 0, 0), (groups(6), 14, 0, 0), (groups(21), 14, 0, 0), (groups(22), 14, 14, 0),
+            (groups(42), 14, 14, 0), (groups(43), 14, 14, 14),
+            (two_chains(7, 1), 0, 0, 0), (two_chains(7, 2), 14, 0, 0), (two_chains(31, 1), 11, 0, 0),
+            (two_chains(31, 2), 11, 14, 0), (two_chains(63, 1), 11, 14, 0), (two_chains(63, 2), 11, 14, 14)]
+
+
+def star(count, prefix='s'):
+    """A root and `count` leaves: as many rules, labels and types, and one more."""
+    return table([0], [(0, prefix, choice(*[t(i) for i in range(1, count + 1)]))]
+                 + [(i, '%s%d' % (prefix, i), EMPTY) for i in range(1, count + 1)])
+
+
+def labelled(count, prefix):
+    """One type with `count` labels."""
+    return table([0], [(0, '%s%d' % (prefix, i), EMPTY) for i in range(count)])
+
+
+def fruitless(count):
+    return table([0], [(i, 'f%d' % i, t((i + 1) % count)) for i in range(count)])
+
+
+def some_used(prefix, count=128):
+    """`count` labels, of which three are used."""
+    names = ['%s%d' % (prefix, i) for i in range(count)]
+    return table([0], [(0, names[-1], any_of(t(1))), (1, names[0], EMPTY), (1, names[count // 2], optional(t(0)))], names)
+
+
+def everywhere(count):
+    """`count` types of one label, all of them starts: one set of all."""
+    return table(range(count), [(i, 'a', optional(t((i + 1) % count))) for i in range(count)])
+
+
+EXTRA = table([0], [(0, 'extra', EMPTY)])
+
+
+def union_edges():
+    """Two tables, to either kind."""
+    return [
+        (star(14), EXTRA, 0, 0, 0), (star(15), EXTRA, 14, 0, 0), (star(16), EXTRA, 7, 0, 0),
+        (star(62), EXTRA, 7, 0, 0), (star(63), EXTRA, 7, 14, 0), (star(64), EXTRA, 7, 7, 0),
+        (star(126), EXTRA, 7, 7, 0), (star(127), EXTRA, 7, 7, 14), (star(128), EXTRA, 7, 7, 7),
+        (EXTRA, star(127), 7, 7, 14), (E, star(127), 7, 7, 0), (star(15), star(16), 7, 0, 0),
+        (star(7), star(7, 'u'), 0, 0, 0), (star(7), star(8, 'u'), 14, 0, 0), (star(31), star(31, 'u'), 7, 0, 0),
+        (star(31), star(32, 'u'), 7, 14, 0), (star(63), star(63, 'u'), 7, 14, 0), (star(63), star(64, 'u'), 7, 7, 14),
+        # Twice 16, 64 and 128 labels: of other names, of the same ones, and with few of them used.
+        (star(15), star(15, 'u'), 14, 0, 0), (star(63), star(63), 7, 0, 0), (star(127), star(127, 'u'), 7, 7, 14),
+        (star(15), star(15), 0, 0, 0), (star(127), star(127), 7, 7, 0),
+        (some_used('s', 16), some_used('u', 16), 0, 0, 0), (some_used('s'), some_used('u'), 7, 7, 0),
+        (some_used('s'), star(127, 's'), 7, 7, 14), (star(120), some_used('u'), 7, 7, 0),
+        (labelled(8, 'm'), labelled(8, 'k'), 0, 0, 0), (labelled(8, 'm'), labelled(9, 'k'), 14, 0, 0),
+        (labelled(64, 'm'), labelled(64, 'k'), 7, 14, 0), (labelled(64, 'm'), labelled(65, 'k'), 7, 7, 14),
+        (labelled(128, 'm'), labelled(128, 'k'), 7, 7, 14), (labelled(128, 'm'), labelled(128, 'm'), 7, 7, 0),
+        (everywhere(16), everywhere(16), 0, 0, 0), (everywhere(128), everywhere(128), 7, 7, 0),
+        (everywhere(128), everywhere(129), 7, 7, 7),
+        (fruitless(16), fruitless(16), 13, 13, 13), (fruitless(128), fruitless(128), 7, 7, 13),
+        (fruitless(128), star(127), 7, 7, 0),
+    ]
+
+
+def chain_edges():
+    """Two tables whose sets of types are many and whose labels are few; refusals of local, then of single-type."""
+    other = table([0], [(0, 'b', EMPTY)])
+    return [
+        (chained(15), other, (0, 0, 0), (0, 0, 0)), (chained(16), other, (0, 0, 0), (14, 0, 0)),
+        # The content of type 15 names 16 (9) before there is a 17th rule; likewise with 63 and 64.
+        (chained(17), other, (9, 0, 0), (9, 0, 0)), (chained(63), other, (9, 0, 0), (9, 0, 0)),
+        (chained(64), other, (9, 0, 0), (9, 14, 0)), (chained(127), other, (9, 9, 0), (9, 9, 0)),
+        (chained(128), other, (9, 9, 0), (9, 9, 14)), (other, chained(128), (9, 9, 0), (9, 9, 14)),
+        (chained(128), chained(128), (9, 9, 0), (9, 9, 0)), (chained(127), chained(128), (9, 9, 0), (9, 9, 0)),
+        (chained(128), chained(128, 'b'), (9, 9, 0), (9, 9, 14)), (chained(64), chained(64, 'b'), (9, 0, 0), (9, 14, 0)),
+        (chained(8), chained(8, 'b'), (0, 0, 0), (0, 0, 0)), (chained(8), chained(9, 'b'), (0, 0, 0), (14, 0, 0)),
+    ]
+
+
+def edges():
+    """(call, first input, second, label number, refusals by size) of all edges."""
+    for data, *refusals in table_edges():
+        yield TABLE_READS, data, b'', 0, refusals
+    for data, number, *refusals in name_edges():
+        yield LABEL_NAME, data, b'', number, refusals
+    for data, *refusals in document_edges():
+        yield DOCUMENT_READS, data, b'', 0, refusals
+    for data, *refusals in sample_edges():
+        yield SAMPLE, data, b'', 0, refusals
+        for call in BY_DOCUMENT:
+            yield call, E, data, 0, refusals
+    for old, addition, *refusals in union_edges():
+        for call in BY_TABLE:
+            yield call, old, addition, 0, refusals
+    for old, *refusals in ((star(14), 0, 0, 0), (star(15), 14, 0, 0), (star(62), 7, 0, 0), (star(63), 7, 14, 0),
+                           (star(126), 7, 7, 0), (star(127), 7, 7, 14)):
+        for call in BY_DOCUMENT:
+            yield call, old, doc('extra'), 0, refusals
+    for old, addition, *both in chain_edges():
+        for call, refusals in zip(BY_TABLE, both):
+            yield call, old, addition, 0, refusals
+
+
+# A size's number, the words lent, and whether that is 1.
+WORD_EDGES = [(SMALL, 12287, 1), (SMALL, 12288, 0), (SMALL, 12289, 0), (SMALL, 16384, 0), (SMALL, 32768, 0),
+              (STANDARD, 12288, 1), (STANDARD, 16383, 1), (STANDARD, 16384, 0), (STANDARD, 32768, 0),
+              (LARGE, 16384, 1), (LARGE, 32767, 1), (LARGE, 32768, 0), (LARGE, MOST_WORK, 0),
+              (3, 16383, 1), (3, 16384, 0), (2**32 - 1, 16383, 1), (2**32 - 1, 16384, 0), (2**32 - 1, MOST_WORK, 0)]
+
+# Numbers that are no size; low bytes that would be one are among them. Each counts as the standard size.
+NO_SIZES = (3, 256, 258, 2**16, 2**31, 2**32 - 1)
+NO_SIZE_EDGES = [(TABLE_READS, flat_table(17), 0), (TABLE_READS, flat_table(64), 0), (TABLE_READS, flat_table(65), 7),
+                 (DOCUMENT_READS, document(chain(17)), 0), (DOCUMENT_READS, document(crowd(257)), 0),
+                 (SAMPLE, doc('r', *[tree('c%d' % i) for i in range(64)]), 14)]
+
+
+CROWDS = table([0], [(0, 'a', any_of(t(0)))])
+
+
+def other_calls(cases, call, data, size, turns):
+    """An input of a reading call given to other calls, those of some turns."""
+    if call == DOCUMENT_READS:
+        calls = [(SAMPLE, data, b''), (LETS_IN, CROWDS, data)] + [(by, E, data) for by in BY_DOCUMENT]
+    else:
+        calls = [(other, data, b'') for other in (IS_LOCAL, IS_SINGLE_TYPE, LABEL_NAME)]
+        calls += [(other, data, GOOD_DOC) for other in (LETS_IN,) + BY_DOCUMENT]
+        calls += [(by, data, GOOD_TABLE) for by in BY_TABLE] + [(by, GOOD_TABLE, data) for by in BY_TABLE]
+    for turn in turns:
+        cases.add(*calls[turn % len(calls)], size=size)
+
+
+def beside_the_edge(refusals):
+    """The largest size that refuses and the smallest that does not, where there are such."""
+    return ([size for size in SIZES if refusals[size]][-1:]
+            + [size for size in SIZES if not refusals[size]][:1])
+
+
+def edge_cases_of_sizes(cases):
+    for number, (call, first, second, label_, refusals) in enumerate(edges()):
+        short = len(first) + len(second) < 1000
+        for size in SIZES if short else beside_the_edge(refusals):
+            cases.add(call, first, second, label=label_, size=size, out='exact')
+        if call in (TABLE_READS, DOCUMENT_READS):
+            for size in beside_the_edge(refusals):
+                other_calls(cases, call, first, size, range(3 * number, 3 * number + (3 if short else 1)))
+    for call in CALL_NAMES:
+        for turn, (size, work, _) in enumerate(WORD_EDGES):
+            cases.add(call, *good_inputs(call), size=size, work=work, fill=FILLS[turn % 5], out=400)
+    for size in NO_SIZES:
+        for call, first, _ in NO_SIZE_EDGES:
+            cases.add(call, first, size=size)
+
+
+# ---------------------------------------------------------------- large and small inputs
+
+def membership_and_kinds_of_sizes(cases):
+    """128 types, types of 64 and more, 256 and 2,048 nodes."""
+    far = table([127], [(127, 'a', any_of(t(64))), (64, 'b', optional(t(127))), (100, 'a', t(99)), (96, 'b', EMPTY)])
+    near = table([64, 0], [(64, 'a', any_of(t(0))), (0, 'b', optional(t(64))), (32, 'a', t(95)), (95, 'b', t(127))])
+    for a_table in (far, near):
+        for a_tree in (tree('a'), tree('b'), tree('a', tree('b')), tree('a', tree('b'), tree('b', tree('a', tree('b')))),
+                       tree('a', tree('a')), tree('a', tree('b', tree('b')))):
+            cases.add(LETS_IN, a_table, document(a_tree), size=LARGE)
+        cases.kinds(a_table, size=LARGE)
+        cases.widen(a_table, E, size=LARGE)
+        cases.widen(E, a_table, size=LARGE)
+        cases.widen_doc(a_table, doc('a', tree('b'), tree('c')), size=LARGE)
+    cases.widen(far, near, size=LARGE)
+    cases.widen(near, far, size=LARGE)
+    # A row of 127 leaves, and any number of them.
+    names = ['l%d' % i for i in range(1, 128)]
+    leaf = [(i, names[i - 1], EMPTY) for i in range(1, 128)]
+    row = table([0], [(0, 'row', seq(*[t(i) for i in range(1, 128)]))] + leaf)
+    free = table([0], [(0, 'row', any_of(choice(*[t(i) for i in range(1, 128)])))] + leaf)
+    turned = names[:63] + [names[64], names[63]] + names[65:]
+    for order in (names, turned, names[:-1], names + names[-1:], names[::-1]):
+        a_document = doc('row', *[tree(name) for name in order])
+        cases.add(LETS_IN, row, a_document, size=LARGE)
+        cases.add(LETS_IN, free, a_document, size=LARGE)
+    # Every type of one name, each of another depth; 2,048 nodes of it.
+    ladder = table([0], [(i, 'a', any_of(t(i + 1)) if i < 127 else EMPTY) for i in range(128)])
+    round_ = table([127], [(i, 'a', any_of(t((i + 1) % 128))) for i in range(128)])
+    for a_table in (ladder, round_, table([5], [(127, 'a', any_of(t(127))), (5, 'a', some_of(t(127)))])):
+        cases.add(LETS_IN, a_table, document(crowd(2048)), size=LARGE)
+        cases.add(LETS_IN, a_table, document(chain(64)), size=LARGE)
+    for size, count, levels in ((SMALL, 256, 16), (LARGE, 2048, 64)):
+        cases.add(LETS_IN, CHAIN, document(crowd(count)), size=size)
+        cases.add(LETS_IN, CROWDS, document(crowd(count)), size=size)
+        cases.add(LETS_IN, CHAIN, document(chain(levels)), size=size)
+    # Kinds: types of one label, both above 63, or one.
+    for one, two in ((64, 127), (0, 64), (31, 95), (126, 127)):
+        leaf = [(one, 'a', EMPTY), (two, 'a', EMPTY)]
+        for a_table in (table([one, two], leaf), table([one], leaf), table([1], [(1, 'r', seq(t(one), t(two)))] + leaf),
+                        table([1], [(1, 'r', seq(t(one), t(one)))] + leaf), table([two], [(one, 'a', EMPTY), (two, 'b', EMPTY)])):
+            cases.kinds(a_table, size=LARGE)
+
+
+def large_samples(cases):
+    """2,048 nodes and up to 128 paths."""
+    def rows(more):
+        """200 nodes of 63 names below the root, leaves below them: 127 paths, and two for each `more`."""
+        below = 2048 - 201 - more
+        kinds = [tree('k%d' % (i % 63), *[tree('x')] * (below // (200 - more) + (i < below % (200 - more))))
+                 for i in range(200 - more)]
+        return document(tree('r', *kinds, *[tree('z%d' % i, tree('x')) for i in range(more)]))
+
+    for more in (0, 1):          # 127 and 129 paths
+        cases.add(SAMPLE, rows(more), size=LARGE, out='exact')
+    cases.add(LOCAL_BY_DOCUMENT, CARDS, rows(0), size=LARGE)
+    cases.add(SINGLE_BY_DOCUMENT, star(3), rows(0), size=LARGE)
+    cards = document(crowd(2048, ['l'] + ['c'] * 200 + ['n'] * 1847))
+    a_table = table([100], [(100, 'l', any_of(t(64))), (64, 'c', any_of(t(31))), (31, 'n', EMPTY)])
+    cases.add(LETS_IN, a_table, cards, size=LARGE)
+    cases.add(SAMPLE, cards, size=LARGE)
+    cases.widen_doc(a_table, cards, size=LARGE)
+
+
+def needing(count, prefix, last):
+    """Each type needs the next, so that each round makes one more fruitful; `last` is the last one's content."""
+    return table([0], [(i, '%s%d' % (prefix, i % 40), t(i + 1) if i + 1 < count else last) for i in range(count)])
+
+
+def unions_of_sizes(cases):
+    for size in (SMALL, LARGE):
+        most = ref.limits_of(size).rules
+        for modulus, other in ((1, 1), (3, 1), (16, 16), (20, 10), (most, most), (most, most // 2)):
+            cases.widen(crossed(modulus, 1, most), crossed(other, 7, most), size=size)
+        cases.widen(crossed(5, 1, most), E, size=size)
+        cases.kinds(crossed(5, 1, most), size=size)
+        cases.widen(needing(most, 'p', EMPTY), needing(most, 'p', any_of(EMPTY)), size=size)
+        cases.widen(needing(most, 'p', EMPTY), needing(most - 1, 'q', NONE), size=size)
+        cases.widen(needing(most - 1, 'p', NONE), needing(most, 'q', EMPTY), size=size)
+        # The same names in another order, and unused ones between.
+        cases.widen(some_used('s', most), table([0], [(0, 's0', EMPTY)], ['s%d' % i for i in range(most - 1, -1, -1)]), size=size)
+        for number in range(14):
+            numbers = Numbers(610000 + 100 * size + number)
+            limits = ref.limits_of(size)
+            first, second = wide_table(numbers, limits), wide_table(numbers, limits)
+            cases.add(BY_TABLE[number % 2], first, second, size=size)
+            cases.add(BY_DOCUMENT[number % 2], first, random_document(numbers, first, WIDE_POOL), size=size)
+    for more in (2, 3, 4):
+        cases.widen(automaton(more), E, size=SMALL)
+    for more in (5, 6, 7):
+        cases.widen(automaton(more), E, size=LARGE)
+    # Types of one name, each naming all later ones; a type of many labels named again and again.
+    stairs = [(i, 'a', optional(choice(*[t(j) for j in range(i + 1, 128)]))) for i in range(126)]
+    stairs = table([0], stairs + [(126, 'a', t(127)), (127, 'a', EMPTY)])
+    cases.widen(stairs, E, size=LARGE)
+    for count in (62, 126, 127):
+        again = table([0], [(0, 'r', choice(t(1), any_of(t(1)), seq(t(1), t(1)), t(1)))] + many_labels(1, count))
+        cases.widen(again, E, size=LARGE)
+        cases.widen(again, table([9], [(9, 'r', some_of(t(100)))] + many_labels(100, count)), size=LARGE)
+
+
+def full_tables_of_sizes(cases):
+    """The longest table of the small size, and tables of 32,768 bytes with 128 rules."""
+    content = seq(seq(*[t(15)] * 255), seq(optional(t(0)), *[t(15)] * 251, optional(t(14))))
+    assert len(content) == 1024
+    rules = [(i, 'n' * 61 + '%02d' % i, content) for i in range(16)]
+    cases.add(TABLE_READS, table(range(16), rules), size=SMALL)
+    cases.add(LOCAL_BY_TABLE, E, table(range(16), rules[:15] + [(15, rules[15][1], EMPTY)]), size=SMALL, out='exact')
+    full = padded_table(32768, 128)
+    cases.add(LOCAL_BY_TABLE, full, E, size=LARGE, out='exact')
+    cases.add(SINGLE_BY_DOCUMENT, full, doc('n00'), size=LARGE)                                # 32,769 bytes
+    names = ['b' * (12 - (i < 3)) for i in range(2048)]
+    cases.add(DOCUMENT_READS, document(crowd(2048, names)), size=LARGE)                        # 32,768 bytes
+
+
+def size_cases(cases):
+    edge_cases_of_sizes(cases)
+    membership_and_kinds_of_sizes(cases)
+    large_samples(cases)
+    unions_of_sizes(cases)
+    full_tables_of_sizes(cases)
+
+
 # ---------------------------------------------------------------- random cases
 
 POOL = ['a', 'b', 'c', 'd', 'list', 'card', 'x-1', 'A']
@@ -1093,7 +1496,7 @@ def random_content(numbers, types, depth):
     return bytes([5 + numbers.below(3)]) + random_content(numbers, types, depth - 1)
 
 
-def random_table(numbers, pool=POOL, largest=8):
+def random_table(numbers, pool=POOL, largest=8, limits=ref.STANDARD):
     """Recursive and ambiguous tables, some types without rules, some rules of one pair."""
     count = numbers.between(1, largest)
     names = [numbers.of(pool) for _ in range(numbers.between(1, 5))]
@@ -1101,7 +1504,7 @@ def random_table(numbers, pool=POOL, largest=8):
     if numbers.chance(30):
         types = list(range(numbers.between(1, 6)))
     else:
-        types = list(dict.fromkeys(numbers.below(64) for _ in range(numbers.between(1, 6))))
+        types = list(dict.fromkeys(numbers.below(limits.rules) for _ in range(numbers.between(1, 6))))
     rules = []
     for _ in range(count):
         content = EMPTY if numbers.chance(35) else random_content(numbers, types, numbers.below(4))
@@ -1110,7 +1513,7 @@ def random_table(numbers, pool=POOL, largest=8):
     return table(starts, rules, names)
 
 
-def rich_table(numbers, pool=POOL, largest=9):
+def rich_table(numbers, pool=POOL, largest=9, limits=ref.STANDARD):
     """A table whose types mostly name later ones, so that most are fruitful and reached, with
     few names, so that many share one."""
     count = numbers.between(2, largest)
@@ -1136,19 +1539,19 @@ def rich_table(numbers, pool=POOL, largest=9):
     if numbers.chance(30):      # rules in another order
         for _ in range(len(rules)):
             rules.append(rules.pop(numbers.below(len(rules))))
-    return table([0] if numbers.chance(70) else [1, 0], rules[:64], names)
+    return table([0] if numbers.chance(70) else [1, 0], rules[:limits.rules], names)
 
 
 WIDE_POOL = ['w%d' % i for i in range(12)]
 
 
-def wide_table(numbers):
+def wide_table(numbers, limits=ref.STANDARD):
     """Types with many labels each and contents that repeat them, so that results come near the limits."""
-    types = list(range(numbers.between(2, 6)))
+    types = list(range(numbers.between(2, max(2, limits.rules // 10))))
     names = WIDE_POOL[:numbers.between(2, 12)]
     rules = [(type_, name, EMPTY if numbers.chance(40) else random_content(numbers, types, numbers.between(1, 5)))
              for type_ in types for name in names if numbers.chance(70)]
-    return table([0] if numbers.chance(70) else [1, 0], rules[:64], names)
+    return table([0] if numbers.chance(70) else [1, 0], rules[:limits.rules], names)
 
 
 def fruitful_order(a_table):
@@ -1240,20 +1643,20 @@ def changed_tree(numbers, a_tree, pool):
     return made
 
 
-def size(a_tree):
-    return 1 + sum(size(child) for child in a_tree[1])
+def node_count(a_tree):
+    return 1 + sum(node_count(child) for child in a_tree[1])
 
 
 def usable(a_tree):
     """Small enough for the case file."""
-    return a_tree is not None and size(a_tree) <= 150
+    return a_tree is not None and node_count(a_tree) <= 150
 
 
 def random_document(numbers, a_table_bytes, pool=POOL):
     """Derived from the table, or derived and changed, or free."""
     a_tree = None
     if not numbers.chance(15):
-        a_tree = derived_tree(numbers, ref.read_table(a_table_bytes))
+        a_tree = derived_tree(numbers, ref.read_table(ref.LARGE, a_table_bytes))
     if not usable(a_tree):
         return document(random_tree(numbers, pool))
     if numbers.chance(45):
@@ -1271,6 +1674,10 @@ def fields_of(data):
     return found
 
 
+# Operators, and types about the limits.
+TELLING_BYTES = (0, 1, 2, 3, 4, 5, 6, 7, 8, 15, 16, 63, 64, 127, 128, 255)
+
+
 def damaged(numbers, data):
     """The bytes with one or two faults."""
     for _ in range(1 + numbers.below(2)):
@@ -1281,7 +1688,7 @@ def damaged(numbers, data):
         elif action == 1:
             data = data[:at] + bytes([numbers.below(256)]) + data[at + 1:]
         elif action == 2:
-            data = data[:at] + bytes([numbers.of((0, 1, 2, 3, 4, 5, 6, 7, 8, 63, 64, 255))]) + data[at + 1:]
+            data = data[:at] + bytes([numbers.of(TELLING_BYTES)]) + data[at + 1:]
         elif action == 3:
             data = data[:at] + data[at + 1:]
         elif action == 4:
@@ -1302,61 +1709,85 @@ def damaged(numbers, data):
     return data
 
 
-def random_case(cases, numbers):
-    """One random case, or a few that belong together."""
+SELDOM = {SMALL: 14, STANDARD: 24, LARGE: 60}      # the most types of a random table, where it may have many
+
+
+def random_size(numbers):
+    return numbers.of((SMALL, STANDARD, STANDARD, LARGE))
+
+
+def random_limits(numbers, size):
+    """The limits that tables are made for: those of the size, at times those of the next."""
+    return ref.limits_of(size if numbers.chance(92) else min(size + 1, LARGE))
+
+
+def some_table(numbers, size, limits):
+    """A random table of either sort; at times a large one."""
     if numbers.chance(45):
-        first = rich_table(numbers, largest=24 if numbers.chance(10) else 9)
-    else:
-        first = random_table(numbers, largest=24 if numbers.chance(10) else 8)
+        return rich_table(numbers, largest=SELDOM[size] if numbers.chance(10) else 9, limits=limits)
+    return random_table(numbers, largest=SELDOM[size] if numbers.chance(10) else 8, limits=limits)
+
+
+def random_case(cases, numbers):
+    """One random case, or a few that belong together, at a random size."""
+    size = random_size(numbers)
+    limits = random_limits(numbers, size)
+    first = some_table(numbers, size, limits)
+    add = partial(cases.add, size=size)
     roll = numbers.below(100)
     if roll < 8:
-        cases.add(numbers.of((TABLE_READS, LABEL_NAME, IS_LOCAL, IS_SINGLE_TYPE)),
-                  damaged(numbers, first), label=numbers.below(4))
+        add(numbers.of((TABLE_READS, LABEL_NAME, IS_LOCAL, IS_SINGLE_TYPE)), damaged(numbers, first),
+            label=numbers.below(4))
     elif roll < 14:
         a_document = damaged(numbers, random_document(numbers, first))
         call = numbers.of((DOCUMENT_READS, SAMPLE, LETS_IN, LOCAL_BY_DOCUMENT, SINGLE_BY_DOCUMENT))
         if call in (DOCUMENT_READS, SAMPLE):
-            cases.add(call, a_document)
+            add(call, a_document)
         else:
-            cases.add(call, first, a_document)
+            add(call, first, a_document)
     elif roll < 19:
-        second = random_table(numbers)
+        second = random_table(numbers, limits=limits)
         pair = (damaged(numbers, first), second) if numbers.chance(40) else (first, damaged(numbers, second))
-        cases.add(numbers.of(BY_TABLE), *pair)
+        add(numbers.of(BY_TABLE), *pair)
     elif roll < 45:
-        cases.add(LETS_IN, first, random_document(numbers, first))
+        add(LETS_IN, first, random_document(numbers, first))
     elif roll < 50:
         a_document = document(random_tree(numbers, POOL[:3], numbers.between(1, 60)))
-        cases.add(SAMPLE, a_document, out=numbers.of((None, None, 'exact', 'short')))
+        add(SAMPLE, a_document, out=numbers.of((None, None, 'exact', 'short')))
     elif roll < 55:
-        cases.add(numbers.of((TABLE_READS, IS_LOCAL, IS_SINGLE_TYPE)), first)
+        add(numbers.of((TABLE_READS, IS_LOCAL, IS_SINGLE_TYPE)), first)
     elif roll < 57:
-        cases.add(LABEL_NAME, first, label=numbers.below(5))
+        add(LABEL_NAME, first, label=numbers.below(5))
     else:
-        out = numbers.of((None,) * 12 + ('exact', 'exact', 'short', 0))
-        to_kind = numbers.below(2)
-        if roll < 82:
-            second = (rich_table(numbers) if numbers.chance(45) else random_table(numbers)
-                      if numbers.chance(80) else E)
-            call = BY_TABLE[to_kind]
-        else:
-            second = random_document(numbers, first)
-            call = BY_DOCUMENT[to_kind]
-        cases.add(call, first, second, out=out)
-        # Questions to the result.
-        result = answer_of(cases.all[-1]).written
-        if result and len(result) < 1500 and numbers.chance(60):
-            follow = numbers.below(5)
-            if follow == 0:
-                cases.add(numbers.of((IS_LOCAL, IS_SINGLE_TYPE)), result)
-            elif follow == 1:
-                cases.add(LETS_IN, result, random_document(numbers, result))
-            elif follow == 2:
-                cases.add(LETS_IN, result, random_document(numbers, first))
-            elif follow == 3:
-                cases.add(BY_TABLE[numbers.below(2)], result, random_table(numbers))
-            else:
-                cases.add(BY_DOCUMENT[numbers.below(2)], result, random_document(numbers, first))
+        random_widening(add, numbers, roll < 82, first, limits)
+        random_question(add, numbers, answer_of(cases.all[-1]).written, first, limits)
+
+
+def random_widening(add, numbers, by_table, first, limits):
+    out = numbers.of((None,) * 12 + ('exact', 'exact', 'short', 0))
+    to_kind = numbers.below(2)
+    if by_table:
+        make = rich_table if numbers.chance(45) else random_table if numbers.chance(80) else None
+        add(BY_TABLE[to_kind], first, make(numbers, limits=limits) if make else E, out=out)
+    else:
+        add(BY_DOCUMENT[to_kind], first, random_document(numbers, first), out=out)
+
+
+def random_question(add, numbers, result, first, limits):
+    """At times a question to the result of a widening."""
+    if not result or len(result) >= 1500 or not numbers.chance(60):
+        return
+    follow = numbers.below(5)
+    if follow == 0:
+        add(numbers.of((IS_LOCAL, IS_SINGLE_TYPE)), result)
+    elif follow == 1:
+        add(LETS_IN, result, random_document(numbers, result))
+    elif follow == 2:
+        add(LETS_IN, result, random_document(numbers, first))
+    elif follow == 3:
+        add(BY_TABLE[numbers.below(2)], result, random_table(numbers, limits=limits))
+    else:
+        add(BY_DOCUMENT[numbers.below(2)], result, random_document(numbers, first))
 
 
 def made_cases(cases):
@@ -1367,6 +1798,7 @@ def made_cases(cases):
     limit_cases(cases)
     meaning_cases(cases)
     wide_cases(cases)
+    size_cases(cases)
 
 
 def all_cases(seed, count):

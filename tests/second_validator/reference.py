@@ -1,8 +1,9 @@
-"""The second validator: every public call, written from document 01 alone.
+"""The second validator: every public call, written from document 01 and Card 13 alone.
 
-Plain search, for reading next to the paper: derivations are tried directly, every step of a
-widening is made as a table, and refusals come in the paper's order.  Sentences of the paper
-stand in quotes.  Python 3, standard library only.
+Plain search, for reading next to the papers: derivations are tried directly, every step of a
+widening is made as a table, and refusals come in the paper's order.  Sentences of the papers
+stand in quotes; where document 01 has a number of the second set, the chosen set's own is read.
+Python 3, standard library only.
 
     python3 reference.py list DIR      the text that the lister prints in DIR (old.tbl, new.doc)
 """
@@ -10,19 +11,33 @@ stand in quotes.  Python 3, standard library only.
 import os
 import sys
 from collections import namedtuple
+from functools import partial
 
 sys.setrecursionlimit(20000)  # contents may nest 1,023 deep before refusal 10 is given
 
 # ---------------------------------------------------------------- numbers of the paper
 
-WORK_WORDS = 16384      # "Its first 16,384 words are zero after every call but refusal 1"
 INPUT_BYTES = 32768     # refusal 2, and 14 for the sample and the result
 NAME_BYTES = 63
 CONTENT_BYTES = 1024
-LIMIT = 64              # labels, starts, rules, types
 NESTING = 32
 COUNT = 255             # operands of a choice
-NODES, CHILDREN, LEVELS = 1024, 200, 64
+CHILDREN = 200
+
+# "Rules, nodes, levels and working words become a set of limits: 16, 256, 16, 12,288; or 64, 1,024,
+# 64, 16,384; or 128, 2,048, 64, 32,768. Label, start and type limits equal the rule limit, and type
+# numbers run below it."
+Limits = namedtuple('Limits', 'rules nodes levels words')
+SMALL = Limits(16, 256, 16, 12288)
+STANDARD = Limits(64, 1024, 64, 16384)
+LARGE = Limits(128, 2048, 64, 32768)
+SETS = (SMALL, STANDARD, LARGE)
+
+
+def limits_of(size):
+    """The set that a size's number picks: 0 small, 1 standard, 2 large; any other counts as 1."""
+    return SETS[size] if size in (0, 1, 2) else STANDARD
+
 
 LABEL, START, RULE, TABLE_END = 0x10, 0x11, 0x12, 0x1F
 NODE, DOCUMENT_END = 0x30, 0x3F
@@ -82,15 +97,15 @@ def field_at(data, at):
     return tag, data[at + 3:at + 3 + length], at + 3 + length
 
 
-def read_content(data):
+def read_content(limits, data):
     """9: "A content is not exactly one expression, or names a type above 63." """
-    content, after = expression_at(data, 0)
+    content, after = expression_at(limits, data, 0)
     if after != len(data):
         raise Refused(9)
     return content
 
 
-def expression_at(data, at):
+def expression_at(limits, data, at):
     """The expression that begins at `at`, and the place after it; 9 if there is none."""
     if at >= len(data):
         raise Refused(9)
@@ -98,7 +113,7 @@ def expression_at(data, at):
     if operator in (NONE, EMPTY):
         return (operator,), at + 1
     if operator == TYPE:
-        if at + 1 >= len(data) or data[at + 1] > 63:
+        if at + 1 >= len(data) or data[at + 1] >= limits.rules:
             raise Refused(9)
         return (TYPE, data[at + 1]), at + 2
     if operator in (SEQUENCE, CHOICE):
@@ -108,11 +123,11 @@ def expression_at(data, at):
         operands = []
         after = at + 2
         for _ in range(data[at + 1]):
-            operand, after = expression_at(data, after)
+            operand, after = expression_at(limits, data, after)
             operands.append(operand)
         return (operator, tuple(operands)), after
     if operator in (ANY, SOME, OPTIONAL):
-        operand, after = expression_at(data, at + 1)
+        operand, after = expression_at(limits, data, at + 1)
         return (operator, operand), after
     raise Refused(9)
 
@@ -136,7 +151,7 @@ def nesting(content):
     return 1 + deepest
 
 
-def read_table(data):
+def read_table(limits, data):
     """A table from its bytes, or Refused."""
     if len(data) > INPUT_BYTES:                 # "2 opens each input"
         raise Refused(2)
@@ -158,25 +173,25 @@ def read_table(data):
                 raise Refused(5)
             if value in labels:                 # 6: "A label name ... repeats an earlier one"
                 raise Refused(6)
-            if len(labels) == LIMIT:            # 7: "It is the 65th label, start or rule."
+            if len(labels) == limits.rules:     # 7: "It is the 65th label, start or rule."
                 raise Refused(7)
             labels.append(value)
             places.append(at + 3)
         elif tag == START:
             if value[0] in starts:              # 6: "... or a start type repeats an earlier one"
                 raise Refused(6)
-            if len(starts) == LIMIT:            # 7
+            if len(starts) == limits.rules:     # 7
                 raise Refused(7)
-            if value[0] > 63:                   # 8: "A start or rule type is above 63"
+            if value[0] >= limits.rules:        # 8: "A start or rule type is above 63"
                 raise Refused(8)
             starts.append(value[0])
         elif tag == RULE:
-            if len(rules) == LIMIT:             # 7
+            if len(rules) == limits.rules:      # 7
                 raise Refused(7)
             # 8: "... or a rule's ... label number is not among the labels."
-            if value[0] > 63 or value[1] >= len(labels):
+            if value[0] >= limits.rules or value[1] >= len(labels):
                 raise Refused(8)
-            content = read_content(value[2:])   # 9
+            content = read_content(limits, value[2:])    # 9
             if nesting(content) > NESTING:      # 10: "A content nests more than 32 deep."
                 raise Refused(10)
             rules.append(Rule(value[0], value[1], content))
@@ -187,7 +202,7 @@ def read_table(data):
         at = after
 
 
-def read_document(data):
+def read_document(limits, data):
     """A document's root from its bytes, or Refused."""
     if len(data) > INPUT_BYTES:                 # "2 opens each input"
         raise Refused(2)
@@ -213,7 +228,7 @@ def read_document(data):
         # 11: "A node is the 1,025th, has over 200 children, lies below level 64
         # or follows a complete tree"
         level = len(unfilled) + 1
-        if nodes == NODES or children > CHILDREN or level > LEVELS or complete:
+        if nodes == limits.nodes or children > CHILDREN or level > limits.levels or complete:
             raise Refused(11)
         node = Node(name)
         nodes += 1
@@ -393,7 +408,7 @@ def replaced(content, replacement):
     return content
 
 
-def unite(old, addition):
+def unite(limits, old, addition):
     """"Labels are the old ones, then the addition's new names. The addition's types are made
     distinct from the old. Rules keep their order, old first." """
     labels = list(old.labels)
@@ -401,8 +416,8 @@ def unite(old, addition):
         if name not in labels:
             labels.append(name)
 
-    def distinct(type_):      # types of a table that was read are below 64
-        return type_ + 64
+    def distinct(type_):      # types of a table that was read are below the limit
+        return type_ + limits.rules
 
     starts = old.starts + [distinct(start) for start in addition.starts]
     rules = list(old.rules)
@@ -526,7 +541,7 @@ def to_local(table):
     return Table(table.labels, starts, rules, None)
 
 
-def to_single_type(table):
+def to_single_type(limits, table):
     """"A result type is a set of types of one label." """
     label_of = {rule.type: rule.label for rule in table.rules}
     sets = []     # the result types, by number
@@ -558,7 +573,7 @@ def to_single_type(table):
 
         label = label_of[next(iter(members))]
         rules.append(Rule(number, label, replaced(content, replacement)))
-        if len(sets) > LIMIT:         # 14 whatever follows; there may be very many sets
+        if len(sets) > limits.rules:  # 14 whatever follows; there may be very many sets
             raise Refused(14)
     return Table(table.labels, starts, rules, None)
 
@@ -619,7 +634,7 @@ def largest_choice(content):
     return largest
 
 
-def within_limits(table):
+def within_limits(limits, table):
     """14: "over 64 types, a content over 1,024 bytes, a nesting over 32, a choice over 255 or over
     32,768 bytes in all." """
     total = 3
@@ -628,7 +643,7 @@ def within_limits(table):
     total += 4 * len(table.starts)
     for rule in table.rules:
         total += 5 + content_length(rule.content)
-    return (len(table.rules) <= LIMIT       # samples and results have one rule a type
+    return (len(table.rules) <= limits.rules    # samples and results have one rule a type
             and all(content_length(rule.content) <= CONTENT_BYTES for rule in table.rules)
             and all(nesting(rule.content) <= NESTING for rule in table.rules)
             and all(largest_choice(rule.content) <= COUNT for rule in table.rules)
@@ -666,21 +681,21 @@ def table_bytes(table):
 Answer = namedtuple('Answer', 'refusal value written')
 
 
-def answered(work_len, question):
+def answered(limits, work_len, question):
     """The answer of a call that writes nothing."""
     try:
-        if work_len < WORK_WORDS:      # 1: "The working slice has fewer than 16,384 words."
+        if work_len < limits.words:    # 1: "The working slice has fewer than 16,384 words."
             raise Refused(1)
         return Answer(0, int(question()), b'')
     except Refused as refusal:
         return Answer(refusal.number, 0, b'')
 
 
-def answered_in_bytes(work_len, out_len, made):
+def answered_in_bytes(limits, work_len, out_len, made):
     """The answer of a call that writes a table.  "The number comes with length 0 and an untouched
     output." """
     try:
-        if work_len < WORK_WORDS:
+        if work_len < limits.words:
             raise Refused(1)
         written = made()
         if out_len < len(written):     # 15: "The lent output is shorter than the result."
@@ -690,94 +705,96 @@ def answered_in_bytes(work_len, out_len, made):
         return Answer(refusal.number, 0, b'')
 
 
-def table_reads(table, work_len):
-    return answered(work_len, lambda: read_table(table) is not None)
+def table_reads(limits, table, work_len):
+    return answered(limits, work_len, lambda: read_table(limits, table) is not None)
 
 
-def document_reads(document, work_len):
-    return answered(work_len, lambda: read_document(document) is not None)
+def document_reads(limits, document, work_len):
+    return answered(limits, work_len, lambda: read_document(limits, document) is not None)
 
 
-def label_name(table, label, work_len):
+def label_name(limits, table, label, work_len):
     """"A name asked for by its label number comes back as that part of the table's own bytes" """
     def question():
-        read = read_table(table)
+        read = read_table(limits, table)
         if label >= len(read.labels):  # "A caller's label number is tried after its table."
             raise Refused(8)
         return read.places[label] * 65536 + len(read.labels[label])
-    return answered(work_len, question)
+    return answered(limits, work_len, question)
 
 
-def lets_in(table, document, work_len):
+def lets_in(limits, table, document, work_len):
     def question():
-        read = read_table(table)
-        root = read_document(document)
+        read = read_table(limits, table)
+        root = read_document(limits, document)
         return table_lets_in(read, root)
-    return answered(work_len, question)
+    return answered(limits, work_len, question)
 
 
-def is_local(table, work_len):
-    return answered(work_len, lambda: table_is_local(read_table(table)))
+def is_local(limits, table, work_len):
+    return answered(limits, work_len, lambda: table_is_local(read_table(limits, table)))
 
 
-def is_single_type(table, work_len):
-    return answered(work_len, lambda: table_is_single_type(read_table(table)))
+def is_single_type(limits, table, work_len):
+    return answered(limits, work_len, lambda: table_is_single_type(read_table(limits, table)))
 
 
-def sample_within_limits(root):
+def sample_within_limits(limits, root):
     made = sample_table(root)
-    if not within_limits(made):        # "14 first for the sample"
+    if not within_limits(limits, made):        # "14 first for the sample"
         raise Refused(14)
     return made
 
 
-def sample(document, out_len, work_len):
-    return answered_in_bytes(
-        work_len, out_len, lambda: table_bytes(sample_within_limits(read_document(document))))
+def sample(limits, document, out_len, work_len):
+    def made():
+        return table_bytes(sample_within_limits(limits, read_document(limits, document)))
+    return answered_in_bytes(limits, work_len, out_len, made)
 
 
-def widened(old, addition, form):
+def widened(limits, old, addition, form):
     """The result table of a widening, or Refused by 13 or 14."""
-    reduced = reduce_table(normalise(unite(old, addition)))
+    reduced = reduce_table(normalise(unite(limits, old, addition)))
     if not reduced.starts:             # 13: "The united tables derive no document."
         raise Refused(13)
     result = with_used_labels(tidy_table(form(reduced)))
-    if not within_limits(result):      # 14, "then for the result"
+    if not within_limits(limits, result):      # 14, "then for the result"
         raise Refused(14)
     return result
 
 
-def widen_by_table(old, addition, form, out_len, work_len):
+def widen_by_table(limits, old, addition, form, out_len, work_len):
     def made():
-        first = read_table(old)        # "Inputs are read one after the other, the old table first"
-        second = read_table(addition)
-        return table_bytes(widened(first, second, form))
-    return answered_in_bytes(work_len, out_len, made)
+        # "Inputs are read one after the other, the old table first"
+        first = read_table(limits, old)
+        second = read_table(limits, addition)
+        return table_bytes(widened(limits, first, second, form))
+    return answered_in_bytes(limits, work_len, out_len, made)
 
 
-def widen_by_document(old, document, form, out_len, work_len):
+def widen_by_document(limits, old, document, form, out_len, work_len):
     """"A document is added through its sample." """
     def made():
-        first = read_table(old)
-        root = read_document(document)
-        return table_bytes(widened(first, sample_within_limits(root), form))
-    return answered_in_bytes(work_len, out_len, made)
+        first = read_table(limits, old)
+        root = read_document(limits, document)
+        return table_bytes(widened(limits, first, sample_within_limits(limits, root), form))
+    return answered_in_bytes(limits, work_len, out_len, made)
 
 
-def widen_local_by_table(old, addition, out_len, work_len):
-    return widen_by_table(old, addition, to_local, out_len, work_len)
+def widen_local_by_table(limits, old, addition, out_len, work_len):
+    return widen_by_table(limits, old, addition, to_local, out_len, work_len)
 
 
-def widen_local_by_document(old, document, out_len, work_len):
-    return widen_by_document(old, document, to_local, out_len, work_len)
+def widen_local_by_document(limits, old, document, out_len, work_len):
+    return widen_by_document(limits, old, document, to_local, out_len, work_len)
 
 
-def widen_single_type_by_table(old, addition, out_len, work_len):
-    return widen_by_table(old, addition, to_single_type, out_len, work_len)
+def widen_single_type_by_table(limits, old, addition, out_len, work_len):
+    return widen_by_table(limits, old, addition, partial(to_single_type, limits), out_len, work_len)
 
 
-def widen_single_type_by_document(old, document, out_len, work_len):
-    return widen_by_document(old, document, to_single_type, out_len, work_len)
+def widen_single_type_by_document(limits, old, document, out_len, work_len):
+    return widen_by_document(limits, old, document, partial(to_single_type, limits), out_len, work_len)
 
 
 # ---------------------------------------------------------------- the lent slices afterwards
@@ -787,12 +804,12 @@ def output_after(answer, output):
     return answer.written + output[len(answer.written):]
 
 
-def work_after(answer, work):
+def work_after(limits, answer, work):
     """"Its first 16,384 words are zero after every call but refusal 1, which changes none; words
     beyond are never changed." """
     if answer.refusal == 1:
         return list(work)
-    return [0] * WORK_WORDS + list(work[WORK_WORDS:])
+    return [0] * limits.words + list(work[limits.words:])
 
 
 # ---------------------------------------------------------------- the lister
@@ -813,11 +830,11 @@ def content_text(content):
 
 
 def listing(old, document):
-    """The lister's text for the bytes of old.tbl and new.doc."""
-    answer = widen_local_by_document(old, document, INPUT_BYTES, WORK_WORDS)
+    """The lister's text for the bytes of old.tbl and new.doc; it keeps the second set."""
+    answer = widen_local_by_document(STANDARD, old, document, INPUT_BYTES, STANDARD.words)
     if answer.refusal:
         return b'refused %d\n' % answer.refusal
-    table = read_table(answer.written)
+    table = read_table(STANDARD, answer.written)
     lines = ['local']
     for start in table.starts:
         lines.append('start t%d' % start)

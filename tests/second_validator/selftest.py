@@ -2,9 +2,10 @@
 
     python3 selftest.py [--rounds N]
 
-The paper's P1 to P8, its edges and the lister's example; reading against bytes written; letting in
-against a listing of all derived documents; and widening against brute force on small tables: the
-result is of its kind, lets in what it must, and is least.
+The paper's P1 to P8, its edges and the lister's example; the edges of the three sizes, numbered by
+hand; that a larger set gives the same answer wherever a smaller one gives one; reading against bytes
+written; letting in against a listing of all derived documents; and widening against brute force on
+small tables: the result is of its kind, lets in what it must, and is least.
 """
 
 import argparse
@@ -18,7 +19,8 @@ import generate as gen  # noqa: E402
 import reference as ref  # noqa: E402
 from generate import EMPTY, E, Numbers, any_of, choice, doc, seq, t, table, tree  # noqa: E402
 
-W = ref.WORK_WORDS
+L = ref.STANDARD        # "document 01's cases keep the second"
+W = L.words
 FORMS = {'local': (ref.widen_local_by_table, ref.widen_local_by_document, ref.is_local),
          'single-type': (ref.widen_single_type_by_table, ref.widen_single_type_by_document,
                          ref.is_single_type)}
@@ -35,47 +37,48 @@ def check(fact, *about):
 
 def paper():
     p1, p2 = gen.P1, gen.P2
-    check(len(p1) == 17 and ref.table_reads(p1, W) == (0, 1, b''), 'P1')
-    check(ref.lets_in(p1, p2, W) == (0, 1, b''), 'P2')
-    check(ref.table_reads(b'', W) == (3, 0, b''), 'P3')
-    check(ref.document_reads(b'', W) == (3, 0, b''), 'P3')
-    check(ref.table_reads(E, W) == (0, 1, b''), 'a table of the end field alone is valid')
+    check(len(p1) == 17 and ref.table_reads(L, p1, W) == (0, 1, b''), 'P1')
+    check(ref.lets_in(L, p1, p2, W) == (0, 1, b''), 'P2')
+    check(ref.table_reads(L, b'', W) == (3, 0, b''), 'P3')
+    check(ref.document_reads(L, b'', W) == (3, 0, b''), 'P3')
+    check(ref.table_reads(L, E, W) == (0, 1, b''), 'a table of the end field alone is valid')
     for by_table, _, _ in FORMS.values():
-        check(by_table(E, E, 100, W) == (13, 0, b''), 'P4')
-    local = ref.widen_local_by_table(gen.P5, E, 500, W).written
-    single = ref.widen_single_type_by_table(gen.P5, E, 500, W).written
-    check(ref.lets_in(local, gen.P5_CROSSED, W).value == 1, 'P5 local')
-    check(ref.lets_in(single, gen.P5_CROSSED, W) == (0, 0, b''), 'P5 single-type')
-    check(ref.lets_in(single, gen.P5_STRAIGHT, W).value == 1, 'P5 single-type')
+        check(by_table(L, E, E, 100, W) == (13, 0, b''), 'P4')
+    local = ref.widen_local_by_table(L, gen.P5, E, 500, W).written
+    single = ref.widen_single_type_by_table(L, gen.P5, E, 500, W).written
+    check(ref.lets_in(L, local, gen.P5_CROSSED, W).value == 1, 'P5 local')
+    check(ref.lets_in(L, single, gen.P5_CROSSED, W) == (0, 0, b''), 'P5 single-type')
+    check(ref.lets_in(L, single, gen.P5_STRAIGHT, W).value == 1, 'P5 single-type')
     p6 = table([0], [(0, 'group', choice(seq(t(0), t(0)), t(1))), (1, 'card', EMPTY)])
-    check(ref.widen_local_by_table(gen.P6, E, 500, W) == (0, len(p6), p6), 'P6')
+    check(ref.widen_local_by_table(L, gen.P6, E, 500, W) == (0, len(p6), p6), 'P6')
     p7 = table([0], [(0, 'list', t(1)), (1, 'door', t(2)), (2, 'code', EMPTY)])
     p8 = table([0], [(0, 'list', choice(t(1), t(2))), (1, 'door', EMPTY), (2, 'lift', EMPTY)])
     for by_table, _, _ in FORMS.values():
-        check(by_table(gen.P7, E, 500, W) == (0, len(p7), p7), 'P7')
-        check(by_table(gen.P8, E, 500, W) == (0, len(p8), p8), 'P8')
+        check(by_table(L, gen.P7, E, 500, W) == (0, len(p7), p7), 'P7')
+        check(by_table(L, gen.P8, E, 500, W) == (0, len(p8), p8), 'P8')
     text = (b'local\nstart t0\nt0 list (t1*|t1)\nt1 card ((t2,t3?)|(t2,t4))\n'
             b't2 name ()\nt3 door ()\nt4 zone ()\n')
     check(ref.listing(gen.LISTER_TABLE, gen.LISTER_DOC) == text, 'lister')
     check(ref.listing(b'', gen.LISTER_DOC) == b'refused 3\n', 'lister')
+    check(ref.content_text((ref.TYPE, 127)) == 't127')
     # "64 rules pass, 65 give 7; a name of 64 bytes gives 4; nesting 32 passes, 33 gives 10; 200
     # children pass, 201 give 11."
     rules = [gen.rule(0, 0, EMPTY)] * 65
     for count, refusal in ((64, 0), (65, 7)):
-        check(ref.table_reads(gen.label('a') + b''.join(rules[:count]) + E, W).refusal == refusal)
+        check(ref.table_reads(L, gen.label('a') + b''.join(rules[:count]) + E, W).refusal == refusal)
     for length, refusal in ((63, 0), (64, 4)):
-        check(ref.table_reads(gen.label('a' * length) + E, W).refusal == refusal)
-        check(ref.document_reads(doc('a' * length), W).refusal == refusal)
+        check(ref.table_reads(L, gen.label('a' * length) + E, W).refusal == refusal)
+        check(ref.document_reads(L, doc('a' * length), W).refusal == refusal)
     for depth, refusal in ((32, 0), (33, 10)):
-        check(ref.table_reads(gen.one_rule(gen.deep(depth)), W).refusal == refusal)
+        check(ref.table_reads(L, gen.one_rule(gen.deep(depth)), W).refusal == refusal)
     for children, refusal in ((200, 0), (201, 11)):
-        check(ref.document_reads(gen.document(gen.wide_doc(children)), W).refusal == refusal)
+        check(ref.document_reads(L, gen.document(gen.wide_doc(children)), W).refusal == refusal)
     for numbered, read in ((gen.refused_tables(), ref.table_reads),
                            (gen.refused_documents(), ref.document_reads)):
         for refusal, inputs in numbered.items():
             for data in inputs:
-                check(read(data, W).refusal == refusal, refusal, data)
-                check(read(data, W - 1).refusal == 1)
+                check(read(L, data, W).refusal == refusal, refusal, data)
+                check(read(L, data, W - 1).refusal == 1)
 
 
 # ---------------------------------------------------------------- all derived documents, listed
@@ -170,7 +173,8 @@ def membership(rounds):
         numbers = Numbers(500 + number)
         make = gen.rich_table if number % 2 else gen.random_table
         names = ('a', 'b', 'c')[:2 + number % 2]
-        read = ref.read_table(make(numbers, list(names), 5))
+        limits = ref.SETS[number % 3]
+        read = ref.read_table(limits, make(numbers, list(names), 5, limits))
         most = 6 if len(names) == 2 else 4
         listed = derived_documents(read, most)
         for a_tree in trees_up_to(names, most):
@@ -180,7 +184,7 @@ def membership(rounds):
     for number in range(rounds * 4):
         numbers = Numbers(80000 + number)
         content = gen.random_content(numbers, [1, 2, 3], 3)
-        read = ref.read_table(table([0], [(0, 'r', content), (1, 'a', EMPTY), (2, 'b', EMPTY)]))
+        read = ref.read_table(L, table([0], [(0, 'r', content), (1, 'a', EMPTY), (2, 'b', EMPTY)]))
         listed = derived_documents(read, 6)
         for word in words:
             a_tree = ('r', tuple((name, ()) for name in word))
@@ -230,12 +234,12 @@ def rival_tables(kind):
         while len(made) < 700:          # types 0 and 2 have name a, types 1 and 3 name b
             rules = [(k, 'ab'[k % 2], numbers.of(contents)) for k in range(4)]
             one = table(numbers.of(([0], [1], [0, 1], [0, 3])), rules, ['a', 'b'])
-            if ref.is_single_type(one, W).value:
+            if ref.is_single_type(L, one, W).value:
                 made.append(one)
         # Every local table with distinct types is single-type too.
         made += rival_tables('local')[::7]
     for one in made:
-        check(FORMS[kind][2](one, W) == (0, 1, b''), kind, one)
+        check(FORMS[kind][2](L, one, W) == (0, 1, b''), kind, one)
     return made
 
 
@@ -243,43 +247,44 @@ def leastness(rounds):
     names = ('a', 'b')
     most = 5
     small = [one for one in trees_up_to(names, 4)]
-    rivals = {kind: [(one, derived_documents(ref.read_table(one), most))
+    rivals = {kind: [(one, derived_documents(ref.read_table(L, one), most))
                      for one in rival_tables(kind)] for kind in FORMS}
     counts = {'widenings': 0, 'whole': 0, 'rivals compared': 0}
     for number in range(rounds):
         numbers = Numbers(9000 + number)
         make = (gen.random_table, gen.rich_table)
-        old = make[number % 2](numbers, list(names), 4)
-        old_trees = derived_documents(ref.read_table(old), most + 1)
+        limits = ref.SETS[number // 6 % 3]
+        old = make[number % 2](numbers, list(names), 4, limits)
+        old_trees = derived_documents(ref.read_table(limits, old), most + 1)
         if number % 3:
-            addition = make[number // 2 % 2](numbers, list(names), 4)
-            added = derived_documents(ref.read_table(addition), most + 1)
+            addition = make[number // 2 % 2](numbers, list(names), 4, limits)
+            added = derived_documents(ref.read_table(limits, addition), most + 1)
         else:
             one = numbers.of(small)
             addition, added = gen.document(one), {one}
         for kind, (by_table, by_document, is_kind) in FORMS.items():
-            answer = (by_table if number % 3 else by_document)(old, addition, 33000, W)
+            answer = (by_table if number % 3 else by_document)(limits, old, addition, 33000, limits.words)
             if answer.refusal:
                 check(answer.refusal == 13 and not old_trees and not added, kind, old, addition)
                 continue
             counts['widenings'] += 1
-            result = ref.read_table(answer.written)
+            result = ref.read_table(limits, answer.written)
             # "Being of the kind, letting in the old and the added, and being least are one claim"
-            check(is_kind(answer.written, W) == (0, 1, b''), kind, old, addition)
+            check(is_kind(limits, answer.written, limits.words) == (0, 1, b''), kind, old, addition)
             let_in = derived_documents(result, most + 1)
             must = old_trees | added
             check(must <= let_in, kind, old, addition)
             check(ref.table_bytes(result) == answer.written)
             # Least: every piece of a small document of the result is seen in what must be let in.
             found = seen_pieces(must, kind)
-            narrow = {one for one in let_in if gen.size(one) <= 4}
+            narrow = {one for one in let_in if gen.node_count(one) <= 4}
             whole = all(made_of(one, found, kind) for one in narrow)
             if whole:
                 counts['whole'] += 1
             else:
                 # The documents that show a piece may be larger; try again with more nodes.
-                wider = derived_documents(ref.read_table(old), 9)
-                wider |= (derived_documents(ref.read_table(addition), 9) if number % 3 else added)
+                wider = derived_documents(ref.read_table(limits, old), 9)
+                wider |= (derived_documents(ref.read_table(limits, addition), 9) if number % 3 else added)
                 found = seen_pieces(wider, kind)
                 check(all(made_of(one, found, kind) for one in narrow), kind, old, addition)
                 continue
@@ -288,7 +293,7 @@ def leastness(rounds):
                 if made_of(one, found, kind):
                     check(one in let_in, kind, old, addition, one)
             # Rivals that let in all of it up to the bound let in the result's small documents.
-            must = {one for one in must if gen.size(one) <= most}
+            must = {one for one in must if gen.node_count(one) <= most}
             found = seen_pieces(must, kind)
             narrow = {one for one in narrow if made_of(one, found, kind)}
             for rival, rival_trees in rivals[kind]:
@@ -298,40 +303,77 @@ def leastness(rounds):
     return counts
 
 
+# ---------------------------------------------------------------- the three sizes
+
+BY_A_LIMIT = (1, 7, 8, 9, 11, 14)       # "Refusals 1, 7, 8, 9, 11 and 14 [...] read the chosen limits."
+# The three sets, and others between them that Card 13 asks for too.
+GROWING = (ref.Limits(0, 0, 0, 32768), ref.Limits(1, 1, 1, 32768), ref.SMALL, ref.Limits(37, 300, 20, 32768),
+           ref.STANDARD, ref.Limits(127, 2047, 64, 32768), ref.LARGE)
+
+
+def sizes_by_hand():
+    for call, first, second, label, refusals in gen.edges():
+        for size in gen.SIZES:
+            case = gen.Case(call, size, gen.MOST_WORK, 0, gen.MOST_OUTPUT, label, first, second)
+            check(gen.answer_of(case).refusal == refusals[size], call, size, first.hex(), second.hex())
+    for call in gen.CALL_NAMES:
+        for size, work, refusal in gen.WORD_EDGES:
+            case = gen.Case(call, size, work, 7, 400, 0, *gen.good_inputs(call))
+            check(gen.answer_of(case).refusal == refusal, call, size, work)
+    for size in gen.NO_SIZES:
+        for call, first, refusal in gen.NO_SIZE_EDGES:
+            case = gen.Case(call, size, W, 7, gen.MOST_OUTPUT, 0, first, b'')
+            check(gen.answer_of(case).refusal == refusal, call, size, first.hex())
+
+
+def larger_sets_agree():
+    """Wherever a set gives an answer that is no refusal by a limit, a larger one gives it too."""
+    made = gen.Cases()
+    gen.made_cases(made)
+    questions = {(case.call, case.label, case.first, case.second): case for case in made.all}
+    for case in questions.values():
+        room = gen.MOST_OUTPUT if case.call in gen.WRITING else 0
+        answers = [gen.answer_under(limits, case._replace(work_len=limits.words, out_len=room)) for limits in GROWING]
+        for smaller, larger in zip(answers, answers[1:]):
+            check(smaller.refusal in BY_A_LIMIT or smaller == larger, case)
+
+
 # ---------------------------------------------------------------- other facts
 
 def other_facts(rounds):
     for number in range(rounds):
         numbers = Numbers(31000 + number)
-        old = (gen.rich_table if number % 2 else gen.random_table)(numbers)
-        addition = (gen.random_table if number % 2 else gen.rich_table)(numbers)
-        check(ref.table_bytes(ref.read_table(old)) == old)
+        limits = ref.SETS[number // 2 % 3]
+        words = limits.words
+        old = (gen.rich_table if number % 2 else gen.random_table)(numbers, limits=limits)
+        addition = (gen.random_table if number % 2 else gen.rich_table)(numbers, limits=limits)
+        check(ref.table_bytes(ref.read_table(limits, old)) == old)
         for by_table, by_document, is_kind in FORMS.values():
-            answer = by_table(old, addition, 33000, W)
+            answer = by_table(limits, old, addition, 33000, words)
             if answer.refusal:
                 continue
-            check(is_kind(answer.written, W).value == 1)
+            check(is_kind(limits, answer.written, words).value == 1)
             # Widening a result by E changes no document; here it even changes no byte, since the
             # numbering of a result is the one a second widening gives.
-            again = by_table(answer.written, E, 33000, W)
+            again = by_table(limits, answer.written, E, 33000, words)
             check(again.written == answer.written, old, addition)
             a_document = gen.random_document(numbers, old)
-            answer = by_document(old, a_document, 33000, W)
-            check(answer.refusal == 14 or ref.lets_in(answer.written, a_document, W).value == 1)
-            a_sample = ref.sample(a_document, 33000, W)
+            answer = by_document(limits, old, a_document, 33000, words)
+            check(answer.refusal in (11, 14) or ref.lets_in(limits, answer.written, a_document, words).value == 1)
+            a_sample = ref.sample(limits, a_document, 33000, words)
             if not a_sample.refusal:
-                check(ref.lets_in(a_sample.written, a_document, W).value == 1)
-                check(ref.is_single_type(a_sample.written, W).value == 1)
-                check(by_table(old, a_sample.written, 33000, W) == answer)
-                check(ref.widen_single_type_by_table(a_sample.written, E, 33000, W).refusal == 0)
+                check(ref.lets_in(limits, a_sample.written, a_document, words).value == 1)
+                check(ref.is_single_type(limits, a_sample.written, words).value == 1)
+                check(by_table(limits, old, a_sample.written, 33000, words) == answer)
+                check(ref.widen_single_type_by_table(limits, a_sample.written, E, 33000, words).refusal == 0)
     # The case file reads back.
     cases = gen.all_cases(3, 30)
     data = b''.join(gen.case_bytes(case) for case in cases) + b'\x00'
     check(list(gen.cases_in(data)) == cases)
     # The lent slices afterwards, in full and by checksum.
-    for case in cases[::211]:
+    for case in cases[::97]:
         answer = gen.answer_of(case)
-        work = ref.work_after(answer, [case.work_fill] * case.work_len)
+        work = ref.work_after(gen.limits_of(case), answer, [case.work_fill] * case.work_len)
         check(len(work) == case.work_len)
         check(gen.checksum(work) == gen.work_checksum(case, answer))
 
@@ -341,6 +383,8 @@ def main():
     parser.add_argument('--rounds', type=int, default=150)
     rounds = parser.parse_args().rounds
     paper()
+    sizes_by_hand()
+    larger_sets_agree()
     membership(max(1, rounds // 5))
     counts = leastness(rounds)
     other_facts(rounds)

@@ -1,21 +1,37 @@
 /* Membership in plain C, with nothing proved: the floor that tests/speed/run measures the library against. Written from document 01, with
  * the library's own algorithm. The nodes are gone through from the last to the first, with a stack of type sets in the working words: a
  * node takes the sets of its children from the top and leaves its own. For each rule of a node's label the content is walked over once for
- * each child. tests/speed/agrees holds its answers against the library's. */
+ * each child. Compiled once for each size, whose number is FLOOR_SIZE, so that its limits are constants. tests/speed/agrees holds its
+ * answers against the library's. */
 #include "floor.h"
 
 #include <string.h>
 
 #include "../../include/cogarrune.h"
 
-enum { NAME_BYTES = 63, CONTENT_BYTES = 1024, NESTING = 32, TYPES = 64 };
-enum { MOST_LABELS = 64, MOST_STARTS = 64, MOST_RULES = 64 };
-enum { MOST_CHILDREN = 200, MOST_NODES = 1024, MOST_LEVELS = 64 };
+/* The limits of the size, a set of types, and the call's name. */
+#if FLOOR_SIZE == 0
+enum { TYPES = 16, MOST_NODES = 256, MOST_LEVELS = 16, WORDS = COGARRUNE_WORDS_SMALL };
+typedef uint64_t type_set;
+#define LETS_IN_OF_SIZE floor_lets_in_small
+#elif FLOOR_SIZE == 1
+enum { TYPES = 64, MOST_NODES = 1024, MOST_LEVELS = 64, WORDS = COGARRUNE_WORDS_STANDARD };
+typedef uint64_t type_set;
+#define LETS_IN_OF_SIZE floor_lets_in_standard
+#else
+enum { TYPES = 128, MOST_NODES = 2048, MOST_LEVELS = 64, WORDS = COGARRUNE_WORDS_LARGE };
+__extension__ typedef unsigned __int128 type_set;
+#define LETS_IN_OF_SIZE floor_lets_in_large
+#endif
+
+enum { SET_WORDS = sizeof(type_set) / sizeof(uint32_t) };
+enum { MOST_LABELS = TYPES, MOST_STARTS = TYPES, MOST_RULES = TYPES };
+enum { NAME_BYTES = 63, CONTENT_BYTES = 1024, NESTING = 32, MOST_CHILDREN = 200 };
 enum { LABEL_TAG = 0x10, START_TAG = 0x11, RULE_TAG = 0x12, TABLE_END = 0x1F, NODE_TAG = 0x30, DOCUMENT_END = 0x3F };
 enum { NONE, EMPTY, TYPE, SEQUENCE, CHOICE, ANY_NUMBER, ONE_OR_MORE, OPTIONAL };
 
 /* Keys of names, and what ends a chain: no label and no rule has this number. */
-enum { KEYS = 64, NO_MORE = 64 };
+enum { KEYS = 64, NO_MORE = TYPES };
 
 /* Marks are cleared by so many bytes, which divide CONTENT_BYTES. */
 enum { STEP = 16 };
@@ -42,7 +58,7 @@ struct rule {
 
 struct table {
     size_t labels, starts, rules;
-    uint64_t start_types;
+    type_set start_types;
     uint8_t first_label[KEYS];            /* of each key */
     uint8_t first_rule[MOST_LABELS + 1];  /* of each label; NO_MORE, the label of an unknown name, has none */
     struct label label[MOST_LABELS];
@@ -127,7 +143,7 @@ static unsigned read_start(struct table *table, const struct field *field) {
     if (type < TYPES && (table->start_types >> type & 1)) return COGARRUNE_REPEATED;
     if (table->starts == MOST_STARTS) return COGARRUNE_TOO_MANY;
     if (type >= TYPES) return COGARRUNE_OUT_OF_RANGE;
-    table->start_types |= (uint64_t)1 << type;
+    table->start_types |= (type_set)1 << type;
     table->starts++;
     return 0;
 }
@@ -270,21 +286,21 @@ struct passed {
 
 /* One child's walk over the expression at a place. `types` are the child's; `incoming` is 1 where the child may begin the expression, else
  * 0; a mark, at an expression's first byte, is 1 where the children before can end that expression, else 0. */
-static struct passed pass(const uint8_t *content, size_t at, uint8_t *marks, uint32_t incoming, uint64_t types);
+static struct passed pass(const uint8_t *content, size_t at, uint8_t *marks, uint32_t incoming, type_set types);
 
 /* The same over a type. */
-static inline struct passed pass_type(const uint8_t *content, size_t at, uint32_t incoming, uint64_t types) {
+static inline struct passed pass_type(const uint8_t *content, size_t at, uint32_t incoming, type_set types) {
     return (struct passed){at + 2, 0, incoming & (uint32_t)(types >> content[at + 1])};
 }
 
 /* The same over an operand. Most operands are types. */
-static inline struct passed pass_operand(const uint8_t *content, size_t at, uint8_t *marks, uint32_t incoming, uint64_t types) {
+static inline struct passed pass_operand(const uint8_t *content, size_t at, uint8_t *marks, uint32_t incoming, type_set types) {
     if (content[at] == TYPE) return pass_type(content, at, incoming, types);
     return pass(content, at, marks, incoming, types);
 }
 
 /* The same over any number of, one or more of, or optional. */
-static inline struct passed pass_under(const uint8_t *content, size_t at, uint8_t *marks, uint32_t incoming, uint64_t types) {
+static inline struct passed pass_under(const uint8_t *content, size_t at, uint8_t *marks, uint32_t incoming, type_set types) {
     unsigned operator = content[at];
     if (operator != OPTIONAL) incoming |= marks[at + 1];
     struct passed part = pass_operand(content, at + 1, marks, incoming, types);
@@ -294,7 +310,7 @@ static inline struct passed pass_under(const uint8_t *content, size_t at, uint8_
 }
 
 /* The same over a sequence. */
-static struct passed pass_in_turn(const uint8_t *content, size_t at, uint8_t *marks, uint32_t incoming, uint64_t types) {
+static struct passed pass_in_turn(const uint8_t *content, size_t at, uint8_t *marks, uint32_t incoming, type_set types) {
     struct passed all = {at + 2, 1, 0};
     for (unsigned left = content[at + 1]; left > 0; left--) {
         size_t place = all.next;
@@ -311,7 +327,7 @@ static struct passed pass_in_turn(const uint8_t *content, size_t at, uint8_t *ma
 }
 
 /* The same over a choice. */
-static struct passed pass_each(const uint8_t *content, size_t at, uint8_t *marks, uint32_t incoming, uint64_t types) {
+static struct passed pass_each(const uint8_t *content, size_t at, uint8_t *marks, uint32_t incoming, type_set types) {
     struct passed any = {at + 2, 0, 0};
     for (unsigned left = content[at + 1]; left > 0; left--) {
         struct passed one = pass_operand(content, any.next, marks, incoming, types);
@@ -322,7 +338,7 @@ static struct passed pass_each(const uint8_t *content, size_t at, uint8_t *marks
     return any;
 }
 
-static struct passed pass(const uint8_t *content, size_t at, uint8_t *marks, uint32_t incoming, uint64_t types) {
+static struct passed pass(const uint8_t *content, size_t at, uint8_t *marks, uint32_t incoming, type_set types) {
     unsigned operator = content[at];
     if (operator >= ANY_NUMBER) return pass_under(content, at, marks, incoming, types);
     if (operator == SEQUENCE) return pass_in_turn(content, at, marks, incoming, types);
@@ -331,30 +347,30 @@ static struct passed pass(const uint8_t *content, size_t at, uint8_t *marks, uin
     return (struct passed){at + 1, operator == EMPTY, 0};
 }
 
-/* The set at some words, two words a set: loaded and stored in one piece, or a load would wait for two stores. */
-static uint64_t set_at(const uint32_t *words) {
-    uint64_t set;
+/* The set at some words: loaded and stored in one piece, or a load would wait for two stores. */
+static type_set set_at(const uint32_t *words) {
+    type_set set;
     memcpy(&set, words, sizeof set);
     return set;
 }
 
-static void put_set(uint32_t *words, uint64_t set) { memcpy(words, &set, sizeof set); }
+static void put_set(uint32_t *words, type_set set) { memcpy(words, &set, sizeof set); }
 
 /* Whether the content of a rule matches so many children, one at least, whose sets stand from `sets` on. */
 static uint32_t matches(const struct rule *rule, const uint32_t *sets, size_t children) {
     uint8_t marks[CONTENT_BYTES];
     for (size_t i = 0; i < rule->size; i += STEP) memset(marks + i, 0, STEP);
     uint32_t ends = pass(rule->content, 0, marks, 1, set_at(sets)).ends;
-    for (size_t i = 1; i < children; i++) ends = pass(rule->content, 0, marks, 0, set_at(sets + 2 * i)).ends;
+    for (size_t i = 1; i < children; i++) ends = pass(rule->content, 0, marks, 0, set_at(sets + SET_WORDS * i)).ends;
     return ends;
 }
 
 /* The types that derive a node, whose children's sets stand from `sets` on. */
-static uint64_t types_of(const struct table *table, struct node node, const uint32_t *sets) {
-    uint64_t types = 0;
+static type_set types_of(const struct table *table, struct node node, const uint32_t *sets) {
+    type_set types = 0;
     for (unsigned i = table->first_rule[node.label]; i != NO_MORE; i = table->rule[i].next) {
         const struct rule *rule = &table->rule[i];
-        uint64_t fits = node.children == 0 ? rule->nullable : matches(rule, sets, node.children);
+        type_set fits = node.children == 0 ? rule->nullable : matches(rule, sets, node.children);
         types |= fits << rule->type;
     }
     return types;
@@ -362,12 +378,12 @@ static uint64_t types_of(const struct table *table, struct node node, const uint
 
 /* Whether the table lets in the document. */
 static unsigned decide(const struct table *table, const struct document *document, uint32_t *work) {
-    uint32_t *top = work + 2 * document->nodes;
+    uint32_t *top = work + SET_WORDS * document->nodes;
     for (size_t i = document->nodes; i > 0; i--) {
         struct node node = document->node[i - 1];
-        uint64_t types = types_of(table, node, top);
-        top += 2 * (size_t)node.children;
-        top -= 2;
+        type_set types = types_of(table, node, top);
+        top += SET_WORDS * (size_t)node.children;
+        top -= SET_WORDS;
         put_set(top, types);
     }
     return (set_at(top) & table->start_types) != 0;
@@ -382,10 +398,19 @@ static uint64_t read_and_decide(const uint8_t *table_bytes, size_t table_length,
     return refusal != 0 ? refusal << 32 : decide(&table, &document, work);
 }
 
-uint64_t floor_lets_in(const uint8_t *table, size_t table_length, const uint8_t *document, size_t document_length, uint32_t *work,
-                       size_t work_length) {
-    if (work_length < COGARRUNE_WORK_WORDS) return (uint64_t)COGARRUNE_WORK_TOO_SHORT << 32;
+uint64_t LETS_IN_OF_SIZE(const uint8_t *table, size_t table_length, const uint8_t *document, size_t document_length, uint32_t *work,
+                         size_t work_length) {
+    if (work_length < WORDS) return (uint64_t)COGARRUNE_WORK_TOO_SHORT << 32;
     uint64_t answer = read_and_decide(table, table_length, document, document_length, work);
-    memset(work, 0, COGARRUNE_WORK_WORDS * sizeof *work);
+    memset(work, 0, WORDS * sizeof *work);
     return answer;
 }
+
+#if FLOOR_SIZE == 1
+uint64_t floor_lets_in(uint32_t size, const uint8_t *table, size_t table_length, const uint8_t *document, size_t document_length,
+                       uint32_t *work, size_t work_length) {
+    if (size == COGARRUNE_SMALL) return floor_lets_in_small(table, table_length, document, document_length, work, work_length);
+    if (size == COGARRUNE_LARGE) return floor_lets_in_large(table, table_length, document, document_length, work, work_length);
+    return floor_lets_in_standard(table, table_length, document, document_length, work, work_length);
+}
+#endif

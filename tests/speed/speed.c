@@ -3,12 +3,14 @@
  *
  *     speed SECONDS FILE..
  *
- * Each FILE holds four parts, each a number of bytes in decimal, a line feed and the bytes: table, document, schema, XML. For each one
- * line of numbers goes to standard output: the answers of lets_in, of the floor and of libxml2 (1 yes, 0 no), and seconds a call of
+ * Each FILE holds the size in decimal and a line feed, then four parts, each a number of bytes in decimal, a line feed and the bytes: table,
+ * document, schema, XML. For each one line of numbers goes to standard output: the answers of lets_in, of the floor and of libxml2 (1 yes,
+ * 0 no), and seconds a call of
  *     lets_in whole; reading the table; reading the document; the least call (the three bytes of an empty table), which clears the
  *     working words and does next to nothing else; the floor whole; libxml2's validation alone.
  * The six are measured in turn in short rounds, for so many seconds in all; of all rounds of a measure the one counts that a tenth of
  * them undercut, so that load on the machine and errors of its clock tell little. */
+#include <inttypes.h>
 #include <libxml/parser.h>
 #include <libxml/relaxng.h>
 #include <stdarg.h>
@@ -27,8 +29,10 @@ struct part {
     size_t length;
 };
 
+static uint32_t size;
+static size_t words;
 static struct part parts[PARTS];
-static uint32_t work[COGARRUNE_WORK_WORDS];
+static uint32_t work[COGARRUNE_WORDS_LARGE];
 static const uint8_t empty_table[] = {0x1F, 0, 0};
 static xmlRelaxNGPtr schema;
 static xmlRelaxNGValidCtxtPtr context;
@@ -65,23 +69,22 @@ static xmlDocPtr parse_document(void) {
 }
 
 static void once(int measure) {
+    const struct part table = parts[TABLE], listed = parts[DOCUMENT];
     switch (measure) {
     case WHOLE:
-        sink = cogarrune_lets_in(parts[TABLE].bytes, parts[TABLE].length, parts[DOCUMENT].bytes, parts[DOCUMENT].length, work,
-                                 COGARRUNE_WORK_WORDS);
+        sink = cogarrune_lets_in(size, table.bytes, table.length, listed.bytes, listed.length, work, words);
         break;
     case READ_TABLE:
-        sink = cogarrune_table_reads(parts[TABLE].bytes, parts[TABLE].length, work, COGARRUNE_WORK_WORDS);
+        sink = cogarrune_table_reads(size, table.bytes, table.length, work, words);
         break;
     case READ_DOCUMENT:
-        sink = cogarrune_document_reads(parts[DOCUMENT].bytes, parts[DOCUMENT].length, work, COGARRUNE_WORK_WORDS);
+        sink = cogarrune_document_reads(size, listed.bytes, listed.length, work, words);
         break;
     case LEAST:
-        sink = cogarrune_table_reads(empty_table, sizeof empty_table, work, COGARRUNE_WORK_WORDS);
+        sink = cogarrune_table_reads(size, empty_table, sizeof empty_table, work, words);
         break;
     case FLOOR:
-        sink = floor_lets_in(parts[TABLE].bytes, parts[TABLE].length, parts[DOCUMENT].bytes, parts[DOCUMENT].length, work,
-                             COGARRUNE_WORK_WORDS);
+        sink = floor_lets_in(size, table.bytes, table.length, listed.bytes, listed.length, work, words);
         break;
     case VALIDATE:
         sink = (uint64_t)xmlRelaxNGValidateDoc(context, document);
@@ -144,6 +147,8 @@ int main(int count, char **arguments) {
     for (int i = 2; i < count; i++) {
         FILE *file = fopen(arguments[i], "rb");
         if (file == NULL) return 2;
+        if (fscanf(file, "%" SCNu32, &size) != 1) return 2;
+        words = cogarrune_words_of(size);
         for (int part = 0; part < PARTS; part++) parts[part] = read_part(file);
         fclose(file);
         schema = parse_schema();
