@@ -7,7 +7,7 @@ use mathlib.Core.List.{List, [], _∷_, map, List·Memᴰ·append-cases, Memᴰ�
 use mathlib.Core.Logic.{⊎-elim}
 use mathlib.Core.Path.{_≡_, refl, sym, ap, ap₂, subst}
 use Rattle.grammar.specs.Lists.{joinedOf}
-use Rattle.grammar.specs.Limits.{Limits, standard}
+use Rattle.grammar.specs.Limits.{Limits, large}
 use Rattle.grammar.specs.Names.{Classes}
 use Rattle.grammar.specs.Content.{
   Content,
@@ -73,14 +73,14 @@ module _ (f : ℕ → ℕ) where
     deepest-renamed []ᶜ = refl
     deepest-renamed (c ∷ᶜ cs) = ap₂ max (nesting-renamed c) (deepest-renamed cs)
 
-pub union-shallow : (classes : Classes) (g h : Table) → TableWithin standard classes g → TableWithin standard classes h
-    → Shallow (unite standard g h)
-unfolding unite added standard
+pub union-shallow : (classes : Classes) (g h : Table) → TableWithin large classes g → TableWithin large classes h
+    → Shallow (unite large g h)
+unfolding unite added large
 union-shallow classes g h x y r m =
     ⊎-elim
     (λ n. x .each-rule r n .content .nests)
     (λ n.
-    let o = Memᴰ·of-map (added standard g h) (h .rules) n in
+    let o = Memᴰ·of-map (added large g h) (h .rules) n in
     subst (λ (s : Rule). nesting (s .content) ≤ 32) (o .2)
-    (subst (λ (d : ℕ). d ≤ 32) (sym (nesting-renamed (shifted standard) (o .0 .content))) (y .each-rule (o .0) (o .1) .content .nests)))
+    (subst (λ (d : ℕ). d ≤ 32) (sym (nesting-renamed (shifted large) (o .0 .content))) (y .each-rule (o .0) (o .1) .content .nests)))
     (List·Memᴰ·append-cases (g .rules) m)

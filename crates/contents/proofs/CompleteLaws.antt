@@ -13,7 +13,7 @@ use lib.ListN.{length, take, drop}
 use lib.Seq.{take-take}
 use lib.Dec.{ltb}
 use borrow.Author.Tests.{lt-ltb, le-ltb, ltb-true, ltb-false}
-use Rattle.grammar.specs.Limits.{Limits, standard, contentLimit, operandLimit, nestingLimit}
+use Rattle.grammar.specs.Limits.{Limits, large, contentLimit, operandLimit, nestingLimit}
 use Rattle.grammar.specs.Content.{
   Content,
   none,
@@ -84,41 +84,41 @@ module _ (d : List ℕ) (c : Content) (last : ℕ) (stands : exprAt d 0 ≡ just
   pub made-inside : last ≤ length d
   made-inside = expr-forward d 0 c last stands .1
 
-  pub made-long : contentLimit < last → contentTooLarge standard c ≡ true
+  pub made-long : contentLimit < last → contentTooLarge large c ≡ true
   made-long h =
       let w = expr-written d 0 c last stands in
       unfit-large c (one-long contentLimit c (omega arith))
 
-  pub made-improper : Regular c → properAt standard part 0 ≡ Nowhere → contentTooLarge standard c ≡ true
-  unfolding standard
+  pub made-improper : Regular c → properAt large part 0 ≡ Nowhere → contentTooLarge large c ≡ true
+  unfolding large
   made-improper r e = go (passes-or-fails (ltb operandLimit (widestChoice c)))
     where
-      go : (ltb operandLimit (widestChoice c) ≡ true) ⊎ (ltb operandLimit (widestChoice c) ≡ false) → contentTooLarge standard c ≡ true
+      go : (ltb operandLimit (widestChoice c) ≡ true) ⊎ (ltb operandLimit (widestChoice c) ≡ false) → contentTooLarge large c ≡ true
       go (inl t) = unfit-large c (one-wide contentLimit c (ltb-true operandLimit (widestChoice c) t))
       go (inr t) =
           absurd
-          (not-both (counted-proper c standard (r .counted) (ltb-false operandLimit (widestChoice c) t) (r .below))
-          (proper-no standard part 0 e c last part-stands))
+          (not-both (counted-proper c large (r .counted) (ltb-false operandLimit (widestChoice c) t) (r .below))
+          (proper-no large part 0 e c last part-stands))
 
-  found : (next n : ℕ) → properAt standard part 0 ≡ Upto next n → (isProper standard c ≡ true) × (nesting c ≡ n)
+  found : (next n : ℕ) → properAt large part 0 ≡ Upto next n → (isProper large c ≡ true) × (nesting c ≡ n)
   found next n e =
-      let y = proper-yes standard part 0 next n e in
+      let y = proper-yes large part 0 next n e in
       let same = same-placed (sym (y .1) ∙ part-stands) in
-      (ap (isProper standard) (sym (same .0)) ∙ y .2, ap nesting (sym (same .0)) ∙ y .3)
+      (ap (isProper large) (sym (same .0)) ∙ y .2, ap nesting (sym (same .0)) ∙ y .3)
 
-  pub made-deep : (next n : ℕ) → properAt standard part 0 ≡ Upto next n → 32 < n → contentTooLarge standard c ≡ true
-  unfolding contentTooLarge standard
+  pub made-deep : (next n : ℕ) → properAt large part 0 ≡ Upto next n → 32 < n → contentTooLarge large c ≡ true
+  unfolding contentTooLarge large
   made-deep next n e h =
       let f = found next n e in
       or-left (ltb contentLimit (length (contentBytes c)) || ltb nestingLimit (nesting c)) (ltb operandLimit (widestChoice c))
       (or-right (ltb contentLimit (length (contentBytes c))) (ltb nestingLimit (nesting c)) (lt-ltb nestingLimit (nesting c) (omega arith)))
 
-  pub made-fine : (next n : ℕ) → properAt standard part 0 ≡ Upto next n → n ≤ nestingLimit → last ≤ contentLimit → Stored d c last
-  unfolding contentTooLarge standard
+  pub made-fine : (next n : ℕ) → properAt large part 0 ≡ Upto next n → n ≤ nestingLimit → last ≤ contentLimit → Stored d c last
+  unfolding contentTooLarge large
   made-fine next n e h l =
       let f = found next n e in
       let w = expr-written d 0 c last stands in
-      let narrow = proper-narrow standard c (f .0) in
+      let narrow = proper-narrow large c (f .0) in
       let z : last - 0 ≡ last = omega arith in
       record {
         bytes = sym part-is ∙ expr-bytes d 0 c last stands;

@@ -12,7 +12,7 @@ use mathlib.Core.Path.{_≡_, refl, sym, _∙_, ap, subst}
 use lib.ListN.{length, getD, getElem?, take, drop, set, replicate, length-set}
 use lib.Seq.{take-set-le, getD-set-same, getD-take}
 use Rattle.grammar.specs.Lists.{joinedOf}
-use Rattle.grammar.specs.Limits.{standard, contentLimit, operandLimit}
+use Rattle.grammar.specs.Limits.{large, contentLimit, operandLimit}
 use Rattle.grammar.specs.Content.{
   Content,
   none,
@@ -101,12 +101,12 @@ module _ {s : List ℕ} {at n : ℕ} {types from results d : List ℕ} {row : Op
   pub no-sources : n ≡ 0 → {Holds : List Content → Type 0} → Holds (q .kept .list)
       → GathersWith Holds d d row (q .there .next) (gathered (q .kept .list) rowGives) (gathering.Upto at (row .count) (row .end))
   no-sources z y =
-      let e = none-there standard s at n (q .there) z in
+      let e = none-there large s at n (q .there) z in
       with-none (q .kept) rowGives (e .1) (q .fits) (each-none res (q .there .contents) (e .0)) y
 
   module _ (some : n ≡ 0 → ⊥) where
-    abbrev first : FirstThere standard s at n (q .there)
-    first = first-of standard s at n (q .there) some
+    abbrev first : FirstThere large s at n (q .there)
+    first = first-of large s at n (q .there) some
 
     pub first-room : (row .limit + headedLength * nesting (first .first .content) ≤ length d) × (rowWords * nesting (first .first .content) ≤ words)
     first-room =
@@ -162,7 +162,7 @@ module _ {s : List ℕ} {at n : ℕ} {types from results d : List ℕ} {row : Op
         abbrev pub other-sources : (words' : ℕ) → words' ≡ words → Sources s next (n - 1) types from results d' (reaching row more last) words'
         other-sources words' w =
             record {
-              there = others-from standard s at n (q .there) first next (told .0);
+              there = others-from large s at n (q .there) first next (told .0);
               maps = q .maps;
               kept = record { list = gathered (q .kept .list) firstGives; row = told .1 .row };
               fits = told .1 .fits;
@@ -285,7 +285,7 @@ module _ {s : List ℕ} {at n : ℕ} {types from results d : List ℕ} {start pl
   pub no-operands : n ≡ 0 → Emits d d start place n (q .there .next) rowWritten (emitted.Upto at place)
   unfolding Emits
   no-operands z =
-      let e = none-there standard s at n (q .there) z in (
+      let e = none-there large s at n (q .there) z in (
         e .1,
         record {
           stand =
@@ -299,8 +299,8 @@ module _ {s : List ℕ} {at n : ℕ} {types from results d : List ℕ} {start pl
       )
 
   module _ (some : n ≡ 0 → ⊥) where
-    abbrev first' : FirstThere standard s at n (q .there)
-    first' = first-of standard s at n (q .there) some
+    abbrev first' : FirstThere large s at n (q .there)
+    first' = first-of large s at n (q .there) some
 
     deep' : (nesting (first' .first .content) ≤ deepest (q .there .contents))
         × (deepest (first' .others .contents) ≤ deepest (q .there .contents))
@@ -425,7 +425,7 @@ module _ {s : List ℕ} {at n : ℕ} {types from results d : List ℕ} {start pl
                 → Operands s next (n - 1) types from results d'' start close more-words
             other-operands more-words w =
                 record {
-                  there = others-from standard s at n (q .there) first' next (told' .0);
+                  there = others-from large s at n (q .there) first' next (told' .0);
                   maps = q .maps;
                   forward = start'';
                   fits = fits;
@@ -477,7 +477,7 @@ byte-kept d d' i n h e = sym (getD-take n d' i 0 h) ∙ ap (λ (l : List ℕ). g
 -- A sequence, its bytes written before a inner-row.
 module _ {s : List ℕ} {at n : ℕ} {types from results d : List ℕ} {row : OperandRow} {words : ℕ}
     (q : Source s at types from results d row words) (res : ℕ → List ℕ)
-    (cs : CountedThere standard s at n (q .there) sequence) (counts : n ≡ getD s (at + 1) 0) where
+    (cs : CountedThere large s at n (q .there) sequence) (counts : n ≡ getD s (at + 1) 0) where
   abbrev inner-row : Contents
   inner-row = cs .operands .contents
 
@@ -594,7 +594,7 @@ module _ {s : List ℕ} {at n : ℕ} {types from results d : List ℕ} {row : Op
 -- An operator of one operand, its byte written before the operand.
 module _ {s : List ℕ} {at : ℕ} {types from results d : List ℕ} {row : OperandRow} {words : ℕ}
     (q : Source s at types from results d row words) (res : ℕ → List ℕ)
-    (one : SingleThere standard s at (q .there) res) where
+    (one : SingleThere large s at (q .there) res) where
   abbrev inner : Content
   inner = one .operand .content
 
@@ -652,7 +652,7 @@ module _ {s : List ℕ} {at : ℕ} {types from results d : List ℕ} {row : Oper
   abbrev pub around-operands : (less : ℕ) → less ≡ words - rowWords → Operands s (at + 1) 1 types from results e₁ (row .end) (row .end + 1) less
   around-operands less e =
       record {
-        there = one-there standard s (at + 1) (one .operand);
+        there = one-there large s (at + 1) (one .operand);
         maps = q .maps;
         forward = omega arith;
         fits = omega arith;
@@ -788,7 +788,7 @@ module _ {s : List ℕ} {at : ℕ} {types from results d : List ℕ} {row : Oper
         let w = alone-was s at (q .there .content) (q .there .next) (q .there .stands) empty (ap (getElem? operators) e ∙ operator-empty) in
         with-as (q .kept .list) (empty ∷ []) sourceGives (w .1) (ap (alts res) (w .0)) g
 
-    module _ {n : ℕ} (cs : CountedThere standard s at n (q .there) choice) where
+    module _ {n : ℕ} (cs : CountedThere large s at n (q .there) choice) where
       pub choice-room : (row .limit + headedLength * deepest (cs .operands .contents) ≤ length d) × (rowWords * deepest (cs .operands .contents) ≤ words)
       unfolding nesting
       choice-room =

@@ -12,7 +12,7 @@ use mathlib.Core.Path.{_≡_, refl, sym, _∙_, ap, subst}
 use lib.ListN.{length}
 use lib.Dec.{eqb}
 use Rattle.grammar.specs.Lists.{keep, joinedOf, numbersFrom, numbersBelow}
-use Rattle.grammar.specs.Limits.{standard, contentLimit, nestingLimit}
+use Rattle.grammar.specs.Limits.{large, contentLimit, nestingLimit}
 use Rattle.grammar.specs.Content.{Content, choiceOf}
 use Rattle.grammar.specs.Size.{contentTooLarge}
 use Rattle.grammar.specs.Table.{Table}
@@ -208,7 +208,7 @@ module _ (draft : List ℕ) (xs : List Content) (r : Gathering) (g : GathersIn d
   pub made-wide : r ≡ TooLarge → (after : List ℕ) → Made after (oneContent xs) made.TooLarge
   unfolding GathersIn Made
   made-wide e after =
-      ap (λ (l : List Content). contentTooLarge standard (oneContent l)) (sym (append-nil xs))
+      ap (λ (l : List Content). contentTooLarge large (oneContent l)) (sym (append-nil xs))
       ∙ too-large xs [] (subst (λ (x : Gathering). GathersIn draft contentRow (gathered [] xs) x) e g)
 
   pub made-row : {m count end : ℕ} → r ≡ Upto m count end → Row draft 2 count (gathered [] xs) end

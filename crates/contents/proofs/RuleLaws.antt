@@ -9,7 +9,7 @@ use mathlib.Core.List.{List}
 use mathlib.Core.Path.{_≡_, sym, _∙_, ap, ap₂, subst}
 use lib.ListN.{length, getD, take, drop, length-take, length-drop}
 use lib.Seq.{getD-take, getD-drop}
-use Rattle.grammar.specs.Limits.{standard, nestingLimit}
+use Rattle.grammar.specs.Limits.{large, nestingLimit}
 use Rattle.grammar.specs.Content.{Content, none, nesting}
 use Rattle.grammar.specs.Table.{Rule, Table}
 use Rattle.grammar.specs.Unite.{shifted}
@@ -40,22 +40,28 @@ first-is {u = u} x i h =
     let s = seen x i h in
     s .2 .first ∙ ap (pairOf u) (sym (at-else (u .rules) i (record { type = 0; label = 0; content = none }) (s .1)))
 
--- the addition's types stand two words further on
-added-member : (words : List ℕ) (k : ℕ) → k < 64 → member (take (4 - 2) (drop 2 words)) 0 k ≡ member words 0 (64 + k)
+-- a content stands between equal places too
+source-as : {s : List ℕ} {from to from′ to′ : ℕ} {c : Content} → from ≡ from′ → to ≡ to′ → SourceContent s from′ to′ c
+    → SourceContent s from to c
+source-as {s} {from} {to} {from′} {to′} {c} e f x =
+    subst (λ (n : ℕ). SourceContent s n to c) (sym e) (subst (λ (n : ℕ). SourceContent s from′ n c) (sym f) x)
+
+-- the addition's types stand four words further on
+added-member : (words : List ℕ) (k : ℕ) → k < 128 → member (take (8 - 4) (drop 4 words)) 0 k ≡ member words 0 (128 + k)
 unfolding member
 added-member words k h =
-    let word : 2 + (0 + k / 32) ≡ 0 + (64 + k) / 32 = omega arith in
-    let bit : k % 32 ≡ (64 + k) % 32 = omega arith in
+    let word : 4 + (0 + k / 32) ≡ 0 + (128 + k) / 32 = omega arith in
+    let bit : k % 32 ≡ (128 + k) % 32 = omega arith in
     ap₂ bitOf
-    (getD-take (4 - 2) (drop 2 words) (0 + k / 32) 0 (omega arith)
-    ∙ getD-drop 2 words (0 + k / 32) 0
+    (getD-take (8 - 4) (drop 4 words) (0 + k / 32) 0 (omega arith)
+    ∙ getD-drop 4 words (0 + k / 32) 0
     ∙ ap (λ (i : ℕ). getD words i 0) word)
     bit
 
-part-long : (words : List ℕ) → length words ≡ 4 → 2 ≤ length (take (4 - 2) (drop 2 words))
+part-long : (words : List ℕ) → length words ≡ 8 → 4 ≤ length (take (8 - 4) (drop 4 words))
 part-long words e =
-    let a = length-drop 2 words in
-    let b = length-take (4 - 2) (drop 2 words) in
+    let a = length-drop 4 words in
+    let b = length-take (8 - 4) (drop 4 words) in
     omega arith
 
 -- an answer of the emitter
@@ -80,15 +86,15 @@ module _ {old add : List ℕ} {v : United} {results : ResultTypes} (q : Joining 
         agree = λ k h. q .typed k (omega arith) ∙ ap (λ (l : List ℕ). someLeft (λ j. l) k) (sym (q .lists .old k h));
       }
 
-  pub maps-added : Maps (take (4 - 2) (drop 2 (results .types .words))) (results .lists .addition .from) (results .lists .addition .numbers)
-  unfolding someLeft shifted standard
+  pub maps-added : Maps (take (8 - 4) (drop 4 (results .types .words))) (results .lists .addition .from) (results .lists .addition .numbers)
+  unfolding someLeft shifted large
   maps-added =
       record {
         words = part-long (results .types .words) (q .words);
         agree =
             λ k h.
             added-member (results .types .words) k h
-            ∙ q .typed (64 + k) (omega arith)
+            ∙ q .typed (128 + k) (omega arith)
             ∙ ap (λ (l : List ℕ). someLeft (λ j. l) k) (sym (q .lists .added k h));
       }
 
@@ -102,17 +108,19 @@ module _ {old add : List ℕ} {v : United} {results : ResultTypes} (q : Joining 
     rule-content : contentOfRule (q .table) i ≡ rule .content
     rule-content = content-is (q .table) i rule (seen (q .views) i h .1)
 
-    module _ {draft register : List ℕ} {row : OperandRow} (k : Ready draft register row) where
+    -- where its content stands, as it is read
+    module _ {from to : ℕ} (begins : from ≡ fromIn v i) (ends : to ≡ toIn v i) {draft register : List ℕ} {row : OperandRow}
+        (k : Ready draft register row) where
       -- a rule of the old table
       module _ (is-old : i < v .«old_rules») where
-        pub old-part : SourceContent old (fromIn v i) (toIn v i) (rule .content)
-        old-part = seen (q .views) i h .2 .in-old is-old
+        pub old-part : SourceContent old from to (rule .content)
+        old-part = source-as begins ends (seen (q .views) i h .2 .in-old is-old)
 
-        abbrev pub old-source : Source (take (toIn v i - fromIn v i) (drop (fromIn v i) old)) 0 (results .types .words) (results .lists .old .from) (results .lists .old .numbers)
-            draft row (length register)
+        abbrev pub old-source : Source (take (to - from) (drop from old)) 0 (results .types .words) (results .lists .old .from)
+            (results .lists .old .numbers) draft row (length register)
         old-source =
             record {
-              there = record { content = rule .content; next = toIn v i - fromIn v i; stands = old-part .stands; proper = old-part .proper };
+              there = record { content = rule .content; next = to - from; stands = old-part .stands; proper = old-part .proper };
               maps = maps-old;
               kept = k .kept;
               fits = k .fits;
@@ -125,32 +133,35 @@ module _ {old add : List ℕ} {v : United} {results : ResultTypes} (q : Joining 
             → GathersRegistered after register′ row
             (gathered (k .kept .list) (alts (listOfType (results .lists .old .from) (results .lists .old .numbers)) (rule .content))) r
             → GathersRegistered after register′ row (gathered (k .kept .list) (alts (q .of) (contentOfRule (q .table) i))) r
-        unfolding standard
+        unfolding large
         old-gives after register′ r g =
             subst (λ (l : List Content). GathersRegistered after register′ row (gathered (k .kept .list) l) r)
-            (alts-agree standard (listOfType (results .lists .old .from) (results .lists .old .numbers)) (q .of) (q .lists .old) (rule .content) (old-part .proper)
+            (alts-agree large (listOfType (results .lists .old .from) (results .lists .old .numbers)) (q .of) (q .lists .old) (rule .content) (old-part .proper)
             ∙ ap (alts (q .of)) (sym rule-content))
             g
 
       -- a rule of the addition
       module _ (is-added : v .«old_rules» ≤ i) where
-        abbrev pub added-part : FromAddition add v i (rule .content)
-        added-part = seen (q .views) i h .2 .in-addition is-added
+        abbrev added-rule : FromAddition add v i (rule .content)
+        added-rule = seen (q .views) i h .2 .in-addition is-added
 
-        pub source-deep : nesting (added-part .source) ≤ nestingLimit
+        pub added-part : SourceContent add from to (added-rule .source)
+        added-part = source-as begins ends (added-rule .stands)
+
+        pub source-deep : nesting (added-rule .source) ≤ nestingLimit
         source-deep =
-            subst (λ (d : ℕ). d ≤ nestingLimit) (ap nesting (added-part .same) ∙ nesting-renamed (shifted standard) (added-part .source)) deep
+            subst (λ (d : ℕ). d ≤ nestingLimit) (ap nesting (added-rule .same) ∙ nesting-renamed (shifted large) (added-rule .source)) deep
 
-        abbrev pub added-source : Source (take (toIn v i - fromIn v i) (drop (fromIn v i) add)) 0 (take (4 - 2) (drop 2 (results .types .words)))
+        abbrev pub added-source : Source (take (to - from) (drop from add)) 0 (take (8 - 4) (drop 4 (results .types .words)))
             (results .lists .addition .from) (results .lists .addition .numbers) draft row (length register)
         added-source =
             record {
               there =
                   record {
-                    content = added-part .source;
-                    next = toIn v i - fromIn v i;
-                    stands = added-part .stands .stands;
-                    proper = added-part .stands .proper;
+                    content = added-rule .source;
+                    next = to - from;
+                    stands = added-part .stands;
+                    proper = added-part .proper;
                   };
               maps = maps-added;
               kept = k .kept;
@@ -162,14 +173,14 @@ module _ {old add : List ℕ} {v : United} {results : ResultTypes} (q : Joining 
 
         pub added-gives : (after register′ : List ℕ) (r : Gathering)
             → GathersRegistered after register′ row
-            (gathered (k .kept .list) (alts (listOfType (results .lists .addition .from) (results .lists .addition .numbers)) (added-part .source))) r
+            (gathered (k .kept .list) (alts (listOfType (results .lists .addition .from) (results .lists .addition .numbers)) (added-rule .source))) r
             → GathersRegistered after register′ row (gathered (k .kept .list) (alts (q .of) (contentOfRule (q .table) i))) r
-        unfolding standard
+        unfolding large
         added-gives after register′ r g =
             subst (λ (l : List Content). GathersRegistered after register′ row (gathered (k .kept .list) l) r)
-            (alts-agree standard (listOfType (results .lists .addition .from) (results .lists .addition .numbers)) (λ j. q .of (shifted standard j)) (q .lists .added)
-            (added-part .source)
-            (added-part .stands .proper)
-            ∙ sym (alts-renamed (shifted standard) (q .of) (added-part .source))
-            ∙ ap (alts (q .of)) (sym (rule-content ∙ added-part .same)))
+            (alts-agree large (listOfType (results .lists .addition .from) (results .lists .addition .numbers)) (λ j. q .of (shifted large j)) (q .lists .added)
+            (added-rule .source)
+            (added-part .proper)
+            ∙ sym (alts-renamed (shifted large) (q .of) (added-rule .source))
+            ∙ ap (alts (q .of)) (sym (rule-content ∙ added-rule .same)))
             g

@@ -9,7 +9,7 @@ use mathlib.Core.Option.{some as just}
 use mathlib.Core.Path.{_≡_, refl, sym, _∙_, ap, ap₂}
 use lib.ListN.{length, getD, getElem?}
 use Rattle.grammar.specs.Lists.{joinedOf}
-use Rattle.grammar.specs.Limits.{Limits, standard}
+use Rattle.grammar.specs.Limits.{Limits, large}
 use Rattle.grammar.specs.Content.{
   Content,
   none,
@@ -220,24 +220,24 @@ module _ (lim : Limits) (f g : ℕ → Bool) (agree : (k : ℕ) → k < lim .typ
 
 -- what the walk finds
 module _ (types from results : List ℕ) (maps : Maps types from results) (s : List ℕ) (at : ℕ) where
-  pub content-found : (there : ContentAt standard s at) (has : Bool) (next : ℕ) → hasAt (member types 0) s at ≡ just (has upTo next)
+  pub content-found : (there : ContentAt large s at) (has : Bool) (next : ℕ) → hasAt (member types 0) s at ≡ just (has upTo next)
       → (has ≡ hasAlts (someLeft (listOfType from results)) (there .content)) × (next ≡ there .next)
-  unfolding standard
+  unfolding large
   content-found there has next e =
       let f = placed-of (hasAlts (member types 0)) (exprAt s at) (there .stands) e in (
         f .0
-            ∙ has-agrees standard (member types 0) (someLeft (listOfType from results)) (maps .agree) (there .content) (there .proper),
+            ∙ has-agrees large (member types 0) (someLeft (listOfType from results)) (maps .agree) (there .content) (there .proper),
         f .1,
       )
 
-  pub row-found : (n : ℕ) (there : ContentsAt standard s at n) (all one : Bool) (next : ℕ)
+  pub row-found : (n : ℕ) (there : ContentsAt large s at n) (all one : Bool) (next : ℕ)
       → hasRowAt (member types 0) s at n ≡ just ((all, one) upTo next)
       → (all ≡ allHaveAlts (someLeft (listOfType from results)) (there .contents)) × (next ≡ there .next)
-  unfolding standard
+  unfolding large
   row-found n there all one next e =
       let f =
       placed-of (λ cs. (allHaveAlts (member types 0) cs, oneHasAlts (member types 0) cs)) (exprsAt s at n) (there .stand) e in (
         ap (λ (p : Bool × Bool). p .0) (f .0)
-            ∙ all-agree standard (member types 0) (someLeft (listOfType from results)) (maps .agree) (there .contents) (there .proper),
+            ∙ all-agree large (member types 0) (someLeft (listOfType from results)) (maps .agree) (there .contents) (there .proper),
         f .1,
       )

@@ -13,7 +13,7 @@ use lib.ListN.{length, length-append}
 use lib.Dec.{ltb}
 use borrow.Author.Tests.{lt-ltb}
 use Rattle.grammar.specs.Lists.{distinct}
-use Rattle.grammar.specs.Limits.{standard, contentLimit, operandLimit, nestingLimit}
+use Rattle.grammar.specs.Limits.{large, contentLimit, operandLimit, nestingLimit}
 use Rattle.grammar.specs.Content.{Content, sequence, anyNumber, oneOrMore, optional, Contents, []ᶜ, _∷ᶜ_, nesting, operands, choiceOf}
 use Rattle.grammar.specs.ReadContent.{contentBytes, operandBytes, sameContent}
 use Rattle.grammar.specs.Size.{widestChoice, widestOf, contentTooLarge}
@@ -187,8 +187,8 @@ pub wide-single : (room less : ℕ) (ds : List Content) (f : Content → Content
 wide-single room less ds f c a e h = wide-one room ds (f c) (unfit-single room less f c a e h)
 
 -- so the finished content is too large
-pub unfit-large : (c : Content) → Unfit contentLimit (c ∷ᶜ []ᶜ) → contentTooLarge standard c ≡ true
-unfolding contentTooLarge standard operandBytes widestOf
+pub unfit-large : (c : Content) → Unfit contentLimit (c ∷ᶜ []ᶜ) → contentTooLarge large c ≡ true
+unfolding contentTooLarge large operandBytes widestOf
 unfit-large c (long h) =
     let l = length-append (contentBytes c) [] in
     or-left (ltb contentLimit (length (contentBytes c)) || ltb nestingLimit (nesting c)) (ltb operandLimit (widestChoice c))
@@ -197,7 +197,7 @@ unfit-large c (wide h) =
     or-right (ltb contentLimit (length (contentBytes c)) || ltb nestingLimit (nesting c)) (ltb operandLimit (widestChoice c))
     (lt-ltb operandLimit (widestChoice c) (omega arith))
 
-pub too-large : (xs ys : List Content) → TooWide contentLimit (gathered [] xs) → contentTooLarge standard (oneContent (xs ++ ys)) ≡ true
+pub too-large : (xs ys : List Content) → TooWide contentLimit (gathered [] xs) → contentTooLarge large (oneContent (xs ++ ys)) ≡ true
 too-large xs ys h =
     unfit-large (oneContent (xs ++ ys))
     (subst (λ (c : Content). Unfit contentLimit (c ∷ᶜ []ᶜ)) (sym (written-gathered (xs ++ ys)))

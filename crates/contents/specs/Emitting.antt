@@ -4,7 +4,7 @@ use mathlib.Core.List.{List}
 use mathlib.Core.Option.{some as just}
 use mathlib.Core.Path.{_≡_}
 use lib.ListN.{length, take}
-use Rattle.grammar.specs.Limits.{standard, contentLimit}
+use Rattle.grammar.specs.Limits.{large, contentLimit}
 use Rattle.grammar.specs.Content.{Contents, nesting, deepest}
 use Rattle.theory.specs.Alternatives.{someLeft}
 use Rattle.sets.specs.Sets.{member}
@@ -19,8 +19,8 @@ use Rattle.contents.specs.declared.emitter.Emitted.the-variants.{TooLarg
 
 -- the set of the source types that have result types
 pub record Maps (types from results : List ℕ) : Type 0 where
-  pub words : 2 ≤ length types
-  pub agree : (k : ℕ) → k < 64 → member types 0 k ≡ someLeft (listOfType from results) k
+  pub words : 4 ≤ length types
+  pub agree : (k : ℕ) → k < 128 → member types 0 k ≡ someLeft (listOfType from results) k
 
 -- some operands stand in the draft, within the limit, and there is room for one more of a few bytes
 pub record RoomForMore (draft : List ℕ) (row : OperandRow) : Type 0 where
@@ -32,7 +32,7 @@ pub record RoomForMore (draft : List ℕ) (row : OperandRow) : Type 0 where
 -- A source content, the operands kept so far, and room for what it gives. A draft that is so long for the source's nesting is
 -- never too short, and so many words are the registers of all rows in it.
 pub record Source (content : List ℕ) (at : ℕ) (types from results draft : List ℕ) (row : OperandRow) (words : ℕ) : Type 0 where
-  pub there : ContentAt standard content at
+  pub there : ContentAt large content at
   pub maps : Maps types from results
   pub kept : Kept draft (row .base) (row .count) (row .end)
   pub fits : row .end ≤ row .limit
@@ -42,7 +42,7 @@ pub record Source (content : List ℕ) (at : ℕ) (types from results draft : Li
 
 -- the same of so many source contents, one after the other
 pub record Sources (content : List ℕ) (at n : ℕ) (types from results draft : List ℕ) (row : OperandRow) (words : ℕ) : Type 0 where
-  pub there : ContentsAt standard content at n
+  pub there : ContentsAt large content at n
   pub maps : Maps types from results
   pub kept : Kept draft (row .base) (row .count) (row .end)
   pub fits : row .end ≤ row .limit
@@ -52,7 +52,7 @@ pub record Sources (content : List ℕ) (at n : ℕ) (types from results draft :
 
 -- source contents that are to be written as operands from a place on, of an expression whose bytes begin at `start`
 pub record Operands (content : List ℕ) (at n : ℕ) (types from results draft : List ℕ) (start place words : ℕ) : Type 0 where
-  pub there : ContentsAt standard content at n
+  pub there : ContentsAt large content at n
   pub maps : Maps types from results
   pub forward : start < place
   pub fits : place ≤ start + contentLimit

@@ -29,8 +29,8 @@ pub record Joining (old add : List ℕ) (v : United) (results : ResultTypes) : T
   pub shallow : Shallow table
   pub of : ℕ → List ℕ
   pub lists : ListsOf of (results .lists)
-  pub words : length (results .types .words) ≡ 4
-  pub typed : (k : ℕ) → k < 128 → member (results .types .words) 0 k ≡ someLeft of k
+  pub words : length (results .types .words) ≡ 8
+  pub typed : (k : ℕ) → k < 256 → member (results .types .words) 0 k ≡ someLeft of k
 
 -- some operands stand in the draft, registered, and there is room for what any content gives
 pub record Ready (draft register : List ℕ) (row : OperandRow) : Type 0 where

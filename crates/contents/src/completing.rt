@@ -1,9 +1,11 @@
 // The content that the gathered alternatives make, at the front of the draft; or that it is too large for a table.
 use crate::drafts::finish;
+use grammar::Size;
 use reader::expressions::Extent;
 use reader::expressions::expression;
 use reader::limits::CONTENT;
 use reader::limits::NESTING;
+use reader::limits::limits_of;
 ghost use Rattle.grammar.specs.Content.{choiceOf};
 ghost use Rattle.theory.specs.Conditions.{Regular};
 ghost use Rattle.contents.specs.Drafts.{Kept};
@@ -24,7 +26,7 @@ pub fn complete(draft: &mut [u8], count: usize, end: usize) -> ContentMade
     if CONTENT < last {
         return ContentMade::TooLarge;
     }
-    match expression(&draft[0..last], 0) {
+    match expression(limits_of(Size::Large), &draft[0..last], 0) {
         Extent::Nowhere => ContentMade::TooLarge,
         Extent::Upto { next: _, nesting } => {
             if NESTING < nesting {

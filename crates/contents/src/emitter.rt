@@ -14,6 +14,7 @@ use crate::limits::OPERANDS;
 use crate::limits::TYPE_WORDS;
 use reader::limits::CONTENT;
 use reader::numbers::wide;
+use reader::numbers::wider;
 use reader::operators::CHOICE;
 use reader::operators::EMPTY;
 use reader::operators::EMPTY_BYTE;
@@ -46,12 +47,12 @@ pub enum Emitted {
     Upto { next: usize, end: usize },
 }
 
-// The byte at a place; 0 past the end.
-fn byte_or_zero(bytes: &[u8], i: usize) -> usize
-    ensures { λ r. ⌜ r ≡ getD (now (bytes .entry)) i 0 ⌝ }
+// Where the results of type i begin; 0 past the end.
+fn from_or_zero(from: &[u16], i: usize) -> usize
+    ensures { λ r. ⌜ r ≡ getD (now (from .entry)) i 0 ⌝ }
 {
-    if i < bytes.len() {
-        return wide(bytes[i]);
+    if i < from.len() {
+        return wider(from[i]);
     }
     0
 }
@@ -155,21 +156,21 @@ fn gather_types(
 // The result types of a source type as alternatives.
 fn gather_type(
     k: usize,
-    from: &[u8],
+    from: &[u16],
     results: &[u8],
     draft: &mut [u8],
     row: OperandRow,
     next: usize,
     register: &mut [u32],
 ) -> Gathering
-    requires { ⌜ (k < 64) × ((q : RoomForMore (now draft) row) × Registered (now register) (q .kept .list)) ⌝ }
+    requires { ⌜ (k < 128) × ((q : RoomForMore (now draft) row) × Registered (now register) (q .kept .list)) ⌝ }
     ensures { λ r. ⌜ ((q : RoomForMore (now (draft .entry)) row)
         → Registered (now (register .entry)) (q .kept .list)
         → GathersWith (Registered (now (register .exit))) (now (draft .entry)) (now (draft .exit)) row next
         (gathered (q .kept .list) (map type (listOfType (now (from .entry)) (now (results .entry)) k))) r) ⌝ }
 {
-    let first = byte_or_zero(from, k);
-    let stop = byte_or_zero(from, k + 1);
+    let first = from_or_zero(from, k);
+    let stop = from_or_zero(from, k + 1);
     gather_types(results, first, stop, draft, row, next, register)
 }
 
@@ -178,7 +179,7 @@ fn gather_sequence(
     content: &[u8],
     at: usize,
     types: &[u32],
-    from: &[u8],
+    from: &[u16],
     results: &[u8],
     draft: &mut [u8],
     row: OperandRow,
@@ -227,7 +228,7 @@ fn gather_around(
     content: &[u8],
     at: usize,
     types: &[u32],
-    from: &[u8],
+    from: &[u16],
     results: &[u8],
     draft: &mut [u8],
     row: OperandRow,
@@ -278,7 +279,7 @@ fn gather_one(
     content: &[u8],
     at: usize,
     types: &[u32],
-    from: &[u8],
+    from: &[u16],
     results: &[u8],
     draft: &mut [u8],
     row: OperandRow,
@@ -304,7 +305,7 @@ fn gather_compound(
     content: &[u8],
     at: usize,
     types: &[u32],
-    from: &[u8],
+    from: &[u16],
     results: &[u8],
     draft: &mut [u8],
     row: OperandRow,
@@ -351,7 +352,7 @@ pub fn gather(
     content: &[u8],
     at: usize,
     types: &[u32],
-    from: &[u8],
+    from: &[u16],
     results: &[u8],
     draft: &mut [u8],
     row: OperandRow,
@@ -388,7 +389,7 @@ fn gather_row(
     at: usize,
     n: usize,
     types: &[u32],
-    from: &[u8],
+    from: &[u16],
     results: &[u8],
     draft: &mut [u8],
     row: OperandRow,
@@ -442,7 +443,7 @@ fn emit_row(
     at: usize,
     n: usize,
     types: &[u32],
-    from: &[u8],
+    from: &[u16],
     results: &[u8],
     draft: &mut [u8],
     start: usize,

@@ -8,7 +8,9 @@ use crate::emitter::gather;
 use crate::limits::HEAD;
 use crate::limits::HEADED;
 use crate::limits::REGISTER;
-use sets::four::Set4;
+use reader::numbers::wide;
+use reader::numbers::wider;
+use sets::eight::Set8;
 use union::lists::Lists;
 use union::lists::TypeLists;
 use union::united::United;
@@ -30,7 +32,7 @@ ghost use Rattle.contents.specs.Joining.{Joining, Ready, contentRow, Gat
 
 // The result types of each type of the union, and the set of the types that have some.
 pub struct ResultTypes {
-    pub types: Set4,
+    pub types: Set8,
     pub lists: TypeLists,
 }
 
@@ -74,8 +76,8 @@ fn gather_rule(
 {
     let content_from = v.content_from;
     let content_to = v.content_to;
-    let from = content_from[i];
-    let to = content_to[i];
+    let from = wider(content_from[i]);
+    let to = wider(content_to[i]);
     let words = results.types.words;
     let lists = results.lists;
     if i < v.old_rules {
@@ -83,7 +85,7 @@ fn gather_rule(
     }
     gather_content(
         &add[from..to],
-        &words[2..4],
+        &words[4..8],
         lists.addition,
         draft,
         row,
@@ -114,7 +116,7 @@ fn gather_pair(
     let mut end = row.end;
     let mut i: usize = 0;
     while i < rules {
-        if firsts[i] != p {
+        if wide(firsts[i]) != p {
             i += 1;
             continue;
         }
@@ -148,7 +150,7 @@ fn gather_set(
     old: &[u8],
     add: &[u8],
     v: United,
-    set: Set4,
+    set: Set8,
     results: ResultTypes,
     draft: &mut [u8],
 ) -> Gathering
@@ -197,7 +199,7 @@ pub fn content_of_set(
     old: &[u8],
     add: &[u8],
     v: United,
-    set: Set4,
+    set: Set8,
     results: ResultTypes,
     draft: &mut [u8],
 ) -> ContentMade

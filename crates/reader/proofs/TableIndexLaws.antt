@@ -50,7 +50,8 @@ put l n i a h e = ap (λ (k : ℕ). getD (set l n a) k 0) e ∙ getD-set-same l 
 kept : (l : List ℕ) (n i a : ℕ) → (i ≡ n → ⊥) → getD (set l n a) i 0 ≡ getD l i 0
 kept l n i a h = getD-set-other l n i a 0 h
 
-stands-so : {s : List ℕ} {from from′ to to′ : ℕ} {bytes bytes′ : List ℕ} → BytesStand s from to bytes → from′ ≡ from → to′ ≡ to → bytes ≡ bytes′
+-- bytes that stand where another says the same
+pub stands-so : {s : List ℕ} {from from′ to to′ : ℕ} {bytes bytes′ : List ℕ} → BytesStand s from to bytes → from′ ≡ from → to′ ≡ to → bytes ≡ bytes′
     → BytesStand s from′ to′ bytes′
 stands-so w p q r = rw (p, q, ← r) w
 

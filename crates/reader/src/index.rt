@@ -19,9 +19,9 @@ const RULE_TYPE: usize = 384;
 
 const RULE_LABEL: usize = 512;
 
-const CONTENT_FROM: usize = 640;
+pub const CONTENT_FROM: usize = 640;
 
-const CONTENT_TO: usize = 768;
+pub const CONTENT_TO: usize = 768;
 
 // Where the counts stand.
 const LABELS: usize = 896;

@@ -10,7 +10,7 @@ use lib.ListN.{length, getD, getElem?, take, drop, length-drop}
 use lib.Seq.{length-take-le}
 use lib.Dec.{eqb, ltb}
 use borrow.Author.Tests.{lt-ltb, le-ltb}
-use Rattle.grammar.specs.Limits.{standard}
+use Rattle.grammar.specs.Limits.{large}
 use Rattle.grammar.specs.Lists.{distinct}
 use Rattle.grammar.specs.ReadTable.{isEmpty}
 use Rattle.grammar.specs.Content.{Content, none, empty, type, sequence, choice, anyNumber, oneOrMore, optional, Contents, []ᶜ, _∷ᶜ_}
@@ -235,8 +235,8 @@ listed-below types bound from pairs h k p m =
     part-below pairs bound (h .below) (getD from k 0) (getD from (k + 1) 0 - getD from k 0) p m
 
 -- the numbers of a type: those of one that was seen are there already
-module _ (from pairs list : List ℕ) (count k first end next : ℕ) (seen : Set4) (small : k < 64) (lists : Listed 64 128 from pairs)
-    (once : Once 128 list count) (known : SeenListed (seen .words) (listOfType from pairs) (take count list)) (f : first ≡ getD from k 0)
+module _ (from pairs list : List ℕ) (count k first end next : ℕ) (seen : Set4) (small : k < 128) (lists : Listed 128 256 from pairs)
+    (once : Once 256 list count) (known : SeenListed (seen .words) (listOfType from pairs) (take count list)) (f : first ≡ getD from k 0)
     (g : end ≡ getD from (k + 1) 0) where
   some-there : ltb first end ≡ someLeft (listOfType from pairs) k
   some-there = ap₂ ltb f g ∙ some-listed from pairs k (lists .order k small) (lists .inside k small)
@@ -303,12 +303,12 @@ pub finds-once : (s : List ℕ) (at : ℕ) (from pairs list : List ℕ) (count :
     → MetAsks s at from pairs list count
     → MetFinds (listOfType from pairs) (take count list) s at list′ r
     → length list′ ≡ length list
-    → Once 128 list′ (r .count)
+    → Once 256 list′ (r .count)
 finds-once s at from pairs list count list′ r a f e =
     let c = a .there .content in
     let d = finds-adds (listOfType from pairs) (take count list) s at list′ r c (a .there .next) (a .there .stands) f .2 in
-    adds-once 128 list count (a .once) (pairsMet (listOfType from pairs) c) list′ (r .count)
-    (met-hold (listOfType from pairs) (λ p. p < 128) (listed-below 64 128 from pairs (a .lists)) c)
+    adds-once 256 list count (a .once) (pairsMet (listOfType from pairs) c) list′ (r .count)
+    (met-hold (listOfType from pairs) (λ p. p < 256) (listed-below 128 256 from pairs (a .lists)) c)
     d
     e
 
@@ -323,7 +323,7 @@ module _ (s : List ℕ) (at : ℕ) (from pairs list : List ℕ) (count : ℕ) wh
       → MetFinds (listOfType from pairs) (take count list) s at list (record { has = false; count = count; next = at + 1; seen = seen })
   none-finds seen a k e =
       record {
-        found = met-none left numbers s at (a .once .once) (content-inside standard s at (a .there) .0) e;
+        found = met-none left numbers s at (a .once .once) (content-inside large s at (a .there) .0) e;
         held = a .once .held;
         known = k;
       }
@@ -332,7 +332,7 @@ module _ (s : List ℕ) (at : ℕ) (from pairs list : List ℕ) (count : ℕ) wh
       → MetFinds (listOfType from pairs) (take count list) s at list (record { has = true; count = count; next = at + 1; seen = seen })
   empty-finds seen a k e =
       record {
-        found = met-empty left numbers s at (a .once .once) (content-inside standard s at (a .there) .0) e;
+        found = met-empty left numbers s at (a .once .once) (content-inside large s at (a .there) .0) e;
         held = a .once .held;
         known = k;
       }
@@ -344,7 +344,7 @@ module _ (s : List ℕ) (at : ℕ) (from pairs list : List ℕ) (count : ℕ) wh
   type-finds list′ r k a e t m =
       record {
         found =
-            met-type left numbers s at (r .has) (take (r .count) list′) (type-there standard s at (a .there) e .0) e
+            met-type left numbers s at (r .has) (take (r .count) list′) (type-there large s at (a .there) e .0) e
             (m .has ∙ ap (someLeft left) t)
             (m .adds .all ∙ ap (λ (j : ℕ). distinct eqb (numbers ++ left j)) t)
             ∙ ap (λ (n : ℕ). just ((r .has, take (r .count) list′) upTo n)) (sym (m .next));
@@ -360,7 +360,7 @@ module _ (s : List ℕ) (at : ℕ) (from pairs list : List ℕ) (count : ℕ) wh
         record {
           found =
               met-sequence left numbers s at (r .one) (take (r .count) list′) (r .next)
-              (count-there standard s at (a .there) (omega arith) (omega arith))
+              (count-there large s at (a .there) (omega arith) (omega arith))
               (ap (metRowAt left numbers s (at + 2)) (sym counts)
               ∙ row .found
               ∙ ap (λ (b : Bool). just ((b, r .one, take (r .count) list′) upTo (r .next))) all)
@@ -374,14 +374,14 @@ module _ (s : List ℕ) (at : ℕ) (from pairs list : List ℕ) (count : ℕ) wh
         → MetFinds (listOfType from pairs) (take count list) s at list′
         (record { has = false; count = count; next = r .next; seen = seen })
     sequence-finds-none seen known e all same =
-        let there = operands-there standard s at (a .there) (omega arith) (omega arith) in
+        let there = operands-there large s at (a .there) (omega arith) (omega arith) in
         let stand = ap (exprsAt s (at + 2)) counts ∙ there .stand in
         let adds = row-finds-adds left numbers s (at + 2) n list′ r (there .contents) (there .next) stand row in
-        let kept = front-kept 128 list count (a .once) (pairsMetAll left (there .contents)) list′ (r .count) adds in
+        let kept = front-kept 256 list count (a .once) (pairsMetAll left (there .contents)) list′ (r .count) adds in
         record {
           found =
               met-sequence-not left numbers s at (a .once .once) (r .one) (take (r .count) list′) (r .next)
-              (count-there standard s at (a .there) (omega arith) (omega arith))
+              (count-there large s at (a .there) (omega arith) (omega arith))
               (ap (metRowAt left numbers s (at + 2)) (sym counts)
               ∙ row .found
               ∙ ap (λ (b : Bool). just ((b, r .one, take (r .count) list′) upTo (r .next))) all)
@@ -405,7 +405,7 @@ module _ (s : List ℕ) (at : ℕ) (from pairs list : List ℕ) (count : ℕ) wh
         record {
           found =
               met-choice left numbers s at (r .one) (take (r .count) list′) (r .next)
-              (count-there standard s at (a .there) (omega arith) (omega arith))
+              (count-there large s at (a .there) (omega arith) (omega arith))
               (r .all)
               (ap (metRowAt left numbers s (at + 2)) (sym counts) ∙ row .found)
               e;
@@ -419,7 +419,7 @@ module _ (s : List ℕ) (at : ℕ) (from pairs list : List ℕ) (count : ℕ) wh
     one-or-more-finds e =
         record {
           found =
-              met-one-or-more left numbers s at (r .has) (take (r .count) list′) (r .next) (content-inside standard s at (a .there) .0)
+              met-one-or-more left numbers s at (r .has) (take (r .count) list′) (r .next) (content-inside large s at (a .there) .0)
               (operand .found) e;
           held = operand .held;
           known = operand .known;
@@ -428,7 +428,7 @@ module _ (s : List ℕ) (at : ℕ) (from pairs list : List ℕ) (count : ℕ) wh
     pub around-finds : 5 ≤ getD s at 0 → (getD s at 0 ≡ 6 → ⊥)
         → MetFinds (listOfType from pairs) (take count list) s at list′ (record { has = true; count = r .count; next = r .next; seen = r .seen })
     around-finds low other =
-        let i = content-inside standard s at (a .there) in
+        let i = content-inside large s at (a .there) in
         record {
           found =
               met-around left numbers s at (r .has) (take (r .count) list′) (r .next) (i .0) (operand .found) low (i .1) other;
@@ -464,7 +464,7 @@ module _ (s : List ℕ) (at : ℕ) (from pairs list : List ℕ) (count : ℕ) wh
 
   -- what the calls for the first of a row and for the others ask
   pub first-asks : (n : ℕ) → MetRowAsks s at n from pairs list count → (n ≡ 0 → ⊥) → MetAsks s at from pairs list count
-  first-asks n a some = record { there = first-of standard s at n (a .there) some .first; lists = a .lists; once = a .once }
+  first-asks n a some = record { there = first-of large s at n (a .there) some .first; lists = a .lists; once = a .once }
 
   pub others-ask : (n : ℕ) (list′ : List ℕ) (r : MetOne) → MetRowAsks s at n from pairs list count → (n ≡ 0 → ⊥)
       → MetFinds (listOfType from pairs) (take count list) s at list′ r
@@ -472,7 +472,7 @@ module _ (s : List ℕ) (at : ℕ) (from pairs list : List ℕ) (count : ℕ) wh
       → (at < r .next) × MetRowAsks s (r .next) (n - 1) from pairs list′ (r .count)
   others-ask n list′ r a some f same =
       let o =
-      others-there standard s at n (a .there) some (one-met left numbers s at) (r .has, take (r .count) list′) (r .next) (f .found) in (
+      others-there large s at n (a .there) some (one-met left numbers s at) (r .has, take (r .count) list′) (r .next) (f .found) in (
         o .0,
         record {
           there = o .1;

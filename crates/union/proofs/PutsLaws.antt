@@ -82,8 +82,8 @@ module _ (on : ℕ → Bool) (key : ℕ → ℕ) (base : ℕ → Bool) where
       go (inr t) ih = let d = eqb-false i n t in grows n (key i) (ih (omega arith))
 
 -- one number put into a set of words, or not
-pub put-in : (on : Bool) (words more : List ℕ) (k : ℕ) → on ≡ true → more ≡ putAt words 0 k → k < 128 → length words ≡ 4
-    → (member more 0 ≡ putIf on k (member words 0)) × (length more ≡ 4)
+pub put-in : (on : Bool) (words more : List ℕ) (k : ℕ) → on ≡ true → more ≡ putAt words 0 k → k < 256 → length words ≡ 8
+    → (member more 0 ≡ putIf on k (member words 0)) × (length more ≡ 8)
 unfolding putIf
 put-in on words more k e m small l = (
   ap (λ (w : List ℕ). member w 0) m
@@ -114,10 +114,10 @@ module _ (on : ℕ → Bool) (key : ℕ → ℕ) (base : ℕ → Bool) where
 
 -- a larger set leaves fewer outside
 pub fewer-outside : (a b : List ℕ) (r : Bool) → Compares a b r → ((j : ℕ) → member a 0 j ≡ true → member b 0 j ≡ true) → r ≡ false
-    → length a ≡ 4
-    → 128 - size (member b 0) 128 < 128 - size (member a 0) 128
+    → length a ≡ 8
+    → 256 - size (member b 0) 256 < 256 - size (member a 0) 256
 fewer-outside a b r c h e l =
-    let n : 32 * length a ≡ 128 = omega arith in
+    let n : 32 * length a ≡ 256 = omega arith in
     let g = subst (λ (m : ℕ). size (member a 0) m < size (member b 0) m) n (size-compares c h e) in
-    let s = size-le (member b 0) 128 in
+    let s = size-le (member b 0) 256 in
     omega arith

@@ -71,7 +71,7 @@ module _ {left : ℕ → List ℕ} where
             (sym (ap (λ (l : List ℕ). member l 0 j) put ∙ ap (λ q. q j) (member-put seen 0 k (omega arith))) ∙ e));
       }
 
-  pub seen-again : {seen list : List ℕ} {count : ℕ} → Once 128 list count → SeenListed seen left (take count list) → (k : ℕ)
+  pub seen-again : {seen list : List ℕ} {count : ℕ} → Once 256 list count → SeenListed seen left (take count list) → (k : ℕ)
       → member seen 0 k ≡ true
       → Adds (take count list) (left k) list count
   seen-again {seen} {list} {count} once s k e =

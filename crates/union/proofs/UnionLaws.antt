@@ -1,7 +1,7 @@
 -- The view of a union rule by rule: the place of a pair (`pair-here`, `pair-nowhere`), one rule more (`views-more`), no rules
 -- (`no-views`), the next rule of the old table (`old-next`) and of the addition (`new-next`), and the view of the whole
 -- (`views-same`, `union-rules`).
-use Prim.Native.Nat.{ℕ, _+_, _-_, _≤_, _<_}
+use Prim.Native.Nat.{ℕ, _+_, _≤_, _<_}
 use native.Mathlib.Omega.{arith}
 use native.Mathlib.Numerals.{add-one}
 use mathlib.Core.Bool.{Bool, true, false, _&&_}
@@ -9,11 +9,11 @@ use mathlib.Core.List.{List, [], _∷_, _++_, map, append-nil, append-assoc, map
 use mathlib.Core.Logic.{⊎-elim}
 use mathlib.Core.Option.{some as just}
 use mathlib.Core.Path.{_≡_, refl, sym, _∙_, ap, ap₂, subst}
-use lib.ListN.{length, getD, getElem?, set, take, drop, length-append, length-set, length-drop}
-use lib.Seq.{take-suc, take-all, getD-set-same, getD-set-other, length-take-le}
+use lib.ListN.{length, getD, getElem?, set, take, length-append, length-set}
+use lib.Seq.{take-suc, take-all, getD-set-same, getD-set-other}
 use lib.Dec.{eqb}
 use Rattle.grammar.specs.Lists.{place}
-use Rattle.grammar.specs.Limits.{standard}
+use Rattle.grammar.specs.Limits.{large}
 use Rattle.grammar.specs.Names.{sameName, asciiClasses}
 use Rattle.grammar.specs.Content.{Content}
 use Rattle.grammar.specs.Table.{Rule, Table}
@@ -24,17 +24,16 @@ use Rattle.grammar.specs.Normalise.{pairOf}
 use Rattle.theory.proofs.lists.ListLaws.{at-else, any-of, at-mem, at-below, below-at}
 use Rattle.theory.proofs.lists.PlaceLaws.{place-front, place-end}
 use Rattle.theory.proofs.steps.NormaliseDocuments.{pair-refl}
-use Rattle.reader.specs.declared.tables.TableIndex.{TableIndex}
-use Rattle.reader.specs.ExprAt.{_upTo_}
-use Rattle.reader.specs.TableIndex.{part, BytesStand, Indexes, ruleType, ruleLabel, contentFrom, contentTo}
+use Rattle.reader.specs.TableIndex.{BytesStand, ruleType, ruleLabel, contentFrom, contentTo, ruleCount}
 use Rattle.reader.specs.Held.{Held}
-use Rattle.reader.proofs.ExprLaws.{expr-of}
-use Rattle.reader.proofs.LabelSearch.{place-first, place-nowhere, index-names}
-use Rattle.reader.proofs.TableIndexLaws.{at-end, rule-at}
+use Rattle.reader.proofs.LabelSearch.{place-first, place-nowhere}
+use Rattle.reader.proofs.TableFoundLaws.{content-in-part, rule-found-at}
+use Rattle.reader.proofs.TableIndexLaws.{at-end}
 use Rattle.union.specs.declared.labels.Names.{Names}
 use Rattle.union.specs.declared.united.United.{United}
 use Rattle.union.specs.View.{SourceContent, typeIn, labelIn, RuleSeen, Views, rulesOnly, NextRule, AddingTo}
-use Rattle.union.specs.UnitedLabels.{NamesHeld, newNames, unitedNames}
+use Rattle.union.specs.UnitedLabels.{newNames, unitedNames}
+use Rattle.union.proofs.ViewLaws.{source-so}
 
 -- the place of a pair
 module _ {old add : List ℕ} {v : United} {rs : List Rule} (w : Views old add v (rulesOnly rs)) {ty label : ℕ} (x : Rule)
@@ -73,20 +72,15 @@ addUnitedRule v ty label first from to =
       «content_to» = set (v .«content_to») (v .rules) to;
     }
 
-source-so : {s : List ℕ} {from from′ to to′ : ℕ} {c : Content} → from ≡ from′ → to ≡ to′ → SourceContent s from to c
-    → SourceContent s from′ to′ c
-source-so {s} {from} {from′} {to} {to′} {c} p q x =
-    subst (λ (t : ℕ). SourceContent s from′ t c) q (subst (λ (f : ℕ). SourceContent s f to c) p x)
-
 module _ {old add : List ℕ} {v : United} {rs : List Rule} (w : Views old add v (rulesOnly rs)) where
   other : (l : List ℕ) (i a : ℕ) → i < v .rules → getD (set l (v .rules) a) i 0 ≡ getD l i 0
   other l i a h = getD-set-other l (v .rules) i a 0 (λ e. omega arith)
 
-  own : (l : List ℕ) (i a : ℕ) → length l ≡ 128 → v .rules < 128 → i ≡ v .rules → getD (set l (v .rules) a) i 0 ≡ a
+  own : (l : List ℕ) (i a : ℕ) → length l ≡ 256 → v .rules < 256 → i ≡ v .rules → getD (set l (v .rules) a) i 0 ≡ a
   own l i a size h e =
       ap (λ (k : ℕ). getD (set l (v .rules) a) k 0) e ∙ getD-set-same l (v .rules) a 0 (omega arith)
 
-  pub views-more : (ty label first from to : ℕ) (x : Rule) → v .rules < 128 → NextRule old add v ty label from to x
+  pub views-more : (ty label first from to : ℕ) (x : Rule) → v .rules < 256 → NextRule old add v ty label from to x
       → first ≡ place samePair x rs
       → Views old add (addUnitedRule v ty label first from to) (rulesOnly (rs ++ (x ∷ [])))
   unfolding pairOf
@@ -182,10 +176,10 @@ views-same {old} {add} {v} {u} {t} e w =
           };
     }
 
-pub no-views : (old add : List ℕ) (v : United) → v .rules ≡ 0 → length (v .types) ≡ 128 → length (v .labels) ≡ 128
-    → length (v .firsts) ≡ 128
-    → length (v .«content_from») ≡ 128
-    → length (v .«content_to») ≡ 128
+pub no-views : (old add : List ℕ) (v : United) → v .rules ≡ 0 → length (v .types) ≡ 256 → length (v .labels) ≡ 256
+    → length (v .firsts) ≡ 256
+    → length (v .«content_from») ≡ 256
+    → length (v .«content_to») ≡ 256
     → Views old add v (rulesOnly [])
 no-views old add v e a b c d f =
     record {
@@ -196,28 +190,10 @@ no-views old add v e a b c d f =
     }
 
 -- a content of a table that was read
-source-of : {s : List ℕ} {from to : ℕ} {c : Content} → BytesStand s from to (contentBytes c) → isProper standard c ≡ true
+source-of : {s : List ℕ} {from to : ℕ} {c : Content} → BytesStand s from to (contentBytes c) → isProper large c ≡ true
     → SourceContent s from to c
 source-of {s} {from} {to} {c} w p =
-    let e = w .bytes-are in
-    let o = w .inside .order in
-    let i = w .inside .within in
-    let l = ap length e in
-    let n : 0 + length (contentBytes c) ≡ to - from = sized from to s c o i e in
-    record {
-      order = o;
-      within = i;
-      stands = expr-of (part s from to) 0 c [] (e ∙ sym (append-nil (contentBytes c))) ∙ ap (λ (k : ℕ). just (c upTo k)) n;
-      proper = p;
-    }
-  where
-    sized : (from to : ℕ) (s : List ℕ) (c : Content) → from ≤ to → to ≤ length s → part s from to ≡ contentBytes c
-        → 0 + length (contentBytes c) ≡ to - from
-    sized from to s c o i e =
-        let d = length-drop from s in
-        let l = length-take-le (to - from) (drop from s) (omega arith) in
-        let m = ap length e in
-        omega arith
+    record { order = w .inside .order; within = w .inside .within; stands = content-in-part c w; proper = p }
 
 take-more : {A : Type 0} (xs : List A) (i : ℕ) {x : A} → getElem? xs i ≡ just x → take (i + 1) xs ≡ take i xs ++ (x ∷ [])
 take-more xs i {x} e =
@@ -226,97 +202,74 @@ take-more xs i {x} e =
     ∙ ap (λ y. take i xs ++ (y ∷ [])) (at-else xs i x e)
 
 -- the next rule of the old table
-module _ {old add : List ℕ} {v : United} {index : TableIndex} {g : Table} (t : Held standard asciiClasses old index g) (i : ℕ) (h : i < index .rules)
-    (few : v .«old_rules» ≡ index .rules) (at : v .rules ≡ i) where
-  pub old-next : (ty label : ℕ) → ty ≡ ruleType index i → label ≡ ruleLabel index i
+module _ {old add : List ℕ} {v : United} {index : List ℕ} {g : Table} (t : Held large asciiClasses old index g) (i : ℕ)
+    (h : i < ruleCount index) (few : v .«old_rules» ≡ ruleCount index) (at : v .rules ≡ i) where
+  pub old-next : (ty label from to : ℕ) → ty ≡ ruleType index i → label ≡ ruleLabel index i → from ≡ contentFrom index i
+      → to ≡ contentTo index i
       → (x : Rule)
       × (rulesOnly (take i (g .rules) ++ (x ∷ [])) .rules ≡ rulesOnly (take (i + 1) (g .rules)) .rules)
-      × NextRule old add v ty label (contentFrom index i) (contentTo index i) x
-  unfolding standard
-  old-next ty label k l =
-      let r = rule-at (t .indexes) i h in
-      let x = r .0 in
-      let b = t .within .each-rule x (at-mem (g .rules) i (r .1)) in
-      let small = b .type in (
-        x,
-        sym (take-more (g .rules) i (r .1)),
+      × NextRule old add v ty label from to x
+  old-next ty label from to k l f e =
+      let r = rule-found-at (t .indexes) (t .within) i h in
+      let small = r .type-below in
+      let type = r .at .type in (
+        r .rule,
+        sym (take-more (g .rules) i (r .listed)),
         record {
-          type = k ∙ r .2 .type;
+          type = k ∙ type;
           small = omega arith;
-          label-is = l ∙ r .2 .label;
-          in-old = λ p. source-of (r .2 .content) (b .content .proper);
+          label-is = l ∙ r .at .label;
+          in-old = λ p. source-so (sym f) (sym e) (source-of (r .at .content) (r .within .content .proper));
           in-addition = λ p. absurd (omega arith);
         },
       )
 
--- a label of the addition's rules
-pub new-label-below : {old add : List ℕ} {olds adds fresh : Names} {index : TableIndex} {g h : Table}
-    (a : AddingTo old olds add adds fresh index g h) (i : ℕ)
-    → i < index .rules
-    → (l : ℕ) → l ≡ ruleLabel index i
-    → l < adds .count
-new-label-below {old} {add} {olds} {adds} {fresh} {index} {g} {h} a i below l e =
-    let r = rule-at (a .addition .indexes) i below in
-    let b = a .addition .within .each-rule (r .0) (at-mem (h .rules) i (r .1)) .label in
-    let c = a .added-names .at .count in
-    let d = r .2 .label in
-    omega arith
-
 -- the next rule of the addition
-module _ {old add : List ℕ} {v : United} {olds adds fresh : Names} {index : TableIndex} {g h : Table}
-    (a : AddingTo old olds add adds fresh index g h) (i : ℕ) (below : i < index .rules) (at : v .rules ≡ v .«old_rules» + i) where
-  pub new-next : (ty l label : ℕ) → ty ≡ 64 + ruleType index i → l ≡ ruleLabel index i
+module _ {old olds add adds : List ℕ} {v : United} {fresh : Names} {g h : Table} (a : AddingTo old olds add adds fresh g h) (i : ℕ)
+    (below : i < ruleCount adds) (at : v .rules ≡ v .«old_rules» + i) where
+  pub new-next : (ty l label from to : ℕ) → ty ≡ 128 + ruleType adds i → l ≡ ruleLabel adds i
       → label ≡ place sameName (getD (h .labels) l []) (unitedNames (g .labels) (h .labels))
+      → from ≡ contentFrom adds i
+      → to ≡ contentTo adds i
       → (x : Rule)
-      × ((g .rules ++ map (added standard g h) (take i (h .rules))) ++ (x ∷ [])
-      ≡ g .rules ++ map (added standard g h) (take (i + 1) (h .rules)))
-      × NextRule old add v ty label (contentFrom index i) (contentTo index i) x
-  unfolding standard added unitedLabels newNames shifted
-  new-next ty l label k m e =
-      let r = rule-at (a .addition .indexes) i below in
-      let y = r .0 in
-      let b = a .addition .within .each-rule y (at-mem (h .rules) i (r .1)) in
-      let small = b .type in
-      let ty-is = r .2 .type in (
-        added standard g h y,
-        append-assoc (g .rules) (map (added standard g h) (take i (h .rules))) (added standard g h y ∷ [])
+      × ((g .rules ++ map (added large g h) (take i (h .rules))) ++ (x ∷ [])
+      ≡ g .rules ++ map (added large g h) (take (i + 1) (h .rules)))
+      × NextRule old add v ty label from to x
+  unfolding large added unitedLabels newNames shifted
+  new-next ty l label from to k m e f d =
+      let r = rule-found-at (a .addition .indexes) (a .addition .within) i below in
+      let y = r .rule in
+      let small = r .type-below in
+      let type = r .at .type in (
+        added large g h y,
+        append-assoc (g .rules) (map (added large g h) (take i (h .rules))) (added large g h y ∷ [])
             ∙ ap
             (λ (rs : List Rule). g .rules ++ rs)
             (sym
-            (ap (map (added standard g h)) (take-more (h .rules) i (r .1))
-            ∙ map-append (added standard g h) (take i (h .rules)) (y ∷ []))),
+            (ap (map (added large g h)) (take-more (h .rules) i (r .listed))
+            ∙ map-append (added large g h) (take i (h .rules)) (y ∷ []))),
         record {
-          type = k ∙ ap (λ (n : ℕ). 64 + n) ty-is;
+          type = k ∙ ap (λ (n : ℕ). 128 + n) type;
           small = omega arith;
           label-is =
               e
               ∙ ap
               (λ (n : ℕ). place sameName (getD (h .labels) n []) (unitedNames (g .labels) (h .labels)))
-              (m ∙ r .2 .label);
+              (m ∙ r .at .label);
           in-old = λ p. absurd (omega arith);
-          in-addition = λ p. (y .content, source-of (r .2 .content) (b .content .proper), refl);
+          in-addition =
+              λ p. (y .content, source-so (sym f) (sym d) (source-of (r .at .content) (r .within .content .proper)), refl);
         },
       )
 
 -- the rules of the whole
 pub union-rules : (g h : Table) (i : ℕ) → length (h .rules) ≤ i
-    → rulesOnly (g .rules ++ map (added standard g h) (take i (h .rules))) .rules ≡ unite standard g h .rules
+    → rulesOnly (g .rules ++ map (added large g h) (take i (h .rules))) .rules ≡ unite large g h .rules
 unfolding unite
-union-rules g h i e = ap (λ (l : List Rule). g .rules ++ map (added standard g h) l) (take-all i (h .rules) e)
+union-rules g h i e = ap (λ (l : List Rule). g .rules ++ map (added large g h) l) (take-all i (h .rules) e)
 
-pub union-starts : (g h : Table) → rulesOnly (g .rules) .rules ≡ rulesOnly (g .rules ++ map (added standard g h) (take 0 (h .rules))) .rules
+pub union-starts : (g h : Table) → rulesOnly (g .rules) .rules ≡ rulesOnly (g .rules ++ map (added large g h) (take 0 (h .rules))) .rules
 union-starts g h = sym (append-nil (g .rules))
-
--- labels of an index
-pub label-names : {s : List ℕ} {index : TableIndex} {g : Table} → Indexes s index g
-    → NamesHeld s (record { from = index .«label_from»; to = index .«label_to»; count = index .labels }) (g .labels)
-label-names x =
-    record {
-      at = index-names x;
-      few = x .few-labels;
-      from-room = x .rooms .label-from;
-      to-room = x .rooms .label-to;
-    }
 
 pub united-labels : (g h : Table) → unitedLabels g h ≡ unitedNames (g .labels) (h .labels)
 unfolding unitedLabels newNames

@@ -1,5 +1,5 @@
 -- Names by where they stand: adding one (`names-more`), and the number of a label of the addition among the names of the union
--- (`label-old`, `label-new`).
+-- (`label-old`, `label-new`, `label-below`).
 use Prim.Native.Nat.{ℕ, suc, _+_, _≤_, _<_}
 use native.Mathlib.Omega.{arith}
 use native.Mathlib.Numerals.{add-one}
@@ -9,17 +9,18 @@ use mathlib.Core.Logic.{⊎-elim}
 use mathlib.Core.Option.{some as just}
 use mathlib.Core.Path.{_≡_, refl, sym, _∙_, ap, subst}
 use lib.ListN.{length, getD, getElem?, set, take, length-append, length-set}
-use lib.Seq.{take-suc, take-all, getD-set-same, getD-set-other}
+use lib.Seq.{take-suc, take-all, getD-set-other}
 use lib.Dec.{leb}
 use borrow.Author.Tests.{leb-true, leb-false}
 use Rattle.grammar.specs.Lists.{anyPass, keep, place}
 use Rattle.grammar.specs.Names.{Name, sameName}
-use Rattle.theory.proofs.lists.ListLaws.{at-else, at-below, keep-yes, keep-no}
-use Rattle.theory.proofs.lists.PlaceLaws.{place-most, place-some, place-none, place-front}
+use Rattle.grammar.specs.Table.{Table}
+use Rattle.theory.proofs.trees.NameLaws.{name-refl}
+use Rattle.theory.proofs.lists.ListLaws.{at-else, at-mem, at-below, any-of, keep-yes, keep-no, keep-mem}
+use Rattle.theory.proofs.lists.PlaceLaws.{place-some, place-none, place-front, place-found}
 use Rattle.theory.proofs.lists.DistinctLaws.{keep-append}
-use Rattle.reader.specs.TableIndex.{part, BytesStand}
-use Rattle.reader.proofs.TableIndexLaws.{at-end}
-use Rattle.reader.proofs.LabelSearch.{name-at}
+use Rattle.reader.specs.TableIndex.{labelFrom, labelTo, labelCount, part, BytesStand, Indexes}
+use Rattle.reader.proofs.TableIndexLaws.{at-end, put, stands-so, label-at}
 use Rattle.union.specs.declared.labels.Names.{Names}
 use Rattle.union.specs.UnitedLabels.{NamesHeld, namesIf, newNames, unitedNames}
 
@@ -39,49 +40,59 @@ module _ {A : Type 0} (same : A → A → Bool) (x : A) where
           let r = ih (omega arith) in
           omega arith
 
+-- where one name more stands, and the others
+module _ (places : List ℕ) (n from to : ℕ) (few : n < 128) (room : 256 ≤ length places) where
+  abbrev longer : List ℕ
+  longer = set (set places n from) (128 + n) to
+
+  place-kept : (i : ℕ) → (i ≡ n → ⊥) → (i ≡ 128 + n → ⊥) → getD longer i 0 ≡ getD places i 0
+  place-kept i p q = getD-set-other (set places n from) (128 + n) i to 0 q ∙ getD-set-other places n i from 0 p
+
+  begins-put : (i : ℕ) → i ≡ n → getD longer i 0 ≡ from
+  begins-put i e = getD-set-other (set places n from) (128 + n) i to 0 (λ h. omega arith) ∙ put places n i from (omega arith) e
+
+  ends-put : (i : ℕ) → i ≡ n → getD longer (128 + i) 0 ≡ to
+  ends-put i e =
+      let long = length-set places n from in
+      put (set places n from) (128 + n) (128 + i) to (omega arith) (ap (λ (k : ℕ). 128 + k) e)
+
+  longer-room : 256 ≤ length longer
+  longer-room =
+      let long = length-set (set places n from) (128 + n) to ∙ length-set places n from in
+      omega arith
+
 -- one name more
-module _ {s : List ℕ} {names : Names} {list : List Name} (x : NamesHeld s names list) where
-  pub names-more : (from to : ℕ) (n : Name) → names .count < 64 → BytesStand s from to n → (new : Bool) (more : List Name)
+module _ {s : List ℕ} (names : Names) {list : List Name} (x : NamesHeld s names list) where
+  pub names-more : (from to : ℕ) (n : Name) → names .count < 128 → BytesStand s from to n → (new : Bool) (more : List Name)
       → (new ≡ true → more ≡ list ++ (n ∷ []))
       → (new ≡ false → more ≡ list)
       → NamesHeld s (namesIf new names from to) more
   unfolding namesIf
-  names-more from to n room st true more p q =
+  names-more from to n few st true more p q =
       let l = length-append list (n ∷ []) in
-      let c = x .at .count in
-      let fr = length-set (names .from) (names .count) from ∙ x .from-room in
-      let tr = length-set (names .to) (names .count) to ∙ x .to-room in
+      let c = x .count in
+      let m = names .count in
+      let places = names .places in
       subst (λ (ms : List Name). NamesHeld s (namesIf true names from to) ms) (sym (p refl))
       (record {
-        at =
-            record {
-              count = omega arith;
-              name =
-                  λ i m e.
-                  ⊎-elim
-                  (λ h.
-                  let b = at-below list i h in
-                  let d : i ≡ names .count → ⊥ = λ k. omega arith in
-                  let w = x .at .name i m h in
-                  subst (λ (a : ℕ). BytesStand s a (getD (set (names .to) (names .count) to) i 0) m) (sym (getD-set-other (names .from) (names .count) i from 0 d))
-                  (subst (λ (a : ℕ). BytesStand s (getD (names .from) i 0) a m) (sym (getD-set-other (names .to) (names .count) i to 0 d)) w))
-                  (λ h.
-                  let e₁ : i ≡ names .count = h .0 ∙ sym c in
-                  let f : getD (set (names .from) (names .count) from) i 0 ≡ from =
-                  ap (λ (k : ℕ). getD (set (names .from) (names .count) from) k 0) e₁ ∙ getD-set-same (names .from) (names .count) from 0 (omega arith) in
-                  let g : getD (set (names .to) (names .count) to) i 0 ≡ to =
-                  ap (λ (k : ℕ). getD (set (names .to) (names .count) to) k 0) e₁ ∙ getD-set-same (names .to) (names .count) to 0 (omega arith) in
-                  subst (λ (a : ℕ). BytesStand s a (getD (set (names .to) (names .count) to) i 0) m) (sym f)
-                  (subst (λ (a : ℕ). BytesStand s from a m) (sym g) (subst (λ (k : Name). BytesStand s from to k) (h .1) st)))
-                  (at-end list n i m e);
-              from-room = omega arith;
-              to-room = omega arith;
-            };
+        count = omega arith;
+        name =
+            λ i k e.
+            ⊎-elim
+            (λ h.
+            let b = at-below list i h in
+            stands-so (x .name i k h)
+            (place-kept places m from to few (x .room) i (λ z. omega arith) (λ z. omega arith))
+            (place-kept places m from to few (x .room) (128 + i) (λ z. omega arith) (λ z. omega arith))
+            refl)
+            (λ h.
+            let at : i ≡ m = h .0 ∙ sym c in
+            stands-so st (begins-put places m from to few (x .room) i at) (ends-put places m from to few (x .room) i at) (h .1))
+            (at-end list n i k e);
         few = omega arith;
-        from-room = fr;
-        to-room = tr;
+        room = longer-room places m from to few (x .room);
       })
-  names-more from to n room st false more p q = subst (λ (ms : List Name). NamesHeld s names ms) (sym (q refl)) x
+  names-more from to n few st false more p q = subst (λ (ms : List Name). NamesHeld s names ms) (sym (q refl)) x
 
 -- the addition's names one by one
 module _ (old added : List Name) where
@@ -118,19 +129,13 @@ module _ (old added : List Name) where
   pub new-all : (i : ℕ) → length added ≤ i → newNames old (take i added) ≡ newNames old added
   new-all i h = ap (newNames old) (take-all i added h)
 
-pub no-names : (s : List ℕ) (names : Names) → names .count ≡ 0 → length (names .from) ≡ 64 → length (names .to) ≡ 64 → NamesHeld s names []
-no-names s names e f t =
+pub no-names : (s : List ℕ) (names : Names) → names .count ≡ 0 → length (names .places) ≡ 256 → NamesHeld s names []
+no-names s names e long =
     record {
-      at =
-          record {
-            count = e;
-            name = λ i n q. let z : _≡_ {A = ℕ} 0 1 = cc in absurd (omega arith);
-            from-room = omega arith;
-            to-room = omega arith;
-          };
+      count = e;
+      name = λ i n q. let z : _≡_ {A = ℕ} 0 1 = cc in absurd (omega arith);
       few = omega arith;
-      from-room = f;
-      to-room = t;
+      room = omega arith;
     }
 
 pub names-count : (b : Bool) (names : Names) (from to : ℕ) → namesIf b names from to .count ≤ names .count + 1
@@ -138,62 +143,74 @@ unfolding namesIf
 names-count true names from to = omega arith
 names-count false names from to = omega arith
 
-module _ {old add : List ℕ} {olds adds : Names} {ns ms : List Name} (x : NamesHeld old olds ns) (y : NamesHeld add adds ms) where
-  abbrev nameOf : ℕ → Name
-  nameOf i = part add (getD (adds .from) i 0) (getD (adds .to) i 0)
+-- a label of the addition: where it stands, and its name's place among the old
+module _ {old olds add adds : List ℕ} {g h : Table} (x : Indexes old olds g) (y : Indexes add adds h) (label : ℕ)
+    (below : label < labelCount adds) (from to count p : ℕ) (begins : from ≡ labelFrom adds label) (ends : to ≡ labelTo adds label)
+    (counted : count ≡ labelCount olds) (placed : p ≡ place sameName (part add from to) (g .labels)) where
+  abbrev news : List Name
+  news = newNames (g .labels) (h .labels)
 
-  -- one name of the addition
-  pub new-names-step : (fresh r : Names) (i p : ℕ) → i < adds .count → p ≡ place sameName (nameOf i) ns
-      → NamesHeld add fresh (newNames ns (take i ms))
-      → fresh .count < 64
-      → r ≡ namesIf (leb (olds .count) p) fresh (getD (adds .from) i 0) (getD (adds .to) i 0)
-      → NamesHeld add r (newNames ns (take (i + 1) ms))
-  new-names-step fresh r i p h e f room q =
-      let a = name-at (y .at) i h in
-      let n = a .0 in
-      let at : p ≡ place sameName n ns = e ∙ ap (λ (m : Name). place sameName m ns) (a .2 .bytes-are) in
-      let c = x .at .count in
-      subst (λ (names : Names). NamesHeld add names (newNames ns (take (i + 1) ms))) (sym q)
-      (names-more f (getD (adds .from) i 0) (getD (adds .to) i 0) n room (a .2) (leb (olds .count) p) (newNames ns (take (i + 1) ms))
-      (λ t. let l = leb-true (olds .count) p t in new-more ns ms i (a .1) (omega arith))
-      (λ t. let l = leb-false (olds .count) p t in new-same ns ms i (a .1) (omega arith)))
+  name-of : (n : Name) × (getElem? (h .labels) label ≡ just n) × BytesStand add from to n
+  name-of =
+      let a = label-at y label below in
+      (a .0, a .1, stands-so (a .2) begins ends refl)
 
-  -- the number of a label of the addition
-  module _ (label : ℕ) (h : label < adds .count) where
-    name-is : nameOf label ≡ getD ms label []
-    name-is =
-        let a = name-at (y .at) label h in
-        a .2 .bytes-are ∙ sym (at-else ms label [] (a .1))
+  -- it is one name more, or none
+  pub new-names-step : (fresh r : Names) → NamesHeld add fresh (newNames (g .labels) (take label (h .labels)))
+      → fresh .count < 128
+      → r ≡ namesIf (leb count p) fresh (labelFrom adds label) (labelTo adds label)
+      → NamesHeld add r (newNames (g .labels) (take (label + 1) (h .labels)))
+  new-names-step fresh r f room q =
+      let a = name-of in
+      let at : p ≡ place sameName (a .0) (g .labels) = placed ∙ ap (λ (m : Name). place sameName m (g .labels)) (a .2 .bytes-are) in
+      let c = x .labels in
+      subst (λ (names : Names). NamesHeld add names (newNames (g .labels) (take (label + 1) (h .labels)))) (sym q)
+      (names-more fresh f (labelFrom adds label) (labelTo adds label) (a .0) room (stands-so (a .2) (sym begins) (sym ends) refl)
+      (leb count p)
+      (newNames (g .labels) (take (label + 1) (h .labels)))
+      (λ t. let l = leb-true count p t in new-more (g .labels) (h .labels) label (a .1) (omega arith))
+      (λ t. let l = leb-false count p t in new-same (g .labels) (h .labels) label (a .1) (omega arith)))
 
-    pub label-old : (p : ℕ) → p ≡ place sameName (nameOf label) ns → p < olds .count
-        → p ≡ place sameName (getD ms label []) (unitedNames ns ms)
-    label-old p e l =
-        let q = e ∙ ap (λ (m : Name). place sameName m ns) name-is in
-        let c = x .at .count in
-        let name = getD ms label [] in
-        q ∙ sym (place-front sameName name ns (newNames ns ms) (place-some sameName name ns (omega arith)))
+  -- its number in the union
+  name-is : part add from to ≡ getD (h .labels) label []
+  name-is =
+      let a = name-of in
+      a .2 .bytes-are ∙ sym (at-else (h .labels) label [] (a .1))
 
-    pub label-new : (p q : ℕ) → p ≡ place sameName (nameOf label) ns → olds .count ≤ p
-        → q ≡ place sameName (nameOf label) (newNames ns ms)
-        → olds .count + q ≡ place sameName (getD ms label []) (unitedNames ns ms)
-    label-new p q e l f =
-        let a = e ∙ ap (λ (m : Name). place sameName m ns) name-is in
-        let b = f ∙ ap (λ (m : Name). place sameName m (newNames ns ms)) name-is in
-        let c = x .at .count in
-        let d = place-back sameName (getD ms label []) ns (newNames ns ms) (omega arith) in
+  pub label-old : p < count → p ≡ place sameName (getD (h .labels) label []) (unitedNames (g .labels) (h .labels))
+  label-old l =
+      let q = placed ∙ ap (λ (m : Name). place sameName m (g .labels)) name-is in
+      let c = x .labels in
+      let name = getD (h .labels) label [] in
+      q ∙ sym (place-front sameName name (g .labels) news (place-some sameName name (g .labels) (omega arith)))
+
+  module _ (q : ℕ) (l : count ≤ p) (among : q ≡ place sameName (part add from to) (newNames (g .labels) (h .labels))) where
+    pub label-new : count + q ≡ place sameName (getD (h .labels) label []) (unitedNames (g .labels) (h .labels))
+    label-new =
+        let a = placed ∙ ap (λ (m : Name). place sameName m (g .labels)) name-is in
+        let b = among ∙ ap (λ (m : Name). place sameName m news) name-is in
+        let c = x .labels in
+        let d = place-back sameName (getD (h .labels) label []) (g .labels) news (omega arith) in
         omega arith
 
-pub place-few : {s : List ℕ} {names : Names} {list : List Name} (x : NamesHeld s names list) (name : Name) (p : ℕ)
-    → p ≡ place sameName name list
-    → p ≤ 64
-place-few {s} {names} {list} x name p e =
-    let a = place-most sameName name list in
-    let c = x .at .count in
-    let f = x .few in
-    omega arith
+    -- a name that is not among the old is among the new ones
+    pub label-below : (fresh : Names) → NamesHeld add fresh (newNames (g .labels) (h .labels)) → q < fresh .count
+    unfolding newNames
+    label-below fresh z =
+        let a = name-of in
+        let name = a .0 in
+        let c = x .labels in
+        let out = placed ∙ ap (λ (m : Name). place sameName m (g .labels)) (a .2 .bytes-are) in
+        let none = place-none sameName name (g .labels) (omega arith) in
+        let new = keep-mem (λ (n : Name). not (anyPass (sameName n) (g .labels))) (at-mem (h .labels) label (a .1)) (ap not none) in
+        let found = place-found sameName name news (any-of (sameName name) new (name-refl name)) in
+        let inside = at-below news (place sameName name news) (found .1) in
+        let at = among ∙ ap (λ (m : Name). place sameName m news) (a .2 .bytes-are) in
+        let n = z .count in
+        omega arith
 
-pub names-same : {s : List ℕ} {names : Names} {xs ys : List Name} → xs ≡ ys → NamesHeld s names xs → NamesHeld s names ys
-names-same {s} {names} e x = subst (λ (l : List Name). NamesHeld s names l) e x
+pub names-same : {s : List ℕ} (names : Names) {xs ys : List Name} → xs ≡ ys → NamesHeld s names xs → NamesHeld s names ys
+names-same {s} names e x = subst (λ (l : List Name). NamesHeld s names l) e x
 
 pub names-grow : (b : Bool) (names r : Names) (from to : ℕ) → r ≡ namesIf b names from to → r .count ≤ names .count + 1
 names-grow b names r from to e =

@@ -1,6 +1,6 @@
 -- Laws of the united view: the rule of a number (`seen`), its content (`content-seen`), that the view's numbers are small
--- (`views-sized`), where a rule of the table stands (`rule-seen`), and a content in its source (`source-there`, `source-has`,
--- `addition-has`).
+-- (`views-sized`), where a rule of the table stands (`rule-seen`), and a content in its source (`source-so`, `source-there`,
+-- `source-has`, `addition-has`).
 use Prim.Native.Nat.{ℕ, _+_, _-_, _/_, _%_, _<_}
 use native.Mathlib.Omega.{arith}
 use mathlib.Core.Bool.{Bool}
@@ -9,7 +9,7 @@ use mathlib.Core.Option.{some as just}
 use mathlib.Core.Path.{_≡_, sym, _∙_, ap, ap₂, subst, fun-ext}
 use lib.ListN.{getD, getElem?, take, drop}
 use Rattle.grammar.specs.Lists.{place}
-use Rattle.grammar.specs.Limits.{standard}
+use Rattle.grammar.specs.Limits.{large}
 use Rattle.grammar.specs.Content.{Content}
 use Rattle.grammar.specs.Table.{Rule, Table}
 use Rattle.grammar.specs.KindTests.{samePair}
@@ -45,7 +45,7 @@ module _ {old add : List ℕ} {v : United} {u : Table} (x : Views old add v u) w
       let h = at-below (u .rules) (p .0) (p .1) in
       (p .0, omega (arith, x .rules), p .1, x .rule (p .0) r (p .1))
 
-  pub pair-below : (r : Rule) → List·Memᴰ r (u .rules) → pairOf u r < 128
+  pub pair-below : (r : Rule) → List·Memᴰ r (u .rules) → pairOf u r < 256
   unfolding pairOf
   pair-below r m =
       let f = place-found samePair r (u .rules) (any-of (samePair r) m (pair-refl r)) in
@@ -56,29 +56,34 @@ module _ {old add : List ℕ} {v : United} {u : Table} (x : Views old add v u) w
   views-sized =
       record {
         few = x .few;
-        type = λ i h. let s = seen i h in subst (λ (n : ℕ). n < 128) (sym (s .2 .type)) (s .2 .small);
+        type = λ i h. let s = seen i h in subst (λ (n : ℕ). n < 256) (sym (s .2 .type)) (s .2 .small);
         first =
             λ i h.
             let s = seen i h in
-            subst (λ (n : ℕ). n < 128) (sym (s .2 .first)) (pair-below (s .0) (at-mem (u .rules) i (s .1)));
+            subst (λ (n : ℕ). n < 256) (sym (s .2 .first)) (pair-below (s .0) (at-mem (u .rules) i (s .1)));
       }
 
 -- a content in its source
+pub source-so : {s : List ℕ} {from from′ to to′ : ℕ} {c : Content} → from ≡ from′ → to ≡ to′ → SourceContent s from to c
+    → SourceContent s from′ to′ c
+source-so {s} {from} {from′} {to} {to′} {c} p q x =
+    subst (λ (t : ℕ). SourceContent s from′ t c) q (subst (λ (f : ℕ). SourceContent s f to c) p x)
+
 module _ {s : List ℕ} {from to : ℕ} {c : Content} (x : SourceContent s from to c) where
-  pub source-there : ContentAt standard (take (to - from) (drop from s)) 0
+  pub source-there : ContentAt large (take (to - from) (drop from s)) 0
   source-there = record { content = c; next = to - from; stands = x .stands; proper = x .proper }
 
   pub source-has : (test : ℕ → Bool) (b : Bool) (n : ℕ) → hasAt test (take (to - from) (drop from s)) 0 ≡ just (b upTo n)
       → b ≡ hasAlts test c
   source-has test b n e = placed-of (hasAlts test) (exprAt (take (to - from) (drop from s)) 0) (x .stands) e .0
 
--- the addition's types stand two words further on
-pub addition-has : (words : List ℕ) (c : Content) → hasAlts (member words 2) c ≡ hasAlts (member words 0) (shiftedContent c)
-unfolding member shifted standard
+-- the addition's types stand four words further on
+pub addition-has : (words : List ℕ) (c : Content) → hasAlts (member words 4) c ≡ hasAlts (member words 0) (shiftedContent c)
+unfolding member shifted large
 addition-has words c =
     ap (λ test. hasAlts test c)
     (fun-ext (λ k.
-    let word : 2 + k / 32 ≡ 0 + (64 + k) / 32 = omega arith in
-    let bit : k % 32 ≡ (64 + k) % 32 = omega arith in
+    let word : 4 + k / 32 ≡ 0 + (128 + k) / 32 = omega arith in
+    let bit : k % 32 ≡ (128 + k) % 32 = omega arith in
     ap₂ (λ (i j : ℕ). bitOf (getD words i 0) j) word bit))
-    ∙ sym (has-renamed (shifted standard) (member words 0) c)
+    ∙ sym (has-renamed (shifted large) (member words 0) c)

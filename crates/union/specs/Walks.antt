@@ -7,7 +7,7 @@ use mathlib.Core.Path.{_≡_}
 use lib.ListN.{length, getD, take, drop}
 use lib.Dec.{eqb}
 use Rattle.grammar.specs.Lists.{distinct}
-use Rattle.grammar.specs.Limits.{standard}
+use Rattle.grammar.specs.Limits.{large}
 use Rattle.theory.specs.Alternatives.{hasAlts, allHaveAlts, oneHasAlts, someLeft, pairsMet, pairsMetAll}
 use Rattle.sets.specs.Sets.{member}
 use Rattle.sets.specs.declared.four.Set4.{Set4}
@@ -79,14 +79,14 @@ metRowAt left numbers s at n =
 
 -- what the walks ask: a proper content, lists by type, and a list of numbers
 pub record MetAsks (s : List ℕ) (at : ℕ) (from pairs list : List ℕ) (count : ℕ) : Type 0 where
-  pub there : ContentAt standard s at
-  pub lists : Listed 64 128 from pairs
-  pub once : Once 128 list count
+  pub there : ContentAt large s at
+  pub lists : Listed 128 256 from pairs
+  pub once : Once 256 list count
 
 pub record MetRowAsks (s : List ℕ) (at n : ℕ) (from pairs list : List ℕ) (count : ℕ) : Type 0 where
-  pub there : ContentsAt standard s at n
-  pub lists : Listed 64 128 from pairs
-  pub once : Once 128 list count
+  pub there : ContentsAt large s at n
+  pub lists : Listed 128 256 from pairs
+  pub once : Once 256 list count
 
 -- and what they find
 pub record MetFinds (left : ℕ → List ℕ) (numbers s : List ℕ) (at : ℕ) (list : List ℕ) (r : MetOne) : Type 0 where

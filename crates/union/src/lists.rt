@@ -2,8 +2,8 @@
 
 // The list of type k stands from `from[k]` up to `from[k + 1]`.
 pub struct Lists {
-    pub from: [u8; 65],
-    pub numbers: [u8; 128],
+    pub from: [u16; 129],
+    pub numbers: [u8; 256],
 }
 
 // The lists of the types of the old table and of the addition.

@@ -3,6 +3,7 @@
 use crate::productive::both;
 use crate::productive::either;
 use reader::numbers::wide;
+use reader::numbers::wider;
 use reader::operators::CHOICE;
 use reader::operators::EMPTY;
 use reader::operators::NONE;
@@ -53,7 +54,7 @@ fn among(list: &[u8], count: usize, number: u8) -> bool
 
 // Adds a number after the others, unless it is among them.
 fn append(list: &mut [u8], count: usize, number: u8) -> usize
-    requires { ⌜ (Once 128 (now list) count) × (number < 128) ⌝ }
+    requires { ⌜ Once 256 (now list) count ⌝ }
     ensures { λ r. ⌜ Adds (take count (now (list .entry))) (number ∷ []) (now (list .exit)) r ⌝ }
 {
     if among(list, count, number) {
@@ -65,7 +66,7 @@ fn append(list: &mut [u8], count: usize, number: u8) -> usize
 
 // Adds the numbers of a part.
 fn append_part(list: &mut [u8], count: usize, numbers: &[u8], first: usize, end: usize) -> usize
-    requires { ⌜ (Once 128 (now list) count) × (PartOfNumbers 128 (now numbers) first end) ⌝ }
+    requires { ⌜ (Once 256 (now list) count) × (PartOfNumbers 256 (now numbers) first end) ⌝ }
     ensures { λ r. ⌜ Adds (take count (now (list .entry))) (take (end - first) (drop first (now (numbers .entry))))
         (now (list .exit)) r ⌝ }
 {
@@ -82,20 +83,20 @@ fn append_part(list: &mut [u8], count: usize, numbers: &[u8], first: usize, end:
 // Adds the pairs of a type; those of a type in `seen` are there already. `from` and `pairs` give the pairs of each type.
 fn met_type(
     k: usize,
-    from: &[u8],
+    from: &[u16],
     pairs: &[u8],
     list: &mut [u8],
     count: usize,
     next: usize,
     seen: Set4,
 ) -> MetOne
-    requires { ⌜ (k < 64) × (Listed 64 128 (now from) (now pairs)) × (Once 128 (now list) count)
+    requires { ⌜ (k < 128) × (Listed 128 256 (now from) (now pairs)) × (Once 256 (now list) count)
         × (SeenListed (seen .words) (listOfType (now from) (now pairs)) (take count (now list))) ⌝ }
     ensures { λ r. ⌜ TypeMet (listOfType (now (from .entry)) (now (pairs .entry))) (take count (now (list .entry))) k next
         (now (list .exit)) r ⌝ }
 {
-    let first = wide(from[k]);
-    let end = wide(from[k + 1]);
+    let first = wider(from[k]);
+    let end = wider(from[k + 1]);
     if seen.has(k) {
         return MetOne {
             has: first < end,
@@ -146,7 +147,7 @@ fn met_sequence(row: MetRow, count: usize, seen: Set4) -> MetOne
 pub fn met(
     content: &[u8],
     at: usize,
-    from: &[u8],
+    from: &[u16],
     pairs: &[u8],
     list: &mut [u8],
     count: usize,
@@ -200,7 +201,7 @@ fn met_row(
     content: &[u8],
     at: usize,
     n: usize,
-    from: &[u8],
+    from: &[u16],
     pairs: &[u8],
     list: &mut [u8],
     count: usize,

@@ -13,7 +13,7 @@ ghost use mathlib.Core.Bool.{_&&_, _||_};
 ghost use mathlib.Core.Option.{some as just};
 ghost use Prim.Native.Nat.{_+_, _≤_, _<_};
 ghost use lib.ListN.{length, getD};
-ghost use Rattle.grammar.specs.Limits.{standard};
+ghost use Rattle.grammar.specs.Limits.{large};
 ghost use Rattle.sets.specs.Sets.{member};
 ghost use Rattle.reader.specs.ExprAt.{_upTo_};
 ghost use Rattle.reader.specs.ContentAt.{ContentAt, ContentsAt};
@@ -52,7 +52,7 @@ pub fn either(a: bool, b: bool) -> bool
 
 // Whether the content at a place, a type, has alternatives: whether the type gives something.
 fn type_has(content: &[u8], at: usize, types: &[u32], base: usize) -> Productive
-    requires { ⌜ (at + 1 < length (now content)) × (getD (now content) (at + 1) 0 < 64) × (base + 2 ≤ length (now types)) ⌝ }
+    requires { ⌜ (at + 1 < length (now content)) × (getD (now content) (at + 1) 0 < 128) × (base + 4 ≤ length (now types)) ⌝ }
     ensures { λ r. ⌜ r ≡ record {
       has = member (now (types .entry)) base (getD (now (content .entry)) (at + 1) 0);
       next = at + 2;
@@ -67,7 +67,7 @@ fn type_has(content: &[u8], at: usize, types: &[u32], base: usize) -> Productive
 
 // Whether the content at a place has alternatives.
 pub fn content_has(content: &[u8], at: usize, types: &[u32], base: usize) -> Productive
-    requires { ⌜ (ContentAt standard (now content) at) × (base + 2 ≤ length (now types)) ⌝ }
+    requires { ⌜ (ContentAt large (now content) at) × (base + 4 ≤ length (now types)) ⌝ }
     ensures { λ r. ⌜ hasAt (member (now (types .entry)) base) (now (content .entry)) at ≡ just ((r .has) upTo (r .next)) ⌝ }
 {
     let operator = wide(content[at]);
@@ -110,7 +110,7 @@ pub fn content_has(content: &[u8], at: usize, types: &[u32], base: usize) -> Pro
 
 // The same for so many contents, one after the other.
 pub fn row_has(content: &[u8], at: usize, n: usize, types: &[u32], base: usize) -> ProductiveRow
-    requires { ⌜ (ContentsAt standard (now content) at n) × (base + 2 ≤ length (now types)) ⌝ }
+    requires { ⌜ (ContentsAt large (now content) at n) × (base + 4 ≤ length (now types)) ⌝ }
     ensures { λ r. ⌜ hasRowAt (member (now (types .entry)) base) (now (content .entry)) at n ≡ just ((r .all, r .one) upTo (r .next)) ⌝ }
 {
     if n == 0 {

@@ -7,7 +7,7 @@ use mathlib.Core.Path.{_≡_, refl, sym, _∙_, ap}
 use lib.ListN.{length, getD, getElem?, length-set}
 use lib.Seq.{length-front}
 use borrow.Author.Needs.{needs}
-use Rattle.grammar.specs.Limits.{standard, operandLimit}
+use Rattle.grammar.specs.Limits.{large, operandLimit}
 use Rattle.grammar.specs.Content.{sequence, choice}
 use Rattle.grammar.specs.ReadContent.{operators}
 use Rattle.reader.proofs.ExprLaws.{operator-sequence, operator-choice}
@@ -266,13 +266,13 @@ gather-sequence-calls t = (
 -- the operands of a sequence and of a choice
 module _ {s : List ℕ} {at n : ℕ} {types from results d : List ℕ} {row : OperandRow} {words : ℕ}
     (q : Source s at types from results d row words) where
-  operands-of : getD s at 0 ≡ 3 → n ≡ getD s (at + 1) 0 → CountedThere standard s at n (q .there) sequence
+  operands-of : getD s at 0 ≡ 3 → n ≡ getD s (at + 1) 0 → CountedThere large s at n (q .there) sequence
   operands-of b e =
-      counted-of standard s at n (q .there) sequence e (omega arith) (omega arith) (ap (getElem? operators) b ∙ operator-sequence)
+      counted-of large s at n (q .there) sequence e (omega arith) (omega arith) (ap (getElem? operators) b ∙ operator-sequence)
 
-  choices-of : getD s at 0 ≡ 4 → n ≡ getD s (at + 1) 0 → CountedThere standard s at n (q .there) choice
+  choices-of : getD s at 0 ≡ 4 → n ≡ getD s (at + 1) 0 → CountedThere large s at n (q .there) choice
   choices-of b e =
-      counted-of standard s at n (q .there) choice e (omega arith) (omega arith) (ap (getElem? operators) b ∙ operator-choice)
+      counted-of large s at n (q .there) choice e (omega arith) (omega arith) (ap (getElem? operators) b ∙ operator-choice)
 
 -- the words lent for the rows within
 rows-within : (notes : List ℕ) → operandLimit ≤ length notes → length (lentFrom operandLimit notes) ≡ typeWords + length notes - rowWords
@@ -483,20 +483,20 @@ gather-shared-slice-read-wide : (t : ℕ) → gather-lts.Need-shared-slice-read-
 gather-shared-slice-read-wide t c =
     let start = c .before .before .before .before .before .before .before in
     let q = start .pre .1 .0 in
-    content-inside standard _ _ (q .there) .0
+    content-inside large _ _ (q .there) .0
 
 gather-add-t14 : (t : ℕ) → gather-lts.Need-add-t14 (gather-calls t) (gather-at t) gather.Post
 gather-add-t14 t c =
     let start = c .before .before .before .before .before .before .before .before .before in
     let q = start .pre .1 .0 in
-    let i = content-inside standard _ _ (q .there) in
+    let i = content-inside large _ _ (q .there) in
     omega arith
 
 gather-add-gather-empty : (t : ℕ) → gather-lts.Need-add-gather-empty (gather-calls t) (gather-at t) gather.Post
 gather-add-gather-empty t c =
     let start = c .before .before .before .before .before .before .before .before .before .before in
     let q = start .pre .1 .0 in
-    let i = content-inside standard _ _ (q .there) in
+    let i = content-inside large _ _ (q .there) in
     omega arith
 
 gather-sub-gather-empty : (t : ℕ) → gather-lts.Need-sub-gather-empty (gather-calls t) (gather-at t) gather.Post
@@ -526,13 +526,13 @@ gather-add-wide : (t : ℕ) → gather-lts.Need-add-wide (gather-calls t) (gathe
 gather-add-wide t c =
     let start = c .before .before .before .before .before .before .before .before .before in
     let q = start .pre .1 .0 in
-    let i = content-inside standard _ _ (q .there) in
+    let i = content-inside large _ _ (q .there) in
     omega arith
 
 gather-shared-slice-read-wide-2 : (t : ℕ) → gather-lts.Need-shared-slice-read-wide-2 (gather-calls t) (gather-at t) gather.Post
 gather-shared-slice-read-wide-2 t c =
     let start = c .before .before .before .before .before .before .before .before .before .before in
-    type-there standard _ _ (start .pre .1 .0 .there) (sym (c .before .before .wide .ensures .0) ∙ c .before .match .keys3) .0
+    type-there large _ _ (start .pre .1 .0 .there) (sym (c .before .before .wide .ensures .0) ∙ c .before .match .keys3) .0
 
 gather-add-gather-type : (t : ℕ) → gather-lts.Need-add-gather-type (gather-calls t) (gather-at t) gather.Post
 gather-add-gather-type t c =
@@ -540,11 +540,11 @@ gather-add-gather-type t c =
     let at-wide = c .before .before .before .before .wide in
     let at-match = c .before .before .before .match in
     let b = sym (at-wide .ensures .0) ∙ at-match .keys3 in
-    let i = type-there standard _ _ (start .pre .1 .0 .there) b in
+    let i = type-there large _ _ (start .pre .1 .0 .there) b in
     omega arith
 
 gather-gather-type-requires : (t : ℕ) → gather-lts.Need-gather-type-requires (gather-calls t) (gather-at t) gather.Post
-unfolding standard
+unfolding large
 gather-gather-type-requires t c κs =
     let start = c .before .before .before .before .before .before .before .before .before .before .before .before .before in
     let at-wide = c .before .before .before .before .before .wide in
@@ -552,7 +552,7 @@ gather-gather-type-requires t c κs =
     let q = start .pre .1 .0 in
     let b = sym (at-wide .ensures .0) ∙ at-match .keys3 in
     let k = c .before .before .wide2 .ensures .0 in
-    let i = type-there standard _ _ (q .there) b in
+    let i = type-there large _ _ (q .there) b in
     (omega arith, (source-room q, start .pre .1 .1))
 
 gather-gather-compound-requires : (t : ℕ) → gather-lts.Need-gather-compound-requires (gather-calls t) (gather-at t) gather.Post
@@ -596,13 +596,13 @@ gather-around-shared-slice-read-operator : (t : ℕ) → gather-around-lts.Need-
 gather-around-shared-slice-read-operator t c =
     let start = c .before .before .before .before .before .before .before in
     let q = start .pre .1 .1 .0 in
-    content-inside standard _ _ (q .there) .0
+    content-inside large _ _ (q .there) .0
 
 gather-around-add-content-has : (t : ℕ) → gather-around-lts.Need-add-content-has (gather-around-calls t) (gather-around-at t) gather-around.Post
 gather-around-add-content-has t c =
     let start = c .before .before .before .before .before .before .before in
     let q = start .pre .1 .1 .0 in
-    let i = content-inside standard _ _ (q .there) in
+    let i = content-inside large _ _ (q .there) in
     omega arith
 
 gather-around-content-has-requires : (t : ℕ) → gather-around-lts.Need-content-has-requires (gather-around-calls t) (gather-around-at t) gather-around.Post
@@ -613,7 +613,7 @@ gather-around-content-has-requires t c κs =
     let q = start .pre .1 .1 .0 in
     let b = start .pre .1 .0 in
     let words = q .maps .words in
-    (single-of standard _ _ (q .there) res b .operand, omega arith)
+    (single-of large _ _ (q .there) res b .operand, omega arith)
 
 gather-around-slice-write-draft : (t : ℕ) → gather-around-lts.Need-slice-write-draft (gather-around-calls t) (gather-around-at t) gather-around.Post
 gather-around-slice-write-draft t c =
@@ -622,13 +622,13 @@ gather-around-slice-write-draft t c =
     let res = listOfType (a .from .now) (a .results .now) in
     let q = start .pre .1 .1 .0 in
     let b = start .pre .1 .0 in
-    around-inside q res (single-of standard _ _ (q .there) res b)
+    around-inside q res (single-of large _ _ (q .there) res b)
 
 gather-around-add-emit-row : (t : ℕ) → gather-around-lts.Need-add-emit-row (gather-around-calls t) (gather-around-at t) gather-around.Post
 gather-around-add-emit-row t c =
     let start = c .before .before .before .before .before .before .before .before .before in
     let q = start .pre .1 .1 .0 in
-    let i = content-inside standard _ _ (q .there) in
+    let i = content-inside large _ _ (q .there) in
     omega arith
 
 gather-around-add-emit-row-2 : (t : ℕ) → gather-around-lts.Need-add-emit-row-2 (gather-around-calls t) (gather-around-at t) gather-around.Post
@@ -638,7 +638,7 @@ gather-around-add-emit-row-2 t c =
     let res = listOfType (a .from .now) (a .results .now) in
     let q = start .pre .1 .1 .0 in
     let b = start .pre .1 .0 in
-    let i = around-inside q res (single-of standard _ _ (q .there) res b) in
+    let i = around-inside q res (single-of large _ _ (q .there) res b) in
     omega arith
 
 gather-around-sub-emit-row : (t : ℕ) → gather-around-lts.Need-sub-emit-row (gather-around-calls t) (gather-around-at t) gather-around.Post
@@ -667,8 +667,8 @@ gather-around-emit-row-requires t c κs =
     let m = start .pre .0 in
     let q = start .pre .1 .1 .0 in
     let b = start .pre .1 .0 in
-    let i = content-inside standard _ _ (q .there) in
-    (omega arith, around-operands q res (single-of standard _ _ (q .there) res b) _ (rows-within (a .notes .now) (start .pre .1 .1 .1 .room)))
+    let i = content-inside large _ _ (q .there) in
+    (omega arith, around-operands q res (single-of large _ _ (q .there) res b) _ (rows-within (a .notes .now) (start .pre .1 .1 .1 .room)))
 
 gather-around-settle-requires : (t : ℕ) → gather-around-lts.Need-settle-requires (gather-around-calls t) (gather-around-at t) gather-around.Post
 gather-around-settle-requires t c κs =
@@ -682,7 +682,7 @@ gather-around-settle-requires t c κs =
     let q = start .pre .1 .1 .0 in
     let m = start .pre .1 .1 .1 in
     let b = start .pre .1 .0 in
-    let one = single-of standard _ _ (q .there) res b in
+    let one = single-of large _ _ (q .there) res b in
     let found = content-found _ _ _ (q .maps) _ _ (one .operand) _ _ (at-content-has .ensures) in
     let has = sym (found .0) ∙ at-if1 .taken in
     let g = at-emit-row .ensures (around-operands q res one _ (rows-within (a .notes .now) (m .room))) in
@@ -704,7 +704,7 @@ gather-around-returns t c =
     let res = listOfType (a .from .now) (a .results .now) in
     let b = start .pre .1 .0 in
     λ q m.
-    let one = single-of standard _ _ (q .there) res b in
+    let one = single-of large _ _ (q .there) res b in
     let found = content-found _ _ _ (q .maps) _ _ (one .operand) _ _ (at-content-has .ensures) in
     let has = sym (found .0) ∙ at-if1 .taken in
     let g = at-emit-row .ensures (around-operands q res one _ (rows-within (a .notes .now) (m .room))) in
@@ -729,7 +729,7 @@ gather-around-returns-2 t c =
     let e = at-next .given .1 in
     let l = at-emit-row .kept .1 .1 .1 .1 .1 .1 .0 in
     λ q m.
-    let one = single-of standard _ _ (q .there) res b in
+    let one = single-of large _ _ (q .there) res b in
     let found = content-found _ _ _ (q .maps) _ _ (one .operand) _ _ (at-content-has .ensures) in
     let has = sym (found .0) ∙ at-if1 .taken in
     let g = at-emit-row .ensures (around-operands q res one _ (rows-within (a .notes .now) (m .room))) in
@@ -742,7 +742,7 @@ gather-around-returns-3 t c =
     let res = listOfType (a .from .now) (a .results .now) in
     let b = start .pre .1 .0 in
     λ q m.
-    let one = single-of standard _ _ (q .there) res b in
+    let one = single-of large _ _ (q .there) res b in
     let found = content-found _ _ _ (q .maps) _ _ (one .operand) _ _ (c .before .before .content-has .ensures) in
     around-blank q res one _ (found .1) (c .if2 .taken) (sym (found .0) ∙ c .before .if1 .left) m
 
@@ -762,7 +762,7 @@ gather-around-returns-4 t c =
     let res = listOfType (a .from .now) (a .results .now) in
     let b = start .pre .1 .0 in
     λ q m.
-    let one = single-of standard _ _ (q .there) res b in
+    let one = single-of large _ _ (q .there) res b in
     let found = content-found _ _ _ (q .maps) _ _ (one .operand) _ _ (at-content-has .ensures) in
     let has-not = sym (found .0) ∙ at-if1 .left in
     around-empty q res one _ _ _ (found .1) (at-if2 .left) has-not (at-gather-empty .ensures (source-room q) m)
@@ -771,7 +771,7 @@ gather-compound-shared-slice-read-wide : (t : ℕ) → gather-compound-lts.Need-
 gather-compound-shared-slice-read-wide t c =
     let start = c .before .before .before .before .before .before .before in
     let q = start .pre .1 .1 .0 in
-    content-inside standard _ _ (q .there) .0
+    content-inside large _ _ (q .there) .0
 
 gather-compound-add-gather-row : (t : ℕ) → gather-compound-lts.Need-add-gather-row (gather-compound-calls t) (gather-compound-at t) gather-compound.Post
 gather-compound-add-gather-row t c =
@@ -779,14 +779,14 @@ gather-compound-add-gather-row t c =
     let at-wide = c .before .before .before .wide in
     let q = start .pre .1 .1 .0 in
     let b = sym (at-wide .ensures .0) ∙ c .before .before .if1 .taken in
-    let i = count-there standard _ _ (q .there) (omega arith) (omega arith) in
+    let i = count-there large _ _ (q .there) (omega arith) (omega arith) in
     omega arith
 
 gather-compound-add-wide : (t : ℕ) → gather-compound-lts.Need-add-wide (gather-compound-calls t) (gather-compound-at t) gather-compound.Post
 gather-compound-add-wide t c =
     let start = c .before .before .before .before .before .before .before .before .before in
     let q = start .pre .1 .1 .0 in
-    let i = content-inside standard _ _ (q .there) in
+    let i = content-inside large _ _ (q .there) in
     omega arith
 
 gather-compound-shared-slice-read-wide-2 : (t : ℕ) → gather-compound-lts.Need-shared-slice-read-wide-2 (gather-compound-calls t) (gather-compound-at t) gather-compound.Post
@@ -794,7 +794,7 @@ gather-compound-shared-slice-read-wide-2 t c =
     let start = c .before .before .before .before .before .before .before .before .before .before in
     let q = start .pre .1 .1 .0 in
     let b = sym (c .before .before .wide .ensures .0) ∙ c .before .if1 .taken in
-    count-there standard _ _ (q .there) (omega arith) (omega arith)
+    count-there large _ _ (q .there) (omega arith) (omega arith)
 
 gather-compound-gather-row-requires : (t : ℕ) → gather-compound-lts.Need-gather-row-requires (gather-compound-calls t) (gather-compound-at t) gather-compound.Post
 gather-compound-gather-row-requires t c κs =
@@ -806,7 +806,7 @@ gather-compound-gather-row-requires t c κs =
     let m = start .pre .0 in
     let q = start .pre .1 .1 .0 in
     let b = sym (at-wide .ensures .0) ∙ at-if1 .taken in
-    let i = count-there standard _ _ (q .there) (omega arith) (omega arith) in
+    let i = count-there large _ _ (q .there) (omega arith) (omega arith) in
     (omega arith, (choice-sources q res (choices-of q b (c .before .before .wide2 .ensures .0)), start .pre .1 .1 .1))
 
 gather-compound-returns : (t : ℕ) → gather-compound-lts.Need-returns (gather-compound-calls t) (gather-compound-at t) gather-compound.Post
@@ -865,7 +865,7 @@ gather-compound-returns-2 t c =
 gather-one-shared-slice-read-wide : (t : ℕ) → gather-one-lts.Need-shared-slice-read-wide (gather-one-calls t) (gather-one-at t) gather-one.Post
 gather-one-shared-slice-read-wide t c =
     let start = c .before .before .before .before .before .before .before in
-    content-inside standard _ _ (start .pre .1 .2 .0 .there) .0
+    content-inside large _ _ (start .pre .1 .2 .0 .there) .0
 
 gather-one-gather-sequence-requires : (t : ℕ) → gather-one-lts.Need-gather-sequence-requires (gather-one-calls t) (gather-one-at t) gather-one.Post
 gather-one-gather-sequence-requires t c κs =
@@ -979,7 +979,7 @@ gather-sequence-add-wide t c =
     let start = c .before .before .before .before .before .before in
     let q = start .pre .1 .1 .0 in
     let b = start .pre .1 .0 in
-    let i = count-there standard _ _ (q .there) (omega arith) (omega arith) in
+    let i = count-there large _ _ (q .there) (omega arith) (omega arith) in
     omega arith
 
 gather-sequence-shared-slice-read-wide : (t : ℕ) → gather-sequence-lts.Need-shared-slice-read-wide (gather-sequence-calls t) (gather-sequence-at t) gather-sequence.Post
@@ -987,7 +987,7 @@ gather-sequence-shared-slice-read-wide t c =
     let start = c .before .before .before .before .before .before .before in
     let q = start .pre .1 .1 .0 in
     let b = start .pre .1 .0 in
-    let i = count-there standard _ _ (q .there) (omega arith) (omega arith) in
+    let i = count-there large _ _ (q .there) (omega arith) (omega arith) in
     omega arith
 
 gather-sequence-add-row-has : (t : ℕ) → gather-sequence-lts.Need-add-row-has (gather-sequence-calls t) (gather-sequence-at t) gather-sequence.Post
@@ -995,7 +995,7 @@ gather-sequence-add-row-has t c =
     let start = c .before .before .before .before .before .before .before .before in
     let q = start .pre .1 .1 .0 in
     let b = start .pre .1 .0 in
-    let i = count-there standard _ _ (q .there) (omega arith) (omega arith) in
+    let i = count-there large _ _ (q .there) (omega arith) (omega arith) in
     omega arith
 
 gather-sequence-row-has-requires : (t : ℕ) → gather-sequence-lts.Need-row-has-requires (gather-sequence-calls t) (gather-sequence-at t) gather-sequence.Post
@@ -1022,7 +1022,7 @@ gather-sequence-add-draft t c =
     let start = c .before .before .before .before .before .before .before .before .before .before in
     let q = start .pre .1 .1 .0 in
     let b = start .pre .1 .0 in
-    let i = count-there standard _ _ (q .there) (omega arith) (omega arith) in
+    let i = count-there large _ _ (q .there) (omega arith) (omega arith) in
     omega arith
 
 gather-sequence-shared-slice-read-draft : (t : ℕ) → gather-sequence-lts.Need-shared-slice-read-draft (gather-sequence-calls t) (gather-sequence-at t) gather-sequence.Post
@@ -1030,7 +1030,7 @@ gather-sequence-shared-slice-read-draft t c =
     let start = c .before .before .before .before .before .before .before .before .before .before .before in
     let q = start .pre .1 .1 .0 in
     let b = start .pre .1 .0 in
-    let i = count-there standard _ _ (q .there) (omega arith) (omega arith) in
+    let i = count-there large _ _ (q .there) (omega arith) (omega arith) in
     omega arith
 
 gather-sequence-add-draft-2 : (t : ℕ) → gather-sequence-lts.Need-add-draft-2 (gather-sequence-calls t) (gather-sequence-at t) gather-sequence.Post
@@ -1062,7 +1062,7 @@ gather-sequence-add-emit-row t c =
     let start = c .before .before .before .before .before .before .before .before .before .before .before in
     let q = start .pre .1 .1 .0 in
     let b = start .pre .1 .0 in
-    let i = count-there standard _ _ (q .there) (omega arith) (omega arith) in
+    let i = count-there large _ _ (q .there) (omega arith) (omega arith) in
     omega arith
 
 gather-sequence-add-emit-row-2 : (t : ℕ) → gather-sequence-lts.Need-add-emit-row-2 (gather-sequence-calls t) (gather-sequence-at t) gather-sequence.Post
@@ -1105,7 +1105,7 @@ gather-sequence-emit-row-requires t c κs =
     let q = start .pre .1 .1 .0 in
     let b = start .pre .1 .0 in
     let n = at-wide .ensures .0 in
-    let i = count-there standard _ _ (q .there) (omega arith) (omega arith) in
+    let i = count-there large _ _ (q .there) (omega arith) (omega arith) in
     (omega arith, sequence-operands q res (operands-of q b n) n _ (rows-within (a .notes .now) (start .pre .1 .1 .1 .room)))
 
 gather-sequence-settle-requires : (t : ℕ) → gather-sequence-lts.Need-settle-requires (gather-sequence-calls t) (gather-sequence-at t) gather-sequence.Post

@@ -8,12 +8,12 @@ use Rattle.contents.proofs.emitter.gather_type.Tie as tie
 returns : tie.Need-returns
 returns c =
     let start = c .before .before .before .before .before .before .before .before .before .before .before .before .before in
-    let at-byte-or-zero = c .before .before .before .before .before .before .before .before .byte-or-zero in
-    let at-byte-or-zero2 = c .before .before .before .before .before .before .before .byte-or-zero2 in
+    let at-from-or-zero = c .before .before .before .before .before .before .before .before .from-or-zero in
+    let at-from-or-zero2 = c .before .before .before .before .before .before .before .from-or-zero2 in
     let at-gather-types = c .before .before .before .before .gather-types in
     let a = start .args in
     λ q s.
-    with-as _ _ _ refl (types-of (a .from .now) (a .results .now) (a .k) _ _ (at-byte-or-zero .ensures) (at-byte-or-zero2 .ensures))
+    with-as _ _ _ refl (types-of (a .from .now) (a .results .now) (a .k) _ _ (at-from-or-zero .ensures) (at-from-or-zero2 .ensures))
     (at-gather-types .ensures q s)
 
 pub gather-type-spec : {M : Type 1} → statement M

@@ -46,45 +46,40 @@ abbrev μ-loop : tie.MeasureT-loop
 loop-holds : tie.Need-loop-holds Inv-loop μ-loop
 loop-holds c = (omega arith, refl, refl, λ q k. so-far-none _ _ _ k)
 
-mul-if1 : tie.Need-mul-if1 Inv-loop μ-loop
-mul-if1 c =
-    let start = c .before .before .before .before .before .before .before in
-    let h = start .pre .0 .views .few in omega arith
-
-array-read-if1 : tie.Need-array-read-if1 Inv-loop μ-loop
-array-read-if1 c =
+array-read-wide : tie.Need-array-read-wide Inv-loop μ-loop
+array-read-wide c =
     let start = c .before .before .before .before .before .before .before in
     let h = start .pre .0 .views .few in omega arith
 
 add-i : tie.Need-add-i Inv-loop μ-loop
 add-i c =
-    let start = c .before .before .before .before .before .before .before .before in
+    let start = c .before .before .before .before .before .before .before .before .before in
     let h = start .pre .0 .views .few in omega arith
 
 -- the rule is of the pair, or it is of another
-of-pair : {old add : List ℕ} {v : United} {u : Table} {i p : ℕ} → Views old add v u → i < v .rules → firstIn v i ≡ p
-    → eqb (pairOf u (ruleNumbered u i)) p ≡ true
-of-pair {u = u} {i = i} {p = p} views h e = eq-eqb (pairOf u (ruleNumbered u i)) p (sym (first-is views i h) ∙ e)
+of-pair : {old add : List ℕ} {v : United} {u : Table} {i p first : ℕ} → Views old add v u → i < v .rules → first ≡ firstIn v i
+    → first ≡ p → eqb (pairOf u (ruleNumbered u i)) p ≡ true
+of-pair {u = u} {i = i} {p = p} views h f e = eq-eqb (pairOf u (ruleNumbered u i)) p (sym (f ∙ first-is views i h) ∙ e)
 
-of-another : {old add : List ℕ} {v : United} {u : Table} {i p : ℕ} → Views old add v u → i < v .rules → (firstIn v i ≡ p → ⊥)
-    → eqb (pairOf u (ruleNumbered u i)) p ≡ false
-of-another {u = u} {i = i} {p = p} views h e = ne-eqb (pairOf u (ruleNumbered u i)) p (λ z. e (first-is views i h ∙ z))
+of-another : {old add : List ℕ} {v : United} {u : Table} {i p first : ℕ} → Views old add v u → i < v .rules → first ≡ firstIn v i
+    → (first ≡ p → ⊥) → eqb (pairOf u (ruleNumbered u i)) p ≡ false
+of-another {u = u} {i = i} {p = p} views h f e = ne-eqb (pairOf u (ruleNumbered u i)) p (λ z. e (f ∙ first-is views i h ∙ z))
 
 loop-again : tie.Need-loop-again Inv-loop μ-loop
 loop-again c = (
   omega arith,
-  c .before .before .loop .inv .1,
-  c .before .before .loop .inv .2,
+  c .before .before .before .loop .inv .1,
+  c .before .before .before .loop .inv .2,
   λ q k.
-      let h = c .before .loop-test .taken in
-      so-far-skip _ _ _ (c .before .before .loop .inv .3 q k) h (given-off _ _ (of-another (q .views) h (c .if1 .taken))),
+      let h = c .before .before .loop-test .taken in
+      so-far-skip _ _ _ (c .before .before .before .loop .inv .3 q k) h (given-off _ _ (of-another (q .views) h (c .before .wide .ensures .0) (c .if1 .taken))),
 )
 
 gather-rule-requires : tie.Need-gather-rule-requires Inv-loop μ-loop
 gather-rule-requires c κs =
-    let at-loop = c .before .before .before .before .loop in
-    let at-loop-test = c .before .before .before .loop-test in
-    let start = c .before .before .before .before .before .before .before .before .before .before in
+    let at-loop = c .before .before .before .before .before .loop in
+    let at-loop-test = c .before .before .before .before .loop-test in
+    let start = c .before .before .before .before .before .before .before .before .before .before .before in
     let l = at-loop .inv in
     let same = l .1 in
     let same-words = l .2 in
@@ -94,9 +89,10 @@ gather-rule-requires c κs =
 
 returns : tie.Need-returns Inv-loop μ-loop
 returns c =
-    let start = c .before .before .before .before .before .before .before .before .before .before .before .before .before .before .before .before .before in
-    let at-loop = c .before .before .before .before .before .before .before .before .before .before .before .loop in
-    let at-loop-test = c .before .before .before .before .before .before .before .before .before .before .loop-test in
+    let start = c .before .before .before .before .before .before .before .before .before .before .before .before .before .before .before .before .before .before in
+    let at-loop = c .before .before .before .before .before .before .before .before .before .before .before .before .loop in
+    let at-loop-test = c .before .before .before .before .before .before .before .before .before .before .before .loop-test in
+    let at-wide = c .before .before .before .before .before .before .before .before .before .before .wide in
     let at-if1 = c .before .before .before .before .before .before .before .before .before .if1 in
     let at-gather-rule = c .before .before .before .before .before .before .gather-rule in
     λ q k.
@@ -109,7 +105,7 @@ returns c =
     let deep = k .deep in
     let s = l .inv .3 q k in
     so-far-wide _ _ _ s h _ _ _
-    (given-as _ _ _ (sym (given-on _ _ (of-pair (q .views) h (at-if1 .left))))
+    (given-as _ _ _ (sym (given-on _ _ (of-pair (q .views) h (at-wide .ensures .0) (at-if1 .left))))
     (at-gather-rule .ensures q (ready-for _ _ _ s (k .small) (omega arith) (omega arith))))
     (c .enum-told .given .1)
     _
@@ -118,12 +114,13 @@ returns c =
     (pair-gives (q .of) (q .table) (a .p) (a .v .rules) (q .views .rules))
 
 add-i-2 : tie.Need-add-i-2 Inv-loop μ-loop
-add-i-2 c = let h = c .before .before .before .before .before .before .before .before .before .before .before .before .before .before .before .before .before .before .pre .0 .views .few in omega arith
+add-i-2 c = let h = c .before .before .before .before .before .before .before .before .before .before .before .before .before .before .before .before .before .before .before .pre .0 .views .few in omega arith
 
 loop-again-2 : tie.Need-loop-again-2 Inv-loop μ-loop
 loop-again-2 c =
-    let at-loop = c .before .before .before .before .before .before .before .before .before .before .before .before .loop in
-    let at-loop-test = c .before .before .before .before .before .before .before .before .before .before .before .loop-test in
+    let at-loop = c .before .before .before .before .before .before .before .before .before .before .before .before .before .loop in
+    let at-loop-test = c .before .before .before .before .before .before .before .before .before .before .before .before .loop-test in
+    let at-wide = c .before .before .before .before .before .before .before .before .before .before .before .wide in
     let at-if1 = c .before .before .before .before .before .before .before .before .before .before .if1 in
     let at-gather-rule = c .before .before .before .before .before .before .before .gather-rule in (
       omega arith,
@@ -138,7 +135,7 @@ loop-again-2 c =
           let deep = k .deep in
           let s = l .inv .3 q k in
           so-far-next _ _ _ s h _ _ _
-          (given-as _ _ _ (sym (given-on _ _ (of-pair (q .views) h (at-if1 .left))))
+          (given-as _ _ _ (sym (given-on _ _ (of-pair (q .views) h (at-wide .ensures .0) (at-if1 .left))))
           (at-gather-rule .ensures q (ready-for _ _ _ s (k .small) (omega arith) (omega arith))))
           (c .before .more .given .1),
     )
@@ -158,8 +155,8 @@ gather-pair-spec =
     Inv-loop
     μ-loop
     loop-holds
-    mul-if1
-    array-read-if1
+    array-read-wide
+    (λ c κs. search needs)
     add-i
     (λ c. omega arith)
     loop-again

@@ -5,7 +5,6 @@ use native.Mathlib.Omega.{arith}
 use mathlib.Core.Bool.{Bool}
 use mathlib.Core.Path.{_≡_, refl, _∙_, ap}
 use lib.ListN.{length, getD}
-use borrow.Author.Needs.{needs}
 use Rattle.grammar.specs.Table.{Table}
 use Rattle.theory.specs.Alternatives.{hasAlts}
 use Rattle.sets.specs.Sets.{member}
@@ -22,13 +21,13 @@ Inv-loop old add v types firsts rules next₀ i₀ next i =
     × ((u : Table) → Views old add v u
     → member (next .words) 0
     ≡ puts (λ j. hasAlts (member (types .words) 0) (contentOfRule u j)) (λ j. getD firsts j 0) (member (next₀ .words) 0) i)
-    × (length (next .words) ≡ 4)
+    × (length (next .words) ≡ 8)
 
 abbrev μ-loop : tie.MeasureT-loop
 μ-loop old add v types firsts rules next₀ i₀ next i = rules - i
 
 types-with-requires : tie.Need-types-with-requires Inv-loop μ-loop
-types-with-requires c κs = (views-sized (c .before .before .pre .0 .views), search needs)
+types-with-requires c κs = (views-sized (c .before .before .pre .0 .views), c .before .before .pre .1)
 
 loop-holds : tie.Need-loop-holds Inv-loop μ-loop
 loop-holds c = (omega arith, λ u x. puts-start _ _ _ _ refl, c .before .before .before .before .pre .1)
@@ -36,39 +35,34 @@ loop-holds c = (omega arith, λ u x. puts-start _ _ _ _ refl, c .before .before 
 rule-has-requires : tie.Need-rule-has-requires Inv-loop μ-loop
 rule-has-requires c κs = (c .before .before .before .before .before .before .pre .0, c .loop-test .taken, c .before .before .before .types-with .ensures .1)
 
-mul-put-if : tie.Need-mul-put-if Inv-loop μ-loop
-mul-put-if c =
-    let h = c .before .before .before .before .before .before .before .pre .0 .views .few in
-    omega arith
+array-read-wide : tie.Need-array-read-wide Inv-loop μ-loop
+array-read-wide c = let few = c .before .before .before .before .before .before .before .pre .0 .views .few in omega arith
 
-array-read-put-if : tie.Need-array-read-put-if Inv-loop μ-loop
-array-read-put-if c =
-    let h = c .before .before .before .before .before .before .before .pre .0 .views .few in
-    omega arith
+wide-requires : tie.Need-wide-requires Inv-loop μ-loop
+wide-requires c κs = tt
 
 put-if-requires : tie.Need-put-if-requires Inv-loop μ-loop
-put-if-requires c κs =
-    let h = views-sized (c .before .before .before .before .before .before .before .pre .0 .views) .first (c .before .before .loop .i) (c .before .loop-test .taken) in
-    (h, c .before .before .loop .inv .2)
+put-if-requires c κs = (c .wide .ensures .1, c .before .before .before .loop .inv .2)
 
 add-i : tie.Need-add-i Inv-loop μ-loop
-add-i c =
-    let h = c .before .before .before .before .before .before .before .before .pre .0 .views .few in
-    omega arith
+add-i c = let few = c .before .before .before .before .before .before .before .before .before .pre .0 .views .few in omega arith
+
+loop-less : tie.Need-loop-less Inv-loop μ-loop
+loop-less c = omega arith
 
 loop-again : tie.Need-loop-again Inv-loop μ-loop
 loop-again c = (
   omega arith,
-  λ u x. puts-step _ _ _ (c .before .before .before .loop .i) _ _ _ _ (c .before .before .before .loop .inv .1 u x) (c .put-if .ensures .0) (c .before .rule-has .ensures u x) refl,
+  λ u x.
+      puts-step _ _ _ (c .before .before .before .before .loop .i) _ _ _ _ (c .before .before .before .before .loop .inv .1 u x) (c .put-if .ensures .0) (c .before .before .rule-has .ensures u x) (c .before .wide .ensures .0),
   c .put-if .ensures .1,
 )
 
 returns : tie.Need-returns Inv-loop μ-loop
 unfolding afterRound
 returns c =
-    let args = c .before .before .before .before .before .before .args in
-    let v = args .v in
-    let known = member (args .known .words) 0 in
+    let v = c .before .before .before .before .before .before .args .v in
+    let known = member (c .before .before .before .before .before .before .args .known .words) 0 in
     let e : c .before .loop .i ≡ v .rules = omega arith in (
       λ u x.
           c .before .loop .inv .1 u x
@@ -86,10 +80,10 @@ round-spec =
     types-with-requires
     loop-holds
     rule-has-requires
-    mul-put-if
-    array-read-put-if
+    array-read-wide
+    wide-requires
     put-if-requires
     add-i
-    (λ c. omega arith)
+    loop-less
     loop-again
     returns)

@@ -5,7 +5,7 @@ use native.Mathlib.Omega.{arith}
 use mathlib.Core.Path.{sym, _∙_, subst}
 use lib.ListN.{length}
 use borrow.Author.Needs.{needs}
-use Rattle.grammar.specs.Limits.{standard}
+use Rattle.grammar.specs.Limits.{large}
 use Rattle.reader.specs.ContentAt.{ContentsAt}
 use Rattle.reader.proofs.ContentAtLaws.{content-inside, type-there, count-there, operands-there, operand-there}
 use Rattle.union.proofs.MetLaws.{none-finds, empty-finds, type-finds, sequence-finds, choice-finds, one-or-more-finds, around-finds, no-row-finds, row-finds, first-asks, others-ask}
@@ -52,7 +52,7 @@ met-row-calls t = (met-below t, met.Post, met-row-below t, met-row.Post, both-re
 
 met-shared-slice-read-wide : (t : ℕ) → met-lts.Need-shared-slice-read-wide (met-calls t) (met-at t) met.Post
 met-shared-slice-read-wide t c =
-    content-inside standard _ _ (c .before .before .before .before .before .pre .1 .0 .there) .0
+    content-inside large _ _ (c .before .before .before .before .before .pre .1 .0 .there) .0
 
 met-wide-requires : (t : ℕ) → met-lts.Need-wide-requires (met-calls t) (met-at t) met.Post
 met-wide-requires t c κs =
@@ -60,7 +60,7 @@ met-wide-requires t c κs =
 
 met-add-met-none : (t : ℕ) → met-lts.Need-add-met-none (met-calls t) (met-at t) met.Post
 met-add-met-none t c =
-    let i = content-inside standard _ _ (c .before .before .before .before .before .before .before .pre .1 .0 .there) .0 in
+    let i = content-inside large _ _ (c .before .before .before .before .before .before .before .pre .1 .0 .there) .0 in
     omega arith
 
 met-met-none-requires : (t : ℕ) → met-lts.Need-met-none-requires (met-calls t) (met-at t) met.Post
@@ -69,7 +69,7 @@ met-met-none-requires t c κs =
 
 met-add-met-none-2 : (t : ℕ) → met-lts.Need-add-met-none-2 (met-calls t) (met-at t) met.Post
 met-add-met-none-2 t c =
-    let i = content-inside standard _ _ (c .before .before .before .before .before .before .before .pre .1 .0 .there) .0 in
+    let i = content-inside large _ _ (c .before .before .before .before .before .before .before .pre .1 .0 .there) .0 in
     omega arith
 
 met-met-none-requires-2 : (t : ℕ) → met-lts.Need-met-none-requires-2 (met-calls t) (met-at t) met.Post
@@ -78,12 +78,12 @@ met-met-none-requires-2 t c κs =
 
 met-add-wide : (t : ℕ) → met-lts.Need-add-wide (met-calls t) (met-at t) met.Post
 met-add-wide t c =
-    let i = content-inside standard _ _ (c .before .before .before .before .before .before .before .pre .1 .0 .there) .0 in
+    let i = content-inside large _ _ (c .before .before .before .before .before .before .before .pre .1 .0 .there) .0 in
     omega arith
 
 met-shared-slice-read-wide-2 : (t : ℕ) → met-lts.Need-shared-slice-read-wide-2 (met-calls t) (met-at t) met.Post
 met-shared-slice-read-wide-2 t c =
-    type-there standard _ _ (c .before .before .before .before .before .before .before .before .pre .1 .0 .there) (sym (c .before .before .wide .ensures .0) ∙ c .before .match .keys3) .0
+    type-there large _ _ (c .before .before .before .before .before .before .before .before .pre .1 .0 .there) (sym (c .before .before .wide .ensures .0) ∙ c .before .match .keys3) .0
 
 met-wide-requires-2 : (t : ℕ) → met-lts.Need-wide-requires-2 (met-calls t) (met-at t) met.Post
 met-wide-requires-2 t c κs =
@@ -91,27 +91,27 @@ met-wide-requires-2 t c κs =
 
 met-add-met-type : (t : ℕ) → met-lts.Need-add-met-type (met-calls t) (met-at t) met.Post
 met-add-met-type t c =
-    let i = type-there standard _ _ (c .before .before .before .before .before .before .before .before .before .before .pre .1 .0 .there) (sym (c .before .before .before .before .wide .ensures .0) ∙ c .before .before .before .match .keys3) .0 in
+    let i = type-there large _ _ (c .before .before .before .before .before .before .before .before .before .before .pre .1 .0 .there) (sym (c .before .before .before .before .wide .ensures .0) ∙ c .before .before .before .match .keys3) .0 in
     omega arith
 
 met-met-type-requires : (t : ℕ) → met-lts.Need-met-type-requires (met-calls t) (met-at t) met.Post
-unfolding standard
+unfolding large
 met-met-type-requires t c κs =
     let pre = c .before .before .before .before .before .before .before .before .before .before .pre .1 in
-    let i = type-there standard _ _ (pre .0 .there) (sym (c .before .before .before .before .wide .ensures .0) ∙ c .before .before .before .match .keys3) .1 in
+    let i = type-there large _ _ (pre .0 .there) (sym (c .before .before .before .before .wide .ensures .0) ∙ c .before .before .before .match .keys3) .1 in
     let e = c .before .wide2 .ensures .0 in
     (omega arith, pre .0 .lists, pre .0 .once, pre .1)
 
 met-add-wide-2 : (t : ℕ) → met-lts.Need-add-wide-2 (met-calls t) (met-at t) met.Post
 met-add-wide-2 t c =
-    let i = content-inside standard _ _ (c .before .before .before .before .before .before .before .pre .1 .0 .there) .0 in
+    let i = content-inside large _ _ (c .before .before .before .before .before .before .before .pre .1 .0 .there) .0 in
     omega arith
 
 met-shared-slice-read-wide-3 : (t : ℕ) → met-lts.Need-shared-slice-read-wide-3 (met-calls t) (met-at t) met.Post
 met-shared-slice-read-wide-3 t c =
     let e = c .before .before .wide .ensures .0 in
     let k = c .before .match .keys4 in
-    count-there standard _ _ (c .before .before .before .before .before .before .before .before .pre .1 .0 .there) (omega arith) (omega arith)
+    count-there large _ _ (c .before .before .before .before .before .before .before .before .pre .1 .0 .there) (omega arith) (omega arith)
 
 met-wide-requires-3 : (t : ℕ) → met-lts.Need-wide-requires-3 (met-calls t) (met-at t) met.Post
 met-wide-requires-3 t c κs =
@@ -119,7 +119,7 @@ met-wide-requires-3 t c κs =
 
 met-add-met-row : (t : ℕ) → met-lts.Need-add-met-row (met-calls t) (met-at t) met.Post
 met-add-met-row t c =
-    let i = content-inside standard _ _ (c .before .before .before .before .before .before .before .before .before .pre .1 .0 .there) .0 in
+    let i = content-inside large _ _ (c .before .before .before .before .before .before .before .before .before .pre .1 .0 .there) .0 in
     omega arith
 
 met-met-row-requires : (t : ℕ) → met-lts.Need-met-row-requires (met-calls t) (met-at t) met.Post
@@ -129,13 +129,13 @@ met-met-row-requires t c κs =
     let a = start .pre .1 .0 in
     let e = c .before .before .before .before .wide .ensures .0 in
     let k = c .before .before .before .match .keys4 in
-    let i = content-inside standard _ _ (a .there) .0 in
+    let i = content-inside large _ _ (a .there) .0 in
     let m = start .pre .0 in
-    let row = operands-there standard _ _ (a .there) (omega arith) (omega arith) in (
+    let row = operands-there large _ _ (a .there) (omega arith) (omega arith) in (
       omega arith,
       (
         record {
-          there = subst (ContentsAt standard s (start .args .at + 2)) (sym (c .before .wide3 .ensures .0)) row;
+          there = subst (ContentsAt large s (start .args .at + 2)) (sym (c .before .wide3 .ensures .0)) row;
           lists = a .lists;
           once = a .once;
         },
@@ -149,14 +149,14 @@ met-met-sequence-requires t c κs =
 
 met-add-wide-3 : (t : ℕ) → met-lts.Need-add-wide-3 (met-calls t) (met-at t) met.Post
 met-add-wide-3 t c =
-    let i = content-inside standard _ _ (c .before .before .before .before .before .before .before .pre .1 .0 .there) .0 in
+    let i = content-inside large _ _ (c .before .before .before .before .before .before .before .pre .1 .0 .there) .0 in
     omega arith
 
 met-shared-slice-read-wide-4 : (t : ℕ) → met-lts.Need-shared-slice-read-wide-4 (met-calls t) (met-at t) met.Post
 met-shared-slice-read-wide-4 t c =
     let e = c .before .before .wide .ensures .0 in
     let k = c .before .match .keys5 in
-    count-there standard _ _ (c .before .before .before .before .before .before .before .before .pre .1 .0 .there) (omega arith) (omega arith)
+    count-there large _ _ (c .before .before .before .before .before .before .before .before .pre .1 .0 .there) (omega arith) (omega arith)
 
 met-wide-requires-4 : (t : ℕ) → met-lts.Need-wide-requires-4 (met-calls t) (met-at t) met.Post
 met-wide-requires-4 t c κs =
@@ -164,7 +164,7 @@ met-wide-requires-4 t c κs =
 
 met-add-met-row-2 : (t : ℕ) → met-lts.Need-add-met-row-2 (met-calls t) (met-at t) met.Post
 met-add-met-row-2 t c =
-    let i = content-inside standard _ _ (c .before .before .before .before .before .before .before .before .before .pre .1 .0 .there) .0 in
+    let i = content-inside large _ _ (c .before .before .before .before .before .before .before .before .before .pre .1 .0 .there) .0 in
     omega arith
 
 met-met-row-requires-2 : (t : ℕ) → met-lts.Need-met-row-requires-2 (met-calls t) (met-at t) met.Post
@@ -174,13 +174,13 @@ met-met-row-requires-2 t c κs =
     let a = start .pre .1 .0 in
     let e = c .before .before .before .before .wide .ensures .0 in
     let k = c .before .before .before .match .keys5 in
-    let i = content-inside standard _ _ (a .there) .0 in
+    let i = content-inside large _ _ (a .there) .0 in
     let m = start .pre .0 in
-    let row = operands-there standard _ _ (a .there) (omega arith) (omega arith) in (
+    let row = operands-there large _ _ (a .there) (omega arith) (omega arith) in (
       omega arith,
       (
         record {
-          there = subst (ContentsAt standard s (start .args .at + 2)) (sym (c .before .wide4 .ensures .0)) row;
+          there = subst (ContentsAt large s (start .args .at + 2)) (sym (c .before .wide4 .ensures .0)) row;
           lists = a .lists;
           once = a .once;
         },
@@ -190,7 +190,7 @@ met-met-row-requires-2 t c κs =
 
 met-add-met : (t : ℕ) → met-lts.Need-add-met (met-calls t) (met-at t) met.Post
 met-add-met t c =
-    let i = content-inside standard _ _ (c .before .before .before .before .before .before .before .pre .1 .0 .there) .0 in
+    let i = content-inside large _ _ (c .before .before .before .before .before .before .before .pre .1 .0 .there) .0 in
     omega arith
 
 met-met-requires : (t : ℕ) → met-lts.Need-met-requires (met-calls t) (met-at t) met.Post
@@ -199,12 +199,12 @@ met-met-requires t c κs =
     let a = start .pre .1 .0 in
     let e = c .before .before .wide .ensures .0 in
     let k = c .before .match .keys6 in
-    let i = content-inside standard _ _ (a .there) .0 in
+    let i = content-inside large _ _ (a .there) .0 in
     let m = start .pre .0 in (
       omega arith,
       (
         record {
-          there = operand-there standard _ _ (a .there) (omega arith);
+          there = operand-there large _ _ (a .there) (omega arith);
           lists = a .lists;
           once = a .once;
         },
@@ -214,7 +214,7 @@ met-met-requires t c κs =
 
 met-add-met-2 : (t : ℕ) → met-lts.Need-add-met-2 (met-calls t) (met-at t) met.Post
 met-add-met-2 t c =
-    let i = content-inside standard _ _ (c .before .before .before .before .before .before .before .pre .1 .0 .there) .0 in
+    let i = content-inside large _ _ (c .before .before .before .before .before .before .before .pre .1 .0 .there) .0 in
     omega arith
 
 met-met-requires-2 : (t : ℕ) → met-lts.Need-met-requires-2 (met-calls t) (met-at t) met.Post
@@ -228,12 +228,12 @@ met-met-requires-2 t c κs =
     let n2 = r .0 .0 .0 .1 in
     let n1 = r .0 .0 .0 .0 .1 in
     let n0 = r .0 .0 .0 .0 .0 .1 in
-    let i = content-inside standard _ _ (a .there) .0 in
+    let i = content-inside large _ _ (a .there) .0 in
     let m = start .pre .0 in (
       omega arith,
       (
         record {
-          there = operand-there standard _ _ (a .there) (omega arith);
+          there = operand-there large _ _ (a .there) (omega arith);
           lists = a .lists;
           once = a .once;
         },
@@ -322,7 +322,7 @@ met-row-met-row-requires t c κs =
     let start = c .before .before .before .before .before .before .before .before .before .before .before in
     let m = start .pre .0 in
     let a = first-asks _ _ _ _ _ _ _ (start .pre .1 .0) (c .before .before .before .before .before .before .if1 .left) in
-    let i = content-inside standard _ _ (a .there) .0 in
+    let i = content-inside large _ _ (a .there) .0 in
     let o = others-ask _ _ _ _ _ _ _ _ _ (start .pre .1 .0) (c .before .before .before .before .before .before .if1 .left) (c .before .before .before .before .met .ensures) (c .before .before .before .before .met .kept .1 .1 .1 .1 .0) in
     (omega arith, (o .1, c .before .before .before .before .met .ensures .known))
 

@@ -27,7 +27,7 @@ loop-holds c =
     let e : 0 ≡ first - first = omega arith in (
       omega arith,
       h .order,
-      adds-same (ap (λ (n : ℕ). take n (drop first (start .args .numbers .now))) e) (adds-none 128 _ _ (start .pre .0)),
+      adds-same (ap (λ (n : ℕ). take n (drop first (start .args .numbers .now))) e) (adds-none 256 _ _ (start .pre .0)),
       refl,
     )
 
@@ -39,10 +39,12 @@ shared-slice-read-append c =
 append-requires : tie.Need-append-requires Inv-loop μ-loop
 append-requires c κs =
     let start = c .before .before .before .before .before .before in
-    let inv = c .before .before .before .loop .inv in (
-      adds-once 128 _ _ (start .pre .0) _ _ _ (part-below (start .args .numbers .now) 128 (start .pre .1 .below) (start .args .first) (c .before .before .before .loop .i - start .args .first)) (inv .2) (inv .3),
-      start .pre .1 .below (c .before .before .before .loop .i),
-    )
+    let i = c .before .before .before .loop .i in
+    let inv = c .before .before .before .loop .inv in
+    adds-once 256 _ _ (start .pre .0) _ _ _
+    (part-below (start .args .numbers .now) 256 (start .pre .1 .below) (start .args .first) (i - start .args .first))
+    (inv .2)
+    (inv .3)
 
 add-i : tie.Need-add-i Inv-loop μ-loop
 add-i c =

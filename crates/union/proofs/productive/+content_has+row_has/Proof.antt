@@ -5,7 +5,7 @@ use native.Mathlib.Omega.{arith}
 use mathlib.Core.Path.{sym, _∙_, ap, subst}
 use lib.ListN.{length}
 use borrow.Author.Needs.{needs}
-use Rattle.grammar.specs.Limits.{standard}
+use Rattle.grammar.specs.Limits.{large}
 use Rattle.sets.specs.Sets.{member}
 use Rattle.reader.specs.ContentAt.{ContentsAt}
 use Rattle.union.specs.Walks.{hasRowAt}
@@ -55,7 +55,7 @@ row-has-calls t = (content-has-below t, content-has.Post, row-has-below t, row-h
 
 content-has-shared-slice-read-wide : (t : ℕ) → content-has-lts.Need-shared-slice-read-wide (content-has-calls t) (content-has-at t) content-has.Post
 content-has-shared-slice-read-wide t c =
-    content-inside standard _ _ (c .before .before .before .pre .1 .0) .0
+    content-inside large _ _ (c .before .before .before .pre .1 .0) .0
 
 content-has-wide-requires : (t : ℕ) → content-has-lts.Need-wide-requires (content-has-calls t) (content-has-at t) content-has.Post
 content-has-wide-requires t c κs =
@@ -63,31 +63,31 @@ content-has-wide-requires t c κs =
 
 content-has-add-t14 : (t : ℕ) → content-has-lts.Need-add-t14 (content-has-calls t) (content-has-at t) content-has.Post
 content-has-add-t14 t c =
-    let i = content-inside standard _ _ (c .before .before .before .before .before .pre .1 .0) .0 in
+    let i = content-inside large _ _ (c .before .before .before .before .before .pre .1 .0) .0 in
     omega arith
 
 content-has-add-t15 : (t : ℕ) → content-has-lts.Need-add-t15 (content-has-calls t) (content-has-at t) content-has.Post
 content-has-add-t15 t c =
-    let i = content-inside standard _ _ (c .before .before .before .before .before .pre .1 .0) .0 in
+    let i = content-inside large _ _ (c .before .before .before .before .before .pre .1 .0) .0 in
     omega arith
 
 content-has-type-has-requires : (t : ℕ) → content-has-lts.Need-type-has-requires (content-has-calls t) (content-has-at t) content-has.Post
-unfolding standard
+unfolding large
 content-has-type-has-requires t c κs =
     let start = c .before .before .before .before .before in
-    let i = type-there standard _ _ (start .pre .1 .0) (sym (c .before .wide .ensures .0) ∙ c .match .keys3) in
+    let i = type-there large _ _ (start .pre .1 .0) (sym (c .before .wide .ensures .0) ∙ c .match .keys3) in
     (i .0, i .1, start .pre .1 .1)
 
 content-has-add-wide : (t : ℕ) → content-has-lts.Need-add-wide (content-has-calls t) (content-has-at t) content-has.Post
 content-has-add-wide t c =
-    let i = content-inside standard _ _ (c .before .before .before .before .before .pre .1 .0) .0 in
+    let i = content-inside large _ _ (c .before .before .before .before .before .pre .1 .0) .0 in
     omega arith
 
 content-has-shared-slice-read-wide-2 : (t : ℕ) → content-has-lts.Need-shared-slice-read-wide-2 (content-has-calls t) (content-has-at t) content-has.Post
 content-has-shared-slice-read-wide-2 t c =
     let e = c .before .before .wide .ensures .0 in
     let k = c .before .match .keys4 in
-    count-there standard _ _ (c .before .before .before .before .before .before .pre .1 .0) (omega arith) (omega arith)
+    count-there large _ _ (c .before .before .before .before .before .before .pre .1 .0) (omega arith) (omega arith)
 
 content-has-wide-requires-2 : (t : ℕ) → content-has-lts.Need-wide-requires-2 (content-has-calls t) (content-has-at t) content-has.Post
 content-has-wide-requires-2 t c κs =
@@ -95,7 +95,7 @@ content-has-wide-requires-2 t c κs =
 
 content-has-add-row-has : (t : ℕ) → content-has-lts.Need-add-row-has (content-has-calls t) (content-has-at t) content-has.Post
 content-has-add-row-has t c =
-    let i = content-inside standard _ _ (c .before .before .before .before .before .before .before .pre .1 .0) .0 in
+    let i = content-inside large _ _ (c .before .before .before .before .before .before .before .pre .1 .0) .0 in
     omega arith
 
 content-has-row-has-requires : (t : ℕ) → content-has-lts.Need-row-has-requires (content-has-calls t) (content-has-at t) content-has.Post
@@ -104,21 +104,21 @@ content-has-row-has-requires t c κs =
     let s = start .args .content .now in
     let e = c .before .before .before .wide .ensures .0 in
     let k = c .before .before .match .keys4 in
-    let i = content-inside standard _ _ (start .pre .1 .0) .0 in
+    let i = content-inside large _ _ (start .pre .1 .0) .0 in
     let m = start .pre .0 in
-    let row = operands-there standard _ _ (start .pre .1 .0) (omega arith) (omega arith) in
-    (omega arith, (subst (ContentsAt standard s (start .args .at + 2)) (sym (c .wide2 .ensures .0)) row, start .pre .1 .1))
+    let row = operands-there large _ _ (start .pre .1 .0) (omega arith) (omega arith) in
+    (omega arith, (subst (ContentsAt large s (start .args .at + 2)) (sym (c .wide2 .ensures .0)) row, start .pre .1 .1))
 
 content-has-add-wide-2 : (t : ℕ) → content-has-lts.Need-add-wide-2 (content-has-calls t) (content-has-at t) content-has.Post
 content-has-add-wide-2 t c =
-    let i = content-inside standard _ _ (c .before .before .before .before .before .pre .1 .0) .0 in
+    let i = content-inside large _ _ (c .before .before .before .before .before .pre .1 .0) .0 in
     omega arith
 
 content-has-shared-slice-read-wide-3 : (t : ℕ) → content-has-lts.Need-shared-slice-read-wide-3 (content-has-calls t) (content-has-at t) content-has.Post
 content-has-shared-slice-read-wide-3 t c =
     let e = c .before .before .wide .ensures .0 in
     let k = c .before .match .keys5 in
-    count-there standard _ _ (c .before .before .before .before .before .before .pre .1 .0) (omega arith) (omega arith)
+    count-there large _ _ (c .before .before .before .before .before .before .pre .1 .0) (omega arith) (omega arith)
 
 content-has-wide-requires-3 : (t : ℕ) → content-has-lts.Need-wide-requires-3 (content-has-calls t) (content-has-at t) content-has.Post
 content-has-wide-requires-3 t c κs =
@@ -126,7 +126,7 @@ content-has-wide-requires-3 t c κs =
 
 content-has-add-row-has-2 : (t : ℕ) → content-has-lts.Need-add-row-has-2 (content-has-calls t) (content-has-at t) content-has.Post
 content-has-add-row-has-2 t c =
-    let i = content-inside standard _ _ (c .before .before .before .before .before .before .before .pre .1 .0) .0 in
+    let i = content-inside large _ _ (c .before .before .before .before .before .before .before .pre .1 .0) .0 in
     omega arith
 
 content-has-row-has-requires-2 : (t : ℕ) → content-has-lts.Need-row-has-requires-2 (content-has-calls t) (content-has-at t) content-has.Post
@@ -135,14 +135,14 @@ content-has-row-has-requires-2 t c κs =
     let s = start .args .content .now in
     let e = c .before .before .before .wide .ensures .0 in
     let k = c .before .before .match .keys5 in
-    let i = content-inside standard _ _ (start .pre .1 .0) .0 in
+    let i = content-inside large _ _ (start .pre .1 .0) .0 in
     let m = start .pre .0 in
-    let row = operands-there standard _ _ (start .pre .1 .0) (omega arith) (omega arith) in
-    (omega arith, (subst (ContentsAt standard s (start .args .at + 2)) (sym (c .wide3 .ensures .0)) row, start .pre .1 .1))
+    let row = operands-there large _ _ (start .pre .1 .0) (omega arith) (omega arith) in
+    (omega arith, (subst (ContentsAt large s (start .args .at + 2)) (sym (c .wide3 .ensures .0)) row, start .pre .1 .1))
 
 content-has-add-content-has : (t : ℕ) → content-has-lts.Need-add-content-has (content-has-calls t) (content-has-at t) content-has.Post
 content-has-add-content-has t c =
-    let i = content-inside standard _ _ (c .before .before .before .before .before .pre .1 .0) .0 in
+    let i = content-inside large _ _ (c .before .before .before .before .before .pre .1 .0) .0 in
     omega arith
 
 content-has-content-has-requires : (t : ℕ) → content-has-lts.Need-content-has-requires (content-has-calls t) (content-has-at t) content-has.Post
@@ -150,13 +150,13 @@ content-has-content-has-requires t c κs =
     let start = c .before .before .before .before .before in
     let e = c .before .wide .ensures .0 in
     let k = c .match .keys6 in
-    let i = content-inside standard _ _ (start .pre .1 .0) .0 in
+    let i = content-inside large _ _ (start .pre .1 .0) .0 in
     let m = start .pre .0 in
-    (omega arith, (operand-there standard _ _ (start .pre .1 .0) (omega arith), start .pre .1 .1))
+    (omega arith, (operand-there large _ _ (start .pre .1 .0) (omega arith), start .pre .1 .1))
 
 content-has-add-content-has-2 : (t : ℕ) → content-has-lts.Need-add-content-has-2 (content-has-calls t) (content-has-at t) content-has.Post
 content-has-add-content-has-2 t c =
-    let i = content-inside standard _ _ (c .before .before .before .before .before .pre .1 .0) .0 in
+    let i = content-inside large _ _ (c .before .before .before .before .before .pre .1 .0) .0 in
     omega arith
 
 content-has-content-has-requires-2 : (t : ℕ) → content-has-lts.Need-content-has-requires-2 (content-has-calls t) (content-has-at t) content-has.Post
@@ -169,22 +169,22 @@ content-has-content-has-requires-2 t c κs =
     let n2 = r .0 .0 .0 .1 in
     let n1 = r .0 .0 .0 .0 .1 in
     let n0 = r .0 .0 .0 .0 .0 .1 in
-    let i = content-inside standard _ _ (start .pre .1 .0) .0 in
+    let i = content-inside large _ _ (start .pre .1 .0) .0 in
     let m = start .pre .0 in
-    (omega arith, (operand-there standard _ _ (start .pre .1 .0) (omega arith), start .pre .1 .1))
+    (omega arith, (operand-there large _ _ (start .pre .1 .0) (omega arith), start .pre .1 .1))
 
 content-has-returns : (t : ℕ) → content-has-lts.Need-returns (content-has-calls t) (content-has-at t) content-has.Post
 content-has-returns t c =
-    has-none _ _ _ (content-inside standard _ _ (c .before .before .before .before .before .pre .1 .0) .0) (sym (c .before .wide .ensures .0) ∙ c .match .keys1)
+    has-none _ _ _ (content-inside large _ _ (c .before .before .before .before .before .pre .1 .0) .0) (sym (c .before .wide .ensures .0) ∙ c .match .keys1)
 
 content-has-returns-2 : (t : ℕ) → content-has-lts.Need-returns-2 (content-has-calls t) (content-has-at t) content-has.Post
 content-has-returns-2 t c =
-    has-empty _ _ _ (content-inside standard _ _ (c .before .before .before .before .before .pre .1 .0) .0) (sym (c .before .wide .ensures .0) ∙ c .match .keys2)
+    has-empty _ _ _ (content-inside large _ _ (c .before .before .before .before .before .pre .1 .0) .0) (sym (c .before .wide .ensures .0) ∙ c .match .keys2)
 
 content-has-returns-3 : (t : ℕ) → content-has-lts.Need-returns-3 (content-has-calls t) (content-has-at t) content-has.Post
 content-has-returns-3 t c =
     let byte = sym (c .before .before .wide .ensures .0) ∙ c .before .match .keys3 in
-    rw (c .type-has .ensures) (has-type _ _ _ (type-there standard _ _ (c .before .before .before .before .before .before .pre .1 .0) byte .0) byte)
+    rw (c .type-has .ensures) (has-type _ _ _ (type-there large _ _ (c .before .before .before .before .before .before .pre .1 .0) byte .0) byte)
 
 content-has-returns-4 : (t : ℕ) → content-has-lts.Need-returns-4 (content-has-calls t) (content-has-at t) content-has.Post
 content-has-returns-4 t c =
@@ -193,7 +193,7 @@ content-has-returns-4 t c =
     let at = start .args .at in
     let test = member (start .args .types .now) (start .args .base) in
     let byte = sym (c .before .before .before .before .wide .ensures .0) ∙ c .before .before .before .match .keys4 in
-    has-sequence test s at _ _ _ (count-there standard _ _ (start .pre .1 .0) (omega arith) (omega arith))
+    has-sequence test s at _ _ _ (count-there large _ _ (start .pre .1 .0) (omega arith) (omega arith))
     (ap (hasRowAt test s (at + 2)) (sym (c .before .wide2 .ensures .0)) ∙ c .row-has .ensures) byte
 
 content-has-returns-5 : (t : ℕ) → content-has-lts.Need-returns-5 (content-has-calls t) (content-has-at t) content-has.Post
@@ -203,12 +203,12 @@ content-has-returns-5 t c =
     let at = start .args .at in
     let test = member (start .args .types .now) (start .args .base) in
     let byte = sym (c .before .before .before .before .wide .ensures .0) ∙ c .before .before .before .match .keys5 in
-    has-choice test s at _ _ _ (count-there standard _ _ (start .pre .1 .0) (omega arith) (omega arith))
+    has-choice test s at _ _ _ (count-there large _ _ (start .pre .1 .0) (omega arith) (omega arith))
     (ap (hasRowAt test s (at + 2)) (sym (c .before .wide3 .ensures .0)) ∙ c .row-has2 .ensures) byte
 
 content-has-returns-6 : (t : ℕ) → content-has-lts.Need-returns-6 (content-has-calls t) (content-has-at t) content-has.Post
 content-has-returns-6 t c =
-    has-one-or-more _ _ _ _ _ (content-inside standard _ _ (c .before .before .before .before .before .before .pre .1 .0) .0) (c .content-has .ensures)
+    has-one-or-more _ _ _ _ _ (content-inside large _ _ (c .before .before .before .before .before .before .pre .1 .0) .0) (c .content-has .ensures)
     (sym (c .before .before .wide .ensures .0) ∙ c .before .match .keys6)
 
 content-has-returns-7 : (t : ℕ) → content-has-lts.Need-returns-7 (content-has-calls t) (content-has-at t) content-has.Post
@@ -222,7 +222,7 @@ content-has-returns-7 t c =
     let n2 = r .0 .0 .0 .1 in
     let n1 = r .0 .0 .0 .0 .1 in
     let n0 = r .0 .0 .0 .0 .0 .1 in
-    let i = content-inside standard _ _ (start .pre .1 .0) in
+    let i = content-inside large _ _ (start .pre .1 .0) in
     has-around _ _ _ _ _ (i .0) (c .content-has2 .ensures) (omega arith) (i .1) (λ q. n6 (e ∙ q))
 
 row-has-returns : (t : ℕ) → row-has-lts.Need-returns (row-has-calls t) (row-has-at t) row-has.Post
@@ -235,7 +235,7 @@ row-has-content-has-requires : (t : ℕ) → row-has-lts.Need-content-has-requir
 row-has-content-has-requires t c κs =
     let start = c .before .before .before in
     let m = start .pre .0 in
-    let first = first-of standard _ _ _ (start .pre .1 .0) (c .if1 .left) .first in
+    let first = first-of large _ _ _ (start .pre .1 .0) (c .if1 .left) .first in
     (omega arith, (first, start .pre .1 .1))
 
 row-has-sub-row-has : (t : ℕ) → row-has-lts.Need-sub-row-has (row-has-calls t) (row-has-at t) row-has.Post
@@ -246,9 +246,9 @@ row-has-row-has-requires : (t : ℕ) → row-has-lts.Need-row-has-requires (row-
 row-has-row-has-requires t c κs =
     let start = c .before .before .before .before in
     let m = start .pre .0 in
-    let first = first-of standard _ _ _ (start .pre .1 .0) (c .before .if1 .left) .first in
-    let i = content-inside standard _ _ first .0 in
-    let o = others-there standard _ _ _ (start .pre .1 .0) (c .before .if1 .left) _ _ _ (c .content-has .ensures) in
+    let first = first-of large _ _ _ (start .pre .1 .0) (c .before .if1 .left) .first in
+    let i = content-inside large _ _ first .0 in
+    let o = others-there large _ _ _ (start .pre .1 .0) (c .before .if1 .left) _ _ _ (c .content-has .ensures) in
     (omega arith, (o .1, start .pre .1 .1))
 
 row-has-both-requires : (t : ℕ) → row-has-lts.Need-both-requires (row-has-calls t) (row-has-at t) row-has.Post

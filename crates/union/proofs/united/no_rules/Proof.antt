@@ -8,7 +8,7 @@ use Rattle.union.proofs.united.no_rules.Tie as tie
 
 returns : tie.Need-returns
 returns c =
-    let l = length-replicate {A = ℕ} 128 0 in
+    let l = length-replicate {A = ℕ} 256 0 in
     (λ old add. no-views old add _ refl l l l l l, refl, refl)
 
 pub no-rules-spec : {M : Type 1} → statement M

@@ -2,7 +2,6 @@
 use Prim.Native.Nat.{ℕ, _-_, _<_}
 use native.Mathlib.Omega.{arith}
 use borrow.Author.Count.{below-more}
-use borrow.Author.Needs.{needs}
 use mathlib.Core.Bool.{false, _&&_}
 use mathlib.Core.Path.{_≡_, sym, _∙_}
 use lib.ListN.{getD}
@@ -21,31 +20,33 @@ abbrev μ-loop : tie.MeasureT-loop
 loop-holds : tie.Need-loop-holds Inv-loop μ-loop
 loop-holds c = λ k h. absurd (omega arith)
 
-mul-both : tie.Need-mul-both Inv-loop μ-loop
-mul-both c = omega (arith, c .before .before .before .before .pre)
-
 array-read-both : tie.Need-array-read-both Inv-loop μ-loop
 array-read-both c = omega (arith, c .before .before .before .before .pre)
-
-mul-both-2 : tie.Need-mul-both-2 Inv-loop μ-loop
-mul-both-2 c = omega (arith, c .before .before .before .before .pre)
 
 array-read-both-2 : tie.Need-array-read-both-2 Inv-loop μ-loop
 array-read-both-2 c = omega (arith, c .before .before .before .before .pre)
 
+both-requires : tie.Need-both-requires Inv-loop μ-loop
+both-requires c κs = tt
+
 returns : tie.Need-returns Inv-loop μ-loop
 returns c =
-    λ old add rs x w p q.
-    pair-here w x p q (c .before .before .before .loop .i) (c .before .before .loop-test .taken) (c .before .before .before .loop .inv) (sym (c .before .both .ensures) ∙ c .if1 .taken)
+    let below = c .before .before .loop-test .taken in (
+      λ old add rs x w p q. pair-here w x p q (c .before .before .before .loop .i) below (c .before .before .before .loop .inv) (sym (c .before .both .ensures) ∙ c .if1 .taken),
+      omega arith,
+    )
 
 add-i : tie.Need-add-i Inv-loop μ-loop
 add-i c = omega (arith, c .before .before .before .before .before .before .pre)
+
+loop-less : tie.Need-loop-less Inv-loop μ-loop
+loop-less c = omega arith
 
 loop-again : tie.Need-loop-again Inv-loop μ-loop
 loop-again c = below-more _ (c .before .before .before .loop .i) (c .before .before .before .loop .inv) (sym (c .before .both .ensures) ∙ c .if1 .left)
 
 returns-2 : tie.Need-returns-2 Inv-loop μ-loop
-returns-2 c = λ old add rs x w p q. pair-nowhere w x p q (λ j h. c .before .loop .inv j (omega arith))
+returns-2 c = (λ old add rs x w p q. pair-nowhere w x p q (λ j h. c .before .loop .inv j (omega arith)), omega arith)
 
 pub pair-place-spec : {M : Type 1} → statement M
 pair-place-spec =
@@ -54,13 +55,11 @@ pair-place-spec =
     Inv-loop
     μ-loop
     loop-holds
-    mul-both
     array-read-both
-    mul-both-2
     array-read-both-2
-    (λ c κs. search needs)
+    both-requires
     returns
     add-i
-    (λ c. omega arith)
+    loop-less
     loop-again
     returns-2)
