@@ -35,14 +35,15 @@ module _ {old add : List ℕ} {v : United} {u : Table} (x : Views old add v u) w
       let s = seen x i h in
       s .2 .label ∙ ap (λ (r : Rule). r .label) (sym (at-else (u .rules) i (record { type = 0; label = 0; content = none }) (s .1)))
 
-  pub labelled-is : (pairs : ℕ → Bool) (l : ℕ) → keep (λ p. pairs p && eqb (labelIn v p) l) (numbersBelow (v .rules)) ≡ pairsLabelled u pairs l
+  pub labelled-is : (pairs : ℕ → Bool) (l : ℕ)
+      → keep (λ p. pairs p && eqb (labelIn v p) l) (numbersBelow (v .rules)) ≡ pairsLabelled u pairs l
   unfolding pairsLabelled
   labelled-is pairs l =
       keep-below (λ p. pairs p && eqb (labelIn v p) l) (λ p. pairs p && eqb (ruleNumbered u p .label) l) (v .rules)
       (λ p h. ap (λ (k : ℕ). pairs p && eqb k l) (label-at p h))
       ∙ ap (λ (n : ℕ). keep (λ p. pairs p && eqb (ruleNumbered u p .label) l) (numbersBelow n)) (x .rules)
 
-  pub few-rules : length (u .rules) ≤ 128
+  pub few-rules : length (u .rules) ≤ 256
   few-rules = omega (arith, x .rules, x .few)
 
   -- the label of a set
@@ -51,7 +52,7 @@ module _ {old add : List ℕ} {v : United} {u : Table} (x : Views old add v u) w
     unfolding setLabel
     label-first p h e before =
         let first : getD s 0 0 ≡ p =
-        ap (λ (l : List ℕ). getD l 0 0) (sym a) ∙ first-kept (λ q. isIn q s) p e 128 (omega (arith, x .few)) before in
+        ap (λ (l : List ℕ). getD l 0 0) (sym a) ∙ first-kept (λ q. isIn q s) p e 256 (omega (arith, x .few)) before in
         label-at p h ∙ ap (λ (q : ℕ). ruleNumbered u q .label) (sym first)
 
   pub label-none : (s : TypeSet) → isEmpty s ≡ false → ((q : ℕ) → q < v .rules → isIn q s ≡ false) → 0 ≡ setLabel u s
@@ -84,7 +85,10 @@ module _ (u : Table) (pairs : ℕ → Bool) where
   longer n zero = let z : n + 0 ≡ n = omega arith in let e = ap (λ (m : ℕ). length (setsUp m)) z in omega arith
   longer n (suc d) =
       let z : n + suc d ≡ n + d + 1 = omega arith in
-      let e = ap (λ (m : ℕ). length (setsUp m)) z ∙ ap length (up-next (n + d)) ∙ length-append (setsUp (n + d)) (keep (λ s. not (isEmpty s)) (pairsLabelled u pairs (n + d) ∷ [])) in
+      let e =
+      ap (λ (m : ℕ). length (setsUp m)) z
+      ∙ ap length (up-next (n + d))
+      ∙ length-append (setsUp (n + d)) (keep (λ s. not (isEmpty s)) (pairsLabelled u pairs (n + d) ∷ [])) in
       let ih = longer n d in
       omega arith
 
@@ -96,17 +100,17 @@ module _ (u : Table) (pairs : ℕ → Bool) where
   up-whole n e = ap setsUp e
 
   -- one label more, as the program finds it
-  module _ (n : ℕ) (words : List ℕ) (r : Counted)
-      (put : SetsCounted words (setsUp n ++ keep (λ s. not (isEmpty s)) (pairsLabelled u pairs n ∷ [])) r) where
-    pub up-more : (count : ℕ) → r ≡ Count count → SetsCounted words (setsUp (n + 1)) (Count count)
+  module _ (most n : ℕ) (words : List ℕ) (r : Counted)
+      (put : SetsCounted most words (setsUp n ++ keep (λ s. not (isEmpty s)) (pairsLabelled u pairs n ∷ [])) r) where
+    pub up-more : (count : ℕ) → r ≡ Count count → SetsCounted most words (setsUp (n + 1)) (Count count)
     up-more count e =
-        subst (λ (l : List TypeSet). SetsCounted words l (Count count)) (sym (up-next n))
-        (subst (SetsCounted words (setsUp n ++ keep (λ s. not (isEmpty s)) (pairsLabelled u pairs n ∷ []))) e put)
+        subst (λ (l : List TypeSet). SetsCounted most words l (Count count)) (sym (up-next n))
+        (subst (SetsCounted most words (setsUp n ++ keep (λ s. not (isEmpty s)) (pairsLabelled u pairs n ∷ []))) e put)
 
-    pub up-many : r ≡ TooMany → (labels : ℕ) → n < labels → labels ≡ length (u .labels) → 64 < length (labelSets u pairs)
+    pub up-many : r ≡ TooMany → (labels : ℕ) → n < labels → labels ≡ length (u .labels) → most < length (labelSets u pairs)
     up-many e labels h f =
-        let many : 64 < length (setsUp n ++ keep (λ s. not (isEmpty s)) (pairsLabelled u pairs n ∷ [])) =
-        subst (SetsCounted words (setsUp n ++ keep (λ s. not (isEmpty s)) (pairsLabelled u pairs n ∷ []))) e put in
+        let many : most < length (setsUp n ++ keep (λ s. not (isEmpty s)) (pairsLabelled u pairs n ∷ [])) =
+        subst (SetsCounted most words (setsUp n ++ keep (λ s. not (isEmpty s)) (pairsLabelled u pairs n ∷ []))) e put in
         let a = ap length (up-next n) in
         let b = up-longer (n + 1) labels (omega arith) in
         let c = ap length (up-whole labels f) in

@@ -1,3 +1,4 @@
+pub mod CountedRoomier
 pub mod KeptLists
 pub mod LabelLaws
 pub mod LocalBySets

@@ -10,6 +10,7 @@ use lib.ListN.{length, length-map, getElem?}
 use lib.Dec.{eqb}
 use borrow.Author.Tests.{eqb-true, eq-eqb}
 use Rattle.grammar.specs.Lists.{anyPass, keep, joinedOf, place, isIn, sameNumbers, numbersBelow}
+use Rattle.grammar.specs.Limits.{Limits}
 use Rattle.grammar.specs.Content.{Content}
 use Rattle.grammar.specs.Table.{Rule, Table}
 use Rattle.grammar.specs.ReadTable.{isEmpty}
@@ -135,7 +136,7 @@ module _ (u : Table) where
       (numbers-below (length (u .rules)) p .1 (left-pair u p e .below))
       ∙ ap (λ (b : Bool). b && eqb (ruleNumbered u p .label) l) e))
 
-  module _ (fit : UnionFit u) where
+  module _ {lim : Limits} (fit : UnionFit lim u) where
     pub local-set : (s : TypeSet) → List·Memᴰ s (localSets u) → SetOfLabel u s
     local-set s m =
         let (l, n, e) = Memᴰ·of-map setOf (usedLabels reduced) (subst (λ (ss : List TypeSet). List·Memᴰ s ss) local-sets m) in

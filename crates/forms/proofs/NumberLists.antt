@@ -63,7 +63,9 @@ puts-kept on n =
     same-test (puts on (λ j. j) nothing n p) (isIn p (keep on (numbersBelow n))) (
       λ e.
           ⊎-elim (λ f. absurd (false≢true f))
-          (λ q. subst (λ (k : ℕ). isIn k (keep on (numbersBelow n)) ≡ true) (q .keyed) (mem-in (keep-mem on (numbers-below n (q .number) .1 (q .below)) (q .is-on))))
+          (λ q.
+          subst (λ (k : ℕ). isIn k (keep on (numbersBelow n)) ≡ true) (q .keyed)
+          (mem-in (keep-mem on (numbers-below n (q .number) .1 (q .below)) (q .is-on))))
           (puts-was on (λ j. j) nothing n p e),
       λ e. let k = kept-within on n p e in puts-has on (λ j. j) nothing n p (k .0) (k .1),
     ))

@@ -14,7 +14,7 @@ use lib.Seq.{ext-getD}
 use lib.Dec.{ltb}
 use borrow.Author.Tests.{ltb-true, ltb-false}
 use Rattle.grammar.specs.Lists.{place, isIn, sameNumbers, numbersBelow}
-use Rattle.grammar.specs.Limits.{standard}
+use Rattle.grammar.specs.Limits.{large}
 use Rattle.grammar.specs.Unite.{shifted}
 use Rattle.grammar.specs.Table.{Rule, Table}
 use Rattle.grammar.specs.Normalise.{pairsOf, normalise}
@@ -56,7 +56,8 @@ map-at f [] i h = absurd (omega arith)
 map-at f (x ∷ l) zero h = refl
 map-at f (x ∷ l) (suc i) h = map-at f l i (omega arith)
 
-pub all-numbers : (f : ℕ → ℕ) (before after : List ℕ) (n : ℕ) → length before ≡ n → length after ≡ n → NumbersOf (λ i. f (getD before i 0)) n after
+pub all-numbers : (f : ℕ → ℕ) (before after : List ℕ) (n : ℕ) → length before ≡ n → length after ≡ n
+    → NumbersOf (λ i. f (getD before i 0)) n after
     → after ≡ map f before
 all-numbers f before after n p q h =
     ext-getD 0 after (map f before) (q ∙ sym (length-map before f ∙ p)) (λ i l. h i (omega arith) ∙ sym (map-at f before i (omega arith)))
@@ -99,11 +100,11 @@ fruitful-below u k p m =
     let b = subst (λ (l : List ℕ). List·Memᴰ p l) (pairs-are u k) a in
     numbers-below (length (u .rules)) p .0 (kept _ (numbersBelow (length (u .rules))) b .0)
 
-module _ (of : List ℕ) (small : (p : ℕ) → getD of p 0 ≤ 64) where
+module _ (of : List ℕ) (small : (p : ℕ) → getD of p 0 ≤ 128) where
   abbrev numberOf : ℕ → ℕ
   numberOf p = getD of p 0
 
-  side-listed : (from numbers : List ℕ) → Listed 64 128 from numbers → Listed 64 128 from (map numberOf numbers)
+  side-listed : (from numbers : List ℕ) → Listed 128 256 from numbers → Listed 128 256 from (map numberOf numbers)
   side-listed from numbers x =
       record {
         front = x .front;
@@ -112,7 +113,7 @@ module _ (of : List ℕ) (small : (p : ℕ) → getD of p 0 ≤ 64) where
         below = λ i. below i (ltb i (length numbers)) refl;
       }
     where
-      below : (i : ℕ) (b : Bool) → ltb i (length numbers) ≡ b → getD (map numberOf numbers) i 0 < 128
+      below : (i : ℕ) (b : Bool) → ltb i (length numbers) ≡ b → getD (map numberOf numbers) i 0 < 256
       below i true e =
           let q = map-at numberOf numbers i (ltb-true i (length numbers) e) in
           let s = small (getD numbers i 0) in
@@ -139,18 +140,24 @@ module _ (of : List ℕ) (small : (p : ℕ) → getD of p 0 ≤ 64) where
   result-lists u lists r target x h f n g m =
       record {
         old-listed =
-            subst (λ (l : List ℕ). Listed 64 128 l (r .old .numbers)) (sym f)
-            (subst (Listed 64 128 (lists .old .from)) (sym n) (side-listed (lists .old .from) (lists .old .numbers) (x .old-listed)));
+            subst (λ (l : List ℕ). Listed 128 256 l (r .old .numbers)) (sym f)
+            (subst (Listed 128 256 (lists .old .from)) (sym n) (side-listed (lists .old .from) (lists .old .numbers) (x .old-listed)));
         added-listed =
-            subst (λ (l : List ℕ). Listed 64 128 l (r .addition .numbers)) (sym g)
-            (subst (Listed 64 128 (lists .addition .from)) (sym m) (side-listed (lists .addition .from) (lists .addition .numbers) (x .added-listed)));
-        old = λ k l. ap₂ (λ (a b : List ℕ). listOfType a b k) f n ∙ side-list (lists .old .from) (lists .old .numbers) k ∙ ap (map numberOf) (x .old k l) ∙ same k;
+            subst (λ (l : List ℕ). Listed 128 256 l (r .addition .numbers)) (sym g)
+            (subst (Listed 128 256 (lists .addition .from)) (sym m)
+            (side-listed (lists .addition .from) (lists .addition .numbers) (x .added-listed)));
+        old =
+            λ k l.
+            ap₂ (λ (a b : List ℕ). listOfType a b k) f n
+            ∙ side-list (lists .old .from) (lists .old .numbers) k
+            ∙ ap (map numberOf) (x .old k l)
+            ∙ same k;
         added =
             λ k l.
             ap₂ (λ (a b : List ℕ). listOfType a b k) g m
             ∙ side-list (lists .addition .from) (lists .addition .numbers) k
             ∙ ap (map numberOf) (x .added k l)
-            ∙ same (shifted standard k);
+            ∙ same (shifted large k);
       }
     where
       same : (k : ℕ) → map numberOf (fruitfulOf u k) ≡ map target (fruitfulOf u k)

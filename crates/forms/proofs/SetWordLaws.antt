@@ -37,7 +37,7 @@ use Rattle.theory.proofs.lists.ListLaws.{
 use Rattle.theory.proofs.lists.PlaceLaws.{place-found, place-some}
 use Rattle.theory.proofs.lists.DistinctLaws.{one-more-new, one-more-old}
 use Rattle.sets.specs.Sets.{member, storeAt, Empties}
-use Rattle.sets.proofs.SetLaws.{words-store, store-before, length-store, set-before}
+use Rattle.sets.proofs.SetLaws.{words-store, store-before, length-store, words-before}
 use Rattle.reader.proofs.LabelSearch.{place-first, place-nowhere}
 use Rattle.forms.specs.declared.set_words.Counted.the-variants.{TooMany, Count}
 use Rattle.forms.specs.SetWords.{setIn, Ascending, SetsHeld, SetsCounted}
@@ -50,18 +50,19 @@ pub record SetOf (words : List ℕ) (s : TypeSet) : Type 0 where
   pub is : member words 0 ≡ (λ p. isIn p s)
   pub ascending : Ascending s
 
-last-at : {A : Type 0} (xs : List A) (x : A) (i : ℕ) {y : A} → length xs ≤ i → getElem? (xs ++ (x ∷ [])) i ≡ just y → (i ≡ length xs) × (y ≡ x)
+last-at : {A : Type 0} (xs : List A) (x : A) (i : ℕ) {y : A} → length xs ≤ i
+    → getElem? (xs ++ (x ∷ [])) i ≡ just y → (i ≡ length xs) × (y ≡ x)
 last-at [] x zero h e = (refl, just-eq e)
 last-at [] x (suc i) h e = let z : _≡_ {A = ℕ} 0 1 = cc in absurd (omega arith)
 last-at (z ∷ xs) x zero h e = absurd (omega arith)
 last-at (z ∷ xs) x (suc i) h e = let r = last-at xs x i (omega arith) e in (ap suc (r .0), r .1)
 
-module _ {words : List ℕ} {sets : List TypeSet} (held : SetsHeld words sets) (count : ℕ) (counted : count ≡ length sets) (set : List ℕ) {s : TypeSet}
-    (x : SetOf set s) where
+module _ {words : List ℕ} {sets : List TypeSet} (held : SetsHeld words sets) (count : ℕ) (counted : count ≡ length sets)
+    (set : List ℕ) {s : TypeSet} (x : SetOf set s) where
   -- whether the set of a number is this one
   same-there : (i : ℕ) (t : TypeSet) → getElem? sets i ≡ just t → setIn words i ≡ member set 0 → sameNumbers s t ≡ true
   same-there i t e q =
-      let f = same-ascending s t 128 (x .ascending) (held .ascending t (at-mem sets i e)) (sym (x .is) ∙ sym q ∙ held .set i t e) in
+      let f = same-ascending s t 256 (x .ascending) (held .ascending t (at-mem sets i e)) (sym (x .is) ∙ sym q ∙ held .set i t e) in
       subst (λ (r : TypeSet). sameNumbers s r ≡ true) f (same-numbers-refl s)
 
   other-there : (i : ℕ) (t : TypeSet) → getElem? sets i ≡ just t → (setIn words i ≡ member set 0 → ⊥) → sameNumbers s t ≡ false
@@ -81,32 +82,38 @@ module _ {words : List ℕ} {sets : List TypeSet} (held : SetsHeld words sets) (
       e ∙ sym (place-nowhere sameNumbers s sets (λ j t f. let l = at-below sets j f in other-there j t f (h j (omega arith))))
 
   -- one set more after them
-  pub sets-put : length set ≡ 4 → count < 64 → (after : List ℕ) → after ≡ storeAt words (4 * count) set
-      → SetsCounted after (sets ++ (s ∷ [])) (Count (count + 1))
-  sets-put four few after e =
-      subst (λ (w : List ℕ). SetsCounted w (sets ++ (s ∷ [])) (Count (count + 1))) (sym e) (
+  pub sets-put : length set ≡ 8 → (most : ℕ) → count < most → most ≤ 128 → (after : List ℕ) → after ≡ storeAt words (8 * count) set
+      → SetsCounted most after (sets ++ (s ∷ [])) (Count (count + 1))
+  sets-put eight most few room after e =
+      subst (λ (w : List ℕ). SetsCounted most w (sets ++ (s ∷ [])) (Count (count + 1))) (sym e) (
         omega (arith, longer),
-        record { few = omega (arith, longer); room = rw (length-store words (4 * count) set fits) (held .room); set = each; ascending = up },
+        omega arith,
+        record {
+          few = omega (arith, longer);
+          room = rw (length-store words (8 * count) set fits) (held .room);
+          set = each;
+          ascending = up;
+        },
       )
     where
-      fits : 4 * count + length set ≤ length words
+      fits : 8 * count + length set ≤ length words
       fits = let r = held .room in omega arith
 
       longer : length (sets ++ (s ∷ [])) ≡ length sets + 1
       longer = length-append sets (s ∷ [])
 
-      each : (i : ℕ) (t : TypeSet) → getElem? (sets ++ (s ∷ [])) i ≡ just t → setIn (storeAt words (4 * count) set) i ≡ (λ p. isIn p t)
+      each : (i : ℕ) (t : TypeSet) → getElem? (sets ++ (s ∷ [])) i ≡ just t → setIn (storeAt words (8 * count) set) i ≡ (λ p. isIn p t)
       each i t f = go (ltb i (length sets)) refl
         where
-          go : (b : Bool) → ltb i (length sets) ≡ b → setIn (storeAt words (4 * count) set) i ≡ (λ p. isIn p t)
+          go : (b : Bool) → ltb i (length sets) ≡ b → setIn (storeAt words (8 * count) set) i ≡ (λ p. isIn p t)
           go true b =
               let h = ltb-true i (length sets) b in
-              ap (λ (w : List ℕ). member w 0) (store-before words (4 * count) set (4 * i) 4 fits (omega arith))
+              ap (λ (w : List ℕ). member w 0) (store-before words (8 * count) set (8 * i) 8 fits (omega arith))
               ∙ held .set i t (sym (at-joined sets (s ∷ []) i h) ∙ f)
           go false b =
               let l = last-at sets s i (ltb-false i (length sets) b) f in
-              ap (λ (j : ℕ). setIn (storeAt words (4 * count) set) j) (l .0 ∙ sym counted)
-              ∙ ap (λ (w : List ℕ). member w 0) (words-store words (4 * count) set 4 fits four)
+              ap (λ (j : ℕ). setIn (storeAt words (8 * count) set) j) (l .0 ∙ sym counted)
+              ∙ ap (λ (w : List ℕ). member w 0) (words-store words (8 * count) set 8 fits eight)
               ∙ x .is
               ∙ ap (λ (r : TypeSet). λ (p : ℕ). isIn p r) (sym (l .1))
 
@@ -115,20 +122,21 @@ module _ {words : List ℕ} {sets : List TypeSet} (held : SetsHeld words sets) (
           ⊎-elim (held .ascending t) (λ l. subst Ascending (sym (List·Memᴰ·eq-of-singleton l)) (x .ascending))
           (List·Memᴰ·append-cases sets m)
 
-  pub sets-full : count ≡ 64 → 64 < length (sets ++ (s ∷ []))
-  sets-full e = let l = length-append sets (s ∷ []) in omega arith
+  pub sets-full : (most : ℕ) → count ≡ most → most < length (sets ++ (s ∷ []))
+  sets-full most e = let l = length-append sets (s ∷ []) in omega arith
 
   -- a set that is empty, or not
-  pub none-put : (r : Bool) → r ≡ true → Empties set r → SetsCounted words (sets ++ keep (λ t. not (isEmpty t)) (s ∷ [])) (Count count)
+  pub none-put : (most : ℕ) → count ≤ most → (r : Bool) → r ≡ true → Empties set r
+      → SetsCounted most words (sets ++ keep (λ t. not (isEmpty t)) (s ∷ [])) (Count count)
   unfolding keep
-  none-put r is empties =
+  none-put most few r is empties =
       let e : s ≡ [] =
       sym (x .ascending)
-      ∙ keep-nothing (λ p. isIn p s) (numbersBelow 128)
+      ∙ keep-nothing (λ p. isIn p s) (numbersBelow 256)
       (λ p m. sym (ap (λ (f : ℕ → Bool). f p) (x .is)) ∙ ap (λ (f : ℕ → Bool). f p) (empties .none is)) in
       let same : sets ++ keep (λ t. not (isEmpty t)) (s ∷ []) ≡ sets =
       ap (λ (r : TypeSet). sets ++ keep (λ t. not (isEmpty t)) (r ∷ [])) e ∙ append-nil sets in
-      subst (λ (l : List TypeSet). SetsCounted words l (Count count)) (sym same) (counted, held)
+      subst (λ (l : List TypeSet). SetsCounted most words l (Count count)) (sym same) (counted, few, held)
 
   pub some-put : (r : Bool) → r ≡ false → Empties set r → sets ++ (s ∷ []) ≡ sets ++ keep (λ t. not (isEmpty t)) (s ∷ [])
   unfolding isIn keep
@@ -141,10 +149,12 @@ module _ {words : List ℕ} {sets : List TypeSet} (held : SetsHeld words sets) (
 
   -- a set that is there, or not
   module _ (once : distinct sameNumbers sets ≡ sets) where
-    pub old-put : (r : ℕ) → r ≡ place sameNumbers s sets → r < count → SetsCounted words (distinct sameNumbers (sets ++ (s ∷ []))) (Count count)
-    old-put r e h =
-        let same = one-more-old sameNumbers (decided-sym sameNumbers numbers-decide) sets s (place-some sameNumbers s sets (omega arith)) ∙ once in
-        subst (λ (l : List TypeSet). SetsCounted words l (Count count)) (sym same) (counted, held)
+    pub old-put : (most : ℕ) → count ≤ most → (r : ℕ) → r ≡ place sameNumbers s sets → r < count
+        → SetsCounted most words (distinct sameNumbers (sets ++ (s ∷ []))) (Count count)
+    old-put most few r e h =
+        let same =
+        one-more-old sameNumbers (decided-sym sameNumbers numbers-decide) sets s (place-some sameNumbers s sets (omega arith)) ∙ once in
+        subst (λ (l : List TypeSet). SetsCounted most words l (Count count)) (sym same) (counted, few, held)
 
     pub new-put : (r : ℕ) → r ≡ place sameNumbers s sets → count ≤ r → sets ++ (s ∷ []) ≡ distinct sameNumbers (sets ++ (s ∷ []))
     new-put r e h =
@@ -153,9 +163,10 @@ module _ {words : List ℕ} {sets : List TypeSet} (held : SetsHeld words sets) (
         (λ t. let f = place-found sameNumbers s sets t in let l = at-below sets (place sameNumbers s sets) (f .1) in omega arith) in
         sym (one-more-new sameNumbers (decided-sym sameNumbers numbers-decide) sets s none ∙ ap (λ (l : List TypeSet). l ++ (s ∷ [])) once)
 
-pub no-sets : (words : List ℕ) → 256 ≤ length words → SetsCounted words [] (Count 0)
-no-sets words room = (
+pub no-sets : (most : ℕ) (words : List ℕ) → 1024 ≤ length words → SetsCounted most words [] (Count 0)
+no-sets most words room = (
   refl,
+  omega arith,
   record {
     few = omega arith;
     room = room;
@@ -164,7 +175,7 @@ no-sets words room = (
   },
 )
 
-pub sets-stay : (before after : List ℕ) (n : ℕ) {sets : List TypeSet} → take n after ≡ take n before → 256 ≤ n → 256 ≤ length after
+pub sets-stay : (before after : List ℕ) (n : ℕ) {sets : List TypeSet} → take n after ≡ take n before → 1024 ≤ n → 1024 ≤ length after
     → SetsHeld before sets → SetsHeld after sets
 sets-stay before after n {sets} e long room held =
     record {
@@ -174,12 +185,12 @@ sets-stay before after n {sets} e long room held =
           λ i s at.
           let b = at-below sets i at in
           let few = held .few in
-          set-before before after n (4 * i) e (omega arith) ∙ held .set i s at;
+          ap (λ (w : List ℕ). member w 0) (words-before before after n (8 * i) 8 e (omega arith)) ∙ held .set i s at;
       ascending = held .ascending;
     }
 
-pub few-put : (n : ℕ) → n ≤ 64 → Few (Count n)
-few-put n h m e = let same : n ≡ m = cc in omega arith
+pub few-put : (most n : ℕ) → n ≤ most → Few most (Count n)
+few-put most n h m e = let same : n ≡ m = cc in omega arith
 
-pub few-many : Few TooMany
-few-many m e = let z : _≡_ {A = ℕ} 0 1 = cc in absurd (omega arith)
+pub few-many : (most : ℕ) → Few most TooMany
+few-many most m e = let z : _≡_ {A = ℕ} 0 1 = cc in absurd (omega arith)

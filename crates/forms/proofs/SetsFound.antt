@@ -5,7 +5,7 @@
 --   found-start    to begin with, the start sets
 --   found-next     the next is looked into: each set of a pair met in it is added unless it is there
 --   found-all      when all have been looked into, they are all sets
---   found-many     more than 64 on the way are more than 64 in the end
+--   found-many     more than the limit on types on the way are more in the end
 use Prim.Native.Nat.{ℕ, zero, suc, _+_, _-_, _≤_, _<_}
 use native.Mathlib.Omega.{arith}
 use mathlib.Core.Bool.{Bool, true, not, _&&_}
@@ -28,7 +28,7 @@ use lib.ListN.{length, length-append, getElem?, getD}
 use lib.Dec.{eqb}
 use borrow.Author.Tests.{eqb-true, eq-eqb}
 use Rattle.grammar.specs.Lists.{anyPass, keep, distinct, isIn, sameNumbers, numbersBelow}
-use Rattle.grammar.specs.Limits.{standard}
+use Rattle.grammar.specs.Limits.{Limits}
 use Rattle.grammar.specs.Table.{Table}
 use Rattle.grammar.specs.ReadTable.{isEmpty}
 use Rattle.grammar.specs.Normalise.{normalise}
@@ -99,9 +99,9 @@ module _ (u : Table) (pairs : ℕ → Bool) where
             (and-intro (pairs p) (eqb (ruleNumbered u p .label) l) (h .listed) (eq-eqb (ruleNumbered u p .label) l (h .label))),
       )
 
-  pub labelled-ascending : length (u .rules) ≤ 128 → (l : ℕ) → Ascending (pairsLabelled u pairs l)
+  pub labelled-ascending : length (u .rules) ≤ 256 → (l : ℕ) → Ascending (pairsLabelled u pairs l)
   unfolding pairsLabelled
-  labelled-ascending few l = kept-below (λ p. pairs p && eqb (ruleNumbered u p .label) l) (length (u .rules)) 128 few
+  labelled-ascending few l = kept-below (λ p. pairs p && eqb (ruleNumbered u p .label) l) (length (u .rules)) 256 few
 
   -- a set with a member is told by its label
   pub label-told : (x y p : ℕ) → List·Memᴰ p (pairsLabelled u pairs x) → pairsLabelled u pairs x ≡ pairsLabelled u pairs y → x ≡ y
@@ -156,7 +156,8 @@ label-of-set u pairs l m =
     let s = pairsLabelled u pairs l in
     labelled-pair u pairs l (getD s 0 0) .0 (first-member s m) .label
 
-pub set-of-label : (u : Table) → UnionFit u → (pairs : ℕ → Bool) → ((p : ℕ) → pairs p ≡ true → isLeft u p ≡ true) → (l : ℕ)
+pub set-of-label : {lim : Limits} (u : Table) → UnionFit lim u → (pairs : ℕ → Bool)
+    → ((p : ℕ) → pairs p ≡ true → isLeft u p ≡ true) → (l : ℕ)
     → {p : ℕ} → List·Memᴰ p (pairsLabelled u pairs l) → SetOfLabel u (pairsLabelled u pairs l)
 unfolding setLabel
 set-of-label u fit pairs left l m =
@@ -190,10 +191,10 @@ module _ (g : Table) where
           (newSets g sets s ++ rest, more-next g n next sets e ∙ f ∙ append-assoc sets (newSets g sets s) rest)
 
 -- These sets are found, and those below `next` have been looked into: what is left to do, done from here, gives all sets.
-pub record SetFound (u : Table) (next : ℕ) (sets : List TypeSet) : Type 0 where
+pub record SetFound (lim : Limits) (u : Table) (next : ℕ) (sets : List TypeSet) : Type 0 where
   pub once : distinct sameNumbers sets ≡ sets
   pub left : (s : TypeSet) → List·Memᴰ s sets → AllLeft u s
-  pub whole : moreSets (reduce (normalise u)) (64 - next) next sets ≡ singleTypeSets u
+  pub whole : moreSets (reduce (normalise u)) (lim .types - next) next sets ≡ singleTypeSets lim u
 
 module _ (u : Table) where
   pub start-left : AllLeft u (withoutUnfruitful (normalise u) .starts)
@@ -205,9 +206,9 @@ module _ (u : Table) where
       ap (λ (f : ℕ → TypeSet). keep (λ s. not (isEmpty s)) (map f (numbersBelow (length (u .labels)))))
       (fun-ext (label-set u (withoutUnfruitful (normalise u) .starts) start-left))
 
-  pub start-sets-first : (rest : List TypeSet) × (singleTypeSets u ≡ labelSets u (isStart u) ++ rest)
-  start-sets-first =
-      let (rest, e) = starts-first standard (reduce (normalise u)) in
+  pub start-sets-first : (lim : Limits) → (rest : List TypeSet) × (singleTypeSets lim u ≡ labelSets u (isStart u) ++ rest)
+  start-sets-first lim =
+      let (rest, e) = starts-first lim (reduce (normalise u)) in
       (rest, e ∙ ap (λ (sets : List TypeSet). sets ++ rest) start-sets)
 
   -- the label of a left pair
@@ -256,9 +257,9 @@ module _ (u : Table) where
         distinct-append sameNumbers numbers-decide sets (setsWithin u s)
         ∙ ap₂ _++_ once (ap (keep (λ t. not (anyPass (sameNumbers t) sets))) sets-of-met)
 
-  pub found-start : SetFound u 0 (labelSets u (isStart u))
-  unfolding allSets standard labelSets
-  found-start =
+  pub found-start : (lim : Limits) → SetFound lim u 0 (labelSets u (isStart u))
+  unfolding allSets labelSets
+  found-start lim =
       record {
         once = label-sets-once u (isStart u);
         left =
@@ -267,14 +268,17 @@ module _ (u : Table) where
             let (l, q, f) = Memᴰ·of-map (pairsLabelled u (isStart u)) (numbersBelow (length (u .labels))) o in
             let h = labelled-pair u (isStart u) l p .0 (subst (λ (t : TypeSet). List·Memᴰ p t) (sym f) n) in
             start-left p (in-mem p (withoutUnfruitful (normalise u) .starts) (h .listed));
-        whole = ap (moreSets (reduce (normalise u)) 64 0) (sym start-sets);
+        whole =
+            let all : lim .types - 0 ≡ lim .types = omega arith in
+            ap₂ (λ (n : ℕ) (sets : List TypeSet). moreSets (reduce (normalise u)) n 0 sets) all (sym start-sets);
       }
 
-  pub found-next : (next : ℕ) (sets : List TypeSet) (s : TypeSet) → SetFound u next sets → getElem? sets next ≡ just s → next < 64
-      → SetFound u (next + 1) (distinct sameNumbers (sets ++ setsWithin u s))
-  found-next next sets s f e h =
+  pub found-next : {lim : Limits} (next : ℕ) (sets : List TypeSet) (s : TypeSet) → SetFound lim u next sets → getElem? sets next ≡ just s
+      → next < lim .types
+      → SetFound lim u (next + 1) (distinct sameNumbers (sets ++ setsWithin u s))
+  found-next {lim} next sets s f e h =
       let left = f .left s (at-mem sets next e) in
-      let fuel : 64 - next ≡ suc (64 - (next + 1)) = omega arith in
+      let fuel : lim .types - next ≡ suc (lim .types - (next + 1)) = omega arith in
       let one : suc next ≡ next + 1 = omega arith in
       let g = reduce (normalise u) in
       record {
@@ -284,9 +288,9 @@ module _ (u : Table) where
             ⊎-elim (f .left t) (met-set-left s left t)
             (List·Memᴰ·append-cases sets (distinct-was sameNumbers (sets ++ setsWithin u s) m));
         whole =
-            ap (moreSets g (64 - (next + 1)) (next + 1)) (sets-added s left sets (f .once))
-            ∙ ap (λ (n : ℕ). moreSets g (64 - (next + 1)) n (sets ++ newSets g sets s)) (sym one)
-            ∙ sym (more-next g (64 - (next + 1)) next sets e)
+            ap (moreSets g (lim .types - (next + 1)) (next + 1)) (sets-added s left sets (f .once))
+            ∙ ap (λ (n : ℕ). moreSets g (lim .types - (next + 1)) n (sets ++ newSets g sets s)) (sym one)
+            ∙ sym (more-next g (lim .types - (next + 1)) next sets e)
             ∙ ap (λ (n : ℕ). moreSets g n next sets) (sym fuel)
             ∙ f .whole;
       }
@@ -299,12 +303,14 @@ module _ (u : Table) where
           in
           met-left u s left p (in-mem p (met s left) (h .listed))
 
-  pub found-all : (next : ℕ) (sets : List TypeSet) → SetFound u next sets → length sets ≤ next → sets ≡ singleTypeSets u
-  found-all next sets f h =
-      sym (more-end (reduce (normalise u)) (64 - next) next sets (past-nothing sets next h)) ∙ f .whole
+  pub found-all : {lim : Limits} (next : ℕ) (sets : List TypeSet) → SetFound lim u next sets → length sets ≤ next
+      → sets ≡ singleTypeSets lim u
+  found-all {lim} next sets f h =
+      sym (more-end (reduce (normalise u)) (lim .types - next) next sets (past-nothing sets next h)) ∙ f .whole
 
-  pub found-many : (next : ℕ) (sets : List TypeSet) → SetFound u next sets → 64 < length sets → 64 < length (singleTypeSets u)
-  found-many next sets f h =
-      let (rest, e) = more-grow (reduce (normalise u)) (64 - next) next sets in
+  pub found-many : {lim : Limits} (next : ℕ) (sets : List TypeSet) → SetFound lim u next sets → lim .types < length sets
+      → lim .types < length (singleTypeSets lim u)
+  found-many {lim} next sets f h =
+      let (rest, e) = more-grow (reduce (normalise u)) (lim .types - next) next sets in
       let n = ap length (sym (f .whole) ∙ e) ∙ length-append sets rest in
       omega arith

@@ -1,12 +1,12 @@
 -- The single-type form of a union's reduced normal form, by sets of pairs:
---   single-by-sets : tidyTable (withUsedLabels (singleTypeForm standard (reduce (normalise u)))) ≡ singleTypeTable u
+--   single-by-sets : tidyTable (withUsedLabels (singleTypeForm lim (reduce (normalise u)))) ≡ singleTypeTable lim u
 -- and its sets are of one label each, single-type-set.
 use Prim.Native.Nat.{ℕ}
 use mathlib.Core.List.{List, List·Memᴰ}
 use mathlib.Core.Path.{_≡_, refl, sym, _∙_, ap, ap₂, subst, fun-ext}
 use lib.ListN.{length, getD}
 use Rattle.grammar.specs.Lists.{joinedOf, place, isIn, sameNumbers, numbersBelow}
-use Rattle.grammar.specs.Limits.{standard}
+use Rattle.grammar.specs.Limits.{Limits}
 use Rattle.grammar.specs.Content.{Content}
 use Rattle.grammar.specs.Table.{Rule, Table}
 use Rattle.grammar.specs.UsedLabels.{withUsedLabels}
@@ -36,7 +36,7 @@ use Rattle.forms.proofs.StandingPairs.{AllLeft, left-pair, left-label, 
 use Rattle.forms.proofs.SetsFound.{SetOfLabel, set-of-label, labelled-pair, start-sets, start-left, label-of-left}
 use Rattle.forms.proofs.TablesBySets.{FormOfSets, table-by-sets}
 
-module _ (u : Table) (fit : UnionFit u) where
+module _ {lim : Limits} (u : Table) (fit : UnionFit lim u) where
   abbrev reduced : Table
   reduced = reduce (normalise u)
 
@@ -59,9 +59,9 @@ module _ (u : Table) (fit : UnionFit u) where
   unfolding reduce withoutUnreached
   starts-left = start-left u
 
-  pub single-type-set : (s : TypeSet) → List·Memᴰ s (singleTypeSets u) → SetOfLabel u s
+  pub single-type-set : (s : TypeSet) → List·Memᴰ s (singleTypeSets lim u) → SetOfLabel u s
   single-type-set =
-      sets-induct standard reduced (SetOfLabel u)
+      sets-induct lim reduced (SetOfLabel u)
       (λ s m. one-label-set (reduced .starts) starts-left (start-set reduced (fit .reduced) s .0 m))
       (λ s t f m.
       one-label-set (typesMet reduced s)
@@ -82,27 +82,27 @@ module _ (u : Table) (fit : UnionFit u) where
       ∙ label-set u (metIn u (λ q. isIn q s)) (met-left u s left) (labelLeft u p))))
       (contents-of-set u s left)
 
-  pub single-form : FormOfSets u (singleTypeSets u) (metWithin u) (singleTypeForm standard (reduce (normalise u)))
+  pub single-form : FormOfSets u (singleTypeSets lim u) (metWithin u) (singleTypeForm lim (reduce (normalise u)))
   unfolding singleTypeForm ruleOfSet setLabel reduce withoutUnreached withoutUnfruitful normalise
   single-form =
       record {
         labels = refl;
-        count = single-type-form-length standard reduced;
+        count = single-type-form-length lim reduced;
         rule =
             λ i s r p q.
-            let (t, at, e) = at-map (ruleOfSet reduced (singleTypeSets u)) (singleTypeSets u) i q in
+            let (t, at, e) = at-map (ruleOfSet reduced (singleTypeSets lim u)) (singleTypeSets lim u) i q in
             let same : t ≡ s = just-eq (sym p ∙ at) in
-            let h = single-type-set s (at-mem (singleTypeSets u) i p) in
-            let made = sym e ∙ ap (ruleOfSet reduced (singleTypeSets u)) same in
+            let h = single-type-set s (at-mem (singleTypeSets lim u) i p) in
+            let made = sym e ∙ ap (ruleOfSet reduced (singleTypeSets lim u)) same in
             record {
-              type = single-type-form-place standard reduced (fit .reduced) i q;
+              type = single-type-form-place lim reduced (fit .reduced) i q;
               label = ap (λ (x : Rule). x .label) made ∙ label-of-left u (getD s 0 0) (h .left (getD s 0 0) (h .first));
-              content = ap (λ (x : Rule). tidy (x .content)) made ∙ content-of-set (singleTypeSets u) s (h .left);
+              content = ap (λ (x : Rule). tidy (x .content)) made ∙ content-of-set (singleTypeSets lim u) s (h .left);
             };
       }
 
-  pub single-by-sets : tidyTable (withUsedLabels (singleTypeForm standard (reduce (normalise u)))) ≡ singleTypeTable u
+  pub single-by-sets : tidyTable (withUsedLabels (singleTypeForm lim (reduce (normalise u)))) ≡ singleTypeTable lim u
   unfolding singleTypeTable singleTypeForm
   single-by-sets =
-      table-by-sets u (singleTypeSets u) (metWithin u) (singleTypeForm standard reduced) single-form
-      ∙ ap (λ (sets : List TypeSet). tableBySets u (singleTypeSets u) (metWithin u) (numbersBelow (length sets))) (start-sets u)
+      table-by-sets u (singleTypeSets lim u) (metWithin u) (singleTypeForm lim reduced) single-form
+      ∙ ap (λ (sets : List TypeSet). tableBySets u (singleTypeSets lim u) (metWithin u) (numbersBelow (length sets))) (start-sets u)

@@ -12,6 +12,7 @@ use mathlib.Core.Path.{_≡_, sym, _∙_, ap, ap₂, subst}
 use lib.ListN.{length, getD, getElem?, take, drop, take-append-drop, length-map, List·getD-map}
 use lib.Seq.{take-suc, take-all, getD-take, length-take-le}
 use lib.Dec.{eqb}
+use Rattle.grammar.specs.Limits.{Limits}
 use Rattle.grammar.specs.Lists.{distinct, isIn, sameNumbers}
 use Rattle.grammar.specs.SingleTypeForm.{TypeSet}
 use Rattle.grammar.specs.Table.{Table}
@@ -90,32 +91,32 @@ module _ {old add : List ℕ} {v : United} {u : Table} (x : Views old add v u) (
   up-all sets i h =
       ap (λ (l : List TypeSet). distinct sameNumbers (sets ++ l)) (take-all i (setsWithin u s) (omega (arith, many)))
 
-  module _ (sets : List TypeSet) (i : ℕ) (h : i < count) (words : List ℕ) (r : Counted) (t : TypeSet) (is : t ≡ given (getD numbers i 0))
-      (put : SetsCounted words (distinct sameNumbers (upTo sets i ++ (t ∷ []))) r) where
-    put-next : SetsCounted words (upTo sets (i + 1)) r
+  module _ (most : ℕ) (sets : List TypeSet) (i : ℕ) (h : i < count) (words : List ℕ) (r : Counted) (t : TypeSet)
+      (is : t ≡ given (getD numbers i 0)) (put : SetsCounted most words (distinct sameNumbers (upTo sets i ++ (t ∷ []))) r) where
+    put-next : SetsCounted most words (upTo sets (i + 1)) r
     put-next =
-        subst (λ (l : List TypeSet). SetsCounted words l r)
+        subst (λ (l : List TypeSet). SetsCounted most words l r)
         (ap (λ (w : TypeSet). distinct sameNumbers (upTo sets i ++ (w ∷ []))) is ∙ up-next sets i h)
         put
 
-    pub up-more : (n : ℕ) → r ≡ Count n → SetsCounted words (upTo sets (i + 1)) (Count n)
-    up-more n e = subst (SetsCounted words (upTo sets (i + 1))) e put-next
+    pub up-more : (n : ℕ) → r ≡ Count n → SetsCounted most words (upTo sets (i + 1)) (Count n)
+    up-more n e = subst (SetsCounted most words (upTo sets (i + 1))) e put-next
 
-    pub up-many : r ≡ TooMany → 64 < length (distinct sameNumbers (sets ++ setsWithin u s))
+    pub up-many : r ≡ TooMany → most < length (distinct sameNumbers (sets ++ setsWithin u s))
     up-many e =
-        let a : 64 < length (upTo sets (i + 1)) = subst (SetsCounted words (upTo sets (i + 1))) e put-next in
+        let a : most < length (upTo sets (i + 1)) = subst (SetsCounted most words (upTo sets (i + 1))) e put-next in
         let b = part-many sets (take (i + 1) (setsWithin u s)) (drop (i + 1) (setsWithin u s)) in
         let c = ap (λ (l : List TypeSet). length (distinct sameNumbers (sets ++ l))) (take-append-drop (i + 1) (setsWithin u s)) in
         omega arith
 
 -- The sets that stand in the words are found.
-pub record Standing (u : Table) (next : ℕ) (words : List ℕ) (count : ℕ) : Type 0 where
+pub record Standing (lim : Limits) (u : Table) (next : ℕ) (words : List ℕ) (count : ℕ) : Type 0 where
   pub sets : List TypeSet
-  pub found : SetFound u next sets
+  pub found : SetFound lim u next sets
   pub counted : count ≡ length sets
   pub held : SetsHeld words sets
 
-module _ {u : Table} {next : ℕ} {words : List ℕ} {count : ℕ} (x : Standing u next words count) (h : next < count) where
+module _ {lim : Limits} {u : Table} {next : ℕ} {words : List ℕ} {count : ℕ} (x : Standing lim u next words count) (h : next < count) where
   -- the set that is looked into next
   pub next-set : TypeSet
   next-set = below-at (x .sets) next (omega (arith, x .counted)) .0
@@ -129,24 +130,29 @@ module _ {u : Table} {next : ℕ} {words : List ℕ} {count : ℕ} (x : Standing
   next-met set numbers e met =
       met ∙ ap (λ (f : ℕ → Bool). distinct eqb (metIn u f)) (e ∙ x .held .set next next-set next-at)
 
-  module _ (few : count ≤ 64) (after : List ℕ) (r : Counted) (put : SetsCounted after (distinct sameNumbers (x .sets ++ setsWithin u next-set)) r) where
-    pub look-more : (n : ℕ) → r ≡ Count n → Standing u (next + 1) after n
+  module _ (most : ℕ) (types : most ≡ lim .types) (few : count ≤ most) (after : List ℕ) (r : Counted)
+      (put : SetsCounted most after (distinct sameNumbers (x .sets ++ setsWithin u next-set)) r) where
+    pub look-more : (n : ℕ) → r ≡ Count n → Standing lim u (next + 1) after n
     look-more n e =
-        let p = subst (SetsCounted after (distinct sameNumbers (x .sets ++ setsWithin u next-set))) e put in
+        let p = subst (SetsCounted most after (distinct sameNumbers (x .sets ++ setsWithin u next-set))) e put in
         record {
           sets = distinct sameNumbers (x .sets ++ setsWithin u next-set);
           found = found-next u next (x .sets) next-set (x .found) next-at (omega arith);
           counted = p .0;
-          held = p .1;
+          held = p .2;
         }
 
-    pub look-many : r ≡ TooMany → 64 < length (singleTypeSets u)
+    pub look-many : r ≡ TooMany → most < length (singleTypeSets lim u)
     look-many e =
-        found-many u (next + 1) (distinct sameNumbers (x .sets ++ setsWithin u next-set))
-        (found-next u next (x .sets) next-set (x .found) next-at (omega arith))
-        (subst (SetsCounted after (distinct sameNumbers (x .sets ++ setsWithin u next-set))) e put)
+        let sets = distinct sameNumbers (x .sets ++ setsWithin u next-set) in
+        let many : most < length sets = subst (SetsCounted most after sets) e put in
+        let all = found-many u (next + 1) sets (found-next u next (x .sets) next-set (x .found) next-at (omega arith)) (omega arith) in
+        omega arith
 
-pub look-all : {u : Table} {next : ℕ} {words : List ℕ} {count : ℕ} → Standing u next words count → count ≤ next
-    → SetsCounted words (singleTypeSets u) (Count count)
-look-all {u} {next} {words} {count} x h =
-    subst (λ (l : List TypeSet). SetsCounted words l (Count count)) (found-all u next (x .sets) (x .found) (omega (arith, x .counted))) (x .counted, x .held)
+pub look-all : {lim : Limits} {u : Table} {next : ℕ} {words : List ℕ} {count : ℕ} → Standing lim u next words count → count ≤ next
+    → (most : ℕ) → count ≤ most
+    → SetsCounted most words (singleTypeSets lim u) (Count count)
+look-all {lim} {u} {next} {words} {count} x h most few =
+    subst (λ (l : List TypeSet). SetsCounted most words l (Count count))
+    (found-all u next (x .sets) (x .found) (omega (arith, x .counted)))
+    (x .counted, few, x .held)

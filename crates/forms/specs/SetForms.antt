@@ -6,7 +6,7 @@ use mathlib.Core.List.{List, [], map}
 use lib.ListN.{length, getD}
 use lib.Dec.{eqb}
 use Rattle.grammar.specs.Lists.{anyPass, keep, place, joinedOf, isIn, sameNumbers, numbersBelow}
-use Rattle.grammar.specs.Limits.{standard}
+use Rattle.grammar.specs.Limits.{Limits}
 use Rattle.grammar.specs.Content.{Content}
 use Rattle.grammar.specs.Table.{Rule, Table}
 use Rattle.grammar.specs.Kinds.{Kind, local, singleType}
@@ -81,16 +81,17 @@ module _ (u : Table) where
   unfolding tableBySets localStarts
   localTable = tableBySets localSets (λ s. isLeft u) localStarts
 
-  -- Single-type: the start sets and those met; within a set, the pairs that share a label are those met in its contents.
-  abbrev pub singleTypeSets : List TypeSet
-  singleTypeSets = allSets standard (reduce (normalise u))
-
+  -- within a set, the pairs that share a label are those met in its contents
   abbrev pub metWithin : TypeSet → ℕ → Bool
   metWithin s p = isIn p (metIn u (λ q. isIn q s))
 
-  unfoldable pub singleTypeTable : Table
-  unfolding tableBySets labelSets numbersBelow
-  singleTypeTable = tableBySets singleTypeSets metWithin (numbersBelow (length (labelSets (isStart u))))
+-- Single-type: the start sets and those met, as many as are looked into under a limit on types.
+abbrev pub singleTypeSets : Limits → Table → List TypeSet
+singleTypeSets lim u = allSets lim (reduce (normalise u))
+
+unfoldable pub singleTypeTable : Limits → Table → Table
+unfolding tableBySets labelSets numbersBelow
+singleTypeTable lim u = tableBySets u (singleTypeSets lim u) (metWithin u) (numbersBelow (length (labelSets u (isStart u))))
 
 -- within which pairs those of one label are put together
 abbrev pub pairsWithin : Kind → Table → TypeSet → ℕ → Bool

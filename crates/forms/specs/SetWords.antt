@@ -1,4 +1,4 @@
--- Sets of pairs that stand in lent words, four words each, one after the other.
+-- Sets of pairs that stand in lent words, eight words each, one after the other.
 use Prim.Native.Nat.{ℕ, _*_, _≤_, _<_}
 use mathlib.Core.Bool.{Bool}
 use mathlib.Core.List.{List, List·Memᴰ}
@@ -7,26 +7,26 @@ use mathlib.Core.Path.{_≡_}
 use lib.ListN.{length, getElem?}
 use Rattle.grammar.specs.Lists.{keep, isIn, numbersBelow}
 use Rattle.grammar.specs.SingleTypeForm.{TypeSet}
-use Rattle.sets.specs.Sets.{setAt}
+use Rattle.sets.specs.Sets.{setOfEightAt}
 use Rattle.forms.specs.declared.set_words.Counted.{Counted}
 use Rattle.forms.specs.declared.set_words.Counted.the-variants.{TooMany, Count}
 
 -- the set of a number
 abbrev pub setIn : List ℕ → ℕ → ℕ → Bool
-setIn words i = setAt words (4 * i)
+setIn words i = setOfEightAt words (8 * i)
 
--- its numbers ascend, and are below 128
+-- its numbers ascend, and are below 256
 abbrev pub Ascending : TypeSet → Type 0
-Ascending s = keep (λ p. isIn p s) (numbersBelow 128) ≡ s
+Ascending s = keep (λ p. isIn p s) (numbersBelow 256) ≡ s
 
 -- These sets stand in the words.
 pub record SetsHeld (words : List ℕ) (sets : List TypeSet) : Type 0 where
-  pub few : length sets ≤ 64
-  pub room : 256 ≤ length words
+  pub few : length sets ≤ 128
+  pub room : 1024 ≤ length words
   pub set : (i : ℕ) (s : TypeSet) → getElem? sets i ≡ just s → setIn words i ≡ (λ p. isIn p s)
   pub ascending : (s : TypeSet) → List·Memᴰ s sets → Ascending s
 
--- These sets stand in the words, and are so many; or they are too many.
-abbrev pub SetsCounted : List ℕ → List TypeSet → Counted → Type 0
-SetsCounted words sets TooMany = 64 < length sets
-SetsCounted words sets (Count n) = (n ≡ length sets) × SetsHeld words sets
+-- These sets stand in the words, and are so many, at most `most`; or they are more.
+abbrev pub SetsCounted : (most : ℕ) → List ℕ → List TypeSet → Counted → Type 0
+SetsCounted most words sets TooMany = most < length sets
+SetsCounted most words sets (Count n) = (n ≡ length sets) × (n ≤ most) × SetsHeld words sets

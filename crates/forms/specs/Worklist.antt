@@ -7,30 +7,24 @@ use lib.Dec.{eqb}
 use Rattle.grammar.specs.Lists.{distinct, isIn}
 use Rattle.grammar.specs.Table.{Table}
 use Rattle.grammar.specs.SingleTypeForm.{TypeSet}
-use Rattle.union.specs.declared.united.United.{United}
-use Rattle.union.specs.View.{labelIn}
 use Rattle.union.specs.PairNumbers.{ruleNumbered, metIn}
 use Rattle.forms.specs.declared.set_words.Counted.{Counted}
 use Rattle.forms.specs.declared.set_words.Counted.the-variants.{Count}
 use Rattle.forms.specs.SetForms.{pairsLabelled, metWithin}
 
--- the words have room for 64 sets, of which so many stand there, and the set is one of four words
-pub record SetRoom (words : List ℕ) (count : ℕ) (set : List ℕ) : Type 0 where
-  pub few : count ≤ 64
-  pub room : 256 ≤ length words
-  pub four : length set ≡ 4
+-- the words have room for 128 sets, of which so many, at most `most`, stand there, and the set is one of eight words
+pub record SetRoom (most : ℕ) (words : List ℕ) (count : ℕ) (set : List ℕ) : Type 0 where
+  pub few : count ≤ most
+  pub room : 1024 ≤ length words
+  pub eight : length set ≡ 8
 
--- at most 64 are counted
-abbrev pub Few : Counted → Type 0
-Few r = (n : ℕ) → r ≡ Count n → n ≤ 64
+-- at most `most` are counted
+abbrev pub Few : (most : ℕ) → Counted → Type 0
+Few most r = (n : ℕ) → r ≡ Count n → n ≤ most
 
 -- for each pair met in the contents of a set, in meeting order, the set of those met that share its label
 abbrev pub setsWithin : Table → TypeSet → List TypeSet
 setsWithin u s = map (λ p. pairsLabelled u (metWithin u s) (ruleNumbered u p .label)) (distinct eqb (metIn u (λ q. isIn q s)))
-
--- the labels of the rules are below 128
-abbrev pub LabelsSized : United → Type 0
-LabelsSized v = (i : ℕ) → i < v .rules → labelIn v i < 128
 
 -- these are the numbers of the first n
 abbrev pub NumbersOf : (ℕ → ℕ) → ℕ → List ℕ → Type 0

@@ -2,7 +2,8 @@
 use crate::set_words::Counted;
 use crate::set_words::put_some;
 use crate::set_words::set_number;
-use sets::four::Set4;
+use reader::numbers::wide;
+use sets::eight::Set8;
 use union::fruitful::put_if;
 use union::productive::both;
 use union::united::United;
@@ -23,21 +24,22 @@ ghost use Rattle.forms.specs.SetForms.{pairsLabelled, labelSets, setLabe
 
 // A number for each label, or for each pair.
 pub struct Numbers {
-    pub of: [u8; 128],
+    pub of: [u8; 256],
 }
 
 // Those of some pairs that have a label.
-pub fn labelled_pairs(v: United, pairs: Set4, label: usize) -> Set4
-    requires { ⌜ (ViewSized v) × (length (pairs .words) ≡ 4) ⌝ }
+pub fn labelled_pairs(v: United, pairs: Set8, label: usize) -> Set8
+    requires { ⌜ (ViewSized v) × (length (pairs .words) ≡ 8) ⌝ }
     ensures { λ r. ⌜ ((old add : List ℕ) (u : Table) → Views old add v u
-        → member (r .words) 0 ≡ (λ p. isIn p (pairsLabelled u (member (pairs .words) 0) label))) × (length (r .words) ≡ 4) ⌝ }
+        → member (r .words) 0 ≡ (λ p. isIn p (pairsLabelled u (member (pairs .words) 0) label))) × (length (r .words) ≡ 8) ⌝ }
 {
     let labels = v.labels;
     let rules = v.rules;
-    let mut set = Set4::empty();
+    let mut set = Set8::empty();
     let mut p: usize = 0;
     while p < rules {
-        let more = put_if(both(pairs.has(p), labels[p] == label), set, p);
+        let own = wide(labels[p]);
+        let more = put_if(both(pairs.has(p), own == label), set, p);
         set = more;
         p += 1;
     }
@@ -45,8 +47,8 @@ pub fn labelled_pairs(v: United, pairs: Set4, label: usize) -> Set4
 }
 
 // The label of a set: that of its first pair.
-pub fn set_label(v: United, set: Set4) -> usize
-    requires { ⌜ (ViewSized v) × (length (set .words) ≡ 4) ⌝ }
+pub fn set_label(v: United, set: Set8) -> usize
+    requires { ⌜ (ViewSized v) × (length (set .words) ≡ 8) ⌝ }
     ensures { λ r. ⌜ ((old add : List ℕ) (u : Table) (s : TypeSet) → Views old add v u → member (set .words) 0 ≡ (λ p. isIn p s)
         → Ascending s → isEmpty s ≡ false → r ≡ setLabel u s) ⌝ }
 {
@@ -55,24 +57,24 @@ pub fn set_label(v: United, set: Set4) -> usize
     let mut p: usize = 0;
     while p < rules {
         if set.has(p) {
-            return labels[p];
+            return wide(labels[p]);
         }
         p += 1;
     }
     0
 }
 
-// One set a label, in label order, laid down in the words.
-pub fn label_sets(v: United, labels: usize, pairs: Set4, words: &mut [u32]) -> Counted
-    requires { ⌜ (ViewSized v) × SetRoom (now words) 0 (pairs .words) ⌝ }
+// One set a label, in label order, laid down in the words; more than `most` are too many.
+pub fn label_sets(most: usize, v: United, labels: usize, pairs: Set8, words: &mut [u32]) -> Counted
+    requires { ⌜ (most ≤ 128) × (ViewSized v) × SetRoom most (now words) 0 (pairs .words) ⌝ }
     ensures { λ r. ⌜ ((old add : List ℕ) (u : Table) → Views old add v u → labels ≡ length (u .labels)
-        → SetsCounted (now (words .exit)) (labelSets u (member (pairs .words) 0)) r) ⌝ }
+        → SetsCounted most (now (words .exit)) (labelSets u (member (pairs .words) 0)) r) ⌝ }
 {
     let mut count: usize = 0;
     let mut l: usize = 0;
     while l < labels {
         let set = labelled_pairs(v, pairs, l);
-        match put_some(words, count, set) {
+        match put_some(most, words, count, set) {
             Counted::TooMany => {
                 return Counted::TooMany;
             }
@@ -86,13 +88,13 @@ pub fn label_sets(v: United, labels: usize, pairs: Set4, words: &mut [u32]) -> C
 }
 
 // For each label the number, among the sets in the words, of the set of those of some pairs that have it.
-pub fn label_numbers(v: United, labels: usize, pairs: Set4, words: &[u32], count: usize) -> Numbers
-    requires { ⌜ (ViewSized v) × (labels ≤ 128) × SetRoom (now words) count (pairs .words) ⌝ }
+pub fn label_numbers(v: United, labels: usize, pairs: Set8, words: &[u32], count: usize) -> Numbers
+    requires { ⌜ (ViewSized v) × (labels ≤ 256) × SetRoom 128 (now words) count (pairs .words) ⌝ }
     ensures { λ r. ⌜ ((old add : List ℕ) (u : Table) (sets : List TypeSet) → Views old add v u → SetsHeld (now (words .entry)) sets
         → count ≡ length sets → NumbersOf (λ l. place sameNumbers (pairsLabelled u (member (pairs .words) 0) l) sets) labels (r .of))
-        × ((l : ℕ) → getD (r .of) l 0 ≤ 64) ⌝ }
+        × ((l : ℕ) → getD (r .of) l 0 ≤ 128) ⌝ }
 {
-    let mut of = [0u8; 128];
+    let mut of = [0u8; 256];
     let mut l: usize = 0;
     while l < labels {
         let set = labelled_pairs(v, pairs, l);

@@ -1,7 +1,7 @@
 // The lists of the fruitful pairs by type, with the numbers of sets in place of pairs.
 use crate::label_sets::Numbers;
 use reader::numbers::wide;
-use sets::four::Set4;
+use sets::eight::Set8;
 use union::lists::Lists;
 use union::lists::TypeLists;
 use union::united::United;
@@ -21,31 +21,31 @@ ghost use Rattle.sets.specs.Sets.{member};
 ghost use Rattle.union.specs.View.{Views, ViewSized};
 ghost use Rattle.union.specs.PairNumbers.{isLeft, fruitfulOf};
 ghost use Rattle.union.specs.TypeLists.{ListsOf};
-ghost use Rattle.forms.specs.Worklist.{LabelsSized, NumbersOf};
+ghost use Rattle.forms.specs.Worklist.{NumbersOf};
 ghost use Rattle.forms.specs.SetForms.{pairsLabelled, labelLeft, setNumber};
 
 // The label of a pair, where it is left.
-fn label_left(v: United, left: Set4, p: usize) -> usize
-    requires { ⌜ (ViewSized v) × (LabelsSized v) × (length (left .words) ≡ 4) × (p < v .rules) ⌝ }
+fn label_left(v: United, left: Set8, p: usize) -> usize
+    requires { ⌜ (ViewSized v) × (length (left .words) ≡ 8) × (p < v .rules) ⌝ }
     ensures { λ r. ⌜ ((old add : List ℕ) (u : Table) → Views old add v u → member (left .words) 0 ≡ isLeft u → r ≡ labelLeft u p)
-        × (r < 128) ⌝ }
+        × (r < 256) ⌝ }
 {
     if left.has(p) {
         let labels = v.labels;
-        return labels[p];
+        return wide(labels[p]);
     }
     0
 }
 
 // For each pair the number of the set of its label.
-fn pair_numbers(v: United, left: Set4, numbers: Numbers) -> Numbers
-    requires { ⌜ (ViewSized v) × (LabelsSized v) × (length (left .words) ≡ 4) × ((l : ℕ) → getD (numbers .of) l 0 ≤ 64) ⌝ }
+fn pair_numbers(v: United, left: Set8, numbers: Numbers) -> Numbers
+    requires { ⌜ (ViewSized v) × (length (left .words) ≡ 8) × ((l : ℕ) → getD (numbers .of) l 0 ≤ 128) ⌝ }
     ensures { λ r. ⌜ ((old add : List ℕ) (u : Table) → Views old add v u → member (left .words) 0 ≡ isLeft u
-        → NumbersOf (λ p. getD (numbers .of) (labelLeft u p) 0) (v .rules) (r .of)) × ((p : ℕ) → getD (r .of) p 0 ≤ 64) ⌝ }
+        → NumbersOf (λ p. getD (numbers .of) (labelLeft u p) 0) (v .rules) (r .of)) × ((p : ℕ) → getD (r .of) p 0 ≤ 128) ⌝ }
 {
     let by_label = numbers.of;
     let rules = v.rules;
-    let mut of = [0u8; 128];
+    let mut of = [0u8; 256];
     let mut p: usize = 0;
     while p < rules {
         let label = label_left(v, left, p);
@@ -57,15 +57,14 @@ fn pair_numbers(v: United, left: Set4, numbers: Numbers) -> Numbers
 
 // The lists with other numbers in place of their own.
 fn renumbered(lists: Lists, numbers: Numbers) -> Lists
-    requires { ⌜ ((i : ℕ) → getD (lists .numbers) i 0 < 128) ⌝ }
     ensures { λ r. ⌜ (r .from ≡ lists .from) × (r .numbers ≡ map (λ p. getD (numbers .of) p 0) (lists .numbers)) ⌝ }
 {
     let from = lists.from;
     let before = lists.numbers;
     let of = numbers.of;
-    let mut after = [0u8; 128];
+    let mut after = [0u8; 256];
     let mut i: usize = 0;
-    while i < 128 {
+    while i < 256 {
         let p = wide(before[i]);
         after[i] = of[p];
         i += 1;
@@ -77,9 +76,8 @@ fn renumbered(lists: Lists, numbers: Numbers) -> Lists
 }
 
 // For each type the numbers of the sets of its fruitful pairs. `numbers` are those of the labels.
-pub fn result_lists(v: United, lists: TypeLists, left: Set4, numbers: Numbers) -> TypeLists
-    requires { ⌜ (ViewSized v) × (LabelsSized v) × (length (left .words) ≡ 4) × ((l : ℕ) → getD (numbers .of) l 0 ≤ 64)
-        × ((i : ℕ) → getD (lists .old .numbers) i 0 < 128) × ((i : ℕ) → getD (lists .addition .numbers) i 0 < 128) ⌝ }
+pub fn result_lists(v: United, lists: TypeLists, left: Set8, numbers: Numbers) -> TypeLists
+    requires { ⌜ (ViewSized v) × (length (left .words) ≡ 8) × ((l : ℕ) → getD (numbers .of) l 0 ≤ 128) ⌝ }
     ensures { λ r. ⌜ ((old add : List ℕ) (u : Table) (sets : List TypeSet) (pairs : ℕ → Bool) → Views old add v u
         → ListsOf (fruitfulOf u) lists → member (left .words) 0 ≡ isLeft u → Labelled u
         → NumbersOf (λ l. place sameNumbers (pairsLabelled u pairs l) sets) (length (u .labels)) (numbers .of)

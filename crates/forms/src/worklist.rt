@@ -6,7 +6,7 @@ use reader::numbers::wide;
 use reducing::meeting::Met;
 use reducing::meeting::met_in_set;
 use reducing::meeting::set_of;
-use sets::words::load;
+use sets::words::load_eight;
 use union::lists::TypeLists;
 use union::united::United;
 ghost use mathlib.Core.List.{List, _++_};
@@ -14,6 +14,7 @@ ghost use mathlib.Core.Path.{_≡_};
 ghost use Prim.Native.Nat.{ℕ, _≤_};
 ghost use lib.Dec.{eqb};
 ghost use lib.ListN.{length, take};
+ghost use Rattle.grammar.specs.Limits.{Limits};
 ghost use Rattle.grammar.specs.Lists.{distinct, isIn, sameNumbers};
 ghost use Rattle.grammar.specs.SingleTypeForm.{TypeSet};
 ghost use Rattle.grammar.specs.Table.{Table};
@@ -27,12 +28,12 @@ ghost use Rattle.forms.specs.SetWords.{SetsHeld, SetsCounted};
 ghost use Rattle.forms.specs.Worklist.{Few, setsWithin};
 
 // Adds the sets that the pairs met in a set give: for each pair those met that share its label, unless that set is there.
-fn add_met(v: United, found: Met, words: &mut [u32], count: usize) -> Counted
-    requires { ⌜ (ViewSized v) × (MetHeld found) × (count ≤ 64) × (256 ≤ length (now words)) ⌝ }
+fn add_met(most: usize, v: United, found: Met, words: &mut [u32], count: usize) -> Counted
+    requires { ⌜ (most ≤ 128) × (ViewSized v) × (MetHeld found) × (count ≤ most) × (1024 ≤ length (now words)) ⌝ }
     ensures { λ r. ⌜ ((old add : List ℕ) (u : Table) (sets : List TypeSet) (s : TypeSet) → Views old add v u
         → SetsHeld (now (words .entry)) sets → count ≡ length sets → distinct sameNumbers sets ≡ sets
         → take (found .count) (found .numbers) ≡ distinct eqb (metIn u (λ q. isIn q s))
-        → SetsCounted (now (words .exit)) (distinct sameNumbers (sets ++ setsWithin u s)) r) × (Few r) ⌝ }
+        → SetsCounted most (now (words .exit)) (distinct sameNumbers (sets ++ setsWithin u s)) r) × (Few most r) ⌝ }
 {
     let all = set_of(found);
     let numbers = found.numbers;
@@ -41,8 +42,9 @@ fn add_met(v: United, found: Met, words: &mut [u32], count: usize) -> Counted
     let mut i: usize = 0;
     while i < found.count {
         let p = wide(numbers[i]);
-        let set = labelled_pairs(v, all, labels[p]);
-        match add_set(words, total, set) {
+        let label = wide(labels[p]);
+        let set = labelled_pairs(v, all, label);
+        match add_set(most, words, total, set) {
             Counted::TooMany => {
                 return Counted::TooMany;
             }
@@ -55,8 +57,9 @@ fn add_met(v: United, found: Met, words: &mut [u32], count: usize) -> Counted
     Counted::Count(total)
 }
 
-// From the start sets to all sets: the sets from number `next` on are still to be looked into.
+// From the start sets to all sets: the sets from number `next` on are still to be looked into. `most` is the limit on types.
 pub fn more_sets(
+    most: usize,
     old: &[u8],
     add: &[u8],
     v: United,
@@ -64,17 +67,18 @@ pub fn more_sets(
     words: &mut [u32],
     count: usize,
 ) -> Counted
-    requires { ⌜ (Viewed (now old) (now add) v) × (BothListed lists) × (count ≤ 64) × (256 ≤ length (now words)) ⌝ }
-    ensures { λ r. ⌜ ((u : Table) → Views (now (old .entry)) (now (add .entry)) v u → ListsOf (fruitfulOf u) lists
+    requires { ⌜ (most ≤ 128) × (Viewed (now old) (now add) v) × (BothListed lists) × (count ≤ most) × (1024 ≤ length (now words)) ⌝ }
+    ensures { λ r. ⌜ ((lim : Limits) (u : Table) → most ≡ lim .types → Views (now (old .entry)) (now (add .entry)) v u
+        → ListsOf (fruitfulOf u) lists
         → SetsHeld (now (words .entry)) (labelSets u (isStart u)) → count ≡ length (labelSets u (isStart u))
-        → SetsCounted (now (words .exit)) (singleTypeSets u) r) ⌝ }
+        → SetsCounted most (now (words .exit)) (singleTypeSets lim u) r) ⌝ }
 {
     let mut total = count;
     let mut next: usize = 0;
     while next < total {
-        let set = load(words, 4 * next);
+        let set = load_eight(words, 8 * next);
         let found = met_in_set(old, add, v, lists, set);
-        match add_met(v, found, words, total) {
+        match add_met(most, v, found, words, total) {
             Counted::TooMany => {
                 return Counted::TooMany;
             }

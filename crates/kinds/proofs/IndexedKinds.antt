@@ -1,5 +1,6 @@
 -- The tests of kind, by the numbers of the rules in an index of the table.
 --
+--   types-below : a table that is held has few starts and rules, of types below 128
 --   local-at : isLocal g is that no rule has the label of an earlier one
 --   pairs-at : the pairs of type and label are distinct where no rule has the pair of an earlier one
 --   none-compete-at : for a set that has just these types, noneCompete g is that no two rules are rivals whose types are in the set
@@ -15,6 +16,8 @@ use mathlib.Core.Path.{_≡_, sym, _∙_, ap, ap₂}
 use lib.Dec.{eqb, ltb}
 use lib.ListN.{length, getElem?}
 use borrow.Author.Tests.{eqb-true, eqb-false, eq-eqb, ne-eqb, ltb-true, ltb-false, not-true}
+use Rattle.grammar.specs.Limits.{large}
+use Rattle.grammar.specs.Names.{asciiClasses}
 use Rattle.grammar.specs.Lists.{allPass, allDistinct, isIn}
 use Rattle.grammar.specs.Content.{typesIn}
 use Rattle.grammar.specs.Table.{Rule, Table}
@@ -24,11 +27,22 @@ use Rattle.theory.proofs.lists.BoolLaws.{and-left, and-right, and-intro, false-
 use Rattle.theory.proofs.lists.ListLaws.{differ-at, all-differ, mem-at, at-mem, at-below, below-at, in-mem, mem-in, all-of, all-at}
 use Rattle.theory.proofs.tables.KindTests.{none-compete, same-label-sym, same-pair-sym}
 use Rattle.sets.specs.Sets.{member}
-use Rattle.reader.specs.declared.tables.TableIndex.{TableIndex}
-use Rattle.reader.specs.TableIndex.{ruleType, ruleLabel, Indexes}
+use Rattle.reader.specs.TableIndex.{ruleType, ruleLabel, ruleCount, Indexes}
+use Rattle.reader.specs.Held.{SomeHeld}
 use Rattle.reader.proofs.TableIndexLaws.{rule-at}
-use Rattle.kinds.specs.RulesAt.{anyBelow, sameLabelAt, samePairAt, rivalsAt, Holds}
+use Rattle.reader.proofs.TableFoundLaws.{start-small, rule-found-at}
+use Rattle.kinds.specs.RulesAt.{anyBelow, sameLabelAt, samePairAt, rivalsAt, Holds, TypesBelow}
 use Rattle.kinds.proofs.BelowLaws.{one-below, below-found}
+
+pub types-below : {s index : List ℕ} → SomeHeld large asciiClasses s index → TypesBelow index
+types-below f =
+    let x = f .held .indexes in
+    record {
+      few-starts = x .few-starts;
+      few-rules = x .few-rules;
+      start = start-small x (f .held .within);
+      rule = λ i h. rule-found-at x (f .held .within) i h .type-below;
+    }
 
 not-of : {a : Bool} → a ≡ false → not a ≡ true
 not-of e = ap not e
@@ -43,8 +57,10 @@ module _ {A : Type 0} (same : A → A → Bool) (same-sym : (x y : A) → same x
   distinct-at =
       same-test
       (allDistinct same xs)
-      (not (anyBelow earlier (length xs)))
-      (λ d. not-of (false-of (anyBelow earlier (length xs)) (twice d)), λ e. all-differ same xs (once (not-true (anyBelow earlier (length xs)) e)))
+      (not (anyBelow earlier (length xs))) (
+        λ d. not-of (false-of (anyBelow earlier (length xs)) (twice d)),
+        λ e. all-differ same xs (once (not-true (anyBelow earlier (length xs)) e)),
+      )
     where
       twice : allDistinct same xs ≡ true → anyBelow earlier (length xs) ≡ true → ⊥
       twice d e =
@@ -73,11 +89,11 @@ module _ {A : Type 0} (same : A → A → Bool) (same-sym : (x y : A) → same x
           (passes-or-fails (ltb i j)))
           (passes-or-fails (ltb j i))
 
-module _ {s : List ℕ} {index : TableIndex} {g : Table} (x : Indexes s index g) where
-  counted : (test : ℕ → Bool) → anyBelow test (length (g .rules)) ≡ anyBelow test (index .rules)
+module _ {s index : List ℕ} {g : Table} (x : Indexes s index g) where
+  counted : (test : ℕ → Bool) → anyBelow test (length (g .rules)) ≡ anyBelow test (ruleCount index)
   counted test = ap (anyBelow test) (sym (x .rules))
 
-  pub local-at : isLocal g ≡ not (anyBelow (λ i. anyBelow (sameLabelAt index i) i) (index .rules))
+  pub local-at : isLocal g ≡ not (anyBelow (λ i. anyBelow (sameLabelAt index i) i) (ruleCount index))
   unfolding isLocal sameLabel
   local-at =
       distinct-at sameLabel same-label-sym (g .rules) (sameLabelAt index) agree ∙ ap not (counted (λ i. anyBelow (sameLabelAt index i) i))
@@ -86,7 +102,7 @@ module _ {s : List ℕ} {index : TableIndex} {g : Table} (x : Indexes s index g)
           → sameLabelAt index i j ≡ sameLabel r q
       agree i j r q a b = ap₂ eqb (x .rule i r a .label) (x .rule j q b .label)
 
-  pub pairs-at : allDistinct samePair (g .rules) ≡ not (anyBelow (λ i. anyBelow (samePairAt index i) i) (index .rules))
+  pub pairs-at : allDistinct samePair (g .rules) ≡ not (anyBelow (λ i. anyBelow (samePairAt index i) i) (ruleCount index))
   unfolding samePair
   pairs-at =
       distinct-at samePair same-pair-sym (g .rules) (samePairAt index) agree ∙ ap not (counted (λ i. anyBelow (samePairAt index i) i))
@@ -101,16 +117,16 @@ module _ {s : List ℕ} {index : TableIndex} {g : Table} (x : Indexes s index g)
 
   module _ (words types : List ℕ) (holds : Holds words types) where
     abbrev rivalled : ℕ → Bool
-    rivalled i = anyBelow (rivalsAt index words i) (index .rules)
+    rivalled i = anyBelow (rivalsAt index words i) (ruleCount index)
 
     stands : (k l : ℕ) → k ≡ l → List·Memᴰ l types → member words 0 k ≡ true
     stands k l e m = holds k ∙ ap (λ (n : ℕ). isIn n types) e ∙ mem-in m
 
     -- two rules that are rivals in the set are of types that compete
-    compete-of : NoneCompete g types → anyBelow rivalled (index .rules) ≡ true → ⊥
+    compete-of : NoneCompete g types → anyBelow rivalled (ruleCount index) ≡ true → ⊥
     compete-of none e =
-        let (i, i-below, f) = below-found rivalled (index .rules) e in
-        let (j, j-below, t) = below-found (rivalsAt index words i) (index .rules) f in
+        let (i, i-below, f) = below-found rivalled (ruleCount index) e in
+        let (j, j-below, t) = below-found (rivalsAt index words i) (ruleCount index) f in
         let (r, at-i, r-at) = rule-at x i i-below in
         let (q, at-j, q-at) = rule-at x j j-below in
         let k = ruleType index i in
@@ -138,7 +154,7 @@ module _ {s : List ℕ} {index : TableIndex} {g : Table} (x : Indexes s index g)
         eqb-false k l (not-true (eqb k l) (and-left (not (eqb k l)) (labels && there) both)) same
 
     -- types that compete have rules that are rivals in the set
-    rivals-of : anyBelow rivalled (index .rules) ≡ false → NoneCompete g types
+    rivals-of : anyBelow rivalled (ruleCount index) ≡ false → NoneCompete g types
     rivals-of e k l m n c =
         ⊎-elim (λ q. eqb-true k l q) (λ q. absurd (go (eqb-false k l q))) (passes-or-fails (eqb k l))
       where
@@ -150,8 +166,8 @@ module _ {s : List ℕ} {index : TableIndex} {g : Table} (x : Indexes s index g)
             let q-at = x .rule j (c .rule₂) at-j in
             let k-is = r-at .type ∙ c .of-type₁ in
             let l-is = q-at .type ∙ c .of-type₂ in
-            let i-below : i < index .rules = omega (arith, at-below (g .rules) i at-i, x .rules) in
-            let j-below : j < index .rules = omega (arith, at-below (g .rules) j at-j, x .rules) in
+            let i-below : i < ruleCount index = omega (arith, at-below (g .rules) i at-i, x .rules) in
+            let j-below : j < ruleCount index = omega (arith, at-below (g .rules) j at-j, x .rules) in
             let apart = ne-eqb (ruleType index i) (ruleType index j) (λ q. differ (sym k-is ∙ q ∙ l-is)) in
             let one =
             eq-eqb (ruleLabel index i) (ruleLabel index j) (r-at .label ∙ c .one-label ∙ sym (q-at .label)) in
@@ -159,18 +175,19 @@ module _ {s : List ℕ} {index : TableIndex} {g : Table} (x : Indexes s index g)
             and-intro _ _
             (stands (ruleType index i) k k-is m)
             (and-intro _ _ (not-of apart) (and-intro _ _ one (stands (ruleType index j) l l-is n))) in
-            not-both (one-below rivalled (index .rules) i i-below (one-below (rivalsAt index words i) (index .rules) j j-below t)) e
+            not-both (one-below rivalled (ruleCount index) i i-below (one-below (rivalsAt index words i) (ruleCount index) j j-below t)) e
 
-    pub none-compete-at : noneCompete g types ≡ not (anyBelow (λ i. anyBelow (rivalsAt index words i) (index .rules)) (index .rules))
+    pub none-compete-at : noneCompete g types ≡ not (anyBelow (λ i. anyBelow (rivalsAt index words i) (ruleCount index)) (ruleCount index))
     none-compete-at =
-        same-test (noneCompete g types) (not (anyBelow rivalled (index .rules))) (
-          λ e. not-of (false-of (anyBelow rivalled (index .rules)) (compete-of (none-compete g types .0 e))),
-          λ e. none-compete g types .1 (rivals-of (not-true (anyBelow rivalled (index .rules)) e)),
+        same-test (noneCompete g types) (not (anyBelow rivalled (ruleCount index))) (
+          λ e. not-of (false-of (anyBelow rivalled (ruleCount index)) (compete-of (none-compete g types .0 e))),
+          λ e. none-compete g types .1 (rivals-of (not-true (anyBelow rivalled (ruleCount index)) e)),
         )
 
   -- every content
   module _ (test : Rule → Bool) where
-    pub all-rules : ((i : ℕ) (r : Rule) → i < index .rules → getElem? (g .rules) i ≡ just r → test r ≡ true) → allPass test (g .rules) ≡ true
+    pub all-rules : ((i : ℕ) (r : Rule) → i < ruleCount index → getElem? (g .rules) i ≡ just r → test r ≡ true)
+        → allPass test (g .rules) ≡ true
     all-rules h =
         all-of test (g .rules) (λ r m. let (i, at-i) = mem-at m in h i r (omega (arith, at-below (g .rules) i at-i, x .rules)) at-i)
 
@@ -182,7 +199,9 @@ module _ (g : Table) (pairs : Bool) (p : pairs ≡ allDistinct samePair (g .rule
   pub pairs-repeated : pairs ≡ false → isSingleType g ≡ false
   unfolding isSingleType
   pairs-repeated e =
-      ap (λ (b : Bool). (b && noneCompete g (g .starts)) && allPass (λ (r : Rule). noneCompete g (typesIn (r .content))) (g .rules)) (sym p ∙ e)
+      ap
+      (λ (b : Bool). (b && noneCompete g (g .starts)) && allPass (λ (r : Rule). noneCompete g (typesIn (r .content))) (g .rules))
+      (sym p ∙ e)
 
   module _ (starts : Bool) (q : starts ≡ noneCompete g (g .starts)) where
     pub starts-compete : pairs ≡ true → starts ≡ false → isSingleType g ≡ false

@@ -1,11 +1,17 @@
 // The kinds of a table, by its index: local, and single-type.
 //
 // The types of one content, or the starts, are a set at the front of the lent words. Eight words have a bit for each value of a byte.
+use reader::index::content_from;
+use reader::index::content_to;
+use reader::index::rule_count;
+use reader::index::rule_label;
+use reader::index::rule_type;
+use reader::index::start_count;
+use reader::index::start_type;
 use reader::numbers::wide;
 use reader::operators::CHOICE;
 use reader::operators::SEQUENCE;
 use reader::operators::TYPE;
-use reader::tables::TableIndex;
 use reader::work::clear;
 use sets::words::has;
 use sets::words::put;
@@ -21,19 +27,21 @@ ghost use Rattle.grammar.specs.ReadContent.{contentBytes};
 ghost use Rattle.grammar.specs.Table.{Rule, Table};
 ghost use Rattle.grammar.specs.Lists.{allPass, allDistinct};
 ghost use Rattle.grammar.specs.KindTests.{samePair, noneCompete, isLocal, isSingleType};
-ghost use Rattle.reader.specs.TableIndex.{Indexes, TableIndexed};
-ghost use Rattle.kinds.specs.RulesAt.{anyBelow, sameLabelAt, samePairAt, rivals, rivalsAt, Holds, IsContent};
+ghost use Rattle.grammar.specs.Limits.{large};
+ghost use Rattle.grammar.specs.Names.{asciiClasses};
+ghost use Rattle.reader.specs.TableIndex.{ruleCount, Indexes};
+ghost use Rattle.reader.specs.Held.{SomeHeld};
+ghost use Rattle.kinds.specs.RulesAt.{anyBelow, sameLabelAt, samePairAt, rivals, rivalsAt, Holds, IsContent, TypesBelow};
 
 // An earlier rule has the label of this one.
-fn label_before(index: TableIndex, i: usize) -> bool
-    requires { ⌜ i < 64 ⌝ }
-    ensures { λ r. ⌜ r ≡ anyBelow (sameLabelAt index i) i ⌝ }
+fn label_before(index: &[u16; 899], i: usize) -> bool
+    requires { ⌜ i < 128 ⌝ }
+    ensures { λ r. ⌜ r ≡ anyBelow (sameLabelAt (now (index .entry)) i) i ⌝ }
 {
-    let labels = index.rule_label;
-    let label = labels[i];
+    let label = rule_label(index, i);
     let mut j: usize = 0;
     while j < i {
-        if labels[j] == label {
+        if rule_label(index, j) == label {
             return true;
         }
         j += 1;
@@ -42,11 +50,11 @@ fn label_before(index: TableIndex, i: usize) -> bool
 }
 
 // No two rules have one label.
-pub fn local_table(index: TableIndex) -> bool
-    requires { ⌜ index .rules ≤ 64 ⌝ }
-    ensures { λ r. ⌜ ((s : List ℕ) (g : Table) → Indexes s index g → r ≡ isLocal g) ⌝ }
+pub fn local_table(index: &[u16; 899]) -> bool
+    requires { ⌜ ruleCount (now index) ≤ 128 ⌝ }
+    ensures { λ r. ⌜ ((s : List ℕ) (g : Table) → Indexes s (now (index .entry)) g → r ≡ isLocal g) ⌝ }
 {
-    let rules = index.rules;
+    let rules = rule_count(index);
     let mut later: usize = 0;
     while later < rules {
         if label_before(index, later) {
@@ -58,7 +66,7 @@ pub fn local_table(index: TableIndex) -> bool
 }
 
 // Two pairs of a type and a label are the same.
-fn same_pair(k: u8, label: u8, l: u8, other: u8) -> bool
+fn same_pair(k: usize, label: usize, l: usize, other: usize) -> bool
     ensures { λ r. ⌜ r ≡ (eqb k l && eqb label other) ⌝ }
 {
     if k == l {
@@ -68,17 +76,15 @@ fn same_pair(k: u8, label: u8, l: u8, other: u8) -> bool
 }
 
 // An earlier rule has the type and the label of this one.
-fn pair_before(index: TableIndex, i: usize) -> bool
-    requires { ⌜ i < 64 ⌝ }
-    ensures { λ r. ⌜ r ≡ anyBelow (samePairAt index i) i ⌝ }
+fn pair_before(index: &[u16; 899], i: usize) -> bool
+    requires { ⌜ i < 128 ⌝ }
+    ensures { λ r. ⌜ r ≡ anyBelow (samePairAt (now (index .entry)) i) i ⌝ }
 {
-    let rule_type = index.rule_type;
-    let rule_label = index.rule_label;
-    let k = rule_type[i];
-    let label = rule_label[i];
+    let k = rule_type(index, i);
+    let label = rule_label(index, i);
     let mut j: usize = 0;
     while j < i {
-        if same_pair(k, label, rule_type[j], rule_label[j]) {
+        if same_pair(k, label, rule_type(index, j), rule_label(index, j)) {
             return true;
         }
         j += 1;
@@ -87,11 +93,11 @@ fn pair_before(index: TableIndex, i: usize) -> bool
 }
 
 // No two rules have one type and one label.
-fn distinct_pairs(index: TableIndex) -> bool
-    requires { ⌜ index .rules ≤ 64 ⌝ }
-    ensures { λ r. ⌜ ((s : List ℕ) (g : Table) → Indexes s index g → r ≡ allDistinct samePair (g .rules)) ⌝ }
+fn distinct_pairs(index: &[u16; 899]) -> bool
+    requires { ⌜ ruleCount (now index) ≤ 128 ⌝ }
+    ensures { λ r. ⌜ ((s : List ℕ) (g : Table) → Indexes s (now (index .entry)) g → r ≡ allDistinct samePair (g .rules)) ⌝ }
 {
-    let rules = index.rules;
+    let rules = rule_count(index);
     let mut i: usize = 0;
     while i < rules {
         if pair_before(index, i) {
@@ -128,23 +134,22 @@ fn content_types(content: &[u8], words: &mut [u32])
 }
 
 // Leaves the set of the starts.
-fn start_types(index: TableIndex, words: &mut [u32])
-    requires { ⌜ (index .starts ≤ 64) × (8 ≤ length (now words)) ⌝ }
-    ensures { λ r. ⌜ ((s : List ℕ) (g : Table) → Indexes s index g → Holds (now (words .exit)) (g .starts)) ⌝ }
+fn start_types(index: &[u16; 899], words: &mut [u32])
+    requires { ⌜ (TypesBelow (now index)) × (8 ≤ length (now words)) ⌝ }
+    ensures { λ r. ⌜ ((s : List ℕ) (g : Table) → Indexes s (now (index .entry)) g → Holds (now (words .exit)) (g .starts)) ⌝ }
 {
-    let start_type = index.start_type;
-    let starts = index.starts;
+    let starts = start_count(index);
     clear(words);
     let mut i: usize = 0;
     while i < starts {
-        let start = wide(start_type[i]);
+        let start = start_type(index, i);
         put(words, 0, start);
         i += 1;
     }
 }
 
 // One label, and two different types, the second of which stands.
-fn is_rival(k: u8, label: u8, l: u8, other: u8, stands: bool) -> bool
+fn is_rival(k: usize, label: usize, l: usize, other: usize, stands: bool) -> bool
     ensures { λ r. ⌜ r ≡ rivals k label l other stands ⌝ }
 {
     if k == l {
@@ -157,22 +162,18 @@ fn is_rival(k: u8, label: u8, l: u8, other: u8, stands: bool) -> bool
 }
 
 // This rule has a rival, and the types of both are in the set.
-fn has_rival(index: TableIndex, words: &[u32], i: usize) -> bool
-    requires { ⌜ (i < 64) × (index .rules ≤ 64) × (8 ≤ length (now words)) ⌝ }
-    ensures { λ r. ⌜ r ≡ anyBelow (rivalsAt index (now (words .entry)) i) (index .rules) ⌝ }
+fn has_rival(index: &[u16; 899], words: &[u32], i: usize) -> bool
+    requires { ⌜ (i < ruleCount (now index)) × (TypesBelow (now index)) × (8 ≤ length (now words)) ⌝ }
+    ensures { λ r. ⌜ r ≡ anyBelow (rivalsAt (now (index .entry)) (now (words .entry)) i) (ruleCount (now (index .entry))) ⌝ }
 {
-    let rule_type = index.rule_type;
-    let rule_label = index.rule_label;
-    let rules = index.rules;
-    let k = rule_type[i];
-    let label = rule_label[i];
-    let first = wide(k);
-    if has(words, 0, first) {
+    let rules = rule_count(index);
+    let k = rule_type(index, i);
+    let label = rule_label(index, i);
+    if has(words, 0, k) {
         let mut j: usize = 0;
         while j < rules {
-            let l = rule_type[j];
-            let second = wide(l);
-            if is_rival(k, label, l, rule_label[j], has(words, 0, second)) {
+            let l = rule_type(index, j);
+            if is_rival(k, label, l, rule_label(index, j), has(words, 0, l)) {
                 return true;
             }
             j += 1;
@@ -183,12 +184,12 @@ fn has_rival(index: TableIndex, words: &[u32], i: usize) -> bool
 }
 
 // No two different types of the set have rules with one label.
-fn none_compete(index: TableIndex, words: &[u32]) -> bool
-    requires { ⌜ (index .rules ≤ 64) × (8 ≤ length (now words)) ⌝ }
-    ensures { λ r. ⌜ ((s : List ℕ) (g : Table) (types : List ℕ) → Indexes s index g → Holds (now (words .entry)) types
+fn none_compete(index: &[u16; 899], words: &[u32]) -> bool
+    requires { ⌜ (TypesBelow (now index)) × (8 ≤ length (now words)) ⌝ }
+    ensures { λ r. ⌜ ((s : List ℕ) (g : Table) (types : List ℕ) → Indexes s (now (index .entry)) g → Holds (now (words .entry)) types
         → r ≡ noneCompete g types) ⌝ }
 {
-    let rules = index.rules;
+    let rules = rule_count(index);
     let mut i: usize = 0;
     while i < rules {
         if has_rival(index, words, i) {
@@ -200,26 +201,25 @@ fn none_compete(index: TableIndex, words: &[u32]) -> bool
 }
 
 // No two different types that stand in the content of this rule have rules with one label.
-fn none_compete_in(table: &[u8], index: TableIndex, i: usize, words: &mut [u32]) -> bool
-    requires { ⌜ (TableIndexed (now table) index) × (i < index .rules) × (8 ≤ length (now words)) ⌝ }
-    ensures { λ r. ⌜ ((g : Table) (rule : Rule) → Indexes (now (table .entry)) index g → getElem? (g .rules) i ≡ some rule
+fn none_compete_in(table: &[u8], index: &[u16; 899], i: usize, words: &mut [u32]) -> bool
+    requires { ⌜ (SomeHeld large asciiClasses (now table) (now index)) × (i < ruleCount (now index))
+        × (8 ≤ length (now words)) ⌝ }
+    ensures { λ r. ⌜ ((g : Table) (rule : Rule) → Indexes (now (table .entry)) (now (index .entry)) g → getElem? (g .rules) i ≡ some rule
         → r ≡ noneCompete g (typesIn (rule .content))) ⌝ }
 {
-    let content_from = index.content_from;
-    let content_to = index.content_to;
-    let from = content_from[i];
-    let to = content_to[i];
+    let from = content_from(index, i);
+    let to = content_to(index, i);
     content_types(&table[from..to], words);
     none_compete(index, words)
 }
 
 // The same of every content.
-fn none_compete_in_any(table: &[u8], index: TableIndex, words: &mut [u32]) -> bool
-    requires { ⌜ (TableIndexed (now table) index) × (8 ≤ length (now words)) ⌝ }
-    ensures { λ r. ⌜ ((g : Table) → Indexes (now (table .entry)) index g
+fn none_compete_in_any(table: &[u8], index: &[u16; 899], words: &mut [u32]) -> bool
+    requires { ⌜ (SomeHeld large asciiClasses (now table) (now index)) × (8 ≤ length (now words)) ⌝ }
+    ensures { λ r. ⌜ ((g : Table) → Indexes (now (table .entry)) (now (index .entry)) g
         → r ≡ allPass (λ (rule : Rule). noneCompete g (typesIn (rule .content))) (g .rules)) ⌝ }
 {
-    let rules = index.rules;
+    let rules = rule_count(index);
     let mut rule: usize = 0;
     while rule < rules {
         if none_compete_in(table, index, rule, words) {
@@ -232,9 +232,9 @@ fn none_compete_in_any(table: &[u8], index: TableIndex, words: &mut [u32]) -> bo
 }
 
 // No two rules have one type and label, and no two different types compete among the starts or in a content.
-pub fn single_type_table(table: &[u8], index: TableIndex, words: &mut [u32]) -> bool
-    requires { ⌜ (TableIndexed (now table) index) × (8 ≤ length (now words)) ⌝ }
-    ensures { λ r. ⌜ ((g : Table) → Indexes (now (table .entry)) index g → r ≡ isSingleType g) ⌝ }
+pub fn single_type_table(table: &[u8], index: &[u16; 899], words: &mut [u32]) -> bool
+    requires { ⌜ (SomeHeld large asciiClasses (now table) (now index)) × (8 ≤ length (now words)) ⌝ }
+    ensures { λ r. ⌜ ((g : Table) → Indexes (now (table .entry)) (now (index .entry)) g → r ≡ isSingleType g) ⌝ }
 {
     if distinct_pairs(index) {
         start_types(index, words);

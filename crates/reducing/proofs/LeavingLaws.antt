@@ -11,7 +11,7 @@ use mathlib.Core.Logic.{_⊎_, ⊎-elim}
 use mathlib.Core.Path.{_≡_, sym, _∙_, ap, subst, fun-ext}
 use lib.ListN.{getD}
 use Rattle.grammar.specs.Lists.{isIn, joinedOf, numbersBelow}
-use Rattle.grammar.specs.Limits.{standard}
+use Rattle.grammar.specs.Limits.{large}
 use Rattle.grammar.specs.Names.{asciiClasses}
 use Rattle.grammar.specs.Table.{Table}
 use Rattle.grammar.specs.Unite.{shifted, unite}
@@ -32,8 +32,7 @@ use Rattle.theory.proofs.lists.ListLaws.{
 }
 use Rattle.theory.proofs.steps.Reached.{start-reached}
 use Rattle.sets.specs.Sets.{nothing, inEither}
-use Rattle.reader.specs.declared.tables.TableIndex.{TableIndex}
-use Rattle.reader.specs.TableIndex.{startType}
+use Rattle.reader.specs.TableIndex.{startType, startCount}
 use Rattle.reader.specs.Held.{Held}
 use Rattle.reader.proofs.TableFoundLaws.{start-small}
 use Rattle.union.specs.declared.lists.TypeLists.{TypeLists}
@@ -46,7 +45,7 @@ use Rattle.reducing.specs.PairsListed.{PartBelow, StartsSmall}
 use Rattle.reducing.proofs.MeetingLaws.{MetBy, met-was, met-has}
 
 -- the list of a type
-pub list-part : {from numbers : List ℕ} → Listed 64 128 from numbers → (k first end : ℕ) → k < 64 → first ≡ getD from k 0
+pub list-part : {from numbers : List ℕ} → Listed 128 256 from numbers → (k first end : ℕ) → k < 128 → first ≡ getD from k 0
     → end ≡ getD from (k + 1) 0
     → PartBelow numbers first end
 list-part {from} {numbers} l k first end h a b =
@@ -55,16 +54,16 @@ list-part {from} {numbers} l k first end h a b =
     record { order = omega arith; inside = omega arith; below = λ i s. l .below i }
 
 -- the start types
-module _ {s : List ℕ} {index : TableIndex} {g : Table} (x : Held standard asciiClasses s index g) where
+module _ {s index : List ℕ} {g : Table} (x : Held large asciiClasses s index g) where
   pub starts-small : StartsSmall index
   starts-small = record { few = x .indexes .few-starts; small = start-small (x .indexes) (x .within) }
 
   module _ (f : ℕ → List ℕ) (p : ℕ) where
-    starts-was : List·Memᴰ p (joinedOf (λ i. f (startType index i)) (numbersBelow (index .starts)))
+    starts-was : List·Memᴰ p (joinedOf (λ i. f (startType index i)) (numbersBelow (startCount index)))
         → (k : ℕ) × List·Memᴰ k (g .starts) × List·Memᴰ p (f k)
     starts-was m =
-        let j = joined-from (λ i. f (startType index i)) (numbersBelow (index .starts)) m in
-        let b = numbers-below (index .starts) (j .0) .0 (j .1) in
+        let j = joined-from (λ i. f (startType index i)) (numbersBelow (startCount index)) m in
+        let b = numbers-below (startCount index) (j .0) .0 (j .1) in
         let n = x .indexes .starts in
         let k = below-at (g .starts) (j .0) (omega arith) in (
           k .0,
@@ -73,19 +72,19 @@ module _ {s : List ℕ} {index : TableIndex} {g : Table} (x : Held standard asci
         )
 
     starts-has : (k : ℕ) → List·Memᴰ k (g .starts) → List·Memᴰ p (f k)
-        → List·Memᴰ p (joinedOf (λ i. f (startType index i)) (numbersBelow (index .starts)))
+        → List·Memᴰ p (joinedOf (λ i. f (startType index i)) (numbersBelow (startCount index)))
     starts-has k m q =
         let a = mem-at m in
         let b = at-below (g .starts) (a .0) (a .1) in
         let n = x .indexes .starts in
-        joined-mem (λ i. f (startType index i)) (numbers-below (index .starts) (a .0) .1 (omega arith))
+        joined-mem (λ i. f (startType index i)) (numbers-below (startCount index) (a .0) .1 (omega arith))
         (subst (λ (t : ℕ). List·Memᴰ p (f t)) (sym (x .indexes .start (a .0) k (a .1))) q)
 
 -- the pairs in the lists of both tables' start types
-module _ {old add : List ℕ} {index addition : TableIndex} {g h : Table} (x : Held standard asciiClasses old index g) (y : Held standard asciiClasses add addition h)
-    {lists : TypeLists} (l : ListsOf (fruitfulOf (unite standard g h)) lists) where
+module _ {old add index addition : List ℕ} {g h : Table} (x : Held large asciiClasses old index g)
+    (y : Held large asciiClasses add addition h) {lists : TypeLists} (l : ListsOf (fruitfulOf (unite large g h)) lists) where
   abbrev of : ℕ → List ℕ
-  of = fruitfulOf (unite standard g h)
+  of = fruitfulOf (unite large g h)
 
   abbrev olds : ℕ → List ℕ
   olds = listOfType (lists .old .from) (lists .old .numbers)
@@ -94,50 +93,50 @@ module _ {old add : List ℕ} {index addition : TableIndex} {g h : Table} (x : H
   adds = listOfType (lists .addition .from) (lists .addition .numbers)
 
   abbrev oldPairs : List ℕ
-  oldPairs = joinedOf (λ i. olds (startType index i)) (numbersBelow (index .starts))
+  oldPairs = joinedOf (λ i. olds (startType index i)) (numbersBelow (startCount index))
 
   abbrev addedPairs : List ℕ
-  addedPairs = joinedOf (λ i. adds (startType addition i)) (numbersBelow (addition .starts))
+  addedPairs = joinedOf (λ i. adds (startType addition i)) (numbersBelow (startCount addition))
 
-  small-old : (k : ℕ) → List·Memᴰ k (g .starts) → k < 64
-  unfolding standard
+  small-old : (k : ℕ) → List·Memᴰ k (g .starts) → k < 128
+  unfolding large
   small-old k m = x .within .start-types k m
 
-  small-added : (k : ℕ) → List·Memᴰ k (h .starts) → k < 64
-  unfolding standard
+  small-added : (k : ℕ) → List·Memᴰ k (h .starts) → k < 128
+  unfolding large
   small-added k m = y .within .start-types k m
 
-  old-start : (p : ℕ) → List·Memᴰ p oldPairs → isStart (unite standard g h) p ≡ true
+  old-start : (p : ℕ) → List·Memᴰ p oldPairs → isStart (unite large g h) p ≡ true
   unfolding unite
   old-start p m =
       let k = starts-was x olds p m in
-      mem-in (start-pairs (unite standard g h) p .1 (
+      mem-in (start-pairs (unite large g h) p .1 (
         k .0,
-        Memᴰ·append-left (map (shifted standard) (h .starts)) (k .1),
+        Memᴰ·append-left (map (shifted large) (h .starts)) (k .1),
         subst (λ (list : List ℕ). List·Memᴰ p list) (l .old (k .0) (small-old (k .0) (k .1))) (k .2),
       ))
 
-  added-start : (p : ℕ) → List·Memᴰ p addedPairs → isStart (unite standard g h) p ≡ true
+  added-start : (p : ℕ) → List·Memᴰ p addedPairs → isStart (unite large g h) p ≡ true
   unfolding unite
   added-start p m =
       let k = starts-was y adds p m in
-      mem-in (start-pairs (unite standard g h) p .1 (
-        shifted standard (k .0),
-        Memᴰ·append-right (g .starts) (Memᴰ·map (shifted standard) (k .1)),
+      mem-in (start-pairs (unite large g h) p .1 (
+        shifted large (k .0),
+        Memᴰ·append-right (g .starts) (Memᴰ·map (shifted large) (k .1)),
         subst (λ (list : List ℕ). List·Memᴰ p list) (l .added (k .0) (small-added (k .0) (k .1))) (k .2),
       ))
 
-  start-listed : (p : ℕ) → isStart (unite standard g h) p ≡ true → (isIn p addedPairs || (isIn p oldPairs || false)) ≡ true
+  start-listed : (p : ℕ) → isStart (unite large g h) p ≡ true → (isIn p addedPairs || (isIn p oldPairs || false)) ≡ true
   unfolding unite
   start-listed p e =
-      let u = unite standard g h in
+      let u = unite large g h in
       let s = start-pairs u p .0 (in-mem p (withoutUnfruitful (normalise u) .starts) e) in
       ⊎-elim
       (λ m.
       let q = starts-has x olds p (s .0) m (subst (λ (list : List ℕ). List·Memᴰ p list) (sym (l .old (s .0) (small-old (s .0) m))) (s .2)) in
       or-right (isIn p addedPairs) (isIn p oldPairs || false) (or-left (isIn p oldPairs) false (mem-in q)))
       (λ m.
-      let j = Memᴰ·of-map (shifted standard) (h .starts) m in
+      let j = Memᴰ·of-map (shifted large) (h .starts) m in
       let k = j .0 in
       let n = subst (λ (t : ℕ). List·Memᴰ p (of t)) (sym (j .2)) (s .2) in
       let q = starts-has y adds p k (j .1) (subst (λ (list : List ℕ). List·Memᴰ p list) (sym (l .added k (small-added k (j .1)))) n) in
@@ -145,13 +144,13 @@ module _ {old add : List ℕ} {index addition : TableIndex} {g h : Table} (x : H
       (List·Memᴰ·append-cases (g .starts) (s .1))
 
   pub start-set : (set first : ℕ → Bool) → set ≡ inEither (λ p. isIn p addedPairs) first → first ≡ inEither (λ p. isIn p oldPairs) nothing
-      → set ≡ isStart (unite standard g h)
+      → set ≡ isStart (unite large g h)
   start-set set first a b =
       a
       ∙ ap (inEither (λ p. isIn p addedPairs)) b
       ∙ fun-ext
       (λ p.
-      same-test (isIn p addedPairs || (isIn p oldPairs || false)) (isStart (unite standard g h) p) (
+      same-test (isIn p addedPairs || (isIn p oldPairs || false)) (isStart (unite large g h) p) (
         λ e.
             ⊎-elim
             (λ t. added-start p (in-mem p addedPairs t))

@@ -16,7 +16,7 @@ use lib.Seq.{take-suc-set, take-at, drop-at, length-take-le, getD-set-same, getD
 use lib.Dec.{eqb, ltb}
 use borrow.Author.Tests.{eqb-true, eqb-false, eq-eqb, ne-eqb, ltb-true, ltb-false}
 use Rattle.grammar.specs.Lists.{keep, distinct, isIn, numbersBelow}
-use Rattle.grammar.specs.Limits.{standard}
+use Rattle.grammar.specs.Limits.{large}
 use Rattle.grammar.specs.Content.{none}
 use Rattle.grammar.specs.Table.{Rule, Table}
 use Rattle.grammar.specs.ReadTable.{isEmpty}
@@ -69,11 +69,11 @@ appends-join front xs ys list list′ count r a b =
       filled = b .filled;
     }
 
-pub append-room : (list : List ℕ) (count p : ℕ) → ListsFilled list count → p < 128 → isIn p (take count list) ≡ false
+pub append-room : (list : List ℕ) (count p : ℕ) → ListsFilled list count → p < 256 → isIn p (take count list) ≡ false
     → count < length list
-append-room list count p f small e = new-room 128 list count (f .once) p small e
+append-room list count p f small e = new-room 256 list count (f .once) p small e
 
-pub append-new : (list : List ℕ) (count p : ℕ) (b : Bool) → ListsFilled list count → p < 128 → isIn p (take count list) ≡ false
+pub append-new : (list : List ℕ) (count p : ℕ) (b : Bool) → ListsFilled list count → p < 256 → isIn p (take count list) ≡ false
     → b ≡ true
     → Appends (take count list) (onlyIf b (p ∷ [])) (set list count p) (count + 1)
 unfolding onlyIf
@@ -87,11 +87,11 @@ append-new list count p b f small e on =
       filled =
           record {
             once =
-                adds-once 128 list count (f .once) (p ∷ []) (set list count p) (count + 1)
-                (λ q m. subst (λ (x : ℕ). x < 128) (sym (List·Memᴰ·eq-of-singleton m)) small)
-                (adds-new 128 list count (f .once) p e room)
+                adds-once 256 list count (f .once) (p ∷ []) (set list count p) (count + 1)
+                (λ q m. subst (λ (x : ℕ). x < 256) (sym (List·Memᴰ·eq-of-singleton m)) small)
+                (adds-new 256 list count (f .once) p e room)
                 (length-set list count p);
-            below = set-all list count p room (λ n. n < 128) (f .below) small;
+            below = set-all list count p room (λ n. n < 256) (f .below) small;
           };
     })
 
@@ -113,15 +113,15 @@ zero-at n i = go (ltb i n) refl
         List·getD-eq-default (zeros n) 0
         (subst (λ (x : ℕ). x ≤ i) (sym (length-replicate {A = ℕ} n 0)) (ltb-false i n e))
 
-none-once : (list : List ℕ) → 128 ≤ length list → Once 128 list 0
+none-once : (list : List ℕ) → 256 ≤ length list → Once 256 list 0
 unfolding distinct
 none-once list h = record { room = h; held = omega arith; once = refl; below = λ p m. elim m [ ] }
 
-pub filled-zeros : ListsFilled (replicate 128 0) 0
+pub filled-zeros : ListsFilled (replicate 256 0) 0
 filled-zeros =
     record {
-      once = none-once (replicate 128 0) (subst (λ (n : ℕ). 128 ≤ n) (sym (length-replicate {A = ℕ} 128 0)) (omega arith));
-      below = λ i. subst (λ (x : ℕ). x < 128) (sym (zero-at 128 i)) (omega arith);
+      once = none-once (replicate 256 0) (subst (λ (n : ℕ). 256 ≤ n) (sym (length-replicate {A = ℕ} 256 0)) (omega arith));
+      below = λ i. subst (λ (x : ℕ). x < 256) (sym (zero-at 256 i)) (omega arith);
     }
 
 -- a part of a list
@@ -206,20 +206,20 @@ module _ (v : United) (known : ℕ → Bool) where
     pub record Filling (from numbers : List ℕ) (count k : ℕ) : Type 0 where
       pub all : Appends [] (pairsFrom v known base k) numbers count
       pub begins : (i : ℕ) → i ≤ k → getD from i 0 ≡ length (pairsFrom v known base i)
-      pub places : length from ≡ 65
-      pub room : length numbers ≡ 128
+      pub places : length from ≡ 129
+      pub room : length numbers ≡ 256
 
-    pub filling-start : Filling (replicate 65 0) (replicate 128 0) 0 0
+    pub filling-start : Filling (replicate 129 0) (replicate 256 0) 0 0
     filling-start =
         record {
           all = record { all = sym pairs-start; filled = filled-zeros };
           begins =
               λ i h.
               let z : i ≡ 0 = omega arith in
-              zero-at 65 i
+              zero-at 129 i
               ∙ sym (ap (λ (n : ℕ). length (pairsFrom v known base n)) z ∙ ap length pairs-start);
-          places = length-replicate {A = ℕ} 65 0;
-          room = length-replicate {A = ℕ} 128 0;
+          places = length-replicate {A = ℕ} 129 0;
+          room = length-replicate {A = ℕ} 256 0;
         }
 
     module _ {from numbers : List ℕ} {count k : ℕ} (f : Filling from numbers count k) where
@@ -228,46 +228,46 @@ module _ (v : United) (known : ℕ → Bool) where
 
       pub filling-more : (numbers′ : List ℕ) (more : ℕ) → Appends (take count numbers) (pairsIn v known (base + k)) numbers′ more
           → length numbers′ ≡ length numbers
-          → more ≤ 128
+          → more ≤ 256
       filling-more numbers′ more a same = let h = a .filled .once .held in let r = f .room in omega arith
 
-      pub filling-next : (numbers′ : List ℕ) (more byte : ℕ) → k < 64
+      pub filling-next : (numbers′ : List ℕ) (more place : ℕ) → k < 128
           → Appends (take count numbers) (pairsIn v known (base + k)) numbers′ more
           → length numbers′ ≡ length numbers
-          → byte ≡ more
-          → Filling (set from (k + 1) byte) numbers′ more (k + 1)
-      filling-next numbers′ more byte h a same e =
+          → place ≡ more
+          → Filling (set from (k + 1) place) numbers′ more (k + 1)
+      filling-next numbers′ more place h a same e =
           let all = appends-same (sym (pairs-next k)) (appends-join [] (pairsFrom v known base k) (pairsIn v known (base + k)) numbers numbers′ count more (f .all) a) in
           let size = sym (length-take-le more numbers′ (all .filled .once .held)) ∙ ap length (all .all) in
           record {
             all = all;
             begins = λ i b. go i b size (eqb i (k + 1)) refl;
-            places = length-set from (k + 1) byte ∙ f .places;
+            places = length-set from (k + 1) place ∙ f .places;
             room = same ∙ f .room;
           }
         where
           go : (i : ℕ) → i ≤ k + 1 → more ≡ length (pairsFrom v known base (k + 1)) → (b : Bool) → eqb i (k + 1) ≡ b
-              → getD (set from (k + 1) byte) i 0 ≡ length (pairsFrom v known base i)
+              → getD (set from (k + 1) place) i 0 ≡ length (pairsFrom v known base i)
           go i b size true t =
               let z = eqb-true i (k + 1) t in
               let p = f .places in
-              ap (λ (n : ℕ). getD (set from (k + 1) byte) n 0) z
-              ∙ getD-set-same from (k + 1) byte 0 (omega arith)
+              ap (λ (n : ℕ). getD (set from (k + 1) place) n 0) z
+              ∙ getD-set-same from (k + 1) place 0 (omega arith)
               ∙ e
               ∙ size
               ∙ ap (λ (n : ℕ). length (pairsFrom v known base n)) (sym z)
           go i b size false t =
               let d = eqb-false i (k + 1) t in
-              getD-set-other from (k + 1) i byte 0 d ∙ f .begins i (below i b d)
+              getD-set-other from (k + 1) i place 0 d ∙ f .begins i (below i b d)
             where
               below : (i : ℕ) → i ≤ k + 1 → (i ≡ k + 1 → ⊥) → i ≤ k
               below i b d = omega arith
 
-    module _ {from numbers : List ℕ} {count : ℕ} (f : Filling from numbers count 64) where
-      parts : (k : ℕ) → k < 64 → (rest : List ℕ) × (numbers ≡ pairsFrom v known base k ++ (pairsIn v known (base + k) ++ rest))
+    module _ {from numbers : List ℕ} {count : ℕ} (f : Filling from numbers count 128) where
+      parts : (k : ℕ) → k < 128 → (rest : List ℕ) × (numbers ≡ pairsFrom v known base k ++ (pairsIn v known (base + k) ++ rest))
       parts k h =
-          let z : k + 1 + (64 - (k + 1)) ≡ 64 = omega arith in
-          let r = pairs-front (k + 1) (64 - (k + 1)) in
+          let z : k + 1 + (128 - (k + 1)) ≡ 128 = omega arith in
+          let r = pairs-front (k + 1) (128 - (k + 1)) in
           let a = pairsFrom v known base k in
           let b = pairsIn v known (base + k) in (
             r .0 ++ drop count numbers,
@@ -282,7 +282,7 @@ module _ (v : United) (known : ℕ → Bool) where
                 ∙ ap (λ (l : List ℕ). a ++ l) (append-assoc b (r .0) (drop count numbers)),
           )
 
-      sizes : (k : ℕ) → k < 64
+      sizes : (k : ℕ) → k < 128
           → (getD from k 0 ≡ length (pairsFrom v known base k))
           × (getD from (k + 1) 0 ≡ length (pairsFrom v known base k) + length (pairsIn v known (base + k)))
       sizes k h = (
@@ -345,9 +345,9 @@ module _ {old add : List ℕ} {v : United} {u : Table} (x : Views old add v u) w
 
 pub lists-both : (of : ℕ → List ℕ) (first second : ℕ → List ℕ) (a b : Lists) → ListsEach first a → ListsEach second b
     → ((k : ℕ) → first k ≡ of k)
-    → ((k : ℕ) → second k ≡ of (64 + k))
+    → ((k : ℕ) → second k ≡ of (128 + k))
     → ListsOf of (record { old = a; addition = b })
-unfolding shifted standard
+unfolding shifted large
 lists-both of first second a b x y p q =
     record {
       old-listed = x .listed;
@@ -358,22 +358,23 @@ lists-both of first second a b x y p q =
 
 -- whether a type has a list that is not empty
 module _ {of : ℕ → List ℕ} {r : TypeLists} (x : ListsOf of r) where
-  pub listed-old : (k : ℕ) → k < 64 → ltb (getD (r .old .from) k 0) (getD (r .old .from) (k + 1) 0) ≡ someLeft of k
+  pub listed-old : (k : ℕ) → k < 128 → ltb (getD (r .old .from) k 0) (getD (r .old .from) (k + 1) 0) ≡ someLeft of k
   unfolding someLeft
   listed-old k h =
       some-listed (r .old .from) (r .old .numbers) k (x .old-listed .order k h) (x .old-listed .inside k h)
       ∙ ap (λ (l : List ℕ). not (isEmpty l)) (x .old k h)
 
-  pub listed-added : (k : ℕ) → 64 ≤ k → k < 128
-      → ltb (getD (r .addition .from) (k - 64) 0) (getD (r .addition .from) (k - 63) 0) ≡ someLeft of k
-  unfolding someLeft shifted standard
+  pub listed-added : (k : ℕ) → 128 ≤ k → k < 256
+      → ltb (getD (r .addition .from) (k - 128) 0) (getD (r .addition .from) (k - 127) 0) ≡ someLeft of k
+  unfolding someLeft shifted large
   listed-added k low high =
-      let n : k - 63 ≡ k - 64 + 1 = omega arith in
-      let m : 64 + (k - 64) ≡ k = omega arith in
-      let h : k - 64 < 64 = omega arith in
-      ap (λ (i : ℕ). ltb (getD (r .addition .from) (k - 64) 0) (getD (r .addition .from) i 0)) n
-      ∙ some-listed (r .addition .from) (r .addition .numbers) (k - 64) (x .added-listed .order (k - 64) h) (x .added-listed .inside (k - 64) h)
-      ∙ ap (λ (l : List ℕ). not (isEmpty l)) (x .added (k - 64) h ∙ ap of m)
+      let n : k - 127 ≡ k - 128 + 1 = omega arith in
+      let m : 128 + (k - 128) ≡ k = omega arith in
+      let h : k - 128 < 128 = omega arith in
+      ap (λ (i : ℕ). ltb (getD (r .addition .from) (k - 128) 0) (getD (r .addition .from) i 0)) n
+      ∙ some-listed (r .addition .from) (r .addition .numbers) (k - 128) (x .added-listed .order (k - 128) h)
+      (x .added-listed .inside (k - 128) h)
+      ∙ ap (λ (l : List ℕ). not (isEmpty l)) (x .added (k - 128) h ∙ ap of m)
 
 pub types-all : (test set : ℕ → Bool) (n : ℕ) → set ≡ puts test (λ j. j) nothing n → (k : ℕ) → k < n → set k ≡ test k
 types-all test set n e k h =

@@ -14,7 +14,7 @@ use lib.ListN.{length, getD, take, drop}
 use lib.Dec.{eqb, leb}
 use borrow.Author.Tests.{eqb-true, eq-eqb, ltb-true}
 use Rattle.grammar.specs.Lists.{keep, distinct, joinedOf, isIn, numbersBelow}
-use Rattle.grammar.specs.Limits.{Limits, standard}
+use Rattle.grammar.specs.Limits.{Limits, large}
 use Rattle.grammar.specs.ReadContent.{isProper, areProper}
 use Rattle.grammar.specs.Content.{Content, none, empty, type, sequence, choice, anyNumber, oneOrMore, optional, Contents, []ᶜ, _∷ᶜ_, operandCount}
 use Rattle.grammar.specs.Table.{Rule, Table}
@@ -56,7 +56,7 @@ use Rattle.union.specs.View.{SourceContent, Views, firstIn, fromIn, toIn}
 use Rattle.union.specs.Walks.{listOfType, Once, Adds, MetAsks, MetFinds}
 use Rattle.union.specs.Rounds.{contentOfRule}
 use Rattle.union.specs.PairNumbers.{ruleNumbered, fruitfulOf, contentsOfPair, contentsIn, metIn}
-use Rattle.union.proofs.ViewLaws.{content-is, seen}
+use Rattle.union.proofs.ViewLaws.{content-is, seen, source-so}
 use Rattle.union.proofs.MetLaws.{finds-adds, finds-once}
 use Rattle.union.proofs.OnceLaws.{part-more, adds-none, adds-join, adds-same}
 use Rattle.reducing.specs.declared.meeting.Met.{Met}
@@ -130,16 +130,17 @@ content-met s lists list count list′ r a f same =
 
 -- a content in its source
 source-met : {s : List ℕ} {from to : ℕ} {c : Content} → SourceContent s from to c → (lists : Lists) (of : ℕ → List ℕ)
-    → ((k : ℕ) → k < 64 → listOfType (lists .from) (lists .numbers) k ≡ of k)
+    → ((k : ℕ) → k < 128 → listOfType (lists .from) (lists .numbers) k ≡ of k)
     → (numbers list : List ℕ) (r : ℕ) → ContentMet (take (to - from) (drop from s)) lists numbers list r
     → Adds numbers (pairsMet of c) list r
-unfolding standard
+unfolding large
 source-met {s} {from} {to} {c} x lists of same numbers list r f =
-    adds-same (met-same standard (listOfType (lists .from) (lists .numbers)) of same c (x .proper)) (f .adds c (to - from) (x .stands))
+    adds-same (met-same large (listOfType (lists .from) (lists .numbers)) of same c (x .proper)) (f .adds c (to - from) (x .stands))
 
-module _ {old add : List ℕ} {v : United} (i : ℕ) (inside : i < v .rules) (lists : TypeLists) (numbers list : List ℕ) (r : ℕ) where
+module _ {old add : List ℕ} {v : United} (i : ℕ) (inside : i < v .rules) (from to : ℕ) (begins : fromIn v i ≡ from) (ends : toIn v i ≡ to)
+    (lists : TypeLists) (numbers list : List ℕ) (r : ℕ) where
   pub old-met : i < v .«old_rules»
-      → ContentMet (take (toIn v i - fromIn v i) (drop (fromIn v i) old)) (lists .old) numbers list r
+      → ContentMet (take (to - from) (drop from old)) (lists .old) numbers list r
       → Meets old add v lists (λ u. metInRule u i) numbers list r
   unfolding metInRule
   old-met h f =
@@ -148,12 +149,12 @@ module _ {old add : List ℕ} {v : United} (i : ℕ) (inside : i < v .rules) (li
             λ u x l.
             let s = seen x i inside in
             adds-same (ap (pairsMet (fruitfulOf u)) (sym (content-is u i (s .0) (s .1))))
-            (source-met (s .2 .in-old h) (lists .old) (fruitfulOf u) (l .old) numbers list r f);
+            (source-met (source-so begins ends (s .2 .in-old h)) (lists .old) (fruitfulOf u) (l .old) numbers list r f);
         once = f .once;
       }
 
   pub added-met : v .«old_rules» ≤ i
-      → ContentMet (take (toIn v i - fromIn v i) (drop (fromIn v i) add)) (lists .addition) numbers list r
+      → ContentMet (take (to - from) (drop from add)) (lists .addition) numbers list r
       → Meets old add v lists (λ u. metInRule u i) numbers list r
   unfolding metInRule
   added-met h f =
@@ -163,9 +164,11 @@ module _ {old add : List ℕ} {v : United} (i : ℕ) (inside : i < v .rules) (li
             let s = seen x i inside in
             let a = s .2 .in-addition h in
             adds-same
-            (sym (pairs-renamed (shifted standard) (fruitfulOf u) (a .source))
+            (sym (pairs-renamed (shifted large) (fruitfulOf u) (a .source))
             ∙ ap (pairsMet (fruitfulOf u)) (sym (content-is u i (s .0) (s .1) ∙ a .same)))
-            (source-met (a .stands) (lists .addition) (λ k. fruitfulOf u (shifted standard k)) (l .added) numbers list r f);
+            (source-met (source-so begins ends (a .stands)) (lists .addition) (λ k. fruitfulOf u (shifted large k)) (l .added) numbers list
+            r
+            f);
         once = f .once;
       }
 
@@ -200,10 +203,10 @@ module _ {old add : List ℕ} {v : United} {lists : TypeLists} where
   meets-same more others numbers list count e m =
       record { adds = λ u x l. adds-same (e u x) (m .adds u x l); once = m .once }
 
-  pub meets-none : (list : List ℕ) (count : ℕ) (more : Table → List ℕ) → Once 128 list count → ((u : Table) → more u ≡ [])
+  pub meets-none : (list : List ℕ) (count : ℕ) (more : Table → List ℕ) → Once 256 list count → ((u : Table) → more u ≡ [])
       → Meets old add v lists more (take count list) list count
   meets-none list count more o e =
-      record { adds = λ u x l. adds-same (sym (e u)) (adds-none 128 list count o); once = o }
+      record { adds = λ u x l. adds-same (sym (e u)) (adds-none 256 list count o); once = o }
 
   pub meets-on : (b : Bool) (more : Table → List ℕ) (numbers list : List ℕ) (count : ℕ) → b ≡ true
       → Meets old add v lists more numbers list count
@@ -212,14 +215,14 @@ module _ {old add : List ℕ} {v : United} {lists : TypeLists} where
   meets-on b more numbers list count e =
       meets-same more (λ u. onlyIf b (more u)) numbers list count (λ u x. sym (ap (λ (c : Bool). onlyIf c (more u)) e))
 
-  pub meets-off : (b : Bool) (more : Table → List ℕ) (list : List ℕ) (count : ℕ) → b ≡ false → Once 128 list count
+  pub meets-off : (b : Bool) (more : Table → List ℕ) (list : List ℕ) (count : ℕ) → b ≡ false → Once 256 list count
       → Meets old add v lists (λ u. onlyIf b (more u)) (take count list) list count
   unfolding onlyIf
   meets-off b more list count e o =
       meets-none list count (λ u. onlyIf b (more u)) o (λ u. ap (λ (c : Bool). onlyIf c (more u)) e)
 
   module _ (f : Table → ℕ → List ℕ) where
-    pub meets-start : (list : List ℕ) (count : ℕ) → Once 128 list count
+    pub meets-start : (list : List ℕ) (count : ℕ) → Once 256 list count
         → Meets old add v lists (λ u. joinedOf (f u) (numbersBelow 0)) (take count list) list count
     meets-start list count o = meets-none list count (λ u. joinedOf (f u) (numbersBelow 0)) o (λ u. joined-start (f u))
 
@@ -285,7 +288,7 @@ distinct-in xs =
     fun-ext (λ p. among-distinct eqb eqb-sym (decided-trans eqb eqb-decides) (λ q. eq-eqb q q refl) p xs)
 
 -- a number of the list
-pub once-at : (list : List ℕ) (count i : ℕ) → Once 128 list count → i < count → getD list i 0 < 128
+pub once-at : (list : List ℕ) (count i : ℕ) → Once 256 list count → i < count → getD list i 0 < 256
 once-at list count i o h = let held = o .held in o .below (getD list i 0) (taken-mem list i count h (omega arith))
 
 pub met-part : (found : Met) → MetHeld found → PartBelow (found .numbers) 0 (found .count)
@@ -298,12 +301,12 @@ met-part found h =
 
 -- the next number of a part put into a set of words
 pub part-next : (words more numbers : List ℕ) (first i k : ℕ) (base : ℕ → Bool) → more ≡ putAt words 0 k → k ≡ getD numbers i 0
-    → k < 128
-    → length words ≡ 4
+    → k < 256
+    → length words ≡ 8
     → first ≤ i
     → i < length numbers
     → member words 0 ≡ inEither (λ p. isIn p (take (i - first) (drop first numbers))) base
-    → (member more 0 ≡ inEither (λ p. isIn p (take (i + 1 - first) (drop first numbers))) base) × (length more ≡ 4)
+    → (member more 0 ≡ inEither (λ p. isIn p (take (i + 1 - first) (drop first numbers))) base) × (length more ≡ 8)
 part-next words more numbers first i k base m e small l low high q =
     let part = take (i - first) (drop first numbers) in
     let r = put-next words more part k base m small l q in

@@ -70,9 +70,9 @@ pub both-nothing : (test : ℕ → Bool) → inEither test (λ j. false) ≡ tes
 both-nothing test = fun-ext (λ p. or-nothing (test p))
 
 -- one number of a list put into a set of words
-pub put-next : (words more xs : List ℕ) (k : ℕ) (base : ℕ → Bool) → more ≡ putAt words 0 k → k < 128 → length words ≡ 4
+pub put-next : (words more xs : List ℕ) (k : ℕ) (base : ℕ → Bool) → more ≡ putAt words 0 k → k < 256 → length words ≡ 8
     → member words 0 ≡ inEither (λ p. isIn p xs) base
-    → (member more 0 ≡ inEither (λ p. isIn p (xs ++ (k ∷ []))) base) × (length more ≡ 4)
+    → (member more 0 ≡ inEither (λ p. isIn p (xs ++ (k ∷ []))) base) × (length more ≡ 8)
 unfolding isIn
 put-next words more xs k base m small l e = (
   ap (λ (w : List ℕ). member w 0) m

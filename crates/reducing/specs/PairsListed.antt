@@ -6,8 +6,7 @@ use mathlib.Core.Path.{_≡_}
 use lib.ListN.{length, getD, take}
 use lib.Dec.{eqb}
 use Rattle.grammar.specs.Lists.{keep, joinedOf, numbersBelow}
-use Rattle.reader.specs.declared.tables.TableIndex.{TableIndex}
-use Rattle.reader.specs.TableIndex.{startType}
+use Rattle.reader.specs.TableIndex.{startType, startCount}
 use Rattle.union.specs.declared.united.United.{United}
 use Rattle.union.specs.declared.lists.Lists.{Lists}
 use Rattle.union.specs.declared.lists.TypeLists.{TypeLists}
@@ -28,10 +27,10 @@ unfoldable pub pairsFrom : United → (ℕ → Bool) → (base n : ℕ) → List
 unfolding joinedOf pairsIn numbersBelow
 pairsFrom v known base n = joinedOf (λ k. pairsIn v known (base + k)) (numbersBelow n)
 
--- numbers below 128, each once at the front
+-- numbers below 256, each once at the front
 pub record ListsFilled (list : List ℕ) (count : ℕ) : Type 0 where
-  pub once : Once 128 list count
-  pub below : (i : ℕ) → getD list i 0 < 128
+  pub once : Once 256 list count
+  pub below : (i : ℕ) → getD list i 0 < 256
 
 -- after some numbers others stand there
 pub record Appends (front more list : List ℕ) (count : ℕ) : Type 0 where
@@ -44,21 +43,21 @@ Earlier v ty list = (q : ℕ) → List·Memᴰ q list → typeIn v q < ty
 
 -- these are the lists of the types of one table
 pub record ListsEach (of : ℕ → List ℕ) (r : Lists) : Type 0 where
-  pub listed : Listed 64 128 (r .from) (r .numbers)
-  pub each : (k : ℕ) → k < 64 → listOfType (r .from) (r .numbers) k ≡ of k
+  pub listed : Listed 128 256 (r .from) (r .numbers)
+  pub each : (k : ℕ) → k < 128 → listOfType (r .from) (r .numbers) k ≡ of k
 
--- a part of a list, of numbers below 128
+-- a part of a list, of numbers below 256
 pub record PartBelow (numbers : List ℕ) (first end : ℕ) : Type 0 where
   pub order : first ≤ end
   pub inside : end ≤ length numbers
-  pub below : (i : ℕ) → i < end → getD numbers i 0 < 128
+  pub below : (i : ℕ) → i < end → getD numbers i 0 < 256
 
--- both tables' types have lists, of numbers below 128
+-- both tables' types have lists, of numbers below 256
 pub record BothListed (r : TypeLists) : Type 0 where
-  pub old : Listed 64 128 (r .old .from) (r .old .numbers)
-  pub added : Listed 64 128 (r .addition .from) (r .addition .numbers)
+  pub old : Listed 128 256 (r .old .from) (r .old .numbers)
+  pub added : Listed 128 256 (r .addition .from) (r .addition .numbers)
 
 -- the start types of a table that was read
-pub record StartsSmall (index : TableIndex) : Type 0 where
-  pub few : index .starts ≤ 64
-  pub small : (i : ℕ) → i < index .starts → startType index i < 64
+pub record StartsSmall (index : List ℕ) : Type 0 where
+  pub few : startCount index ≤ 128
+  pub small : (i : ℕ) → i < startCount index → startType index i < 128

@@ -32,21 +32,21 @@ metInPair u p = joinedOf (pairsMet (fruitfulOf u)) (contentsOfPair u p)
 pub record ContentMet (s : List ℕ) (lists : Lists) (numbers list : List ℕ) (count : ℕ) : Type 0 where
   pub adds : (c : Content) (next : ℕ) → exprAt s 0 ≡ just (c upTo next)
       → Adds numbers (pairsMet (listOfType (lists .from) (lists .numbers)) c) list count
-  pub once : Once 128 list count
+  pub once : Once 256 list count
 
 -- what a step asks: a view, its lists, and numbers each once
 pub record MeetAsks (old add : List ℕ) (v : United) (lists : TypeLists) (list : List ℕ) (count : ℕ) : Type 0 where
   pub viewed : Viewed old add v
   pub listed : BothListed lists
-  pub once : Once 128 list count
+  pub once : Once 256 list count
 
 -- what it finds: pairs are added
 pub record Meets (old add : List ℕ) (v : United) (lists : TypeLists) (more : Table → List ℕ) (numbers list : List ℕ)
     (count : ℕ) : Type 0 where
   pub adds : (u : Table) → Views old add v u → ListsOf (fruitfulOf u) lists → Adds numbers (more u) list count
-  pub once : Once 128 list count
+  pub once : Once 256 list count
 
--- the pairs met, each once and below 128
+-- the pairs met, each once and below 256
 pub record MetHeld (r : Met) : Type 0 where
-  pub once : Once 128 (r .numbers) (r .count)
-  pub few : r .count ≤ 128
+  pub once : Once 256 (r .numbers) (r .count)
+  pub few : r .count ≤ 256

@@ -1,5 +1,7 @@
 // The pairs that are met in the contents of a set of pairs, once those are in normal form and reduced.
 use reader::numbers::wide;
+use reader::numbers::wider;
+use sets::eight::Set8;
 use sets::four::Set4;
 use union::lists::Lists;
 use union::lists::TypeLists;
@@ -22,7 +24,7 @@ ghost use Rattle.reducing.specs.PairsMet.{ContentMet, metInRule, metInPa
 
 // Pairs, each once, in the order in which they are met.
 pub struct Met {
-    pub numbers: [u8; 128],
+    pub numbers: [u8; 256],
     pub count: usize,
 }
 
@@ -53,8 +55,8 @@ fn met_in_rule(
 {
     let content_from = v.content_from;
     let content_to = v.content_to;
-    let from = content_from[i];
-    let to = content_to[i];
+    let from = wider(content_from[i]);
+    let to = wider(content_to[i]);
     if i < v.old_rules {
         let olds = lists.old;
         return met_in_content(&old[from..to], olds, list, count);
@@ -103,7 +105,7 @@ fn met_in_pair(
     let mut more = count;
     let mut i: usize = 0;
     while i < rules {
-        let first = firsts[i];
+        let first = wide(firsts[i]);
         let longer = met_in_rule_if(first == p, old, add, v, lists, i, list, more);
         more = longer;
         i += 1;
@@ -117,12 +119,12 @@ fn met_in_member(
     add: &[u8],
     v: United,
     lists: TypeLists,
-    set: Set4,
+    set: Set8,
     p: usize,
     list: &mut [u8],
     count: usize,
 ) -> usize
-    requires { ⌜ (MeetAsks (now old) (now add) v lists (now list) count) × (p < 128) ⌝ }
+    requires { ⌜ (MeetAsks (now old) (now add) v lists (now list) count) × (p < 256) ⌝ }
     ensures { λ r. ⌜ Meets (now (old .entry)) (now (add .entry)) v lists (λ u. onlyIf (member (set .words) 0 p) (metInPair u p))
         (take count (now (list .entry))) (now (list .exit)) r ⌝ }
 {
@@ -133,13 +135,13 @@ fn met_in_member(
 }
 
 // The pairs met in the contents of a set of pairs.
-pub fn met_in_set(old: &[u8], add: &[u8], v: United, lists: TypeLists, set: Set4) -> Met
+pub fn met_in_set(old: &[u8], add: &[u8], v: United, lists: TypeLists, set: Set8) -> Met
     requires { ⌜ (Viewed (now old) (now add) v) × (BothListed lists) ⌝ }
     ensures { λ r. ⌜ ((u : Table) → Views (now (old .entry)) (now (add .entry)) v u → ListsOf (fruitfulOf u) lists
         → take (r .count) (r .numbers) ≡ distinct eqb (metIn u (member (set .words) 0))) × (MetHeld r) ⌝ }
 {
     let rules = v.rules;
-    let mut numbers = [0u8; 128];
+    let mut numbers = [0u8; 256];
     let mut count: usize = 0;
     let mut p: usize = 0;
     while p < rules {
@@ -151,11 +153,11 @@ pub fn met_in_set(old: &[u8], add: &[u8], v: United, lists: TypeLists, set: Set4
 }
 
 // A set with the numbers of a part.
-pub fn with_part(set: Set4, numbers: &[u8], first: usize, end: usize) -> Set4
-    requires { ⌜ (length (set .words) ≡ 4) × (PartBelow (now numbers) first end) ⌝ }
+pub fn with_part(set: Set8, numbers: &[u8], first: usize, end: usize) -> Set8
+    requires { ⌜ (length (set .words) ≡ 8) × (PartBelow (now numbers) first end) ⌝ }
     ensures { λ r. ⌜ (member (r .words) 0
         ≡ inEither (λ p. isIn p (take (end - first) (drop first (now (numbers .entry))))) (member (set .words) 0))
-        × (length (r .words) ≡ 4) ⌝ }
+        × (length (r .words) ≡ 8) ⌝ }
 {
     let mut more = set;
     let mut i = first;
@@ -168,20 +170,20 @@ pub fn with_part(set: Set4, numbers: &[u8], first: usize, end: usize) -> Set4
 }
 
 // The set of the pairs met.
-pub fn set_of(found: Met) -> Set4
+pub fn set_of(found: Met) -> Set8
     requires { ⌜ MetHeld found ⌝ }
-    ensures { λ r. ⌜ (member (r .words) 0 ≡ (λ p. isIn p (take (found .count) (found .numbers)))) × (length (r .words) ≡ 4) ⌝ }
+    ensures { λ r. ⌜ (member (r .words) 0 ≡ (λ p. isIn p (take (found .count) (found .numbers)))) × (length (r .words) ≡ 8) ⌝ }
 {
     let numbers = found.numbers;
-    let none = Set4::empty();
+    let none = Set8::empty();
     with_part(none, &numbers, 0, found.count)
 }
 
 // The pairs met in the contents of a set of pairs, as a set.
-pub fn met_set(old: &[u8], add: &[u8], v: United, lists: TypeLists, set: Set4) -> Set4
+pub fn met_set(old: &[u8], add: &[u8], v: United, lists: TypeLists, set: Set8) -> Set8
     requires { ⌜ (Viewed (now old) (now add) v) × (BothListed lists) ⌝ }
     ensures { λ r. ⌜ ((u : Table) → Views (now (old .entry)) (now (add .entry)) v u → ListsOf (fruitfulOf u) lists
-        → member (r .words) 0 ≡ (λ p. isIn p (metIn u (member (set .words) 0)))) × (length (r .words) ≡ 4) ⌝ }
+        → member (r .words) 0 ≡ (λ p. isIn p (metIn u (member (set .words) 0)))) × (length (r .words) ≡ 8) ⌝ }
 {
     let found = met_in_set(old, add, v, lists, set);
     set_of(found)

@@ -1,6 +1,7 @@
--- The types of a node, rule by rule. A rule is named as the node exactly if its label is the place of the node's name (`named-by-place`), so
--- what the code asks of a rule is what the table says of it (`asked-is`, `not-asked`). A set that has the types of the first rules has, with
--- the next rule's if it fits, those of one rule more (`types-step`), and those of all rules up to the next one of the label (`types-passed`).
+-- The types of a node, rule by rule. A rule is named as the node exactly if its label is the place of the node's name (`named-by-place`),
+-- so what the code asks of a rule is what the table says of it (`asked-is`, `not-asked`). A set that has the types of the first rules has,
+-- with the next rule's if it fits, those of one rule more (`types-step`), and those of all rules up to the next one of the label
+-- (`types-passed`).
 use Prim.Native.Nat.{ℕ, zero, suc, _+_, _-_, _/_, _%_, _^_, _≤_, _<_}
 use native.Mathlib.Omega.{arith}
 use native.Mathlib.Nat.{zero-add}
@@ -16,7 +17,7 @@ use lib.Seq.{take-all, take-suc, take-set-lt, drop-set-lt, drop-set-add, getD-se
 use borrow.Author.Count.{below-more}
 use borrow.Author.Tests.{eqb-true, eq-eqb, ne-eqb}
 use Rattle.grammar.specs.Lists.{anyPass, keep, isIn, allDistinct, place}
-use Rattle.grammar.specs.Limits.{standard}
+use Rattle.grammar.specs.Limits.{large, contentLimit}
 use Rattle.grammar.specs.Names.{Name, sameName, asciiClasses}
 use Rattle.grammar.specs.Table.{Rule, Table}
 use Rattle.grammar.specs.Membership.{isNamed}
@@ -41,15 +42,14 @@ use Rattle.sets.specs.Sets as sets
 use Rattle.sets.specs.Sets.{member, putAt, wordsAt, storeAt, add}
 use Rattle.sets.proofs.SetLaws.{member-put, member-words, member-zeros, length-words, word-of, words-store, drop-store}
 use Rattle.reader.specs.ExprAt.{_upTo_, exprAt}
-use Rattle.reader.specs.TableIndex.{part, ruleLabel, contentFrom, contentTo}
-use Rattle.reader.specs.declared.tables.TableIndex.{TableIndex}
+use Rattle.reader.specs.TableIndex.{part, ruleLabel, contentFrom, contentTo, ruleCount, Inside}
 use Rattle.reader.specs.Held.{Held}
 use Rattle.reader.proofs.TableFaults.{part-size}
 use Rattle.reader.proofs.TableFoundLaws.{RuleFound, rule-found-at, content-in-part}
 use Rattle.walks.specs.TypeSets.{setAt}
-use Rattle.walks.specs.WalkAt.{runAt, WholeAt}
+use Rattle.walks.specs.WalkAt.{runAt, WholeAt, WalkRoom}
 use Rattle.validator.specs.Chains.{Keyed, PlaceFrom}
-use Rattle.validator.specs.KnownTable.{ruleFits, typesFor, PutIf}
+use Rattle.validator.specs.NodeTypes.{ruleFits, typesFor, PutIf}
 use Rattle.walks.proofs.WalkLaws.{run-at}
 
 -- where labels differ, a name has just the label at its place
@@ -75,7 +75,7 @@ named-by-place g differ l n below =
     )
 
 -- A rule of a table that is known.
-module _ {s : List ℕ} {index : TableIndex} {g : Table} (known : Held standard asciiClasses s index g) (i : ℕ) (below : i < index .rules) where
+module _ {s index : List ℕ} {g : Table} (known : Held large asciiClasses s index g) (i : ℕ) (below : i < ruleCount index) where
   abbrev pub known-rule : RuleFound s index g i
   known-rule = rule-found-at (known .indexes) (known .within) i below
 
@@ -83,7 +83,7 @@ module _ {s : List ℕ} {index : TableIndex} {g : Table} (known : Held standard 
       ≡ just (known-rule .rule .content upTo (contentTo index i - contentFrom index i))
   rule-stands = content-in-part (known-rule .rule .content) (known-rule .at .content)
 
-  pub rule-whole : WholeAt standard (part s (contentFrom index i) (contentTo index i))
+  rule-whole : WholeAt large (part s (contentFrom index i) (contentTo index i))
   rule-whole =
       record {
         proper-at =
@@ -96,9 +96,26 @@ module _ {s : List ℕ} {index : TableIndex} {g : Table} (known : Held standard 
         whole = sym (part-size s (contentFrom index i) (contentTo index i) (known-rule .at .content .inside));
       }
 
-  pub rule-size : length (part s (contentFrom index i) (contentTo index i)) ≤ 1024
-  unfolding standard
+  rule-size : length (part s (contentFrom index i) (contentTo index i)) ≤ contentLimit
+  unfolding large
   rule-size = let h = known-rule .within .content .size in let e = ap length (known-rule .at .content .bytes-are) in omega arith
+
+  -- its content, by the places that were read in the index
+  module _ {from to : ℕ} (is-from : from ≡ contentFrom index i) (is-to : to ≡ contentTo index i) where
+    pub content-there : part s from to ≡ part s (contentFrom index i) (contentTo index i)
+    content-there = ap₂ (part s) is-from is-to
+
+    pub content-inside : Inside s from to
+    content-inside = rw (is-from, is-to) (known-rule .at .content .inside)
+
+    pub content-whole : WholeAt large (part s from to)
+    content-whole = subst (WholeAt large) (sym content-there) rule-whole
+
+    pub content-room : {marks words : List ℕ} → contentLimit ≤ length marks → 4 ≤ length words → WalkRoom (part s from to) marks words 0
+    content-room enough four =
+        let size = rule-size in
+        let same = ap length content-there in
+        record { few = omega arith; mark-each = omega arith; four-words = omega arith }
 
   rule-named : (n : Name) → isNamed g (known-rule .rule .label) n ≡ eqb (ruleLabel index i) (place sameName n (g .labels))
   rule-named n =
@@ -112,38 +129,40 @@ module _ {s : List ℕ} {index : TableIndex} {g : Table} (known : Held standard 
     unfolding ruleFits
     rule-fits-is =
         ap₂ _&&_ (rule-named n ∙ ap (eqb (ruleLabel index i)) (sym e))
-        (sym (run-at (part s (contentFrom index i) (contentTo index i)) (known-rule .rule .content) (contentTo index i - contentFrom index i)
+        (sym
+        (run-at (part s (contentFrom index i) (contentTo index i)) (known-rule .rule .content) (contentTo index i - contentFrom index i)
         tests rule-stands))
 
     pub asked-is : ruleLabel index i ≡ label
         → runAt (part s (contentFrom index i) (contentTo index i)) tests ≡ ruleFits g n tests (known-rule .rule)
     asked-is h =
-        sym (rule-fits-is ∙ ap (λ (b : Bool). b && runAt (part s (contentFrom index i) (contentTo index i)) tests) (eq-eqb (ruleLabel index i) label h))
+        sym
+        (rule-fits-is
+        ∙ ap (λ (b : Bool). b && runAt (part s (contentFrom index i) (contentTo index i)) tests) (eq-eqb (ruleLabel index i) label h))
 
     not-asked : (ruleLabel index i ≡ label → ⊥) → false ≡ ruleFits g n tests (known-rule .rule)
     not-asked h =
-        sym (rule-fits-is ∙ ap (λ (b : Bool). b && runAt (part s (contentFrom index i) (contentTo index i)) tests) (ne-eqb (ruleLabel index i) label h))
+        sym
+        (rule-fits-is
+        ∙ ap (λ (b : Bool). b && runAt (part s (contentFrom index i) (contentTo index i)) tests) (ne-eqb (ruleLabel index i) label h))
 
 -- Labels of a table that is known are few enough to be keys.
-module _ {s : List ℕ} {index : TableIndex} {g : Table} (known : Held standard asciiClasses s index g) where
-  pub rules-keyed : Keyed (index .«rule_label») (index .rules)
+module _ {s index : List ℕ} {g : Table} (known : Held large asciiClasses s index g) where
+  pub rules-keyed : Keyed (ruleLabel index) (ruleCount index)
   rules-keyed =
       let x = known .indexes in
       let few = x .few-rules in
       record {
         few = few;
-        room = let room = x .rooms .rule-label in omega arith;
         small =
             λ i below.
             let rule = known-rule known i below in
-            let here = rule .at .label in
-            let inside = rule .within .label in
-            let labels = x .labels in
+            let inside = rule .label-below in
             let few = x .few-labels in
             omega arith;
       }
 
-  pub label-few : (n : Name) {label : ℕ} → label ≡ place sameName n (g .labels) → label ≤ 64
+  pub label-few : (n : Name) {label : ℕ} → label ≡ place sameName n (g .labels) → label ≤ 128
   label-few n e =
       let most = place-most sameName n (g .labels) in
       let labels = known .indexes .labels in
@@ -194,40 +213,40 @@ module _ (g : Table) (n : Name) (tests : List (ℕ → Bool)) where
   types-all i h = ap (typesFor g n tests) (take-all i (g .rules) h)
 
   -- one rule more
-  pub types-step : (i : ℕ) (r : Rule) → getElem? (g .rules) i ≡ just r → (words after : List ℕ) (base : ℕ) (fits : Bool) (k : ℕ)
-      → fits ≡ ruleFits g n tests r → k ≡ r .type → PutIf words base fits k after
-      → setAt words base ≡ holds (typesFor g n tests (take i (g .rules)))
-      → setAt after base ≡ holds (typesFor g n tests (take (i + 1) (g .rules)))
-  types-step i r e words after base fits k f q w o = go fits refl
+  pub types-step : (i : ℕ) (r : Rule) → getElem? (g .rules) i ≡ just r → (words after : List ℕ) (fits : Bool) (k : ℕ)
+      → fits ≡ ruleFits g n tests r → k ≡ r .type → PutIf words fits k after
+      → setAt words 0 ≡ holds (typesFor g n tests (take i (g .rules)))
+      → setAt after 0 ≡ holds (typesFor g n tests (take (i + 1) (g .rules)))
+  types-step i r e words after fits k f q w o = go fits refl
     where
-      go : (b : Bool) → fits ≡ b → setAt after base ≡ holds (typesFor g n tests (take (i + 1) (g .rules)))
+      go : (b : Bool) → fits ≡ b → setAt after 0 ≡ holds (typesFor g n tests (take (i + 1) (g .rules)))
       go true p =
           w .members
-          ∙ ap (λ (b : Bool). elim b as (λ f. ℕ → Bool) [ true ↦ add k (setAt words base) | false ↦ setAt words base ]) p
+          ∙ ap (λ (b : Bool). elim b as (λ f. ℕ → Bool) [ true ↦ add k (setAt words 0) | false ↦ setAt words 0 ]) p
           ∙ ap₂ add q o
           ∙ sym (ap holds (types-more i r e ∙ ap (λ (l : List ℕ). typesFor g n tests (take i (g .rules)) ++ l) (types-one r (sym f ∙ p)))
           ∙ holds-end (typesFor g n tests (take i (g .rules))) (r .type))
       go false p =
           w .members
-          ∙ ap (λ (b : Bool). elim b as (λ f. ℕ → Bool) [ true ↦ add k (setAt words base) | false ↦ setAt words base ]) p
+          ∙ ap (λ (b : Bool). elim b as (λ f. ℕ → Bool) [ true ↦ add k (setAt words 0) | false ↦ setAt words 0 ]) p
           ∙ o
           ∙ sym (ap holds (types-more i r e ∙ ap (λ (l : List ℕ). typesFor g n tests (take i (g .rules)) ++ l) (types-not r (sym f ∙ p))
           ∙ append-nil (typesFor g n tests (take i (g .rules)))))
 
 -- the rules up to the next one of the node's label, too: they have other labels, so none of them fits
-module _ {s : List ℕ} {index : TableIndex} {g : Table} (known : Held standard asciiClasses s index g) (n : Name) (tests : List (ℕ → Bool)) (label : ℕ)
+module _ {s index : List ℕ} {g : Table} (known : Held large asciiClasses s index g) (n : Name) (tests : List (ℕ → Bool)) (label : ℕ)
     (named : label ≡ place sameName n (g .labels)) where
   abbrev of-first : ℕ → List ℕ
   of-first i = typesFor g n tests (take i (g .rules))
 
-  rule-passed : (i : ℕ) → i < index .rules → (ruleLabel index i ≡ label → ⊥) → of-first (i + 1) ≡ of-first i
+  rule-passed : (i : ℕ) → i < ruleCount index → (ruleLabel index i ≡ label → ⊥) → of-first (i + 1) ≡ of-first i
   rule-passed i below other =
       let rule = known-rule known i below in
       types-more g n tests i (rule .rule) (rule .listed)
       ∙ ap (λ (l : List ℕ). of-first i ++ l) (types-not g n tests (rule .rule) (sym (not-asked known i below n tests label named other)))
       ∙ append-nil (of-first i)
 
-  pub types-passed : (set : ℕ → Bool) (from at : ℕ) → PlaceFrom (index .«rule_label») (index .rules) label from at
+  pub types-passed : (set : ℕ → Bool) (from at : ℕ) → PlaceFrom (ruleLabel index) (ruleCount index) label from at
       → set ≡ holds (typesFor g n tests (take from (g .rules))) → set ≡ holds (typesFor g n tests (take at (g .rules)))
   types-passed set from at p so =
       let order = p .onward in
@@ -243,15 +262,15 @@ module _ {s : List ℕ} {index : TableIndex} {g : Table} (known : Held standard 
           ∙ rule-passed (from + more) (omega arith) (p .passed (from + more) (omega arith) (omega arith))
           ∙ go more (omega arith)
 
--- the set at a word is emptied
-pub emptied : (words after none : List ℕ) (base : ℕ) → base + 4 ≤ length words → none ≡ replicate 4 0 → after ≡ storeAt words base none
-    → (setAt after base ≡ sets.nothing) × (drop (base + 4) after ≡ drop (base + 4) words)
-emptied words after none base room zeros e =
+-- the set at the front is emptied
+pub emptied : (words after none : List ℕ) → 4 ≤ length words → none ≡ replicate 4 0 → after ≡ storeAt words 0 none
+    → (setAt after 0 ≡ sets.nothing) × (drop 4 after ≡ drop 4 words)
+emptied words after none room zeros e =
     let size : length none ≡ 4 = ap length zeros ∙ length-replicate {A = ℕ} 4 0 in (
-      ap (λ (l : List ℕ). setAt l base) e
-          ∙ ap (λ (l : List ℕ). member l 0) (words-store words base none 4 (omega arith) size ∙ zeros)
+      ap (λ (l : List ℕ). setAt l 0) e
+          ∙ ap (λ (l : List ℕ). member l 0) (words-store words 0 none 4 (omega arith) size ∙ zeros)
           ∙ member-zeros 4 0,
-      ap (drop (base + 4)) e ∙ drop-store words base none (base + 4) (omega arith) (omega arith),
+      ap (drop 4) e ∙ drop-store words 0 none 4 (omega arith) (omega arith),
     )
 
 -- one more number in a set that stands in words, if the flag says so
@@ -264,31 +283,31 @@ words-put words base k n h =
     ∙ ap₂ (λ (i y : ℕ). set (take n (drop base words)) i (bitOr y (2 ^ (k % 32)))) (sym (zero-add (k / 32)))
     (sym (ap (λ (i : ℕ). getD (take n (drop base words)) i 0) (zero-add (k / 32)) ∙ word-of words base n (k / 32) h))
 
-module _ (words after : List ℕ) (base k : ℕ) (small : k < 64) (room : base + 4 ≤ length words) where
-  pub put-it : (flag : Bool) → flag ≡ true → after ≡ putAt words base k → PutIf words base flag k after
+module _ (words after : List ℕ) (k : ℕ) (small : k < 128) (room : 4 ≤ length words) where
+  pub put-it : (flag : Bool) → flag ≡ true → after ≡ putAt words 0 k → PutIf words flag k after
   unfolding putAt
   put-it flag f e =
-      let size = length-words words base 4 room in
-      let inside : 0 + k / 32 < length (wordsAt words base 4) = omega arith in
+      let size = length-words words 0 4 (omega arith) in
+      let inside : 0 + k / 32 < length (wordsAt words 0 4) = omega arith in
       let word : k / 32 < 4 = omega arith in
       record {
         members =
-            ap (λ (l : List ℕ). setAt l base) e
-            ∙ ap (λ (l : List ℕ). member l 0) (words-put words base k 4 word)
-            ∙ member-put (wordsAt words base 4) 0 k inside
-            ∙ sym (ap (λ (b : Bool). elim b as (λ f. ℕ → Bool) [ true ↦ add k (setAt words base) | false ↦ setAt words base ]) f);
-        behind = ap (drop (base + 4)) e ∙ drop-set-lt (base + 4) words (base + k / 32) _ (omega arith);
+            ap (λ (l : List ℕ). setAt l 0) e
+            ∙ ap (λ (l : List ℕ). member l 0) (words-put words 0 k 4 word)
+            ∙ member-put (wordsAt words 0 4) 0 k inside
+            ∙ sym (ap (λ (b : Bool). elim b as (λ f. ℕ → Bool) [ true ↦ add k (setAt words 0) | false ↦ setAt words 0 ]) f);
+        behind = ap (drop 4) e ∙ drop-set-lt 4 words (0 + k / 32) _ (omega arith);
       }
 
-pub not-put : (words : List ℕ) (base k : ℕ) (flag : Bool) → flag ≡ false → PutIf words base flag k words
-not-put words base k flag f =
+pub not-put : (words : List ℕ) (k : ℕ) (flag : Bool) → flag ≡ false → PutIf words flag k words
+not-put words k flag f =
     record {
-      members = sym (ap (λ (b : Bool). elim b as (λ f. ℕ → Bool) [ true ↦ add k (setAt words base) | false ↦ setAt words base ]) f);
+      members = sym (ap (λ (b : Bool). elim b as (λ f. ℕ → Bool) [ true ↦ add k (setAt words 0) | false ↦ setAt words 0 ]) f);
       behind = refl;
     }
 
 -- a number of a set that was read in its words
-pub set-has : (words : List ℕ) (at k : ℕ) → k < 64 → member words at k ≡ setAt words at k
+pub set-has : (words : List ℕ) (at k : ℕ) → k < 128 → member words at k ≡ setAt words at k
 set-has words at k h =
     let small : k / 32 < 4 = omega arith in
     sym (member-words words at 4 k small)

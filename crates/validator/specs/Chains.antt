@@ -2,23 +2,26 @@
 use Prim.Native.Nat.{ℕ, _+_, _≤_, _<_}
 use mathlib.Core.List.{List}
 use mathlib.Core.Path.{_≡_}
-use lib.ListN.{length, getD}
+use lib.ListN.{getD}
+use Rattle.reader.specs.TableIndex.{ruleLabel, ruleCount}
 
--- so many places, each with a key up to 64
-pub record Keyed (keys : List ℕ) (count : ℕ) : Type 0 where
-  pub few : count ≤ 64
-  pub room : count ≤ length keys
-  pub small : (i : ℕ) → i < count → getD keys i 0 ≤ 64
+-- so many places, each with a key up to 128
+pub record Keyed (key : ℕ → ℕ) (count : ℕ) : Type 0 where
+  pub few : count ≤ 128
+  pub small : (i : ℕ) → i < count → key i ≤ 128
 
--- the first place from `from` on that has the key; `count` where none has
-pub record PlaceFrom (keys : List ℕ) (count key from at : ℕ) : Type 0 where
+-- the first place from `from` on that has the key k; `count` where none has
+pub record PlaceFrom (key : ℕ → ℕ) (count k from at : ℕ) : Type 0 where
   pub onward : from ≤ at
   pub within : at ≤ count
-  pub passed : (j : ℕ) → from ≤ j → j < at → getD keys j 0 ≡ key → ⊥
-  pub found : at < count → getD keys at 0 ≡ key
+  pub passed : (j : ℕ) → from ≤ j → j < at → key j ≡ k → ⊥
+  pub found : at < count → key at ≡ k
 
--- at each place stands the next one that has its key, and at 64 + k the first one that has key k
-pub record ChainAre (keys : List ℕ) (count : ℕ) (next : List ℕ) : Type 0 where
-  pub after : (i : ℕ) → i < count → PlaceFrom keys count (getD keys i 0) (i + 1) (getD next i 0)
-  pub first : (key : ℕ) → key ≤ 64 → PlaceFrom keys count key 0 (getD next (64 + key) 0)
-  pub room : length next ≡ 129
+-- at each place stands the next one that has its key, and at 128 + k the first one that has key k
+pub record ChainAre (key : ℕ → ℕ) (count : ℕ) (next : List ℕ) : Type 0 where
+  pub after : (i : ℕ) → i < count → PlaceFrom key count (key i) (i + 1) (getD next i 0)
+  pub first : (k : ℕ) → k ≤ 128 → PlaceFrom key count k 0 (getD next (128 + k) 0)
+
+-- the rules of an index are chained by their labels
+abbrev pub RulesChained : (index next : List ℕ) → Type 0
+RulesChained index next = ChainAre (ruleLabel index) (ruleCount index) next

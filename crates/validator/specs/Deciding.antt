@@ -2,7 +2,7 @@
 use Prim.Native.Nat.{ℕ}
 use mathlib.Core.Bool.{Bool}
 use mathlib.Core.List.{List}
-use Rattle.grammar.specs.Limits.{standard}
+use Rattle.grammar.specs.Limits.{Limits}
 use Rattle.grammar.specs.Names.{asciiClasses}
 use Rattle.grammar.specs.Kinds.{Kind}
 use Rattle.grammar.specs.Outcome.{Outcome, given, _>>=_}
@@ -11,13 +11,13 @@ use Rattle.grammar.specs.ReadDocument.{readDocument}
 use Rattle.grammar.specs.Membership.{letsIn}
 use Rattle.grammar.specs.KindTests.{isOfKind}
 
-unfoldable pub letsInOf : List ℕ → List ℕ → Outcome Bool
-letsInOf table document = do
-  g ← readTable standard asciiClasses table
-  d ← readDocument standard asciiClasses document
+unfoldable pub letsInOf : Limits → (table document : List ℕ) → Outcome Bool
+letsInOf lim table document = do
+  g ← readTable lim asciiClasses table
+  d ← readDocument lim asciiClasses document
   given (letsIn g d)
 
-unfoldable pub isOfKindOf : Kind → List ℕ → Outcome Bool
-isOfKindOf kind table = do
-  g ← readTable standard asciiClasses table
+unfoldable pub isOfKindOf : Limits → Kind → List ℕ → Outcome Bool
+isOfKindOf lim kind table = do
+  g ← readTable lim asciiClasses table
   given (isOfKind kind g)

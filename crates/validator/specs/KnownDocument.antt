@@ -3,7 +3,7 @@ use Prim.Native.Nat.{ℕ, _+_, _≤_}
 use mathlib.Core.List.{List}
 use mathlib.Core.Path.{_≡_}
 use lib.ListN.{length, drop}
-use Rattle.grammar.specs.Limits.{standard}
+use Rattle.grammar.specs.Limits.{large}
 use Rattle.grammar.specs.Names.{asciiClasses}
 use Rattle.grammar.specs.Table.{Table}
 use Rattle.grammar.specs.Tree.{Tree}
@@ -12,7 +12,6 @@ use Rattle.grammar.specs.ReadDocument.{treeOf}
 use Rattle.grammar.specs.Membership.{typesOf}
 use Rattle.theory.specs.Marked.{holds}
 use Rattle.reader.specs.declared.documents.DocumentIndex.{DocumentIndex}
-use Rattle.reader.specs.declared.tables.TableIndex.{TableIndex}
 use Rattle.reader.specs.DocumentNodes.{NodesIndexed, nodesIn}
 use Rattle.reader.specs.NodeTrees.{treeCount, Enough}
 use Rattle.reader.specs.Held.{Held}
@@ -21,12 +20,6 @@ use Rattle.walks.specs.TypeSets.{setAt}
 -- the index of so many nodes in arrays
 abbrev pub indexOf : (names sizes children : List ℕ) → ℕ → DocumentIndex
 indexOf names sizes children nodes = record { names = names; sizes = sizes; children = children; nodes = nodes }
-
--- arrays with room for as many nodes as a document may have
-pub record NodeRoom (names sizes children : List ℕ) : Type 0 where
-  pub for-names : 1024 ≤ length names
-  pub for-sizes : 1024 ≤ length sizes
-  pub for-children : 1024 ≤ length children
 
 -- the nodes are one whole tree
 pub record KnownNodes (d : List ℕ) (nodes : DocumentIndex) : Type 0 where
@@ -40,7 +33,7 @@ pub record Brought (words : List ℕ) (from to : ℕ) (after : List ℕ) : Type 
   pub behind : drop (to + 4) after ≡ drop (to + 4) words
 
 -- the set at a word has the types of the root
-pub record RootTypes (s : List ℕ) (index : TableIndex) (d : List ℕ) (nodes : DocumentIndex) (words : List ℕ) (at : ℕ) : Type 0 where
+pub record RootTypes (s index d : List ℕ) (nodes : DocumentIndex) (words : List ℕ) (at : ℕ) : Type 0 where
   pub inside : at + 4 ≤ length words
-  pub types : (g : Table) → Held standard asciiClasses s index g
+  pub types : (g : Table) → Held large asciiClasses s index g
       → (t : Tree) → treeOf (nodesIn d nodes) ≡ given t → setAt words at ≡ holds (typesOf g t)

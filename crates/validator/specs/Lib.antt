@@ -1,4 +1,4 @@
-pub mod KnownTable
+pub mod NodeTypes
 pub mod KnownDocument
 pub mod Deciding
 pub mod Chains

@@ -4,11 +4,12 @@ use crate::deciding::read_and_decide;
 use crate::deciding::read_and_test_local;
 use crate::deciding::read_and_test_single_type;
 use grammar::Refusal;
+use grammar::Size;
 use grammar::Verdict;
-use reader::limits::WORDS;
+use reader::limits::limits_of;
 use reader::work::clear_work;
 ghost use mathlib.Core.List.{[]};
-ghost use Rattle.grammar.specs.Limits.{standard};
+ghost use Rattle.grammar.specs.LimitSets.{sizeLimits};
 ghost use Rattle.grammar.specs.Names.{asciiClasses};
 ghost use Rattle.grammar.specs.Kinds.{local, singleType};
 ghost use Rattle.grammar.specs.Answers.{verdictNumbers};
@@ -16,40 +17,45 @@ ghost use Rattle.grammar.specs.Calls.{after};
 ghost use Rattle.grammar.specs.Promises.{Membership, KindTest};
 
 // Does the table let in the document?
-pub fn lets_in(table: &[u8], document: &[u8], work: &mut [u32]) -> Verdict
-    ensures { λ r. ⌜ Membership standard asciiClasses (now (table .entry)) (now (document .entry)) (now (work .entry))
+pub fn lets_in(size: Size, table: &[u8], document: &[u8], work: &mut [u32]) -> Verdict
+    ensures { λ r. ⌜ Membership (sizeLimits size) asciiClasses (now (table .entry)) (now (document .entry)) (now (work .entry))
         (after (verdictNumbers r) [] (now (work .exit))) ⌝ }
 {
-    if work.len() < WORDS {
+    let limits = limits_of(size);
+    if work.len() < limits.words {
         return Verdict::Refused(Refusal::WorkTooShort);
     }
-    let answer = read_and_decide(table, document, &mut work[0..WORDS]);
-    clear_work(work);
+    let words = limits.words;
+    let answer = read_and_decide(limits, table, document, &mut work[0..words]);
+    clear_work(limits, work);
     answer
 }
 
 // Is the table local?
-pub fn is_local(table: &[u8], work: &mut [u32]) -> Verdict
-    ensures { λ r. ⌜ KindTest standard asciiClasses local (now (table .entry)) (now (work .entry))
+pub fn is_local(size: Size, table: &[u8], work: &mut [u32]) -> Verdict
+    ensures { λ r. ⌜ KindTest (sizeLimits size) asciiClasses local (now (table .entry)) (now (work .entry))
         (after (verdictNumbers r) [] (now (work .exit))) ⌝ }
 {
-    if work.len() < WORDS {
+    let limits = limits_of(size);
+    if work.len() < limits.words {
         return Verdict::Refused(Refusal::WorkTooShort);
     }
-    let answer = read_and_test_local(table);
-    clear_work(work);
+    let answer = read_and_test_local(limits, table);
+    clear_work(limits, work);
     answer
 }
 
 // Is the table single-type?
-pub fn is_single_type(table: &[u8], work: &mut [u32]) -> Verdict
-    ensures { λ r. ⌜ KindTest standard asciiClasses singleType (now (table .entry)) (now (work .entry))
+pub fn is_single_type(size: Size, table: &[u8], work: &mut [u32]) -> Verdict
+    ensures { λ r. ⌜ KindTest (sizeLimits size) asciiClasses singleType (now (table .entry)) (now (work .entry))
         (after (verdictNumbers r) [] (now (work .exit))) ⌝ }
 {
-    if work.len() < WORDS {
+    let limits = limits_of(size);
+    if work.len() < limits.words {
         return Verdict::Refused(Refusal::WorkTooShort);
     }
-    let answer = read_and_test_single_type(table, &mut work[0..WORDS]);
-    clear_work(work);
+    let words = limits.words;
+    let answer = read_and_test_single_type(limits, table, &mut work[0..words]);
+    clear_work(limits, work);
     answer
 }

@@ -1,14 +1,17 @@
 // Reading the inputs of a call, and deciding.
 use crate::membership::lets_in_read;
 use grammar::Reading;
+use grammar::SizeLimits;
 use grammar::Verdict;
 use kinds::kinds::local_table;
 use kinds::kinds::single_type_table;
 use reader::documents::read_nodes;
+use reader::index::INDEX;
 use reader::tables::read_table;
 ghost use mathlib.Core.Path.{_≡_};
 ghost use Prim.Native.Nat.{_≤_};
 ghost use lib.ListN.{length};
+ghost use Rattle.grammar.specs.LimitSets.{limitsOf, Within};
 ghost use Rattle.grammar.specs.Kinds.{local, singleType};
 ghost use Rattle.grammar.specs.Outcome.{given};
 ghost use Rattle.grammar.specs.Answers.{verdict};
@@ -25,28 +28,33 @@ fn yes_or_no(yes: bool) -> Verdict
 }
 
 // Reads the table, then the document, then decides.
-pub fn read_and_decide(table: &[u8], document: &[u8], words: &mut [u32]) -> Verdict
-    requires { ⌜ 16384 ≤ length (now words) ⌝ }
-    ensures { λ r. ⌜ r ≡ verdict (letsInOf (now (table .entry)) (now (document .entry))) ⌝ }
+pub fn read_and_decide(
+    limits: SizeLimits,
+    table: &[u8],
+    document: &[u8],
+    words: &mut [u32],
+) -> Verdict
+    requires { ⌜ Within limits ⌝ }
+    requires { ⌜ 8192 ≤ length (now words) ⌝ }
+    ensures { λ r. ⌜ r ≡ verdict (letsInOf (limitsOf limits) (now (table .entry)) (now (document .entry))) ⌝ }
 {
-    let known = read_table(table);
-    let readable = known.answer;
+    let mut index = [0u16; INDEX];
+    let readable = read_table(limits, table, &mut index);
     if let Reading::Refused(r) = readable {
         return Verdict::Refused(r);
     }
-    let mut names = [0u16; 1024];
-    let mut sizes = [0u16; 1024];
-    let mut children = [0u16; 1024];
-    let found = read_nodes(document, &mut names, &mut sizes, &mut children);
+    let mut names = [0u16; 2048];
+    let mut sizes = [0u16; 2048];
+    let mut children = [0u16; 2048];
+    let found = read_nodes(limits, document, &mut names, &mut sizes, &mut children);
     let complete = found.answer;
     if let Reading::Refused(r) = complete {
         return Verdict::Refused(r);
     }
-    let index = known.index;
     let nodes = found.nodes;
     yes_or_no(lets_in_read(
         table,
-        index,
+        &index,
         document,
         &names,
         &sizes,
@@ -57,28 +65,28 @@ pub fn read_and_decide(table: &[u8], document: &[u8], words: &mut [u32]) -> Verd
 }
 
 // Reads the table, then decides whether it is local.
-pub fn read_and_test_local(table: &[u8]) -> Verdict
-    ensures { λ r. ⌜ r ≡ verdict (isOfKindOf local (now (table .entry))) ⌝ }
+pub fn read_and_test_local(limits: SizeLimits, table: &[u8]) -> Verdict
+    requires { ⌜ Within limits ⌝ }
+    ensures { λ r. ⌜ r ≡ verdict (isOfKindOf (limitsOf limits) local (now (table .entry))) ⌝ }
 {
-    let known = read_table(table);
-    let readable = known.answer;
+    let mut index = [0u16; INDEX];
+    let readable = read_table(limits, table, &mut index);
     if let Reading::Refused(r) = readable {
         return Verdict::Refused(r);
     }
-    let index = known.index;
-    yes_or_no(local_table(index))
+    yes_or_no(local_table(&index))
 }
 
 // Reads the table, then decides whether it is single-type, with its set of types in the first eight words.
-pub fn read_and_test_single_type(table: &[u8], words: &mut [u32]) -> Verdict
-    requires { ⌜ 16384 ≤ length (now words) ⌝ }
-    ensures { λ r. ⌜ r ≡ verdict (isOfKindOf singleType (now (table .entry))) ⌝ }
+pub fn read_and_test_single_type(limits: SizeLimits, table: &[u8], words: &mut [u32]) -> Verdict
+    requires { ⌜ Within limits ⌝ }
+    requires { ⌜ 8 ≤ length (now words) ⌝ }
+    ensures { λ r. ⌜ r ≡ verdict (isOfKindOf (limitsOf limits) singleType (now (table .entry))) ⌝ }
 {
-    let known = read_table(table);
-    let readable = known.answer;
+    let mut index = [0u16; INDEX];
+    let readable = read_table(limits, table, &mut index);
     if let Reading::Refused(r) = readable {
         return Verdict::Refused(r);
     }
-    let index = known.index;
-    yes_or_no(single_type_table(table, index, &mut words[0..8]))
+    yes_or_no(single_type_table(table, &index, &mut words[0..8]))
 }

@@ -2,21 +2,28 @@
 //
 // The nodes are gone through from the last to the first, with a stack of type sets in the lent words: a node takes the sets of its
 // children from the top, in order, and leaves its own. That one is made in the words before them, and then takes the last one's place.
-use crate::chains::chained;
+use crate::chains::chained_rules;
 use crate::label_search::chained_labels;
 use crate::label_search::label_of;
+use reader::index::content_from;
+use reader::index::content_to;
+use reader::index::rule_count;
+use reader::index::rule_type;
+use reader::index::start_count;
+use reader::index::start_type;
+use reader::limits::CONTENT;
 use reader::numbers::wide;
-use reader::tables::TableIndex;
+use reader::numbers::wider;
 use sets::four::Set4;
 use sets::words::has;
 use sets::words::put;
 use sets::words::store;
 use walks::matching::matches;
-ghost use mathlib.Core.List.{[]};
+ghost use mathlib.Core.List.{List, []};
 ghost use mathlib.Core.Path.{_≡_};
-ghost use Prim.Native.Nat.{_+_, _*_, _<_, _≤_};
+ghost use Prim.Native.Nat.{ℕ, _+_, _*_, _<_, _≤_};
 ghost use lib.ListN.{length};
-ghost use Rattle.grammar.specs.Limits.{standard, contentLimit};
+ghost use Rattle.grammar.specs.Limits.{large, contentLimit};
 ghost use Rattle.grammar.specs.Names.{asciiClasses};
 ghost use Rattle.grammar.specs.Lists.{anyPass};
 ghost use Rattle.grammar.specs.Membership.{letsIn};
@@ -26,93 +33,89 @@ ghost use Rattle.grammar.specs.Table.{Table};
 ghost use Rattle.grammar.specs.Tree.{Tree};
 ghost use Rattle.reader.specs.DocumentNodes.{nodesIn};
 ghost use Rattle.reader.specs.Held.{Held, SomeHeld};
+ghost use Rattle.reader.specs.TableIndex.{Indexes};
+ghost use Rattle.kinds.specs.RulesAt.{TypesBelow};
 ghost use Rattle.walks.specs.TypeSets.{setAt, testsAt};
 ghost use Rattle.walks.specs.WalkAt.{runAt, WholeAt, WalkRoom};
-ghost use Rattle.validator.specs.KnownDocument.{indexOf, NodeRoom, KnownNodes, Brought, RootTypes};
-ghost use Rattle.validator.specs.KnownTable.{SomeContents, NullableAre, SomeRules, StartsAt, SomeStarts};
-ghost use Rattle.validator.specs.KnownTable.{PutIf, TypesAre};
+ghost use Rattle.validator.specs.Chains.{RulesChained};
+ghost use Rattle.validator.specs.KnownDocument.{indexOf, KnownNodes, Brought, RootTypes};
+ghost use Rattle.validator.specs.NodeTypes.{NullableAre, PutIf, TypesAre};
 
 // Whether the content of each rule matches no children.
 fn nullable_contents(
     table: &[u8],
-    content_from: &[usize],
-    content_to: &[usize],
-    rules: usize,
+    index: &[u16; 899],
     marks: &mut [u8],
     words: &[u32],
-) -> [bool; 64]
-    requires { ⌜ (SomeContents (now table) (now «content_from») (now «content_to») rules) × (contentLimit ≤ length (now marks))
-        × (4 ≤ length (now words)) ⌝ }
-    ensures { λ r. ⌜ NullableAre (now (table .entry)) (now («content_from» .entry)) (now («content_to» .entry)) rules r ⌝ }
+) -> [bool; 128]
+    requires { ⌜ (SomeHeld large asciiClasses (now table) (now index)) × (contentLimit ≤ length (now marks)) × (4 ≤ length (now words)) ⌝ }
+    ensures { λ r. ⌜ NullableAre (now (table .entry)) (now (index .entry)) r ⌝ }
 {
-    let mut nullable = [false; 64];
+    let rules = rule_count(index);
+    let mut nullable = [false; 128];
     let mut rule: usize = 0;
     while rule < rules {
-        let from = content_from[rule];
-        let to = content_to[rule];
+        let from = content_from(index, rule);
+        let to = content_to(index, rule);
         nullable[rule] = matches(&table[from..to], marks, words, 0, 0);
         rule += 1;
     }
     nullable
 }
 
-// Whether a content matches the children whose sets stand from `top` on; `nullable` says whether it matches none.
+// Whether a content matches the children whose sets stand behind the first one; `nullable` says whether it matches none.
 fn content_fits(
     content: &[u8],
     nullable: bool,
     marks: &mut [u8],
     words: &[u32],
-    top: usize,
     count: usize,
 ) -> bool
-    requires { ⌜ (WholeAt standard (now content)) × (WalkRoom (now content) (now marks) (now words) 0)
-        × (top + 4 * count ≤ length (now words)) × (nullable ≡ runAt (now content) []) ⌝ }
-    ensures { λ r. ⌜ r ≡ runAt (now (content .entry)) (testsAt (now (words .entry)) top count) ⌝ }
+    requires { ⌜ (WholeAt large (now content)) × (WalkRoom (now content) (now marks) (now words) 0)
+        × (4 + 4 * count ≤ length (now words)) × (nullable ≡ runAt (now content) []) ⌝ }
+    ensures { λ r. ⌜ r ≡ runAt (now (content .entry)) (testsAt (now (words .entry)) 4 count) ⌝ }
 {
     if count == 0 {
         return nullable;
     }
-    matches(content, marks, words, top, count)
+    matches(content, marks, words, 4, count)
 }
 
-// Puts a type into the set at a word, if the rule fits.
-fn put_if(words: &mut [u32], base: usize, fits: bool, k: usize)
-    requires { ⌜ (k < 64) × (base + 4 ≤ length (now words)) ⌝ }
-    ensures { λ r. ⌜ PutIf (now (words .entry)) base fits k (now (words .exit)) ⌝ }
+// Puts a type into the first set, if the rule fits.
+fn put_if(words: &mut [u32], fits: bool, k: usize)
+    requires { ⌜ (k < 128) × (4 ≤ length (now words)) ⌝ }
+    ensures { λ r. ⌜ PutIf (now (words .entry)) fits k (now (words .exit)) ⌝ }
 {
     if fits {
-        put(words, base, k);
+        put(words, 0, k);
     }
 }
 
-// Puts the types of the rules of a label that fit a node into the set at a word; behind it stand the sets of the node's children.
+// Makes the first set that of the types of the rules of a label that fit a node; behind it stand the sets of the node's children.
 fn put_types(
     table: &[u8],
-    rule_type: &[u8],
-    next: &[u8],
-    content_from: &[usize],
-    content_to: &[usize],
-    nullable: &[bool],
-    rules: usize,
+    index: &[u16; 899],
+    by_label: &[u8; 257],
+    nullable: &[bool; 128],
     label: usize,
     marks: &mut [u8],
     words: &mut [u32],
-    base: usize,
     count: usize,
 )
-    requires { ⌜ (SomeRules (now table) (now «rule_type») (now next) (now «content_from») (now «content_to») (now nullable) rules)
-        × (label ≤ 64) × (contentLimit ≤ length (now marks)) × (base + 4 + 4 * count ≤ length (now words)) ⌝ }
-    ensures { λ r. ⌜ TypesAre (now (table .entry)) (now («rule_type» .entry)) (now (next .entry)) (now («content_from» .entry))
-        (now («content_to» .entry)) (now (nullable .entry)) rules label (now (words .entry)) base count (now (words .exit)) ⌝ }
+    requires { ⌜ (SomeHeld large asciiClasses (now table) (now index)) × (RulesChained (now index) (now «by_label»))
+        × (NullableAre (now table) (now index) (now nullable)) × (label ≤ 128) × (contentLimit ≤ length (now marks))
+        × (4 + 4 * count ≤ length (now words)) ⌝ }
+    ensures { λ r. ⌜ TypesAre (now (table .entry)) (now (index .entry)) label (now (words .entry)) count (now (words .exit)) ⌝ }
 {
-    store(words, base, Set4::empty());
-    let mut i = wide(next[64 + label]);
+    let rules = rule_count(index);
+    store(words, 0, Set4::empty());
+    let mut i = wide(by_label[128 + label]);
     while i < rules {
-        let from = content_from[i];
-        let to = content_to[i];
-        let fits = content_fits(&table[from..to], nullable[i], marks, words, base + 4, count);
-        put_if(words, base, fits, wide(rule_type[i]));
-        i = wide(next[i]);
+        let from = content_from(index, i);
+        let to = content_to(index, i);
+        let fits = content_fits(&table[from..to], nullable[i], marks, words, count);
+        put_if(words, fits, rule_type(index, i));
+        i = wide(by_label[i]);
     }
 }
 
@@ -132,54 +135,40 @@ fn bring(words: &mut [u32], from: usize, to: usize)
 // Goes through the nodes from the last to the first, and answers where the root's set then stands.
 fn root_types(
     table: &[u8],
-    index: TableIndex,
+    index: &[u16; 899],
     document: &[u8],
-    names: &[u16],
-    sizes: &[u16],
-    children: &[u16],
+    names: &[u16; 2048],
+    sizes: &[u16; 2048],
+    children: &[u16; 2048],
     nodes: usize,
-    marks: &mut [u8],
     words: &mut [u32],
 ) -> usize
-    requires { ⌜ (SomeHeld standard asciiClasses (now table) index)
-        × (KnownNodes (now document) (indexOf (now names) (now sizes) (now children) nodes))
-        × (NodeRoom (now names) (now sizes) (now children)) × (contentLimit ≤ length (now marks)) × (4096 ≤ length (now words)) ⌝ }
-    ensures { λ r. ⌜ RootTypes (now (table .entry)) index (now (document .entry))
+    requires { ⌜ (SomeHeld large asciiClasses (now table) (now index))
+        × (KnownNodes (now document) (indexOf (now names) (now sizes) (now children) nodes)) × (8192 ≤ length (now words)) ⌝ }
+    ensures { λ r. ⌜ RootTypes (now (table .entry)) (now (index .entry)) (now (document .entry))
         (indexOf (now (names .entry)) (now (sizes .entry)) (now (children .entry)) nodes) (now (words .exit)) r ⌝ }
 {
-    let label_from = index.label_from;
-    let label_to = index.label_to;
-    let labels = index.labels;
-    let by_key = chained_labels(table, &label_from, &label_to, labels);
-    let rule_type = index.rule_type;
-    let rule_label = index.rule_label;
-    let rules = index.rules;
-    let by_label = chained(&rule_label, rules);
-    let content_from = index.content_from;
-    let content_to = index.content_to;
-    let nullable = nullable_contents(table, &content_from, &content_to, rules, marks, words);
+    let mut marks = [0u8; CONTENT];
+    let by_key = chained_labels(table, index);
+    let by_label = chained_rules(index);
+    let nullable = nullable_contents(table, index, &mut marks, words);
     let mut i = nodes;
     let mut top = 4 * nodes;
     while 0 < i {
         let at = i - 1;
-        let from = names[at] as usize;
-        let to = from + sizes[at] as usize;
-        let count = children[at] as usize;
-        let name = &document[from..to];
-        let label = label_of(name, table, &label_from, &label_to, &by_key, labels);
+        let from = wider(names[at]);
+        let to = from + wider(sizes[at]);
+        let count = wider(children[at]);
+        let label = label_of(&document[from..to], table, index, &by_key);
         let base = top - 4;
         put_types(
             table,
-            &rule_type,
+            index,
             &by_label,
-            &content_from,
-            &content_to,
             &nullable,
-            rules,
             label,
-            marks,
-            words,
-            base,
+            &mut marks,
+            &mut words[base..],
             count,
         );
         top = base + 4 * count;
@@ -190,14 +179,15 @@ fn root_types(
 }
 
 // Whether some start type is in the set at a word.
-fn some_start(start_type: &[u8], starts: usize, words: &[u32], at: usize) -> bool
-    requires { ⌜ (SomeStarts (now «start_type») starts) × (at + 4 ≤ length (now words)) ⌝ }
-    ensures { λ r. ⌜ ((g : Table) → StartsAt (now («start_type» .entry)) starts g
+fn some_start(index: &[u16; 899], words: &[u32], at: usize) -> bool
+    requires { ⌜ (TypesBelow (now index)) × (at + 4 ≤ length (now words)) ⌝ }
+    ensures { λ r. ⌜ ((s : List ℕ) (g : Table) → Indexes s (now (index .entry)) g
         → r ≡ anyPass (setAt (now (words .entry)) at) (g .starts)) ⌝ }
 {
+    let starts = start_count(index);
     let mut start: usize = 0;
     while start < starts {
-        if has(words, at, wide(start_type[start])) {
+        if has(words, at, start_type(index, start)) {
             return true;
         }
         start += 1;
@@ -208,34 +198,20 @@ fn some_start(start_type: &[u8], starts: usize, words: &[u32], at: usize) -> boo
 // Whether the table lets in the document.
 pub fn lets_in_read(
     table: &[u8],
-    index: TableIndex,
+    index: &[u16; 899],
     document: &[u8],
-    names: &[u16],
-    sizes: &[u16],
-    children: &[u16],
+    names: &[u16; 2048],
+    sizes: &[u16; 2048],
+    children: &[u16; 2048],
     nodes: usize,
     words: &mut [u32],
 ) -> bool
-    requires { ⌜ (SomeHeld standard asciiClasses (now table) index)
-        × (KnownNodes (now document) (indexOf (now names) (now sizes) (now children) nodes))
-        × (NodeRoom (now names) (now sizes) (now children)) × (4096 ≤ length (now words)) ⌝ }
-    ensures { λ r. ⌜ ((g : Table) → Held standard asciiClasses (now (table .entry)) index g → (t : Tree)
+    requires { ⌜ (SomeHeld large asciiClasses (now table) (now index))
+        × (KnownNodes (now document) (indexOf (now names) (now sizes) (now children) nodes)) × (8192 ≤ length (now words)) ⌝ }
+    ensures { λ r. ⌜ ((g : Table) → Held large asciiClasses (now (table .entry)) (now (index .entry)) g → (t : Tree)
         → treeOf (nodesIn (now (document .entry)) (indexOf (now (names .entry)) (now (sizes .entry)) (now (children .entry)) nodes))
         ≡ given t → r ≡ letsIn g t) ⌝ }
 {
-    let mut marks = [0u8; 1024];
-    let at = root_types(
-        table,
-        index,
-        document,
-        names,
-        sizes,
-        children,
-        nodes,
-        &mut marks,
-        words,
-    );
-    let start_type = index.start_type;
-    let starts = index.starts;
-    some_start(&start_type, starts, words, at)
+    let at = root_types(table, index, document, names, sizes, children, nodes, words);
+    some_start(index, words, at)
 }

@@ -25,22 +25,22 @@ Inv-loop v labels pairs words count of₀ l₀ of l =
     (l ≤ labels)
     × ((old add : List ℕ) (u : Table) (sets : List TypeSet) → Views old add v u → SetsHeld words sets → count ≡ length sets
     → NumbersOf (λ k. place sameNumbers (pairsLabelled u (member (pairs .words) 0) k) sets) l of)
-    × ((k : ℕ) → getD of k 0 ≤ 64)
-    × (length of ≡ 128)
+    × ((k : ℕ) → getD of k 0 ≤ 128)
+    × (length of ≡ 256)
 
 abbrev μ-loop : tie.MeasureT-loop
 μ-loop v labels pairs words count of₀ l₀ of l = labels - l
 
 loop-holds : tie.Need-loop-holds Inv-loop μ-loop
-loop-holds c = (omega arith, λ old add u sets x held counted k h. absurd (omega arith), none-small 128 64, length-replicate {A = ℕ} 128 0)
+loop-holds c = (omega arith, λ old add u sets x held counted k h. absurd (omega arith), none-small 256 128, length-replicate {A = ℕ} 256 0)
 
 labelled-pairs-requires : tie.Need-labelled-pairs-requires Inv-loop μ-loop
-labelled-pairs-requires c κs = (c .before .before .before .pre .0, c .before .before .before .pre .2 .four)
+labelled-pairs-requires c κs = (c .before .before .before .pre .0, c .before .before .before .pre .2 .eight)
 
 set-number-requires : tie.Need-set-number-requires Inv-loop μ-loop
 set-number-requires c κs =
     let p = c .before .before .before .before .pre .2 in
-    record { few = p .few; room = p .room; four = c .labelled-pairs .ensures .1 }
+    record { few = p .few; room = p .room; eight = c .labelled-pairs .ensures .1 }
 
 cast-of : tie.Need-cast-of Inv-loop μ-loop
 cast-of c =
@@ -56,16 +56,19 @@ array-write-of c =
 
 loop-again : tie.Need-loop-again Inv-loop μ-loop
 loop-again c =
-    let few = c .before .before .before .before .before .pre .1 in
-    let sets = c .before .before .before .before .before .pre .2 .few in
-    let h = c .set-number .ensures .1 in
+    let start = c .before .before .before .before .before in
+    let set-number = c .set-number in
     let l = c .before .before .before .loop in
+    let labelled = c .before .labelled-pairs in
+    let few = start .pre .1 in
+    let sets = start .pre .2 .few in
+    let h = set-number .ensures .1 in
     let long = l .inv .3 in (
       omega arith,
       λ old add u sets x held counted.
           numbers-more (l .l) (l .of) _ (omega arith) _ (l .inv .1 old add u sets x held counted)
-          (c .set-number .ensures .0 sets _ held counted (c .before .labelled-pairs .ensures .0 old add u x) (labelled-ascending u _ (few-rules x) (l .l))),
-      set-all (l .of) (l .l) _ (omega arith) (λ n. n ≤ 64) (l .inv .2) (omega arith),
+          (set-number .ensures .0 sets _ held counted (labelled .ensures .0 old add u x) (labelled-ascending u _ (few-rules x) (l .l))),
+      set-all (l .of) (l .l) _ (omega arith) (λ n. n ≤ 128) (l .inv .2) (omega arith),
       length-set (l .of) (l .l) _ ∙ long,
     )
 

@@ -18,14 +18,14 @@ use Rattle.forms.proofs.label_sets.label_sets.Statement.{statement}
 use Rattle.forms.proofs.label_sets.label_sets.Tie as tie
 
 abbrev Inv-loop : tie.InvT-loop
-Inv-loop v labels pairs words₀ count₀ l₀ words count l =
+Inv-loop most v labels pairs words₀ count₀ l₀ words count l =
     (l ≤ labels)
-    × (count ≤ 64)
+    × (count ≤ most)
     × (length words ≡ length words₀)
-    × ((old add : List ℕ) (u : Table) → Views old add v u → SetsCounted words (setsUp u (member (pairs .words) 0) l) (Count count))
+    × ((old add : List ℕ) (u : Table) → Views old add v u → SetsCounted most words (setsUp u (member (pairs .words) 0) l) (Count count))
 
 abbrev μ-loop : tie.MeasureT-loop
-μ-loop v labels pairs words₀ count₀ l₀ words count l = labels - l
+μ-loop most v labels pairs words₀ count₀ l₀ words count l = labels - l
 
 loop-holds : tie.Need-loop-holds Inv-loop μ-loop
 loop-holds c =
@@ -34,54 +34,67 @@ loop-holds c =
       omega arith,
       refl,
       λ old add u x.
-          subst (λ (s : List TypeSet). SetsCounted (a .words .now) s (Count 0)) (sym (up-none u (member (a .pairs .words) 0)))
-          (no-sets (a .words .now) (c .before .pre .1 .room)),
+          subst (λ (s : List TypeSet). SetsCounted (a .most) (a .words .now) s (Count 0)) (sym (up-none u (member (a .pairs .words) 0)))
+          (no-sets (a .most) (a .words .now) (c .before .pre .2 .room)),
     )
 
 labelled-pairs-requires : tie.Need-labelled-pairs-requires Inv-loop μ-loop
-labelled-pairs-requires c κs = (c .before .before .before .pre .0, c .before .before .before .pre .1 .four)
+labelled-pairs-requires c κs = (c .before .before .before .pre .1, c .before .before .before .pre .2 .eight)
 
 put-some-requires : tie.Need-put-some-requires Inv-loop μ-loop
 put-some-requires c κs =
     let l = c .before .before .before .loop in
+    let start = c .before .before .before .before .before in
+    let labelled = c .before .labelled-pairs in
     let same = l .inv .2 in
-    let room = c .before .before .before .before .before .pre .1 .room in
-    record { few = l .inv .1; room = omega arith; four = c .before .labelled-pairs .ensures .1 }
+    let room = start .pre .2 .room in
+    (start .pre .0, record { few = l .inv .1; room = omega arith; eight = labelled .ensures .1 })
 
 returns : tie.Need-returns Inv-loop μ-loop
 returns c =
-    λ old add u x labels.
     let l = c .before .before .before .before .before .before .before .before .loop in
+    let start = c .before .before .before .before .before .before .before .before .before .before in
+    let put-some = c .before .before .before .before .put-some in
+    let labelled = c .before .before .before .before .before .before .labelled-pairs in
+    let told = c .enum-told in
+    let test = c .before .before .before .before .before .before .before .loop-test in
+    λ old add u x labels.
     let s = l .inv .3 old add u x in
-    let pairs = member (c .before .before .before .before .before .before .before .before .before .before .args .pairs .words) 0 in
-    up-many u pairs (l .l) _ _
-    (c .before .before .before .before .put-some .ensures .0 _ _ (s .1) (s .0) (c .before .before .before .before .before .before .labelled-pairs .ensures .0 old add u x) (labelled-ascending u pairs (few-rules x) (l .l)))
-    (c .enum-told .given .1)
-    (c .before .before .before .before .before .before .before .before .before .before .args .labels)
-    (c .before .before .before .before .before .before .before .loop-test .taken)
+    let pairs = member (start .args .pairs .words) 0 in
+    up-many u pairs (start .args .most) (l .l) _ _
+    (put-some .ensures .0 _ _ (s .2) (s .0) (labelled .ensures .0 old add u x) (labelled-ascending u pairs (few-rules x) (l .l)))
+    (told .given .1)
+    (start .args .labels)
+    (test .taken)
     labels
 
 loop-again : tie.Need-loop-again Inv-loop μ-loop
 loop-again c =
     let l = c .before .before .before .before .before .before .before .before .before .loop in
-    let pairs = member (c .before .before .before .before .before .before .before .before .before .before .before .args .pairs .words) 0 in (
+    let start = c .before .before .before .before .before .before .before .before .before .before .before in
+    let put-some = c .before .before .before .before .before .put-some in
+    let more = c .before .more in
+    let labelled = c .before .before .before .before .before .before .before .labelled-pairs in
+    let pairs = member (start .args .pairs .words) 0 in (
       omega arith,
-      c .before .before .before .before .before .put-some .ensures .1 _ (c .before .more .given .1),
+      put-some .ensures .1 _ (more .given .1),
       search needs,
       λ old add u x.
           let s = l .inv .3 old add u x in
-          up-more u pairs (l .l) _ _
-          (c .before .before .before .before .before .put-some .ensures .0 _ _ (s .1) (s .0) (c .before .before .before .before .before .before .before .labelled-pairs .ensures .0 old add u x) (labelled-ascending u pairs (few-rules x) (l .l)))
+          up-more u pairs (start .args .most) (l .l) _ _
+          (put-some .ensures .0 _ _ (s .2) (s .0) (labelled .ensures .0 old add u x) (labelled-ascending u pairs (few-rules x) (l .l)))
           _
-          (c .before .more .given .1),
+          (more .given .1),
     )
 
 returns-2 : tie.Need-returns-2 Inv-loop μ-loop
 returns-2 c =
-    λ old add u x labels.
     let l = c .before .loop in
+    let start = c .before .before .before in
+    λ old add u x labels.
     let e : l .l ≡ length (u .labels) = omega arith in
-    subst (λ (s : List TypeSet). SetsCounted (l .words) s (Count (l .count))) (up-whole u (member (c .before .before .before .args .pairs .words) 0) (l .l) e)
+    subst (λ (s : List TypeSet). SetsCounted (start .args .most) (l .words) s (Count (l .count)))
+    (up-whole u (member (start .args .pairs .words) 0) (l .l) e)
     (l .inv .3 old add u x)
 
 pub label-sets-spec : {M : Type 1} → statement M

@@ -3,7 +3,7 @@ use Prim.Native.Nat.{ℕ, _-_, _≤_}
 use native.Mathlib.Omega.{arith}
 use mathlib.Core.Bool.{Bool, _&&_}
 use mathlib.Core.List.{List}
-use mathlib.Core.Path.{_≡_, refl, _∙_, ap}
+use mathlib.Core.Path.{_≡_, refl, _∙_, ap, ap₂}
 use lib.Dec.{eqb}
 use lib.ListN.{length, getD, length-replicate}
 use borrow.Author.Needs.{needs}
@@ -21,7 +21,7 @@ abbrev Inv-loop : tie.InvT-loop
 Inv-loop pairs label labels rules set₀ p₀ set p =
     (p ≤ rules)
     × (member (set .words) 0 ≡ puts (λ j. member (pairs .words) 0 j && eqb (getD labels j 0) label) (λ j. j) nothing p)
-    × (length (set .words) ≡ 4)
+    × (length (set .words) ≡ 8)
 
 abbrev μ-loop : tie.MeasureT-loop
 μ-loop pairs label labels rules set₀ p₀ set p = rules - p
@@ -30,33 +30,39 @@ loop-holds : tie.Need-loop-holds Inv-loop μ-loop
 loop-holds c =
     let zeros = c .empty .ensures in (
       omega arith,
-      puts-start _ _ _ _ (ap (λ (w : List ℕ). member w 0) zeros ∙ member-zeros 4 0),
-      ap length zeros ∙ length-replicate {A = ℕ} 4 0,
+      puts-start _ _ _ _ (ap (λ (w : List ℕ). member w 0) zeros ∙ member-zeros 8 0),
+      ap length zeros ∙ length-replicate {A = ℕ} 8 0,
     )
 
 has-requires : tie.Need-has-requires Inv-loop μ-loop
-has-requires c κs = let h = c .before .before .before .before .pre .0 .few in omega arith
+has-requires c κs = let h = c .before .before .before .before .before .pre .0 .few in omega arith
 
-mul-both : tie.Need-mul-both Inv-loop μ-loop
-mul-both c = let h = c .before .before .before .before .before .pre .0 .few in omega arith
-
-array-read-both : tie.Need-array-read-both Inv-loop μ-loop
-array-read-both c = let h = c .before .before .before .before .before .pre .0 .few in omega arith
+array-read-wide : tie.Need-array-read-wide Inv-loop μ-loop
+array-read-wide c = let h = c .before .before .before .before .pre .0 .few in omega arith
 
 put-if-requires : tie.Need-put-if-requires Inv-loop μ-loop
-put-if-requires c κs = let h = c .before .before .before .before .before .before .pre .0 .few in (omega arith, c .before .before .before .loop .inv .2)
+put-if-requires c κs =
+    let start = c .before .before .before .before .before .before .before in
+    let loop = c .before .before .before .before .loop in
+    let h = start .pre .0 .few in (omega arith, loop .inv .2)
 
 add-p : tie.Need-add-p Inv-loop μ-loop
-add-p c = let h = c .before .before .before .before .before .before .before .pre .0 .few in omega arith
+add-p c = let h = c .before .before .before .before .before .before .before .before .pre .0 .few in omega arith
 
 loop-again : tie.Need-loop-again Inv-loop μ-loop
-loop-again c = (
-  omega arith,
-  puts-step _ _ _ (c .before .before .before .before .loop .p) _ _ _ _ (c .before .before .before .before .loop .inv .1) (c .put-if .ensures .0)
-      (c .before .both .ensures ∙ ap (λ (b : Bool). b && eqb (getD (c .before .before .before .before .before .before .before .args .v .labels) (c .before .before .before .before .loop .p) 0) (c .before .before .before .before .before .before .before .args .label)) (c .before .before .has .ensures))
-      refl,
-  c .put-if .ensures .1,
-)
+loop-again c =
+    let loop = c .before .before .before .before .before .loop in
+    let put-if = c .put-if in
+    let both = c .before .both in
+    let start = c .before .before .before .before .before .before .before .before in
+    let has = c .before .before .has in
+    let wide = c .before .before .before .wide in (
+      omega arith,
+      puts-step _ _ _ (loop .p) _ _ _ _ (loop .inv .1) (put-if .ensures .0)
+          (both .ensures ∙ ap₂ (λ (b : Bool) (own : ℕ). b && eqb own (start .args .label)) (has .ensures) (wide .ensures .0))
+          refl,
+      put-if .ensures .1,
+    )
 
 returns : tie.Need-returns Inv-loop μ-loop
 returns c =
@@ -79,9 +85,9 @@ labelled-pairs-spec =
     μ-loop
     (λ c κs. search needs)
     loop-holds
+    array-read-wide
+    (λ c κs. search needs)
     has-requires
-    mul-both
-    array-read-both
     (λ c κs. search needs)
     put-if-requires
     add-p

@@ -4,6 +4,7 @@ use native.Mathlib.Omega.{arith}
 use mathlib.Core.Bool.{Bool, false}
 use mathlib.Core.Path.{_≡_, sym, _∙_, ap}
 use borrow.Author.Count.{below-more}
+use borrow.Author.Needs.{needs}
 use Rattle.sets.specs.Sets.{member}
 use Rattle.forms.proofs.LabelLaws.{label-first, label-none}
 use Rattle.forms.proofs.label_sets.set_label.Statement.{statement}
@@ -21,24 +22,31 @@ loop-holds c = (omega arith, λ q h. absurd (omega arith))
 has-requires : tie.Need-has-requires Inv-loop μ-loop
 has-requires c κs = let h = c .before .before .before .pre .0 .few in omega arith
 
-mul-result : tie.Need-mul-result Inv-loop μ-loop
-mul-result c = let h = c .before .before .before .before .before .pre .0 .few in omega arith
-
-array-read-result : tie.Need-array-read-result Inv-loop μ-loop
-array-read-result c = let h = c .before .before .before .before .before .pre .0 .few in omega arith
+array-read-wide : tie.Need-array-read-wide Inv-loop μ-loop
+array-read-wide c = let h = c .before .before .before .before .before .pre .0 .few in omega arith
 
 returns : tie.Need-returns Inv-loop μ-loop
 returns c =
+    let wide = c .wide in
+    let loop = c .before .before .before .before .loop in
+    let test = c .before .before .before .loop-test in
+    let has = c .before .before .has in
+    let if1 = c .before .if1 in
     λ old add u s x is ascending some.
-    label-first x ascending (c .before .before .before .loop .p) (c .before .before .loop-test .taken)
-    (sym (ap (λ (f : ℕ → Bool). f (c .before .before .before .loop .p)) is) ∙ sym (c .before .has .ensures) ∙ c .if1 .taken)
-    (λ q h. sym (ap (λ (f : ℕ → Bool). f q) is) ∙ c .before .before .before .loop .inv .1 q h)
+    wide .ensures .0
+    ∙ label-first x ascending (loop .p) (test .taken)
+    (sym (ap (λ (f : ℕ → Bool). f (loop .p)) is) ∙ sym (has .ensures) ∙ if1 .taken)
+    (λ q h. sym (ap (λ (f : ℕ → Bool). f q) is) ∙ loop .inv .1 q h)
 
 add-p : tie.Need-add-p Inv-loop μ-loop
 add-p c = let h = c .before .before .before .before .before .pre .0 .few in omega arith
 
 loop-again : tie.Need-loop-again Inv-loop μ-loop
-loop-again c = (omega arith, below-more _ (c .before .before .before .loop .p) (c .before .before .before .loop .inv .1) (sym (c .before .has .ensures) ∙ c .if1 .left))
+loop-again c =
+    let loop = c .before .before .before .loop in
+    let has = c .before .has in
+    let if1 = c .if1 in
+    (omega arith, below-more _ (loop .p) (loop .inv .1) (sym (has .ensures) ∙ if1 .left))
 
 returns-2 : tie.Need-returns-2 Inv-loop μ-loop
 returns-2 c =
@@ -53,8 +61,8 @@ set-label-spec =
     μ-loop
     loop-holds
     has-requires
-    mul-result
-    array-read-result
+    array-read-wide
+    (λ c κs. search needs)
     returns
     add-p
     (λ c. omega arith)

@@ -21,17 +21,17 @@ Inv-loop v left by-label rules of₀ p₀ of p =
     (p ≤ rules)
     × ((old add : List ℕ) (u : Table) → Views old add v u → member (left .words) 0 ≡ isLeft u
     → NumbersOf (λ q. getD by-label (labelLeft u q) 0) p of)
-    × ((q : ℕ) → getD of q 0 ≤ 64)
-    × (length of ≡ 128)
+    × ((q : ℕ) → getD of q 0 ≤ 128)
+    × (length of ≡ 256)
 
 abbrev μ-loop : tie.MeasureT-loop
 μ-loop v left by-label rules of₀ p₀ of p = rules - p
 
 loop-holds : tie.Need-loop-holds Inv-loop μ-loop
-loop-holds c = (omega arith, λ old add u x is q h. absurd (omega arith), none-small 128 64, length-replicate {A = ℕ} 128 0)
+loop-holds c = (omega arith, λ old add u x is q h. absurd (omega arith), none-small 256 128, length-replicate {A = ℕ} 256 0)
 
 label-left-requires : tie.Need-label-left-requires Inv-loop μ-loop
-label-left-requires c κs = (c .before .before .before .pre .0, c .before .before .before .pre .1, c .before .before .before .pre .2, c .loop-test .taken)
+label-left-requires c κs = (c .before .before .before .pre .0, c .before .before .before .pre .1, c .loop-test .taken)
 
 array-read-of : tie.Need-array-read-of Inv-loop μ-loop
 array-read-of c = let h = c .label-left .ensures .1 in search needs
@@ -44,14 +44,17 @@ add-p c = let h = c .before .before .before .before .pre .0 .few in omega arith
 
 loop-again : tie.Need-loop-again Inv-loop μ-loop
 loop-again c =
-    let few = c .before .before .before .before .pre .0 .few in
-    let by = c .before .before .before .before .args .numbers .of in
+    let start = c .before .before .before .before in
     let l = c .before .before .loop in
+    let label-left = c .label-left in
+    let few = start .pre .0 .few in
+    let by = start .args .numbers .of in
     let long = l .inv .3 in (
       omega arith,
       λ old add u x is.
-          numbers-more (l .p) (l .of) _ (omega arith) _ (l .inv .1 old add u x is) (ap (λ (k : ℕ). getD by k 0) (c .label-left .ensures .0 old add u x is)),
-      set-all (l .of) (l .p) _ (omega arith) (λ n. n ≤ 64) (l .inv .2) (c .before .before .before .before .pre .3 (c .label-left .result)),
+          numbers-more (l .p) (l .of) _ (omega arith) _ (l .inv .1 old add u x is)
+          (ap (λ (k : ℕ). getD by k 0) (label-left .ensures .0 old add u x is)),
+      set-all (l .of) (l .p) _ (omega arith) (λ n. n ≤ 128) (l .inv .2) (start .pre .2 (label-left .result)),
       length-set (l .of) (l .p) _ ∙ long,
     )
 

@@ -11,16 +11,19 @@ use Rattle.forms.proofs.set_numbers.renumbered.Tie as tie
 
 abbrev Inv-loop : tie.InvT-loop
 Inv-loop from before of after₀ i₀ after i =
-    (i ≤ 128) × NumbersOf (λ j. getD of (getD before j 0) 0) i after × (length after ≡ 128)
+    (i ≤ 256) × NumbersOf (λ j. getD of (getD before j 0) 0) i after × (length after ≡ 256)
 
 abbrev μ-loop : tie.MeasureT-loop
-μ-loop from before of after₀ i₀ after i = 128 - i
+μ-loop from before of after₀ i₀ after i = 256 - i
 
 loop-holds : tie.Need-loop-holds Inv-loop μ-loop
-loop-holds c = (omega arith, λ j h. absurd (omega arith), length-replicate {A = ℕ} 128 0)
+loop-holds c = (omega arith, λ j h. absurd (omega arith), length-replicate {A = ℕ} 256 0)
 
 array-read-after : tie.Need-array-read-after Inv-loop μ-loop
-array-read-after c = let h = c .before .before .before .before .before .before .pre (c .before .before .loop .i) in let e = c .wide .ensures .0 in search needs
+array-read-after c = let small = c .wide .ensures .1 in search needs
+
+array-write-after : tie.Need-array-write-after Inv-loop μ-loop
+array-write-after c = let long = c .before .before .loop .inv .2 in omega arith
 
 loop-again : tie.Need-loop-again Inv-loop μ-loop
 loop-again c =
@@ -35,7 +38,11 @@ loop-again c =
 returns : tie.Need-returns Inv-loop μ-loop
 returns c =
     let l = c .before .loop in
-    (refl, all-numbers (λ p. getD (c .before .before .before .before .before .args .numbers .of) p 0) (c .before .before .before .before .before .args .lists .numbers) (l .after) 128 (search needs) (l .inv .2) (λ j h. l .inv .1 j (omega arith)))
+    let start = c .before .before .before .before .before in (
+      refl,
+      all-numbers (λ p. getD (start .args .numbers .of) p 0) (start .args .lists .numbers) (l .after) 256 (search needs) (l .inv .2)
+          (λ j h. l .inv .1 j (omega arith)),
+    )
 
 pub renumbered-spec : {M : Type 1} → statement M
 renumbered-spec =
@@ -47,7 +54,7 @@ renumbered-spec =
     (λ c. search needs)
     (λ c κs. search needs)
     array-read-after
-    (λ c. let l = c .before .before .loop .inv .2 in omega arith)
+    array-write-after
     (λ c. search needs)
     (λ c. omega arith)
     loop-again

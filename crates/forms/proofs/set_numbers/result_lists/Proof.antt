@@ -11,7 +11,8 @@ returns c =
     let of = c .before .before .before .before .pair-numbers .result .of in
     λ old add u sets pairs x lists left labels numbers.
     result-lists of (c .before .before .before .before .pair-numbers .ensures .1) u (args .lists) _ (setNumber u sets pairs) lists
-    (numbers-left u sets pairs (args .numbers .of) of (args .v .rules) labels (x .rules) numbers (c .before .before .before .before .pair-numbers .ensures .0 old add u x left))
+    (numbers-left u sets pairs (args .numbers .of) of (args .v .rules) labels (x .rules) numbers
+    (c .before .before .before .before .pair-numbers .ensures .0 old add u x left))
     (c .before .before .renumbered .ensures .0)
     (c .before .before .renumbered .ensures .1)
     (c .renumbered2 .ensures .0)

@@ -21,36 +21,49 @@ abbrev μ-loop : tie.MeasureT-loop
 loop-holds : tie.Need-loop-holds Inv-loop μ-loop
 loop-holds c = (omega arith, λ j h. absurd (omega arith))
 
-mul-load : tie.Need-mul-load Inv-loop μ-loop
-mul-load c = omega (arith, c .before .before .before .pre .few)
+mul-load-eight : tie.Need-mul-load-eight Inv-loop μ-loop
+mul-load-eight c = omega (arith, c .before .before .before .pre .few)
 
-load-requires : tie.Need-load-requires Inv-loop μ-loop
-load-requires c κs = omega (arith, c .before .before .before .pre .few, c .before .before .before .pre .room)
+load-eight-requires : tie.Need-load-eight-requires Inv-loop μ-loop
+load-eight-requires c κs = omega (arith, c .before .before .before .pre .few, c .before .before .before .pre .room)
 
 returns : tie.Need-returns Inv-loop μ-loop
-returns c = (
-  λ sets s held counted is ascending.
-      number-here held (c .before .before .before .before .before .before .args .count) counted (c .before .before .before .before .before .before .args .set .words) (record { is = is; ascending = ascending }) (c .before .before .before .before .loop .i) (c .before .before .before .loop-test .taken)
-      (ap (λ (w : List ℕ). member w 0) (sym (c .before .before .load .ensures) ∙ c .before .equal .ensures .same (c .if1 .taken)))
-      (c .before .before .before .before .loop .inv .1),
-  c .before .before .before .before .loop .inv .0,
-)
+returns c =
+    let start = c .before .before .before .before .before .before in
+    let loop = c .before .before .before .before .loop in
+    let test = c .before .before .before .loop-test in
+    let load-eight = c .before .before .load-eight in
+    let equal = c .before .equal in
+    let if1 = c .if1 in (
+      λ sets s held counted is ascending.
+          number-here held (start .args .count) counted (start .args .set .words) (record { is = is; ascending = ascending }) (loop .i)
+          (test .taken)
+          (ap (λ (w : List ℕ). member w 0) (sym (load-eight .ensures) ∙ equal .ensures .same (if1 .taken)))
+          (loop .inv .1),
+      loop .inv .0,
+    )
+
+add-i : tie.Need-add-i Inv-loop μ-loop
+add-i c = omega (arith, c .before .before .before .before .before .before .pre .few)
 
 loop-again : tie.Need-loop-again Inv-loop μ-loop
 loop-again c =
     let d = c .before .equal .ensures .differ (c .if1 .left) in (
       omega arith,
       below-more _ (c .before .before .before .before .loop .i) (c .before .before .before .before .loop .inv .1)
-          (λ q. d .2 (ap (λ (w : List ℕ). member w 0 (d .0)) (c .before .before .load .ensures) ∙ ap (λ (f : ℕ → Bool). f (d .0)) q)),
+          (λ q. d .2 (ap (λ (w : List ℕ). member w 0 (d .0)) (c .before .before .load-eight .ensures) ∙ ap (λ (f : ℕ → Bool). f (d .0)) q)),
     )
 
 returns-2 : tie.Need-returns-2 Inv-loop μ-loop
-returns-2 c = (
-  λ sets s held counted is ascending.
-      number-nowhere held (c .before .before .before .args .count) counted (c .before .before .before .args .set .words) (record { is = is; ascending = ascending }) (c .before .loop .i) (omega arith) (c .before .loop .inv .0)
-      (c .before .loop .inv .1),
-  c .before .loop .inv .0,
-)
+returns-2 c =
+    let start = c .before .before .before in
+    let loop = c .before .loop in (
+      λ sets s held counted is ascending.
+          number-nowhere held (start .args .count) counted (start .args .set .words) (record { is = is; ascending = ascending }) (loop .i)
+          (omega arith) (loop .inv .0)
+          (loop .inv .1),
+      loop .inv .0,
+    )
 
 pub set-number-spec : {M : Type 1} → statement M
 set-number-spec =
@@ -59,11 +72,11 @@ set-number-spec =
     Inv-loop
     μ-loop
     loop-holds
-    mul-load
-    load-requires
+    mul-load-eight
+    load-eight-requires
     (λ c κs. search needs)
     returns
-    (λ c. omega (arith, c .before .before .before .before .before .before .pre .few))
+    add-i
     (λ c. omega arith)
     loop-again
     returns-2)

@@ -25,19 +25,15 @@ abbrev μ-loop : tie.MeasureT-loop
 μ-loop table index words₀ rules rule₀ words rule = rules - rule
 
 none-compete-in-requires : tie.Need-none-compete-in-requires Inv-loop μ-loop
-none-compete-in-requires c κs =
-    let room = c .before .before .before .before .before .pre .1 in
-    let same = c .before .before .loop .inv .0 in
-    (c .before .before .before .before .before .pre .0, c .before .loop-test .taken, omega arith)
+none-compete-in-requires c κs = (c .before .before .before .before .before .before .pre .0, omega (arith, c .before .loop-test .taken, c .before .before .before .rule-count .ensures), omega (arith, c .before .before .before .before .before .before .pre .1, c .before .before .loop .inv .0))
 
 add-rule : tie.Need-add-rule Inv-loop μ-loop
-add-rule c = omega (arith, c .before .before .before .before .before .before .before .before .before .pre .0 .indexes .few-rules)
+add-rule c = omega (arith, c .before .before .before .before .before .before .before .before .before .before .pre .0 .held .indexes .few-rules, c .before .before .before .before .before .before .before .rule-count .ensures)
 
 loop-again : tie.Need-loop-again Inv-loop μ-loop
 loop-again c = (
   c .before .before .before .none-compete-in .kept .1 .1 .1 .0 ∙ c .before .before .before .before .before .before .loop .inv .0,
-  below-more _ (c .before .before .before .before .before .before .loop .rule) (c .before .before .before .before .before .before .loop .inv .1)
-      (λ g rule x at-i. sym (c .before .before .before .none-compete-in .ensures g rule x at-i) ∙ c .if1 .taken),
+  below-more _ (c .before .before .before .before .before .before .loop .rule) (c .before .before .before .before .before .before .loop .inv .1) (λ g rule x at-i. sym (c .before .before .before .none-compete-in .ensures g rule x at-i) ∙ c .if1 .taken),
 )
 
 same-length : tie.Need-same-length Inv-loop μ-loop
@@ -47,7 +43,7 @@ returns : tie.Need-returns Inv-loop μ-loop
 returns c =
     let i = c .before .before .before .before .before .before .loop .rule in
     λ g x.
-    let r = rule-at x i (c .before .before .before .before .before .loop-test .taken) in
+    let r = rule-at x i (omega (arith, c .before .before .before .before .before .loop-test .taken, c .before .before .before .before .before .before .before .rule-count .ensures)) in
     sym
     (one-rule
     x
@@ -59,6 +55,7 @@ returns c =
 
 returns-2 : tie.Need-returns-2 Inv-loop μ-loop
 returns-2 c =
+    let counted = c .before .before .rule-count .ensures in
     λ g x.
     sym
     (all-rules
@@ -72,6 +69,7 @@ none-compete-in-any-spec =
     (tie.spec
     Inv-loop
     μ-loop
+    (λ c κs. tt)
     (λ c. (refl, λ k h. absurd (omega arith)))
     none-compete-in-requires
     add-rule

@@ -1,7 +1,7 @@
 -- `kinds::single_type_table` meets its contract: the pairs, the starts, then the contents.
 use native.Mathlib.Omega.{arith}
 use mathlib.Core.Path.{sym, _∙_}
-use Rattle.kinds.proofs.IndexedKinds.{pairs-repeated, starts-compete, then-contents}
+use Rattle.kinds.proofs.IndexedKinds.{types-below, pairs-repeated, starts-compete, then-contents}
 use Rattle.kinds.proofs.kinds.single_type_table.Statement.{statement}
 use Rattle.kinds.proofs.kinds.single_type_table.Tie as tie
 
@@ -9,7 +9,7 @@ none-compete-requires : tie.Need-none-compete-requires
 none-compete-requires c κs =
     let room = c .before .before .before .before .before .before .before .before .before .pre .1 in
     let same = c .before .before .before .start-types .kept .1 .0 in
-    (c .before .before .before .before .before .before .before .before .before .pre .0 .indexes .few-rules, omega arith)
+    (types-below (c .before .before .before .before .before .before .before .before .before .pre .0), omega arith)
 
 none-compete-in-any-requires : tie.Need-none-compete-in-any-requires
 none-compete-in-any-requires c κs =
@@ -62,8 +62,8 @@ pub single-type-table-spec : {M : Type 1} → statement M
 single-type-table-spec =
     tie.close
     (tie.spec
-    (λ c κs. c .before .before .pre .0 .indexes .few-rules)
-    (λ c κs. (c .before .before .before .before .before .pre .0 .indexes .few-starts, c .before .before .before .before .before .pre .1))
+    (λ c κs. c .before .before .pre .0 .held .indexes .few-rules)
+    (λ c κs. (types-below (c .before .before .before .before .before .pre .0), c .before .before .before .before .before .pre .1))
     none-compete-requires
     none-compete-in-any-requires
     same-length

@@ -13,14 +13,16 @@ use Rattle.reducing.proofs.leaving.with_list.Tie as tie
 with-part-requires : tie.Need-with-part-requires
 with-part-requires c κs =
     let pre = c .before .before .before .before .before .pre in
-    (pre .0, list-part (pre .1) _ _ _ (pre .2) (c .before .wide .ensures .0) (c .wide2 .ensures .0))
+    (pre .0, list-part (pre .1) _ _ _ (pre .2) (c .before .wider .ensures .0) (c .wider2 .ensures .0))
 
 returns : tie.Need-returns
 unfolding listOfType
 returns c =
     let args = c .before .before .before .before .before .before .args in (
       c .with-part .ensures .0
-          ∙ ap₂ (λ (a b : ℕ). inEither (λ p. isIn p (take (b - a) (drop a (args .lists .numbers)))) (member (args .set .words) 0)) (c .before .before .wide .ensures .0) (c .before .wide2 .ensures .0),
+          ∙ ap₂ (λ (a b : ℕ). inEither (λ p. isIn p (take (b - a) (drop a (args .lists .numbers)))) (member (args .set .words) 0))
+          (c .before .before .wider .ensures .0)
+          (c .before .wider2 .ensures .0),
       c .with-part .ensures .1,
     )
 
@@ -30,7 +32,9 @@ with-list-spec =
     (tie.spec
     (λ c. search needs)
     (λ c. search needs)
+    (λ c. search needs)
     (λ c κs. search needs)
+    (λ c. search needs)
     (λ c. search needs)
     (λ c. search needs)
     (λ c κs. search needs)

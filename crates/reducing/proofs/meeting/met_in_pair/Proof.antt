@@ -5,6 +5,7 @@ use mathlib.Core.List.{List}
 use mathlib.Core.Path.{_≡_, refl, _∙_, ap}
 use lib.ListN.{length, take}
 use lib.Dec.{eqb}
+use borrow.Author.Needs.{needs}
 use Rattle.grammar.specs.Lists.{joinedOf, numbersBelow}
 use Rattle.grammar.specs.Table.{Table}
 use Rattle.theory.specs.Alternatives.{onlyIf}
@@ -32,28 +33,32 @@ loop-holds c =
     let args = c .before .before .before .before .args in
     (omega arith, meets-start (ofRule (args .v) (args .p)) _ _ (c .before .before .before .before .pre .once), refl)
 
-mul-first : tie.Need-mul-first Inv-loop μ-loop
-mul-first c = let few = c .before .before .before .before .before .before .pre .viewed .views .few in omega arith
-
-array-read-first : tie.Need-array-read-first Inv-loop μ-loop
-array-read-first c = let few = c .before .before .before .before .before .before .pre .viewed .views .few in omega arith
+array-read-wide : tie.Need-array-read-wide Inv-loop μ-loop
+array-read-wide c = let few = c .before .before .before .before .before .before .pre .viewed .views .few in omega arith
 
 met-in-rule-if-requires : tie.Need-met-in-rule-if-requires Inv-loop μ-loop
 met-in-rule-if-requires c κs =
-    let pre = c .before .before .before .before .before .before .before .pre in
-    (record { viewed = pre .viewed; listed = pre .listed; once = c .before .before .loop .inv .1 .once }, c .before .loop-test .taken)
+    let pre = c .before .before .before .before .before .before .before .before .pre in
+    let once = c .before .before .before .loop .inv .1 .once in
+    (record { viewed = pre .viewed; listed = pre .listed; once = once }, c .before .before .loop-test .taken)
 
 add-i : tie.Need-add-i Inv-loop μ-loop
 add-i c =
-    let few = c .before .before .before .before .before .before .before .before .before .before .pre .viewed .views .few in
+    let few = c .before .before .before .before .before .before .before .before .before .before .before .pre .viewed .views .few in
     omega arith
 
 loop-again : tie.Need-loop-again Inv-loop μ-loop
 loop-again c =
-    let args = c .before .before .before .before .before .before .before .before .before .before .args in
-    let inv = c .before .before .before .before .before .loop .inv in (
+    let args = c .before .before .before .before .before .before .before .before .before .before .before .args in
+    let inv = c .before .before .before .before .before .before .loop .inv in
+    let i = c .before .before .before .before .before .before .loop .i in
+    let first = c .before .before .before .before .wide .result in
+    let same = c .before .before .before .before .wide .ensures .0 in
+    let met = meets-same (λ u. onlyIf (eqb first (args .p)) (metInRule u i)) (λ u. ofRule (args .v) (args .p) u i) _ _ _
+    (λ u x. ap (λ (q : ℕ). onlyIf (eqb q (args .p)) (metInRule u i)) same)
+    (c .before .before .met-in-rule-if .ensures) in (
       omega arith,
-      meets-next (ofRule (args .v) (args .p)) (c .before .before .before .before .before .loop .i) _ _ _ _ _ (inv .1) (c .before .before .met-in-rule-if .ensures),
+      meets-next (ofRule (args .v) (args .p)) i _ _ _ _ _ (inv .1) met,
       c .before .before .met-in-rule-if .kept .1 .1 .1 .1 .1 .1 .0 ∙ inv .2,
     )
 
@@ -75,8 +80,8 @@ met-in-pair-spec =
     Inv-loop
     μ-loop
     loop-holds
-    mul-first
-    array-read-first
+    array-read-wide
+    (λ c κs. search needs)
     met-in-rule-if-requires
     add-i
     (λ c. omega arith)

@@ -23,7 +23,7 @@ abbrev Inv-loop : tie.InvT-loop
 Inv-loop old add v lists set rules numbers₀ count₀ p₀ numbers count p =
     (p ≤ rules)
     × Meets old add v lists (λ u. joinedOf (ofPair (member (set .words) 0) u) (numbersBelow p)) [] numbers count
-    × (length numbers ≡ 128)
+    × (length numbers ≡ 256)
 
 abbrev μ-loop : tie.MeasureT-loop
 μ-loop old add v lists set rules numbers₀ count₀ p₀ numbers count p = rules - p
@@ -32,7 +32,7 @@ loop-holds : tie.Need-loop-holds Inv-loop μ-loop
 loop-holds c = (
   omega arith,
   meets-start (ofPair (member (c .before .before .args .set .words) 0)) _ _ (filled-zeros .once),
-  length-replicate {A = ℕ} 128 0,
+  length-replicate {A = ℕ} 256 0,
 )
 
 slice-aggregate-met-in-member : tie.Need-slice-aggregate-met-in-member Inv-loop μ-loop
@@ -64,7 +64,7 @@ returns c =
     let inv = c .before .loop .inv .1 in
     let held = inv .once .held in
     let room = c .before .loop .inv .2 in
-    let few : c .before .loop .count ≤ 128 = omega arith in
+    let few : c .before .loop .count ≤ 256 = omega arith in
     let e : c .before .loop .p ≡ args .v .rules = omega arith in (
       λ u x l.
           inv .adds u x l .all

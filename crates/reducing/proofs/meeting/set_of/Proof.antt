@@ -15,12 +15,12 @@ use Rattle.reducing.proofs.meeting.set_of.Tie as tie
 
 with-part-requires : tie.Need-with-part-requires
 with-part-requires c κs =
-    (ap length (c .before .empty .ensures) ∙ length-replicate {A = ℕ} 4 0, met-part (c .before .before .before .args .found) (c .before .before .before .pre))
+    (ap length (c .before .empty .ensures) ∙ length-replicate {A = ℕ} 8 0, met-part (c .before .before .before .args .found) (c .before .before .before .pre))
 
 returns : tie.Need-returns
 returns c =
     let found = c .before .before .before .before .args .found in
-    let nothing-yet = ap (λ (w : List ℕ). member w 0) (c .before .before .empty .ensures) ∙ member-zeros 4 0 in
+    let nothing-yet = ap (λ (w : List ℕ). member w 0) (c .before .before .empty .ensures) ∙ member-zeros 8 0 in
     let z : found .count - 0 ≡ found .count = omega arith in (
       c .with-part .ensures .0
           ∙ ap (λ (n : ℕ). inEither (λ p. isIn p (take n (found .numbers))) (member (c .before .before .empty .result .words) 0)) z

@@ -16,7 +16,7 @@ Inv-loop numbers first end more₀ i₀ more i =
     (first ≤ i)
     × (i ≤ end)
     × (member (more .words) 0 ≡ inEither (λ p. isIn p (take (i - first) (drop first numbers))) (member (more₀ .words) 0))
-    × (length (more .words) ≡ 4)
+    × (length (more .words) ≡ 8)
 
 abbrev μ-loop : tie.MeasureT-loop
 μ-loop numbers first end more₀ i₀ more i = end - i
@@ -39,7 +39,7 @@ shared-slice-read-wide c =
 
 with-requires : tie.Need-with-requires Inv-loop μ-loop
 with-requires c κs =
-    subst (λ (n : ℕ). n < 128) (sym (c .wide .ensures .0)) (c .before .before .before .before .before .pre .1 .below (c .before .before .before .loop .i) (c .before .before .loop-test .taken))
+    subst (λ (n : ℕ). n < 256) (sym (c .wide .ensures .0)) (c .before .before .before .before .before .pre .1 .below (c .before .before .before .loop .i) (c .before .before .loop-test .taken))
 
 add-i : tie.Need-add-i Inv-loop μ-loop
 add-i c =
@@ -52,7 +52,7 @@ loop-again c =
     let inv = c .before .before .before .before .loop .inv in
     let inside = start .pre .1 .inside in
     let e = c .before .wide .ensures .0 in
-    let small = subst (λ (n : ℕ). n < 128) (sym e) (start .pre .1 .below (c .before .before .before .before .loop .i) (c .before .before .before .loop-test .taken)) in
+    let small = subst (λ (n : ℕ). n < 256) (sym e) (start .pre .1 .below (c .before .before .before .before .loop .i) (c .before .before .before .loop-test .taken)) in
     let r = part-next _ _ (start .args .numbers .now) (start .args .first) (c .before .before .before .before .loop .i) _ (member (start .args .set .words) 0) (c .with .ensures) e small (inv .3) (inv .0) (omega arith) (inv .2) in
     (omega arith, omega arith, r .0, r .1)
 

@@ -16,10 +16,10 @@ use Rattle.reducing.proofs.type_lists.lists_from.Tie as tie
 
 abbrev Inv-loop : tie.InvT-loop
 Inv-loop v known base from₀ numbers₀ count₀ k₀ from numbers count k =
-    (k ≤ 64) × Filling v (member (known .words) 0) base from numbers count k
+    (k ≤ 128) × Filling v (member (known .words) 0) base from numbers count k
 
 abbrev μ-loop : tie.MeasureT-loop
-μ-loop v known base from₀ numbers₀ count₀ k₀ from numbers count k = 64 - k
+μ-loop v known base from₀ numbers₀ count₀ k₀ from numbers count k = 128 - k
 
 loop-holds : tie.Need-loop-holds Inv-loop μ-loop
 loop-holds c =
@@ -61,7 +61,7 @@ returns : tie.Need-returns Inv-loop μ-loop
 returns c =
     let args = c .before .before .args in
     let known = member (args .known .words) 0 in
-    let e : c .before .loop .k ≡ 64 = omega arith in
+    let e : c .before .loop .k ≡ 128 = omega arith in
     filling-end (args .v) known (args .base)
     (subst (λ (n : ℕ). Filling (args .v) known (args .base) (c .before .loop .from) (c .before .loop .numbers) (c .before .loop .count) n) e (c .before .loop .inv .1))
 
@@ -76,6 +76,7 @@ lists-from-spec =
     slice-aggregate-append-pairs
     append-pairs-requires
     cast-from
+    (λ c. omega arith)
     (λ c. omega arith)
     array-write-from
     (λ c. omega arith)

@@ -18,19 +18,19 @@ use Rattle.reducing.proofs.type_lists.types_listed.Tie as tie
 
 abbrev Inv-loop : tie.InvT-loop
 Inv-loop lists set₀ k₀ set k =
-    (k ≤ 128)
+    (k ≤ 256)
     × ((of : ℕ → List ℕ) → ListsOf of lists → member (set .words) 0 ≡ puts (someLeft of) (λ j. j) nothing k)
-    × (length (set .words) ≡ 4)
+    × (length (set .words) ≡ 8)
 
 abbrev μ-loop : tie.MeasureT-loop
-μ-loop lists set₀ k₀ set k = 128 - k
+μ-loop lists set₀ k₀ set k = 256 - k
 
 loop-holds : tie.Need-loop-holds Inv-loop μ-loop
 loop-holds c =
     let zeros = c .empty .ensures in (
       omega arith,
-      λ of x. puts-start (someLeft of) (λ j. j) nothing _ (ap (λ (w : List ℕ). member w 0) zeros ∙ member-zeros 4 0),
-      ap length zeros ∙ length-replicate {A = ℕ} 4 0,
+      λ of x. puts-start (someLeft of) (λ j. j) nothing _ (ap (λ (w : List ℕ). member w 0) zeros ∙ member-zeros 8 0),
+      ap length zeros ∙ length-replicate {A = ℕ} 8 0,
     )
 
 put-if-requires : tie.Need-put-if-requires Inv-loop μ-loop
@@ -45,9 +45,9 @@ loop-again c = (
 
 returns : tie.Need-returns Inv-loop μ-loop
 returns c =
-    let e : c .before .loop .k ≡ 128 = omega arith in (
+    let e : c .before .loop .k ≡ 256 = omega arith in (
       λ of x.
-          types-all (someLeft of) (member (c .before .loop .set .words) 0) 128
+          types-all (someLeft of) (member (c .before .loop .set .words) 0) 256
           (c .before .loop .inv .1 of x ∙ ap (puts (someLeft of) (λ j. j) nothing) e),
       c .before .loop .inv .2,
     )

@@ -1,12 +1,12 @@
--- `nullable_contents` meets its contract: the flags of the rules so far are set.
+-- `nullable_contents` meets its contract. The loop's invariant: whether each content before that of `rule` matches no children.
 use Prim.Native.Nat.{ℕ, _-_, _≤_, _<_}
 use native.Mathlib.Omega.{arith}
 use mathlib.Core.Bool.{Bool, false}
-use mathlib.Core.List.{[]}
-use mathlib.Core.Path.{_≡_, refl, _∙_}
+use mathlib.Core.List.{List, []}
+use mathlib.Core.Path.{_≡_, refl, _∙_, ap}
 use lib.ListN.{length, getD, length-set, length-replicate}
 use borrow.Author.Count.{below-none}
-use Rattle.reader.specs.TableIndex.{part}
+use Rattle.reader.specs.TableIndex.{part, contentFrom, contentTo}
 use Rattle.walks.specs.TypeSets.{testsAt}
 use Rattle.walks.specs.WalkAt.{runAt}
 use Rattle.validator.proofs.TypeLaws as laws
@@ -14,97 +14,62 @@ use Rattle.validator.proofs.membership.nullable_contents.Statement.{sta
 use Rattle.validator.proofs.membership.nullable_contents.Tie as tie
 
 abbrev Inv-loop : tie.InvT-loop
-Inv-loop table content-from content-to rules marks₀ words nullable₀ rule₀ marks nullable rule =
+Inv-loop table index marks₀ words rules nullable₀ rule₀ marks nullable rule =
     (rule ≤ rules)
     × (length marks ≡ length marks₀)
-    × (length nullable ≡ 64)
-    × ((k : ℕ) → k < rule → getD nullable k false ≡ runAt (part table (getD content-from k 0) (getD content-to k 0)) [])
+    × (length nullable ≡ 128)
+    × ((k : ℕ) → k < rule → getD nullable k false ≡ runAt (part table (contentFrom index k) (contentTo index k)) [])
 
 abbrev μ-loop : tie.MeasureT-loop
-μ-loop table content-from content-to rules marks₀ words nullable₀ rule₀ marks nullable rule = rules - rule
+μ-loop table index marks₀ words rules nullable₀ rule₀ marks nullable rule = rules - rule
 
 loop-holds : tie.Need-loop-holds Inv-loop μ-loop
-loop-holds c = (omega arith, refl, length-replicate {A = Bool} 64 false, below-none _)
+loop-holds c = (omega arith, refl, length-replicate {A = Bool} 128 false, below-none _)
 
-mul-from : tie.Need-mul-from Inv-loop μ-loop
-mul-from c =
-    let few = c .before .before .before .before .before .before .before .pre .0 .at .held .indexes .few-rules in
-    omega arith
+content-from-requires : tie.Need-content-from-requires Inv-loop μ-loop
+content-from-requires c κs = omega (arith, c .before .before .before .before .before .before .pre .0 .held .indexes .few-rules, c .before .before .rule-count .ensures)
 
-shared-slice-read-from : tie.Need-shared-slice-read-from Inv-loop μ-loop
-shared-slice-read-from c =
-    let x = c .before .before .before .before .before .before .before .before .pre .0 .at .held .indexes in
-    let few = x .few-rules in
-    let room = x .rooms .content-from in
-    omega arith
-
-mul-to : tie.Need-mul-to Inv-loop μ-loop
-mul-to c =
-    let few = c .before .before .before .before .before .before .before .before .pre .0 .at .held .indexes .few-rules in
-    omega arith
-
-shared-slice-read-to : tie.Need-shared-slice-read-to Inv-loop μ-loop
-shared-slice-read-to c =
-    let x = c .before .before .before .before .before .before .before .before .before .pre .0 .at .held .indexes in
-    let few = x .few-rules in
-    let room = x .rooms .content-to in
-    omega arith
+content-to-requires : tie.Need-content-to-requires Inv-loop μ-loop
+content-to-requires c κs = omega (arith, c .before .before .before .before .before .before .before .pre .0 .held .indexes .few-rules, c .before .before .before .rule-count .ensures)
 
 sub-matches : tie.Need-sub-matches Inv-loop μ-loop
-sub-matches c = laws.known-rule (c .before .before .before .before .before .before .before .before .before .pre .0 .at .held) (c .before .before .before .loop .rule) (c .before .before .loop-test .taken) .at .content .inside .order
+sub-matches c = laws.content-inside (c .before .before .before .before .before .before .before .before .pre .0 .held) (c .before .before .before .loop .rule) (omega (arith, c .before .before .loop-test .taken, c .before .before .before .before .rule-count .ensures)) (c .before .content-from .ensures) (c .content-to .ensures) .order
 
 part-matches-start : tie.Need-part-matches-start Inv-loop μ-loop
-part-matches-start c = laws.known-rule (c .before .before .before .before .before .before .before .before .before .pre .0 .at .held) (c .before .before .before .loop .rule) (c .before .before .loop-test .taken) .at .content .inside .order
+part-matches-start c = laws.content-inside (c .before .before .before .before .before .before .before .before .pre .0 .held) (c .before .before .before .loop .rule) (omega (arith, c .before .before .loop-test .taken, c .before .before .before .before .rule-count .ensures)) (c .before .content-from .ensures) (c .content-to .ensures) .order
 
 part-matches-end : tie.Need-part-matches-end Inv-loop μ-loop
-part-matches-end c = laws.known-rule (c .before .before .before .before .before .before .before .before .before .pre .0 .at .held) (c .before .before .before .loop .rule) (c .before .before .loop-test .taken) .at .content .inside .within
+part-matches-end c = laws.content-inside (c .before .before .before .before .before .before .before .before .pre .0 .held) (c .before .before .before .loop .rule) (omega (arith, c .before .before .loop-test .taken, c .before .before .before .before .rule-count .ensures)) (c .before .content-from .ensures) (c .content-to .ensures) .within
 
 matches-requires : tie.Need-matches-requires Inv-loop μ-loop
 matches-requires c κs =
-    let known = c .before .before .before .before .before .before .before .before .before .before .before .pre .0 .at .held in
-    let size = laws.rule-size known (c .before .before .before .before .before .loop .rule) (c .before .before .before .before .loop-test .taken) in
-    let inv = c .before .before .before .before .before .loop .inv in
-    let pre = c .before .before .before .before .before .before .before .before .before .before .before .pre in
-    (laws.rule-whole known (c .before .before .before .before .before .loop .rule) (c .before .before .before .before .loop-test .taken), record { few = size; mark-each = omega arith; four-words = omega arith }, omega arith)
+    let marks = c .before .before .before .before .before .loop .inv .1 in
+    let pre = c .before .before .before .before .before .before .before .before .before .before .pre in
+    (laws.content-whole (c .before .before .before .before .before .before .before .before .before .before .pre .0 .held) (c .before .before .before .before .before .loop .rule) (omega (arith, c .before .before .before .before .loop-test .taken, c .before .before .before .before .before .before .rule-count .ensures)) (c .before .before .before .content-from .ensures) (c .before .before .content-to .ensures), laws.content-room (c .before .before .before .before .before .before .before .before .before .before .pre .0 .held) (c .before .before .before .before .before .loop .rule) (omega (arith, c .before .before .before .before .loop-test .taken, c .before .before .before .before .before .before .rule-count .ensures)) (c .before .before .before .content-from .ensures) (c .before .before .content-to .ensures) (omega (arith, pre .1)) (omega (arith, pre .2)), omega arith)
 
 array-write-nullable : tie.Need-array-write-nullable Inv-loop μ-loop
-array-write-nullable c =
-    let few = c .before .before .before .before .before .before .before .before .before .before .before .before .before .before .pre .0 .at .held .indexes .few-rules in
-    omega arith
+array-write-nullable c = omega (arith, c .before .before .before .before .before .before .before .before .before .before .before .before .before .pre .0 .held .indexes .few-rules, c .before .before .before .before .before .before .before .before .before .rule-count .ensures)
 
 add-rule : tie.Need-add-rule Inv-loop μ-loop
-add-rule c =
-    let few = c .before .before .before .before .before .before .before .before .before .before .before .before .before .before .pre .0 .at .held .indexes .few-rules in
-    omega arith
-
-loop-less : tie.Need-loop-less Inv-loop μ-loop
-loop-less c =
-    let few = c .before .before .before .before .before .before .before .before .before .before .before .before .before .before .pre .0 .at .held .indexes .few-rules in
-    omega arith
+add-rule c = omega (arith, c .before .before .before .before .before .before .before .before .before .before .before .before .before .pre .0 .held .indexes .few-rules, c .before .before .before .before .before .before .before .before .before .rule-count .ensures)
 
 loop-again : tie.Need-loop-again Inv-loop μ-loop
 unfolding testsAt
 loop-again c =
     let inv = c .before .before .before .before .before .before .before .before .loop .inv in
-    let few = c .before .before .before .before .before .before .before .before .before .before .before .before .before .before .pre .0 .at .held .indexes .few-rules in
-    let below = c .before .before .before .before .before .before .before .loop-test .taken in (
-      omega arith,
+    let rule = c .before .before .before .before .before .before .before .before .loop .rule in
+    let few = c .before .before .before .before .before .before .before .before .before .before .before .before .before .pre .0 .held .indexes .few-rules in
+    let counted = c .before .before .before .before .before .before .before .before .before .rule-count .ensures in
+    let content = laws.content-there (c .before .before .before .before .before .before .before .before .before .before .before .before .before .pre .0 .held) (c .before .before .before .before .before .before .before .before .loop .rule) (omega (arith, c .before .before .before .before .before .before .before .loop-test .taken, c .before .before .before .before .before .before .before .before .before .rule-count .ensures)) (c .before .before .before .before .before .before .content-from .ensures) (c .before .before .before .before .before .content-to .ensures) in (
+      omega (arith, c .before .before .before .before .before .before .before .loop-test .taken),
       c .before .before .matches .kept .1 .0 ∙ inv .1,
-      length-set (c .before .before .before .before .before .before .before .before .loop .nullable) (c .before .before .before .before .before .before .before .before .loop .rule) (c .before .before .matches .result) ∙ inv .2,
-      laws.flags-more (c .before .before .before .before .before .before .before .before .loop .nullable) (c .before .before .before .before .before .before .before .before .loop .rule) (c .before .before .matches .result) _ (omega arith) (inv .3) (c .before .before .matches .ensures),
+      length-set (c .before .before .before .before .before .before .before .before .loop .nullable) rule (c .before .before .matches .result) ∙ inv .2,
+      laws.flags-more (c .before .before .before .before .before .before .before .before .loop .nullable) rule (c .before .before .matches .result) _ (omega (arith, inv .2)) (inv .3)
+          (c .before .before .matches .ensures ∙ ap (λ (l : List ℕ). runAt l []) content),
     )
 
-same-length : tie.Need-same-length Inv-loop μ-loop
-same-length c = c .before .loop .inv .1
-
 returns : tie.Need-returns Inv-loop μ-loop
-returns c =
-    let inv = c .before .loop .inv in
-    let few = c .before .before .before .before .before .before .before .pre .0 .at .held .indexes .few-rules in
-    record {
-      each = λ i below. inv .3 i (omega arith);
-      room = omega arith;
-    }
+returns c = let counted = c .before .before .rule-count .ensures in λ i below. c .before .loop .inv .3 i (omega arith)
 
 pub nullable-contents-spec : {M : Type 1} → statement M
 nullable-contents-spec =
@@ -112,18 +77,17 @@ nullable-contents-spec =
     (tie.spec
     Inv-loop
     μ-loop
+    (λ c κs. tt)
     loop-holds
-    mul-from
-    shared-slice-read-from
-    mul-to
-    shared-slice-read-to
+    content-from-requires
+    content-to-requires
     sub-matches
     part-matches-start
     part-matches-end
     matches-requires
     array-write-nullable
     add-rule
-    loop-less
+    (λ c. omega arith)
     loop-again
-    same-length
+    (λ c. c .before .loop .inv .1)
     returns)

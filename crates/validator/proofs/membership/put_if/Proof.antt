@@ -1,16 +1,21 @@
 -- `put_if` meets its contract.
-use borrow.Author.Needs.{needs}
+use native.Mathlib.Omega.{arith}
 use Rattle.validator.proofs.TypeLaws.{put-it, not-put}
+use borrow.Author.Needs.{needs}
 use Rattle.validator.proofs.membership.put_if.Statement.{statement}
 use Rattle.validator.proofs.membership.put_if.Tie as tie
 
+put-requires : tie.Need-put-requires
+put-requires c κs = let small = c .before .before .before .pre .0 in let room = c .before .before .before .pre .1 in omega arith
+
+same-length : tie.Need-same-length
+same-length c = c .before .before .put .kept .0
+
 returns : tie.Need-returns
-returns c =
-    let a = c .before .before .before .before .before .before .args in
-    put-it (a .words .now) _ (a .base) (a .k) (c .before .before .before .before .before .before .pre .0) (c .before .before .before .before .before .before .pre .1) (a .fits) (c .before .before .before .before .if1 .taken) (c .before .before .put .ensures)
+returns c = put-it (c .before .before .before .before .before .before .args .words .now) _ (c .before .before .before .before .before .before .args .k) (c .before .before .before .before .before .before .pre .0) (c .before .before .before .before .before .before .pre .1) (c .before .before .before .before .before .before .args .fits) (c .before .before .before .before .if1 .taken) (c .before .before .put .ensures)
 
 returns-2 : tie.Need-returns-2
-returns-2 c = let a = c .before .before .args in not-put (a .words .now) (a .base) (a .k) (a .fits) (c .if1 .left)
+returns-2 c = not-put (c .before .before .args .words .now) (c .before .before .args .k) (c .before .before .args .fits) (c .if1 .left)
 
 pub put-if-spec : {M : Type 1} → statement M
-put-if-spec = tie.close (tie.spec (λ c κs. search needs) (λ c. search needs) returns returns-2)
+put-if-spec = tie.close (tie.spec put-requires same-length returns returns-2)
