@@ -9,7 +9,7 @@ use lib.Dec.{eqb, ltb}
 use borrow.Author.Tests.{lt-ltb, le-ltb}
 use lib.ListN.{length, getD}
 use Rattle.grammar.specs.Lists.{keep, numbersBelow}
-use Rattle.grammar.specs.Limits.{standard, contentLimit, operandLimit, nestingLimit}
+use Rattle.grammar.specs.Limits.{standard, large, contentLimit, operandLimit, nestingLimit}
 use Rattle.grammar.specs.Content.{Content, type, operands, choiceOf, nesting, deepest}
 use Rattle.grammar.specs.ReadContent.{contentBytes, sameContent}
 use Rattle.grammar.specs.Size.{widestChoice, widestOf, contentTooLarge}
@@ -77,8 +77,8 @@ module _ (parents types : List ℕ) (n k : ℕ) where
 
   -- few enough bytes, and few enough operands
   pub content-fits : {d : List ℕ} {c end : ℕ} → Row d 4 c (gathered [] among) end → length (contentBytes (contentIn parents types n k)) ≤ contentLimit
-      → contentTooLarge standard (contentIn parents types n k) ≡ false
-  unfolding contentTooLarge standard
+      → contentTooLarge large (contentIn parents types n k) ≡ false
+  unfolding contentTooLarge large
   content-fits {d} {c} {end} r h =
       let f = choice-flat (gathered [] among) gathered-flat in
       let m = row-count d 4 c end (gathered [] among) r .0 in
@@ -88,17 +88,19 @@ module _ (parents types : List ℕ) (n k : ℕ) where
       (or-none (ltb contentLimit (length (contentBytes x))) (ltb nestingLimit (nesting x)) (le-ltb contentLimit (length (contentBytes x)) h) (le-ltb nestingLimit (nesting x) (omega arith)))
       (le-ltb operandLimit (widestChoice x) (omega arith))
 
-  pub content-over : contentLimit < length (contentBytes (contentIn parents types n k)) → contentTooLarge standard (contentIn parents types n k) ≡ true
-  unfolding contentTooLarge standard
+  pub content-over : contentLimit < length (contentBytes (contentIn parents types n k))
+      → contentTooLarge large (contentIn parents types n k) ≡ true
+  unfolding contentTooLarge large
   content-over h =
       let x = contentIn parents types n k in
       or-left (ltb contentLimit (length (contentBytes x)) || ltb nestingLimit (nesting x)) (ltb operandLimit (widestChoice x))
       (or-left (ltb contentLimit (length (contentBytes x))) (ltb nestingLimit (nesting x)) (lt-ltb contentLimit (length (contentBytes x)) h))
 
-  pub content-wide : TooWide contentLimit (gathered [] among) → contentTooLarge standard (contentIn parents types n k) ≡ true
+  pub content-wide : TooWide contentLimit (gathered [] among) → contentTooLarge large (contentIn parents types n k) ≡ true
+  unfolding contentTooLarge standard large
   content-wide w =
-      subst (λ (x : Content). contentTooLarge standard x ≡ true) (written-gathered among)
-      (subst (λ (xs : List Content). contentTooLarge standard (oneContent xs) ≡ true) (append-nil among) (too-large among [] w))
+      subst (λ (x : Content). contentTooLarge large x ≡ true) (written-gathered among)
+      (subst (λ (xs : List Content). contentTooLarge large (oneContent xs) ≡ true) (append-nil among) (too-large among [] w))
 
   pub content-length : (d : List ℕ) (stop : ℕ) → exprAt d 2 ≡ just (contentIn parents types n k upTo stop)
       → stop ≡ 2 + length (contentBytes (contentIn parents types n k))

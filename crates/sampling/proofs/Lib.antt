@@ -8,5 +8,6 @@ pub mod KidLaws
 pub mod SequenceLaws
 pub mod FlatLaws
 pub mod RuleLaws
+pub mod SampleSize
 pub mod SampleWritten
 pub mod SampleIndexed

@@ -134,12 +134,12 @@ passing-end ns parents pending top i h p =
     ∙ append-nil (take i parents))
 
 -- the same over an array of child counts
-module _ {children : List ℕ} {n : ℕ} (q : CountedTree children n) {parents pending : List ℕ} {top i : ℕ} (long : length parents ≡ 1024)
-    (wide : length pending ≡ 1024) (few : n ≤ 1024) (h : i < n) (p : Passing (q .list) parents pending top i) where
+module _ {children : List ℕ} {n : ℕ} (q : CountedTree children n) {parents pending : List ℕ} {top i : ℕ} (long : length parents ≡ 2048)
+    (wide : length pending ≡ 2048) (few : n ≤ 2048) (h : i < n) (p : Passing (q .list) parents pending top i) where
   counts : map (λ (m : Node). m .children) (q .list) ≡ take (length (q .list)) children
   counts = q .counts ∙ ap (λ (k : ℕ). take k children) (sym (q .many))
 
-  pub step-room : (getD children i 0 ≤ top + 1) × (top < 1024)
+  pub step-room : (getD children i 0 ≤ top + 1) × (top < 2048)
   step-room =
       let m = q .many in
       let r = passing-room (q .list) children counts parents pending top i (omega arith) p (omega arith) in

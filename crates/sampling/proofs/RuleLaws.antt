@@ -6,7 +6,7 @@ use mathlib.Core.List.{List, [], _∷_}
 use mathlib.Core.Option.{some as just}
 use mathlib.Core.Path.{_≡_, _∙_, ap, subst}
 use lib.ListN.{set, take}
-use Rattle.grammar.specs.Limits.{standard}
+use Rattle.grammar.specs.Limits.{large}
 use Rattle.grammar.specs.Content.{Content}
 use Rattle.grammar.specs.WriteTable.{ruleBytes}
 use Rattle.grammar.specs.Size.{contentTooLarge}
@@ -18,10 +18,10 @@ use Rattle.sampling.specs.SampleContents.{ruleEnd}
 use Rattle.sampling.specs.SampleTable.{ContentMade}
 
 pub made-stop : (d : List ℕ) (c : Content) (r : Drafted) {stop : ℕ} → ContentMade d c r → r ≡ Length stop
-    → (exprAt d 2 ≡ just (c upTo stop)) × (stop ≤ ruleEnd) × (contentTooLarge standard c ≡ false)
+    → (exprAt d 2 ≡ just (c upTo stop)) × (stop ≤ ruleEnd) × (contentTooLarge large c ≡ false)
 made-stop d c r g e = subst (λ (x : Drafted). ContentMade d c x) e g
 
-pub drafted-over : (d : List ℕ) (c : Content) (r : Drafted) → ContentMade d c r → r ≡ TooLarge → contentTooLarge standard c ≡ true
+pub drafted-over : (d : List ℕ) (c : Content) (r : Drafted) → ContentMade d c r → r ≡ TooLarge → contentTooLarge large c ≡ true
 drafted-over d c r g e = subst (λ (x : Drafted). ContentMade d c x) e g
 
 pub drafted-rule : (d : List ℕ) (k l stop : ℕ) (c : Content) → exprAt d 2 ≡ just (c upTo stop)

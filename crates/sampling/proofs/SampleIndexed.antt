@@ -5,7 +5,7 @@ use mathlib.Core.List.{List, [], map}
 use mathlib.Core.Path.{_≡_, sym, _∙_, ap}
 use lib.ListN.{length, length-map, List·getD-map, getD, take}
 use lib.Seq.{length-take-le, getD-take, ext-getD}
-use Rattle.grammar.specs.Limits.{standard}
+use Rattle.grammar.specs.Limits.{Limits}
 use Rattle.grammar.specs.Names.{asciiClasses}
 use Rattle.grammar.specs.Outcome.{given}
 use Rattle.grammar.specs.Tree.{Tree}
@@ -19,12 +19,12 @@ use Rattle.reader.proofs.DocumentTrees.{complete}
 use Rattle.sampling.specs.SampleNodes.{CountedTree, Whole, TypedTo, nameIn, nameAt, parentsOf}
 use Rattle.sampling.specs.SampleTable.{HoldsNodes, SampleHeld, SampleReady}
 
-module _ (s : List ℕ) (ix : DocumentIndex) (x : HoldsNodes s ix) where
+module _ (lim : Limits) (s : List ℕ) (ix : DocumentIndex) (x : HoldsNodes lim s ix) where
   abbrev ns : List Node
   ns = nodesIn s ix
 
   pub one-tree : (treeCount ns ≡ 1) × Enough ns
-  one-tree = complete standard asciiClasses s ns (x .reads)
+  one-tree = complete lim asciiClasses s ns (x .reads)
 
   abbrev none : Node
   none = record { name = []; children = 0 }
@@ -55,10 +55,10 @@ module _ (s : List ℕ) (ix : DocumentIndex) (x : HoldsNodes s ix) where
       }
 
   pub index-tree : (t : Tree) × (treeOf ns ≡ given t)
-  index-tree = let r = document-tree standard asciiClasses s ns (x .reads) in (r .0, r .1)
+  index-tree = let r = document-tree lim asciiClasses s ns (x .reads) in (r .0, r .1)
 
-  module _ (parents : List ℕ) (ps : take (ix .nodes) parents ≡ parentsOf ns) (long : length parents ≡ 1024) (ln : length (ix .names) ≡ 1024)
-      (ls : length (ix .sizes) ≡ 1024) where
+  module _ (parents : List ℕ) (ps : take (ix .nodes) parents ≡ parentsOf ns) (long : length parents ≡ 2048) (ln : length (ix .names) ≡ 2048)
+      (ls : length (ix .sizes) ≡ 2048) where
     abbrev pub index-whole : (d : Tree) → treeOf ns ≡ given d → Whole s (ix .names) (ix .sizes) parents (ix .nodes)
     index-whole d e =
         record {
@@ -77,7 +77,7 @@ module _ (s : List ℕ) (ix : DocumentIndex) (x : HoldsNodes s ix) where
           parents-held = let f = x .indexed .few in omega arith;
         }
 
-    module _ (types firsts : List ℕ) (count : ℕ) (lt : length types ≡ 1024) (lf : length firsts ≡ 1024)
+    module _ (types firsts : List ℕ) (count : ℕ) (lt : length types ≡ 2048) (lf : length firsts ≡ 2048)
         (t : (q : Whole s (ix .names) (ix .sizes) parents (ix .nodes)) → TypedTo (q .list) (q .tree) types firsts count (ix .nodes)) where
       abbrev pub index-held : (d : Tree) → treeOf ns ≡ given d → SampleHeld s (ix .names) (ix .sizes) parents types firsts (ix .nodes) count
       index-held d e =

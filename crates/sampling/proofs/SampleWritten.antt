@@ -12,20 +12,22 @@ use lib.Dec.{eqb}
 use lib.ListN.{length, length-map, getD, take, drop}
 use lib.Seq.{length-take-le, getD-take}
 use Rattle.grammar.specs.Lists.{keep, distinct, place, joinedOf, numbersFrom, numbersBelow}
-use Rattle.grammar.specs.Limits.{standard}
+use Rattle.grammar.specs.Limits.{standard, large}
+use Rattle.grammar.specs.LimitSets.{limitsOf}
 use Rattle.grammar.specs.Names.{Name, sameName}
 use Rattle.grammar.specs.Content.{Content, choiceOf}
 use Rattle.grammar.specs.ReadContent.{sameContent}
-use Rattle.grammar.specs.Outcome.{given, refused}
+use Rattle.grammar.specs.Outcome.{refused}
 use Rattle.grammar.specs.Tree.{Tree}
 use Rattle.grammar.specs.Table.{Rule, Table}
 use Rattle.grammar.specs.Fields.{fieldBytes}
 use Rattle.grammar.specs.ReadDocument.{Node}
 use Rattle.grammar.specs.WriteTable.{ruleBytes, tableBytes}
-use Rattle.grammar.specs.Size.{contentTooLarge, tooLarge}
+use Rattle.grammar.specs.Size.{contentTooLarge}
 use Rattle.grammar.specs.Sample.{sample, sequenceOf}
 use Rattle.grammar.specs.Widen.{sampleTable}
 use Rattle.grammar.specs.declared.Refusal.the-variants.{ResultTooLarge}
+use Rattle.grammar.specs.declared.SizeLimits.{SizeLimits}
 use Rattle.theory.specs.Alternatives.{gathered}
 use Rattle.theory.proofs.lists.ListLaws.{
   at-else,
@@ -69,8 +71,8 @@ use Rattle.sampling.specs.SampleNodes.{
   sampleOfNodes,
 }
 use Rattle.sampling.proofs.NumberingLaws.{place-agree}
-use Rattle.writer.proofs.TableSize.{size-over, size-fits, content-over, bytes-over, all-fit, types-over}
 use Rattle.sampling.proofs.SampleByNodes.{sample-nodes, kids-count}
+use Rattle.sampling.proofs.SampleSize.{types-over, content-over, bytes-over, all-fit}
 
 -- lists by places
 taken-at : (l : List ℕ) (c : ℕ) → c ≤ length l → take c l ≡ map (λ (t : ℕ). getD l t 0) (numbersBelow c)
@@ -91,16 +93,6 @@ taken-place l c h m =
     let k = length-take-le c l h in
     let d : t < c = omega arith in
     (t, d, sym (getD-take c l t 0 d) ∙ at-else (take c l) t 0 at)
-
--- the size of a sample
-module _ (d : Tree) where
-  too-large-is : tooLarge standard (sample d) ≡ true → sampleTable standard d ≡ refused ResultTooLarge
-  unfolding sampleTable
-  too-large-is e = size-over (sample d) e
-
-  not-too-large : tooLarge standard (sample d) ≡ false → sampleTable standard d ≡ given (sample d)
-  unfolding sampleTable
-  not-too-large e = size-fits (sample d) e
 
 module _ {s names sizes parents types firsts : List ℕ} {n count : ℕ} (q : SampleHeld s names sizes parents types firsts n count) where
   abbrev ns : List Node
@@ -163,8 +155,8 @@ module _ {s names sizes parents types firsts : List ℕ} {n count : ℕ} (q : Sa
   sample-is = sample-nodes ns (q .whole .one) (q .whole .enough) d (q .whole .is-tree)
 
   -- too many types
-  pub sample-wide : 64 < count → sampleTable standard d ≡ refused ResultTooLarge
-  sample-wide h = let m = rules-many in too-large-is d (types-over (sample d) (omega arith))
+  pub sample-wide : (limits : SizeLimits) → limits .rules < count → sampleTable (limitsOf limits) d ≡ refused ResultTooLarge
+  sample-wide limits h = let m = rules-many in types-over (limitsOf limits) d (omega arith)
 
   module _ {labels lfirsts : List ℕ} {lcount : ℕ} (l : LabelledTo s names sizes firsts labels lfirsts lcount count) (held : lcount ≤ length lfirsts) where
     labels-distinct : distinct (sameNameIn s names sizes) (take count firsts) ≡ labelNodes ns d
@@ -239,31 +231,33 @@ module _ {s names sizes parents types firsts : List ℕ} {n count : ℕ} (q : Sa
         let (t, h, f) = taken-place firsts count (q .firsts-held) (subst (List·Memᴰ i) (sym firsts-same) o) in
         (t, h, rule-same t h ∙ ap (ruleOfNode ns d) f ∙ e)
 
-    pub sample-drafted : count ≤ 64 → (before after : List ℕ) (r : Drafted) → TablePut before 0 rule count bytes after r → SampleDrafted d before after r
-    sample-drafted few before after (Length m) (p, small, fits) =
+    -- The limits of a content are the same for all sizes.
+    pub sample-drafted : (limits : SizeLimits) → count ≤ limits .rules → (before after : List ℕ) (r : Drafted)
+        → TablePut before 0 rule count bytes after r → SampleDrafted (limitsOf limits) d before after r
+    unfolding contentTooLarge standard large
+    sample-drafted limits few before after (Length m) (p, small, fits) =
         let e = table-same in
         let long : m ≡ length (tableBytes (sample d)) = p .next-is ∙ (let z : 0 + length bytes ≡ length bytes = omega arith in z) ∙ ap length e in
         let k = rules-many in (
-          not-too-large d
-              (all-fit (sample d) (omega arith)
+          all-fit (limitsOf limits) d (omega arith)
               (λ r m.
               let (t, h, f) = from-sample r m in
-              subst (λ (z : Rule). contentTooLarge standard (z .content) ≡ false) f (fits t h))
-              (omega arith)),
+              subst (λ (z : Rule). contentTooLarge (limitsOf limits) (z .content) ≡ false) f (fits t h))
+              (omega arith),
           p .is ∙ ap (λ (x : List ℕ). x ++ drop m before) e,
           long,
           small,
         )
-    sample-drafted few before after TooLarge o =
+    sample-drafted limits few before after TooLarge o =
         let e = ap length table-same in
         ⊎-elim
-        (λ x. too-large-is d (content-over (sample d) (in-sample (x .0) (x .1)) (x .2)))
-        (λ x. too-large-is d (bytes-over (sample d) (omega arith)))
+        (λ x. content-over (limitsOf limits) d (in-sample (x .0) (x .1)) (x .2))
+        (λ x. bytes-over (limitsOf limits) d (omega arith))
         o
 
 -- what the writing asks of the arrays
 module _ {s names sizes children parents types firsts : List ℕ} {n count : ℕ}
-    (r : SampleReady s names sizes children parents types firsts n count) (few : count ≤ 64) where
+    (r : SampleReady s names sizes children parents types firsts n count) (few : count ≤ 128) where
   pub nodes-held : NodesHeld parents types children n
   nodes-held =
       record {
@@ -288,7 +282,7 @@ module _ {s names sizes children parents types firsts : List ℕ} {n count : ℕ
             };
       }
 
-  keys-held : {keys : List ℕ} → 1024 ≤ length keys → (i : ℕ) → i < n → KeyAt s names sizes keys i
+  keys-held : {keys : List ℕ} → 2048 ≤ length keys → (i : ℕ) → i < n → KeyAt s names sizes keys i
   keys-held long i h =
       let w = r .held .whole in
       let a = w .names-held in
@@ -296,11 +290,11 @@ module _ {s names sizes children parents types firsts : List ℕ} {n count : ℕ
       let c = w .few in
       record { name-held = omega arith; size-held = omega arith; key-held = omega arith; within = w .within i h }
 
-  pub firsts-keys : {keys : List ℕ} → 1024 ≤ length keys → KeysAt s names sizes keys firsts count
+  pub firsts-keys : {keys : List ℕ} → 2048 ≤ length keys → KeysAt s names sizes keys firsts count
   firsts-keys long = record { few = r .held .firsts-held; each = λ t h. keys-held long (getD firsts t 0) (first-below (r .held) t h) }
 
   module _ {labels lfirsts : List ℕ} {lcount : ℕ} (l : LabelledTo s names sizes firsts labels lfirsts lcount count) where
-    pub labels-keys : {keys : List ℕ} → 1024 ≤ length keys → lcount ≤ length lfirsts → KeysAt s names sizes keys lfirsts lcount
+    pub labels-keys : {keys : List ℕ} → 2048 ≤ length keys → lcount ≤ length lfirsts → KeysAt s names sizes keys lfirsts lcount
     labels-keys long held =
         record {
           few = held;
@@ -323,5 +317,4 @@ module _ {s names sizes children parents types firsts : List ℕ} {n count : ℕ
           nodes-few = w .few;
           first-nodes = first-below (r .held);
           type-bytes = λ t h. let b = r .held .typed .small (getD firsts t 0) (first-below (r .held) t h) in omega arith;
-          label-bytes = λ t h. let b = l .small t h in let c = l .few in omega arith;
         }

@@ -72,13 +72,24 @@ module _ {s names sizes parents : List ℕ} {n : ℕ} (q : Whole s names sizes p
       let p = parent-is in
       omega arith
 
-  pub above-room : length types ≡ 1024 → 0 < i → (getD parents i 0 < length types) × (getD types (getD parents i 0) 0 < 1024)
+  pub above-room : length types ≡ 2048 → 0 < i → (getD parents i 0 < length types) × (getD types (getD parents i 0) 0 < 2048)
   above-room l z =
       let b = parent-below z in
       let w = t .typed .small (getD parents i 0) b in
       let f = t .typed .few in
       let g = q .few in
       (omega arith, omega arith)
+
+  pub above-small : aboveIn types (getD parents i 0) i ≤ 2048
+  above-small = go i refl
+    where
+      go : (j : ℕ) → i ≡ j → aboveIn types (getD parents i 0) j ≤ 2048
+      go zero e = omega arith
+      go (suc j) e =
+          let w = t .typed .small (getD parents i 0) (parent-below (omega arith)) in
+          let f = t .typed .few in
+          let g = q .few in
+          omega arith
 
   above-is : aboveIn types (getD parents i 0) i ≡ aboveAt ns d i
   above-is = go i refl
@@ -90,11 +101,11 @@ module _ {s names sizes parents : List ℕ} {n : ℕ} (q : Whole s names sizes p
           (t .typed .types-are (getD parents i 0) (parent-below (omega arith))
           ∙ ap (typeAt ns d) (parent-is ∙ ap (parentAt ns) e))
 
-  module _ (a : ℕ) (ea : a ≡ aboveIn types (getD parents i 0) i) (la : length aboves ≡ 1024) (lf : length firsts ≡ 1024) where
+  module _ (a : ℕ) (ea : a ≡ aboveIn types (getD parents i 0) i) (la : length aboves ≡ 2048) (lf : length firsts ≡ 2048) where
     abbrev more : List ℕ
     more = set aboves i a
 
-    more-long : length more ≡ 1024
+    more-long : length more ≡ 2048
     more-long = length-set aboves i a ∙ la
 
     pub aboves-next : (j : ℕ) → j < i + 1 → getD more j 0 ≡ aboveAt ns d j
@@ -141,7 +152,7 @@ module _ {s names sizes parents : List ℕ} {n : ℕ} (q : Whole s names sizes p
           ∙ place-agree (sameKey s names sizes more) (sameAt ns d) i (distinct (sameAt ns d) (numbersBelow i))
           (λ j m. same-keys j (numbers-below i j .0 (distinct-was (sameAt ns d) (numbersBelow i) m)))
 
-      pub typing-next : length types ≡ 1024 → (c : ℕ) → ((r ≡ count) × (c ≡ count + 1)) ⊎ ((r ≡ count → ⊥) × (c ≡ count))
+      pub typing-next : length types ≡ 2048 → (c : ℕ) → ((r ≡ count) × (c ≡ count + 1)) ⊎ ((r ≡ count → ⊥) × (c ≡ count))
           → Typing ns d (set types i r) more (set firsts count i) c (i + 1)
       typing-next lt c w =
           let f = t .typed .few in

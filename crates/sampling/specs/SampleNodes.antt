@@ -145,7 +145,7 @@ pub record Whole (s names sizes parents : List ℕ) (n : ℕ) : Type 0 where
   pub names-are : (i : ℕ) → i < n → nameIn s names sizes i ≡ nameAt list i
   pub parents-are : take n parents ≡ parentsOf list
   pub within : (i : ℕ) → i < n → getD names i 0 + getD sizes i 0 ≤ length s
-  pub few : n ≤ 1024
+  pub few : n ≤ 2048
   pub names-held : n ≤ length names
   pub sizes-held : n ≤ length sizes
   pub parents-held : n ≤ length parents

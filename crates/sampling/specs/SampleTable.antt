@@ -6,7 +6,7 @@ use mathlib.Core.Option.{some as just}
 use mathlib.Core.Path.{_≡_}
 use lib.ListN.{length, getD, drop}
 use Rattle.grammar.specs.Lists.{numbersBelow}
-use Rattle.grammar.specs.Limits.{standard, inputLimit, childLimit}
+use Rattle.grammar.specs.Limits.{Limits, large, inputLimit, childLimit}
 use Rattle.grammar.specs.Content.{Content, choiceOf}
 use Rattle.grammar.specs.Table.{Rule}
 use Rattle.grammar.specs.Fields.{fieldBytes}
@@ -45,8 +45,8 @@ ruleIn parents types firsts labels n t =
 -- the content stands in a draft from the second place on; or it is too large
 abbrev pub ContentMade : List ℕ → Content → Drafted → Type 0
 ContentMade draft c (Length stop) =
-    (exprAt draft 2 ≡ just (c upTo stop)) × (stop ≤ ruleEnd) × (contentTooLarge standard c ≡ false)
-ContentMade draft c TooLarge = contentTooLarge standard c ≡ true
+    (exprAt draft 2 ≡ just (c upTo stop)) × (stop ≤ ruleEnd) × (contentTooLarge large c ≡ false)
+ContentMade draft c TooLarge = contentTooLarge large c ≡ true
 
 -- what the nodes' arrays hold
 pub record NodesHeld (parents types children : List ℕ) (n : ℕ) : Type 0 where
@@ -63,14 +63,13 @@ startBytes rule count = fieldBytes startTag (0 ∷ []) ++ restBytes rule count
 
 -- the arrays hold the first node and the label of each type
 pub record RulesHeld (types firsts labels : List ℕ) (n count : ℕ) : Type 0 where
-  pub few : count ≤ 64
+  pub few : count ≤ 128
   pub firsts-held : count ≤ length firsts
   pub labels-held : count ≤ length labels
   pub types-held : n ≤ length types
-  pub nodes-few : n ≤ 1024
+  pub nodes-few : n ≤ 2048
   pub first-nodes : (t : ℕ) → t < count → getD firsts t 0 < n
   pub type-bytes : (t : ℕ) → t < count → getD types (getD firsts t 0) 0 < 256
-  pub label-bytes : (t : ℕ) → t < count → getD labels t 0 < 256
 
 -- the arrays hold the nodes of a tree and their types
 pub record SampleHeld (s names sizes parents types firsts : List ℕ) (n count : ℕ) : Type 0 where
@@ -80,17 +79,17 @@ pub record SampleHeld (s names sizes parents types firsts : List ℕ) (n count :
   pub firsts-held : count ≤ length firsts
 
 -- The sample of a document is written from the draft's beginning, and the rest of the draft is kept; or it is too large.
-abbrev pub SampleDrafted : Tree → List ℕ → List ℕ → Drafted → Type 0
-SampleDrafted d before after (Length n) =
-    (sampleTable standard d ≡ given (sample d))
+abbrev pub SampleDrafted : Limits → Tree → List ℕ → List ℕ → Drafted → Type 0
+SampleDrafted lim d before after (Length n) =
+    (sampleTable lim d ≡ given (sample d))
     × (after ≡ tableBytes (sample d) ++ drop n before)
     × (n ≡ length (tableBytes (sample d)))
     × (n ≤ inputLimit)
-SampleDrafted d before after TooLarge = sampleTable standard d ≡ refused ResultTooLarge
+SampleDrafted lim d before after TooLarge = sampleTable lim d ≡ refused ResultTooLarge
 
 -- a document's nodes are those that an index holds
-pub record HoldsNodes (s : List ℕ) (ix : DocumentIndex) : Type 0 where
-  pub reads : readNodes standard asciiClasses s ≡ given (nodesIn s ix)
+pub record HoldsNodes (lim : Limits) (s : List ℕ) (ix : DocumentIndex) : Type 0 where
+  pub reads : readNodes lim asciiClasses s ≡ given (nodesIn s ix)
   pub indexed : NodesIndexed s (ix .names) (ix .sizes) (ix .children) (ix .nodes)
 
 -- and the child counts

@@ -21,8 +21,8 @@ ghost use Rattle.sampling.specs.SampleContents.{Kids, sequencesAmong, no
 // Gathers the child sequences of the nodes of a type.
 fn gather(
     scratch: &mut [u8],
-    parents: &[usize],
-    types: &[usize],
+    parents: &[u16],
+    types: &[u16],
     children: &[u16],
     nodes: usize,
     k: usize,
@@ -37,7 +37,7 @@ fn gather(
     let mut end: usize = OPERANDS_FROM;
     let mut i: usize = 0;
     while i < nodes {
-        if types[i] != k {
+        if types[i] as usize != k {
             i += 1;
             continue;
         }
@@ -74,8 +74,8 @@ fn gather(
 // Makes the content of a type from the second place on: the choice of its nodes' child sequences.
 pub fn make_content(
     scratch: &mut [u8],
-    parents: &[usize],
-    types: &[usize],
+    parents: &[u16],
+    types: &[u16],
     children: &[u16],
     nodes: usize,
     k: usize,

@@ -21,11 +21,12 @@ pub fn put_labels(
     s: &[u8],
     names: &[u16],
     sizes: &[u16],
-    keys: &[usize],
-    firsts: &[usize],
+    keys: &[u16],
+    firsts: &[u16],
     count: usize,
 ) -> Drafted
-    requires { ⌜ (inputLimit ≤ length (now draft)) × (count ≤ 64) × KeysAt (now s) (now names) (now sizes) (now keys) (now firsts) count ⌝ }
+    requires { ⌜ (inputLimit ≤ length (now draft)) × (count ≤ 128)
+        × KeysAt (now s) (now names) (now sizes) (now keys) (now firsts) count ⌝ }
     ensures { λ r. ⌜ Puts (now (draft .entry)) 0
         (joinedOf (labelField (now (s .entry)) (now (names .entry)) (now (sizes .entry)) (now (firsts .entry))) (numbersBelow count))
         (now (draft .exit)) r ⌝ }
@@ -33,7 +34,7 @@ pub fn put_labels(
     let mut end: usize = 0;
     let mut l: usize = 0;
     while l < count {
-        let i = firsts[l];
+        let i = firsts[l] as usize;
         let from = names[i] as usize;
         let to = from + sizes[i] as usize;
         match put_field(draft, end, LABEL_TAG, &s[from..to]) {
@@ -54,12 +55,12 @@ fn put_rest(
     draft: &mut [u8],
     at: usize,
     scratch: &mut [u8],
-    parents: &[usize],
-    types: &[usize],
+    parents: &[u16],
+    types: &[u16],
     children: &[u16],
     nodes: usize,
-    firsts: &[usize],
-    labels: &[usize],
+    firsts: &[u16],
+    labels: &[u8],
     count: usize,
 ) -> Drafted
     requires { ⌜ (at ≤ inputLimit) × (inputLimit ≤ length (now draft)) × (scratchBytes ≤ length (now scratch))
@@ -91,12 +92,12 @@ pub fn put_start(
     draft: &mut [u8],
     at: usize,
     scratch: &mut [u8],
-    parents: &[usize],
-    types: &[usize],
+    parents: &[u16],
+    types: &[u16],
     children: &[u16],
     nodes: usize,
-    firsts: &[usize],
-    labels: &[usize],
+    firsts: &[u16],
+    labels: &[u8],
     count: usize,
 ) -> Drafted
     requires { ⌜ (at ≤ inputLimit) × (inputLimit ≤ length (now draft)) × (scratchBytes ≤ length (now scratch))

@@ -8,8 +8,8 @@ ghost use Rattle.sampling.specs.SampleNodes.{KeysAt, LabelledTo};
 
 // The label of each type, and the first node of each label.
 pub struct Labels {
-    pub of: [usize; 64],
-    pub firsts: [usize; 64],
+    pub of: [u8; 128],
+    pub firsts: [u16; 128],
     pub count: usize,
 }
 
@@ -18,24 +18,24 @@ pub fn labels_of(
     s: &[u8],
     names: &[u16],
     sizes: &[u16],
-    keys: &[usize],
-    nodes: &[usize],
+    keys: &[u16],
+    nodes: &[u16],
     types: usize,
 ) -> Labels
-    requires { ⌜ (types ≤ 64) × KeysAt (now s) (now names) (now sizes) (now keys) (now nodes) types
+    requires { ⌜ (types ≤ 128) × KeysAt (now s) (now names) (now sizes) (now keys) (now nodes) types
         × ((i : ℕ) → getD (now keys) i 0 ≡ 0) ⌝ }
     ensures { λ r. ⌜ LabelledTo (now (s .entry)) (now (names .entry)) (now (sizes .entry)) (now (nodes .entry))
         (r .of) (r .firsts) (r .count) types ⌝ }
 {
-    let mut of = [0usize; 64];
-    let mut firsts = [0usize; 64];
+    let mut of = [0u8; 128];
+    let mut firsts = [0u16; 128];
     let mut count: usize = 0;
     let mut t: usize = 0;
     while t < types {
-        let i = nodes[t];
+        let i = nodes[t] as usize;
         let label = find(s, names, sizes, keys, &firsts, count, i);
-        of[t] = label;
-        firsts[count] = i;
+        of[t] = label as u8;
+        firsts[count] = i as u16;
         count = next_count(count, label);
         t += 1;
     }

@@ -15,14 +15,14 @@ fn put_rule(
     draft: &mut [u8],
     at: usize,
     scratch: &mut [u8],
-    parents: &[usize],
-    types: &[usize],
+    parents: &[u16],
+    types: &[u16],
     children: &[u16],
     nodes: usize,
     k: usize,
-    label: usize,
+    label: u8,
 ) -> Drafted
-    requires { ⌜ (at ≤ inputLimit) × (inputLimit ≤ length (now draft)) × (scratchBytes ≤ length (now scratch)) × (k < 256) × (label < 256)
+    requires { ⌜ (at ≤ inputLimit) × (inputLimit ≤ length (now draft)) × (scratchBytes ≤ length (now scratch)) × (k < 256)
         × NodesHeld (now parents) (now types) (now children) nodes ⌝ }
     ensures { λ r. ⌜ RulePuts (now (draft .entry)) at
         (record { type = k; label = label; content = contentIn (now (parents .entry)) (now (types .entry)) nodes k })
@@ -32,7 +32,7 @@ fn put_rule(
         Drafted::TooLarge => Drafted::TooLarge,
         Drafted::Length(stop) => {
             scratch[0] = k as u8;
-            scratch[1] = label as u8;
+            scratch[1] = label;
             put_field(draft, at, RULE_TAG, &scratch[0..stop])
         }
     }
@@ -43,12 +43,12 @@ pub fn put_rules(
     draft: &mut [u8],
     at: usize,
     scratch: &mut [u8],
-    parents: &[usize],
-    types: &[usize],
+    parents: &[u16],
+    types: &[u16],
     children: &[u16],
     nodes: usize,
-    firsts: &[usize],
-    labels: &[usize],
+    firsts: &[u16],
+    labels: &[u8],
     count: usize,
 ) -> Drafted
     requires { ⌜ (at ≤ inputLimit) × (inputLimit ≤ length (now draft)) × (scratchBytes ≤ length (now scratch))
@@ -60,8 +60,8 @@ pub fn put_rules(
     let mut end = at;
     let mut t: usize = 0;
     while t < count {
-        let i = firsts[t];
-        let k = types[i];
+        let i = firsts[t] as usize;
+        let k = types[i] as usize;
         let l = labels[t];
         match put_rule(draft, end, scratch, parents, types, children, nodes, k, l) {
             Drafted::TooLarge => {

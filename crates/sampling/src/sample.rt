@@ -5,13 +5,14 @@ use crate::labels::labels_of;
 use crate::limits::SCRATCH;
 use crate::parents::parents_of;
 use crate::paths::types_of;
+use grammar::SizeLimits;
 use reader::documents::DocumentIndex;
-use reader::limits::TYPES;
 use writer::writing::Drafted;
 ghost use Prim.Native.Nat.{ℕ, _≤_};
 ghost use mathlib.Core.Path.{_≡_};
 ghost use lib.ListN.{length, getD};
 ghost use Rattle.grammar.specs.Limits.{inputLimit};
+ghost use Rattle.grammar.specs.LimitSets.{limitsOf, Within};
 ghost use Rattle.grammar.specs.Outcome.{given};
 ghost use Rattle.grammar.specs.Tree.{Tree};
 ghost use Rattle.grammar.specs.ReadDocument.{treeOf};
@@ -21,27 +22,29 @@ ghost use Rattle.sampling.specs.SampleTable.{SampleHeld, SampleReady, Sa
 
 // Writes the sample of nodes whose types are found, unless there are too many types.
 fn write_sample(
+    limits: SizeLimits,
     draft: &mut [u8],
     s: &[u8],
     names: &[u16],
     sizes: &[u16],
     children: &[u16],
-    parents: &[usize],
-    types: &[usize],
-    firsts: &[usize],
-    keys: &[usize],
+    parents: &[u16],
+    types: &[u16],
+    firsts: &[u16],
+    keys: &[u16],
     scratch: &mut [u8],
     nodes: usize,
     count: usize,
 ) -> Drafted
-    requires { ⌜ (inputLimit ≤ length (now draft)) × (scratchBytes ≤ length (now scratch)) × (1024 ≤ length (now keys))
+    requires { ⌜ Within limits ⌝ }
+    requires { ⌜ (inputLimit ≤ length (now draft)) × (scratchBytes ≤ length (now scratch)) × (2048 ≤ length (now keys))
         × ((i : ℕ) → getD (now keys) i 0 ≡ 0)
         × SampleReady (now s) (now names) (now sizes) (now children) (now parents) (now types) (now firsts) nodes count ⌝ }
     ensures { λ r. ⌜ ((q : SampleHeld (now (s .entry)) (now (names .entry)) (now (sizes .entry)) (now (parents .entry))
         (now (types .entry)) (now (firsts .entry)) nodes count)
-        → SampleDrafted (q .whole .tree) (now (draft .entry)) (now (draft .exit)) r) ⌝ }
+        → SampleDrafted (limitsOf limits) (q .whole .tree) (now (draft .entry)) (now (draft .exit)) r) ⌝ }
 {
-    if TYPES < count {
+    if limits.rules < count {
         return Drafted::TooLarge;
     }
     let found = labels_of(s, names, sizes, keys, firsts, count);
@@ -65,10 +68,16 @@ fn write_sample(
 }
 
 // The sample of a document as a table, from the draft's beginning.
-pub fn sample_table(document: &[u8], index: DocumentIndex, draft: &mut [u8]) -> Drafted
-    requires { ⌜ (inputLimit ≤ length (now draft)) × HoldsNodes (now document) index ⌝ }
+pub fn sample_table(
+    limits: SizeLimits,
+    document: &[u8],
+    index: DocumentIndex,
+    draft: &mut [u8],
+) -> Drafted
+    requires { ⌜ Within limits ⌝ }
+    requires { ⌜ (inputLimit ≤ length (now draft)) × HoldsNodes (limitsOf limits) (now document) index ⌝ }
     ensures { λ r. ⌜ ((d : Tree) → treeOf (nodesIn (now (document .entry)) index) ≡ given d
-        → SampleDrafted d (now (draft .entry)) (now (draft .exit)) r) ⌝ }
+        → SampleDrafted (limitsOf limits) d (now (draft .entry)) (now (draft .exit)) r) ⌝ }
 {
     let names = index.names;
     let sizes = index.sizes;
@@ -78,9 +87,10 @@ pub fn sample_table(document: &[u8], index: DocumentIndex, draft: &mut [u8]) -> 
     let types = types_of(document, &names, &sizes, &parents, nodes);
     let of = types.of;
     let firsts = types.firsts;
-    let keys = [0usize; 1024];
+    let keys = [0u16; 2048];
     let mut scratch = [0u8; SCRATCH];
     write_sample(
+        limits,
         draft,
         document,
         &names,

@@ -27,8 +27,8 @@ fn put_kid(scratch: &mut [u8], at: usize, parent: usize, i: usize, ty: usize) ->
 fn put_kids(
     scratch: &mut [u8],
     at: usize,
-    parents: &[usize],
-    types: &[usize],
+    parents: &[u16],
+    types: &[u16],
     nodes: usize,
     i: usize,
     kids: usize,
@@ -40,7 +40,7 @@ fn put_kids(
     let mut end = at;
     let mut j = i + 1;
     while j < nodes {
-        end = put_kid(scratch, end, parents[j], i, types[j]);
+        end = put_kid(scratch, end, parents[j] as usize, i, types[j] as usize);
         j += 1;
     }
     end
@@ -50,8 +50,8 @@ fn put_kids(
 pub fn put_sequence(
     scratch: &mut [u8],
     at: usize,
-    parents: &[usize],
-    types: &[usize],
+    parents: &[u16],
+    types: &[u16],
     nodes: usize,
     i: usize,
     kids: usize,

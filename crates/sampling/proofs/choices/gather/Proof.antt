@@ -50,6 +50,9 @@ shared-slice-read-if1 c =
     let start = c .before .before .before .before .before .before .before in
     let h = start .pre .2 (c .before .before .loop .i) (c .before .loop-test .taken) .types-held in omega arith
 
+cast-if1 : tie.Need-cast-if1 Inv-loop μ-loop
+cast-if1 c = omega (arith, c .shared-slice-known4 .given (c .before .before .loop .i))
+
 loop-again : tie.Need-loop-again Inv-loop μ-loop
 loop-again c =
     let start = c .before .before .before .before .before .before .before .before in
@@ -155,6 +158,7 @@ gather-spec =
     loop-holds
     mul-if1
     shared-slice-read-if1
+    cast-if1
     (λ c. omega arith)
     (λ c. omega arith)
     loop-again

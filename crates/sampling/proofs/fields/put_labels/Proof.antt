@@ -49,6 +49,9 @@ shared-slice-read-i c =
     let h = c .before .before .before .before .before .before .before .before .before .pre .1 in
     omega arith
 
+cast-i : tie.Need-cast-i Inv-loop μ-loop
+cast-i c = omega (arith, c .shared-slice-known6 .given (c .before .before .loop .l))
+
 mul-from : tie.Need-mul-from Inv-loop μ-loop
 mul-from c =
     let f = c .before .before .before .before .before .before .before .before .before .pre .2 .few in
@@ -194,6 +197,7 @@ put-labels-spec =
     loop-holds
     mul-i
     shared-slice-read-i
+    cast-i
     mul-from
     shared-slice-read-from
     cast-from

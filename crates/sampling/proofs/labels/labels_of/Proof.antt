@@ -11,7 +11,7 @@ use Rattle.sampling.proofs.labels.labels_of.Tie as tie
 
 abbrev Inv-loop : tie.InvT-loop
 Inv-loop s names sizes keys nodes types of₀ firsts₀ count₀ t₀ of firsts count t =
-    (length of ≡ 64) × (length firsts ≡ 64) × (t ≤ types) × LabelledTo s names sizes nodes of firsts count t
+    (length of ≡ 128) × (length firsts ≡ 128) × (t ≤ types) × LabelledTo s names sizes nodes of firsts count t
 
 abbrev μ-loop : tie.MeasureT-loop
 μ-loop s names sizes keys nodes types of₀ firsts₀ count₀ t₀ of firsts count t = types - t
@@ -25,6 +25,9 @@ mul-i c = let h = c .before .before .before .before .before .before .before .pre
 shared-slice-read-i : tie.Need-shared-slice-read-i Inv-loop μ-loop
 shared-slice-read-i c = let h = c .before .before .before .before .before .before .before .before .pre .1 .few in omega arith
 
+cast-i : tie.Need-cast-i Inv-loop μ-loop
+cast-i c = omega (arith, c .shared-slice-known6 .given (c .before .before .loop .t))
+
 find-requires : tie.Need-find-requires Inv-loop μ-loop
 find-requires c κs =
     let l = c .before .before .before .loop .inv in
@@ -33,11 +36,17 @@ find-requires c κs =
     let w = l .1 in
     label-room (c .before .before .before .before .before .before .before .before .before .pre .1) (c .before .before .before .before .before .before .before .before .before .pre .2) (l .3) (c .before .before .loop-test .taken) (omega arith)
 
-mul-of : tie.Need-mul-of Inv-loop μ-loop
-mul-of c = let h = c .before .before .before .before .before .before .before .before .before .before .pre .0 in omega arith
+cast-of : tie.Need-cast-of Inv-loop μ-loop
+cast-of c =
+    let h = c .before .before .before .before .before .before .before .before .before .before .pre .0 in
+    let f = c .before .before .before .before .loop .inv .3 .few in
+    omega (arith, c .find .ensures .1)
 
 array-write-of : tie.Need-array-write-of Inv-loop μ-loop
 array-write-of c = let h = c .before .before .before .before .before .before .before .before .before .before .pre .0 in omega arith
+
+cast-firsts : tie.Need-cast-firsts Inv-loop μ-loop
+cast-firsts c = omega (arith, c .before .before .shared-slice-known6 .given (c .before .before .before .before .loop .t))
 
 mul-firsts : tie.Need-mul-firsts Inv-loop μ-loop
 mul-firsts c = let h = c .before .before .before .before .before .before .before .before .before .before .pre .0 in let f = c .before .before .before .before .loop .inv .3 .few in omega arith
@@ -51,15 +60,16 @@ next-count-requires c κs = let h = c .before .before .before .before .before .b
 loop-again : tie.Need-loop-again Inv-loop μ-loop
 loop-again c =
     let l = c .before .before .before .before .before .loop in
-    let h = c .before .before .before .before .before .before .before .before .before .before .before .pre .0 in
+    let start = c .before .before .before .before .before .before .before .before .before .before .before in
+    let h = start .pre .0 in
     let f = l .inv .3 .few in
     let a = l .inv .0 in
     let b = l .inv .1 in (
       length-set (l .of) (l .t) _ ∙ l .inv .0,
       length-set (l .firsts) (l .count) _ ∙ l .inv .1,
       omega arith,
-      labelling-next (c .before .before .before .before .before .before .before .before .before .before .before .pre .1) (c .before .before .before .before .before .before .before .before .before .before .before .pre .2) (l .inv .3) (c .before .before .before .before .loop-test .taken) (c .before .find .result) (c .before .find .ensures) (omega arith) (omega arith)
-          (c .next-count .result) (c .next-count .ensures),
+      labelling-next (start .pre .1) (start .pre .2) (l .inv .3) (c .before .before .before .before .loop-test .taken) (c .before .find .result)
+          (c .before .find .ensures .0) (omega arith) (omega arith) (c .next-count .result) (c .next-count .ensures),
     )
 
 returns : tie.Need-returns Inv-loop μ-loop
@@ -78,10 +88,12 @@ labels-of-spec =
     loop-holds
     mul-i
     shared-slice-read-i
+    cast-i
     (λ c. search needs)
     find-requires
-    mul-of
+    cast-of
     array-write-of
+    cast-firsts
     mul-firsts
     array-write-firsts
     next-count-requires

@@ -27,12 +27,17 @@ mul-same-key c = search needs
 shared-slice-read-same-key : tie.Need-shared-slice-read-same-key Inv-loop μ-loop
 shared-slice-read-same-key c = search needs
 
+cast-same-key : tie.Need-cast-same-key Inv-loop μ-loop
+cast-same-key c = omega (arith, c .shared-slice-known6 .given (c .before .before .loop .t))
+
 same-key-requires : tie.Need-same-key-requires Inv-loop μ-loop
 same-key-requires c κs = (c .before .before .before .before .before .before .before .before .pre .0, c .before .before .before .before .before .before .before .before .pre .1 .each (c .before .before .loop .t) (omega arith))
 
 returns : tie.Need-returns Inv-loop μ-loop
 returns c =
-    find-here _ _ _ _ _ (c .before .before .before .before .before .before .before .before .before .before .pre .1 .few) (c .before .before .before .before .loop .inv .1) (omega arith) (sym (c .before .same-key .ensures) ∙ c .if1 .taken)
+    let few = c .before .before .before .before .before .before .before .before .before .before .pre .1 .few in
+    let l = c .before .before .before .before .loop .inv in
+    (find-here _ _ _ _ _ few (l .1) (omega arith) (sym (c .before .same-key .ensures) ∙ c .if1 .taken), l .0)
 
 add-t : tie.Need-add-t Inv-loop μ-loop
 add-t c = search needs
@@ -45,7 +50,10 @@ loop-again c =
     (omega arith, find-next _ _ _ _ _ (c .before .before .before .before .before .before .before .before .before .before .pre .1 .few) (c .before .before .before .before .loop .inv .1) (omega arith) (sym (c .before .same-key .ensures) ∙ c .if1 .left))
 
 returns-2 : tie.Need-returns-2 Inv-loop μ-loop
-returns-2 c = find-end _ _ _ _ _ (c .before .before .before .before .before .before .before .pre .1 .few) (c .before .loop .inv .1) (omega arith)
+returns-2 c =
+    let few = c .before .before .before .before .before .before .before .pre .1 .few in
+    let l = c .before .loop .inv in
+    (find-end _ _ _ _ _ few (l .1) (omega arith), l .0)
 
 pub find-spec : {M : Type 1} → statement M
 find-spec =
@@ -56,6 +64,7 @@ find-spec =
     loop-holds
     mul-same-key
     shared-slice-read-same-key
+    cast-same-key
     same-key-requires
     returns
     add-t

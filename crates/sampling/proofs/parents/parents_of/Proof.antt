@@ -11,8 +11,8 @@ use Rattle.sampling.proofs.parents.parents_of.Tie as tie
 
 abbrev Inv-loop : tie.InvT-loop
 Inv-loop children nodes parents₀ pending₀ top₀ i₀ parents pending top i =
-    (length parents ≡ 1024)
-    × (length pending ≡ 1024)
+    (length parents ≡ 2048)
+    × (length pending ≡ 2048)
     × (i ≤ nodes)
     × ((q : CountedTree children nodes) → Passing (q .list) parents pending top i)
 
@@ -52,6 +52,9 @@ add-leave c =
     let l = c .before .before .before .loop .inv in
     let r = step-room (c .before .before .before .before .before .pre .2) (l .0) (l .1) (c .before .before .before .before .before .pre .0) (omega arith) (l .3 (c .before .before .before .before .before .pre .2)) .1 in
     omega arith
+
+cast-leave : tie.Need-cast-leave Inv-loop μ-loop
+cast-leave c = let few = c .before .before .before .before .before .pre .0 in omega arith
 
 leave-requires : tie.Need-leave-requires Inv-loop μ-loop
 leave-requires c κs =
@@ -96,6 +99,7 @@ parents-of-spec =
     sub-rest
     (λ c. search needs)
     add-leave
+    cast-leave
     leave-requires
     (λ c. omega arith)
     (λ c. omega arith)

@@ -19,6 +19,12 @@ shared-slice-read-result c =
     let n = c .before .if1 .left in
     c .before .before .pre (omega (arith, n)) .0
 
+cast-result : tie.Need-cast-result
+cast-result c =
+    let n = c .before .if1 .left in
+    let r = c .before .before .pre (omega (arith, n)) .1 in
+    omega arith
+
 add-result : tie.Need-add-result
 add-result c =
     let n = c .before .if1 .left in
@@ -30,4 +36,4 @@ returns-2 c = above-later _ _ _ (c .before .if1 .left)
 
 pub above-type-spec : {M : Type 1} → statement M
 above-type-spec =
-    tie.close (tie.spec returns mul-result shared-slice-read-result add-result returns-2)
+    tie.close (tie.spec returns mul-result shared-slice-read-result cast-result add-result returns-2)

@@ -3,6 +3,8 @@ use native.Mathlib.Omega.{arith}
 use mathlib.Core.Logic.{inl}
 use mathlib.Core.Path.{_≡_}
 use lib.ListN.{length, length-set, set}
+use Rattle.grammar.specs.Limits.{standard, large}
+use Rattle.grammar.specs.Size.{contentTooLarge}
 use Rattle.sampling.specs.SampleTable.{contentIn}
 use Rattle.writer.proofs.TableLaws.{rule-puts}
 use Rattle.sampling.proofs.RuleLaws.{made-stop, drafted-over, drafted-rule}
@@ -24,9 +26,6 @@ cast-scratch c = search needs
 
 slice-write-scratch : tie.Need-slice-write-scratch
 slice-write-scratch c = search needs
-
-cast-scratch-2 : tie.Need-cast-scratch-2
-cast-scratch-2 c = search needs
 
 slice-write-scratch-2 : tie.Need-slice-write-scratch-2
 slice-write-scratch-2 c =
@@ -58,6 +57,7 @@ same-length : tie.Need-same-length
 same-length c = search needs
 
 returns : tie.Need-returns
+unfolding contentTooLarge standard large
 returns c =
     let a = c .before .before .before .before .before .before .before .before .before .before .before .args in
     inl (drafted-over (c .before .before .before .before .make-content .last .0) (contentIn (a .parents .now) (a .types .now) (a .nodes) (a .k)) (c .before .before .before .before .make-content .result) (c .before .before .before .before .make-content .ensures) (c .enum-told .given .1))
@@ -69,6 +69,7 @@ same-length-3 : tie.Need-same-length-3
 same-length-3 c = search needs
 
 returns-2 : tie.Need-returns-2
+unfolding contentTooLarge standard large
 returns-2 c =
     let a = c .before .before .before .before .before .before .before .before .before .before .before .before .before .before .before .before .before .before .args in
     let c0 = contentIn (a .parents .now) (a .types .now) (a .nodes) (a .k) in
@@ -85,7 +86,6 @@ put-rule-spec =
     enum-known-stop
     cast-scratch
     slice-write-scratch
-    cast-scratch-2
     slice-write-scratch-2
     sub-put-field
     part-put-field-start

@@ -3,11 +3,11 @@ use Prim.Native.Nat.{ℕ, _-_, _≤_, _<_}
 use native.Mathlib.Omega.{arith}
 use mathlib.Core.Bool.{false}
 use mathlib.Core.Path.{_≡_, refl, subst}
-use lib.ListN.{length}
+use lib.ListN.{length, getD}
 use borrow.Author.Needs.{needs}
 use borrow.Author.Count.{below-more}
 use Rattle.grammar.specs.Lists.{joinedOf, numbersBelow}
-use Rattle.grammar.specs.Limits.{standard, inputLimit}
+use Rattle.grammar.specs.Limits.{standard, large, inputLimit}
 use Rattle.grammar.specs.Size.{contentTooLarge}
 use Rattle.writer.specs.Writing.{Put}
 use Rattle.writer.specs.Tables.{ruleField}
@@ -23,7 +23,7 @@ Inv-loop draft₀ at scratch₀ parents types children nodes firsts labels count
     × (length draft ≡ length draft₀)
     × (length scratch ≡ length scratch₀)
     × Put draft₀ at (joinedOf (ruleField (ruleIn parents types firsts labels nodes)) (numbersBelow t)) draft end
-    × ((j : ℕ) → j < t → contentTooLarge standard (ruleIn parents types firsts labels nodes j .content) ≡ false)
+    × ((j : ℕ) → j < t → contentTooLarge large (ruleIn parents types firsts labels nodes j .content) ≡ false)
 
 abbrev μ-loop : tie.MeasureT-loop
 μ-loop draft₀ at scratch₀ parents types children nodes firsts labels count end₀ t₀ draft scratch end t = count - t
@@ -61,6 +61,9 @@ shared-slice-read-i c =
     let v = q .first-nodes (c .before .before .loop .t) (c .before .loop-test .taken) in
     omega arith
 
+cast-i : tie.Need-cast-i Inv-loop μ-loop
+cast-i c = omega (arith, c .shared-slice-known6 .given (c .before .before .loop .t))
+
 mul-k : tie.Need-mul-k Inv-loop μ-loop
 mul-k c =
     let q = c .before .before .before .before .before .before .before .before .before .before .pre .4 in
@@ -83,16 +86,10 @@ shared-slice-read-k c =
     let v = q .first-nodes (c .before .before .before .loop .t) (c .before .before .loop-test .taken) in
     omega arith
 
-mul-l : tie.Need-mul-l Inv-loop μ-loop
-mul-l c =
-    let q = c .before .before .before .before .before .before .before .before .before .before .before .pre .4 in
-    let few = q .few in
-    let x = q .firsts-held in
-    let y = q .labels-held in
-    let z = q .types-held in
-    let w = q .nodes-few in
-    let v = q .first-nodes (c .before .before .before .loop .t) (c .before .before .loop-test .taken) in
-    omega arith
+cast-k : tie.Need-cast-k Inv-loop μ-loop
+cast-k c =
+    let firsts = c .before .before .before .before .before .before .before .before .before .before .before .args .firsts .now in
+    omega (arith, c .shared-slice-known7 .given (getD firsts (c .before .before .before .loop .t) 0))
 
 shared-slice-read-l : tie.Need-shared-slice-read-l Inv-loop μ-loop
 shared-slice-read-l c =
@@ -107,11 +104,12 @@ shared-slice-read-l c =
 
 put-rule-requires : tie.Need-put-rule-requires Inv-loop μ-loop
 put-rule-requires c κs =
-    let q = c .before .before .before .before .before .before .before .before .before .before .before .before .before .before .pre .4 in
+    let p = c .before .before .before .before .before .before .before .before .before .before .before .before .before .before .pre in
     let l = c .before .before .before .before .before .before .loop .inv in
     let u = l .2 in
     let v = l .3 in
-    (l .1, omega arith, omega arith, q .type-bytes (c .before .before .before .before .before .before .loop .t) (c .before .before .before .before .before .loop-test .taken), q .label-bytes (c .before .before .before .before .before .before .loop .t) (c .before .before .before .before .before .loop-test .taken), c .before .before .before .before .before .before .before .before .before .before .before .before .before .before .pre .3)
+    let type-byte = p .4 .type-bytes (c .before .before .before .before .before .before .loop .t) (c .before .before .before .before .before .loop-test .taken) in
+    (l .1, omega arith, omega arith, type-byte, p .3)
 
 enum-told : tie.Need-enum-told Inv-loop μ-loop
 enum-told c = search needs
@@ -139,6 +137,7 @@ loop-less : tie.Need-loop-less Inv-loop μ-loop
 loop-less c = let few = c .before .before .before .before .before .before .before .before .before .before .before .before .before .before .before .before .before .before .before .before .before .before .pre .4 .few in omega arith
 
 loop-again : tie.Need-loop-again Inv-loop μ-loop
+unfolding contentTooLarge standard large
 loop-again c =
     let a = c .before .before .before .before .before .before .before .before .before .before .before .before .before .before .before .before .before .before .before .before .before .before .args in
     let l = c .before .before .before .before .before .before .before .before .before .before .before .before .before .before .loop in
@@ -149,7 +148,7 @@ loop-again c =
       search needs,
       search needs,
       r .0,
-      below-more (λ j. contentTooLarge standard (rule j .content) ≡ false) (l .t) (l .inv .5) (r .2),
+      below-more (λ j. contentTooLarge large (rule j .content) ≡ false) (l .t) (l .inv .5) (r .2),
     )
 
 same-length-3 : tie.Need-same-length-3 Inv-loop μ-loop
@@ -159,6 +158,7 @@ same-length-4 : tie.Need-same-length-4 Inv-loop μ-loop
 same-length-4 c = search needs
 
 returns-2 : tie.Need-returns-2 Inv-loop μ-loop
+unfolding contentTooLarge standard large
 returns-2 c =
     let a = c .before .before .before .before .before .before .before .before .before .args in
     let l = c .before .loop in
@@ -178,9 +178,10 @@ put-rules-spec =
     loop-holds
     mul-i
     shared-slice-read-i
+    cast-i
     mul-k
     shared-slice-read-k
-    mul-l
+    cast-k
     shared-slice-read-l
     put-rule-requires
     enum-told

@@ -46,6 +46,9 @@ shared-slice-read-put-kid c =
     let b = c .before .before .before .before .before .before .before .pre .0 .types-held in
     omega arith
 
+cast-put-kid : tie.Need-cast-put-kid Inv-loop μ-loop
+cast-put-kid c = omega (arith, c .shared-slice-known3 .given (c .before .before .before .loop .j))
+
 mul-put-kid-2 : tie.Need-mul-put-kid-2 Inv-loop μ-loop
 mul-put-kid-2 c =
     let h = c .before .before .before .before .before .before .before .pre .0 .here in
@@ -61,6 +64,9 @@ shared-slice-read-put-kid-2 c =
     let a = c .before .before .before .before .before .before .before .before .pre .0 .parents-held in
     let b = c .before .before .before .before .before .before .before .before .pre .0 .types-held in
     omega arith
+
+cast-put-kid-2 : tie.Need-cast-put-kid-2 Inv-loop μ-loop
+cast-put-kid-2 c = omega (arith, c .shared-slice-known4 .given (c .before .before .before .before .loop .j))
 
 put-kid-requires : tie.Need-put-kid-requires Inv-loop μ-loop
 put-kid-requires c κs =
@@ -104,8 +110,10 @@ put-kids-spec =
     loop-holds
     mul-put-kid
     shared-slice-read-put-kid
+    cast-put-kid
     mul-put-kid-2
     shared-slice-read-put-kid-2
+    cast-put-kid-2
     put-kid-requires
     add-j-2
     loop-less
