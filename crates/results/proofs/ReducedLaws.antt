@@ -147,7 +147,7 @@ module _ (l : SizeLimits) (within : Within l) {old add index : List ℕ} {union 
       }
 
   module _ (kind : Kind) (after : List ℕ) (count : ℕ) (held : SetsHeld after (by-sets.setsOf lim kind u))
-      (many : count ≡ length (by-sets.setsOf lim kind u)) where
+      (many : count ≡ length (by-sets.setsOf lim kind u)) (few : count ≤ l .rules) where
     abbrev sets-in : SetsIn old add (union .rules) after count
     sets-in =
         record {
@@ -164,7 +164,7 @@ module _ (l : SizeLimits) (within : Within l) {old add index : List ℕ} {union 
 
     pub regular : (i : ℕ) → i < count → Regular (ruleBySet u (by-sets.setsOf lim kind u) (pairsWithin kind u) i .content)
     regular i b =
-        let x = by-sets.regular-by-set u fit kind (held .few) i (omega (arith, many)) in
+        let x = by-sets.regular-by-set u fit kind (omega (arith, many, few)) i (omega (arith, many)) in
         record { counted = x .counted; below = x .below }
 
     pub widens-put : (types : ℕ → Bool)
@@ -175,13 +175,13 @@ module _ (l : SizeLimits) (within : Within l) {old add index : List ℕ} {union 
         → Widens lim kind g h before end (madeOf d)
     widens-put types e before end d put =
         let rule : ℕ → Rule = ruleBySet u (by-sets.setsOf lim kind u) (pairsWithin kind u) in
-        put-widens l within g h (r .old-held .within) (r .second-within) kind (r .some-start .0) (r .some-start .1) (held .few) before end d
+        put-widens l within g h (r .old-held .within) (r .second-within) kind (r .some-start .0) (r .some-start .1) (omega (arith, many, few)) before end d
         (subst (λ (n : ℕ). TablePut before 0 rule n (tableBytes (by-sets.tableOf lim kind u)) end d) many
         (subst (λ (t : Table). TablePut before 0 rule count (tableBytes t) end d) e put))
 
   -- the sets of a kind are laid down in the first words, and then the start types
   module _ (asked : Asked) (room : 12288 ≤ length words) (front : List ℕ) (same : length front ≡ length (take setsEnd words)) (count : ℕ)
-      (held : SetsHeld front (by-sets.setsOf lim (kindOf asked) u)) (many : count ≡ length (by-sets.setsOf lim (kindOf asked) u)) (last : List ℕ)
+      (held : SetsHeld front (by-sets.setsOf lim (kindOf asked) u)) (many : count ≡ length (by-sets.setsOf lim (kindOf asked) u)) (few : count ≤ l .rules) (last : List ℕ)
       (kept : KeptAround startTypesAt 8 (front ++ drop setsEnd words) last) (long : length last ≡ length (front ++ drop setsEnd words)) where
     pub last-room : 12288 ≤ length last
     last-room = let a = room-stays words room front same in omega arith
@@ -196,13 +196,13 @@ module _ (l : SizeLimits) (within : Within l) {old add index : List ℕ} {union 
         record {
           rules =
               record {
-                in-words = sets-in (kindOf asked) last count last-held many;
+                in-words = sets-in (kindOf asked) last count last-held many few;
                 labels-are = labels-are;
                 lists-are = r .lists-are;
                 room = last-room;
                 left-is = types-left kept ∙ reduced-stay room front same .left-are;
                 shallow = union-shallow asciiClasses g h (table-roomier (within-large within) (r .old-held .within)) (table-roomier (within-large within) (r .second-within));
-                regular = regular (kindOf asked) last count last-held many;
+                regular = regular (kindOf asked) last count last-held many few;
               };
           names = union-names (r .seen) (r .old-held);
           same = union-same (r .seen) (r .old-held);
@@ -231,7 +231,7 @@ module _ (l : SizeLimits) (within : Within l) {old add index : List ℕ} {union 
 
   -- the sets of the labels, counted
   pub local-counted : (front : List ℕ) (a : Counted) (pairs : ℕ → Bool) → pairs ≡ isLeft u → SetsCounted (l .rules) front (labelSets u pairs) a
-      → (count : ℕ) → a ≡ Count count → (count ≡ length (by-sets.setsOf lim local u)) × SetsHeld front (by-sets.setsOf lim local u)
+      → (count : ℕ) → a ≡ Count count → (count ≡ length (by-sets.setsOf lim local u)) × (count ≤ l .rules) × SetsHeld front (by-sets.setsOf lim local u)
   unfolding by-sets.setsOf
   local-counted front a pairs are c count e =
       subst (λ (p : ℕ → Bool). SetsCounted (l .rules) front (labelSets u p) (Count count)) are (subst (SetsCounted (l .rules) front (labelSets u pairs)) e c)
@@ -245,7 +245,7 @@ module _ (l : SizeLimits) (within : Within l) {old add index : List ℕ} {union 
       before after
 
   pub start-counted : (front : List ℕ) (a : Counted) (pairs : ℕ → Bool) → pairs ≡ isStart u → SetsCounted (l .rules) front (labelSets u pairs) a
-      → (count : ℕ) → a ≡ Count count → (count ≡ length (labelSets u (isStart u))) × SetsHeld front (labelSets u (isStart u))
+      → (count : ℕ) → a ≡ Count count → (count ≡ length (labelSets u (isStart u))) × (count ≤ l .rules) × SetsHeld front (labelSets u (isStart u))
   start-counted front a pairs are c count e =
       subst (λ (p : ℕ → Bool). SetsCounted (l .rules) front (labelSets u p) (Count count)) are (subst (SetsCounted (l .rules) front (labelSets u pairs)) e c)
 
@@ -260,7 +260,7 @@ module _ (l : SizeLimits) (within : Within l) {old add index : List ℕ} {union 
       widens-many singleType (omega arith) before after
 
   pub single-type-counted : (front : List ℕ) (a : Counted) → SetsCounted (l .rules) front (singleTypeSets lim u) a → (count : ℕ) → a ≡ Count count
-      → (count ≡ length (by-sets.setsOf lim singleType u)) × SetsHeld front (by-sets.setsOf lim singleType u)
+      → (count ≡ length (by-sets.setsOf lim singleType u)) × (count ≤ l .rules) × SetsHeld front (by-sets.setsOf lim singleType u)
   unfolding by-sets.setsOf
   single-type-counted front a c count e = subst (SetsCounted (l .rules) front (singleTypeSets lim u)) e c
 
@@ -286,7 +286,8 @@ module _ (l : SizeLimits) (within : Within l) {old add index : List ℕ} {union 
       (subst (λ (set : ℕ → Bool). NumbersOf (λ l. place sameNumbers (pairsLabelled u set l) (localSets u)) n of) left-is numbers)))
 
   -- what is answered when the result is drafted
-  pub local-drafted : (after : List ℕ) (count : ℕ) (many : count ≡ length (by-sets.setsOf lim local u)) (held : SetsHeld after (by-sets.setsOf lim local u))
+  pub local-drafted : (after : List ℕ) (count : ℕ) (many : count ≡ length (by-sets.setsOf lim local u)) (few : count ≤ l .rules)
+      (held : SetsHeld after (by-sets.setsOf lim local u))
       (of : List ℕ) (n : ℕ) → n ≡ length (u .labels) → (left starts : ℕ → Bool) → left ≡ isLeft u → starts ≡ isStart u
       → NumbersOf (λ l. place sameNumbers (pairsLabelled u left l) (localSets u)) n of → (types : ℕ → Bool)
       → types ≡ puts starts (λ p. getD of (labelIn (union .rules) p) 0) nothing (union .rules .rules)
@@ -295,23 +296,23 @@ module _ (l : SizeLimits) (within : Within l) {old add index : List ℕ} {union 
       (tableBytes (tableBySets u (by-sets.setsOf lim local u) (pairsWithin local u) (keep types (numbersBelow count)))) end d
       → Widens lim local g h before end a
   unfolding by-sets.setsOf
-  local-drafted after count many held of n labels left starts left-is starts-are numbers types e before end d a told put =
+  local-drafted after count many few held of n labels left starts left-is starts-are numbers types e before end d a told put =
       subst (Widens lim local g h before end) (sym told)
-      (widens-put local after count held many types
+      (widens-put local after count held many few types
       (local-table types count many (local-types of n labels left starts left-is starts-are numbers types e))
       before end d put)
 
   pub single-type-drafted : (after : List ℕ) (count : ℕ) (many : count ≡ length (by-sets.setsOf lim singleType u))
-      (held : SetsHeld after (by-sets.setsOf lim singleType u)) (first : ℕ) → first ≡ length (labelSets u (isStart u)) → (types : ℕ → Bool)
+      (few : count ≤ l .rules) (held : SetsHeld after (by-sets.setsOf lim singleType u)) (first : ℕ) → first ≡ length (labelSets u (isStart u)) → (types : ℕ → Bool)
       → types ≡ puts (λ t. true) (λ t. t) nothing first
       → (before end : List ℕ) (d : Drafted) (a : Made) → a ≡ madeOf d
       → TablePut before 0 (ruleBySet u (by-sets.setsOf lim singleType u) (pairsWithin singleType u)) count
       (tableBytes (tableBySets u (by-sets.setsOf lim singleType u) (pairsWithin singleType u) (keep types (numbersBelow count)))) end d
       → Widens lim singleType g h before end a
   unfolding by-sets.setsOf
-  single-type-drafted after count many held first e types t before end d a told put =
+  single-type-drafted after count many few held first e types t before end d a told put =
       subst (Widens lim singleType g h before end) (sym told)
-      (widens-put singleType after count held many types
+      (widens-put singleType after count held many few types
       (ap (λ (test : ℕ → Bool). tableBySets u (singleTypeSets lim u) (metWithin u) (keep test (numbersBelow count))) t
       ∙ single-type-table first count many e)
       before end d put)

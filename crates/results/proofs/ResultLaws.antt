@@ -8,7 +8,7 @@ use Prim.Native.Nat.{ℕ, suc, _+_, _-_, _≤_, _<_}
 use native.Mathlib.Omega.{arith}
 use mathlib.Core.Bool.{Bool, true}
 use mathlib.Core.List.{List, [], _∷_, _++_, append-assoc, map}
-use mathlib.Core.Path.{_≡_, sym, _∙_, ap, subst}
+use mathlib.Core.Path.{_≡_, refl, sym, _∙_, ap, subst}
 use lib.ListN.{length, length-append, getD, set, take, List·getD-append}
 use lib.Seq.{take-append-le, getD-append-add}
 use Rattle.grammar.specs.Lists.{keep, joinedOf, numbersBelow}
@@ -25,13 +25,12 @@ use Rattle.grammar.specs.SingleTypeForm.{TypeSet}
 use Rattle.theory.specs.Alternatives.{onlyIf}
 use Rattle.theory.proofs.lists.ListLaws.{at-else}
 use Rattle.theory.proofs.emission.EmittedContent.{joined-map}
-use Rattle.reader.specs.TableIndex.{part, Inside}
+use Rattle.reader.specs.TableIndex.{labelFrom, labelTo, labelCount, part, Inside}
 use Rattle.reader.proofs.LabelSearch.{name-at}
 use Rattle.union.specs.declared.labels.Names.{Names}
 use Rattle.union.specs.declared.united.Union.{Union}
 use Rattle.union.specs.UnitedLabels.{newNames}
 use Rattle.reader.specs.Held.{Held}
-use Rattle.reader.specs.TableIndex.{labelCount}
 use Rattle.reader.proofs.LabelSearch.{index-names}
 use Rattle.union.specs.View.{UnionSeen}
 use Rattle.contents.specs.declared.completing.ContentMade.{ContentMade}
@@ -43,22 +42,22 @@ use Rattle.forms.specs.SetForms.{labelsOf, tableBySets, pairsWithin}
 use Rattle.results.specs.Results.{resultRule, isUsed, LabelsIn, labelsBytes, startsBytes, bodyBytes}
 
 -- names of labels
-module _ {old add : List ℕ} {olds news : Names} (q : LabelsIn old add olds news) (l : ℕ) where
-  pub name-old : l < olds .count
-      → Inside old (getD (olds .from) l 0) (getD (olds .to) l 0)
-      × (part old (getD (olds .from) l 0) (getD (olds .to) l 0) ≡ getD (q .first ++ q .second) l [])
+module _ {old add olds : List ℕ} {news : Names} (q : LabelsIn old add olds news) (l : ℕ) where
+  pub name-old : l < labelCount olds
+      → Inside old (labelFrom olds l) (labelTo olds l) × (part old (labelFrom olds l) (labelTo olds l) ≡ getD (q .first ++ q .second) l [])
   name-old h =
-      let (n, at, s) = name-at (q .old-names .at) l h in
-      let c = q .old-names .at .count in
+      let (n, at, s) = name-at (q .old-names) l h in
+      let c = q .old-names .count in
       (s .inside, s .bytes-are ∙ sym (List·getD-append (q .first) (q .second) [] l (omega arith) ∙ at-else (q .first) l [] at))
 
-  pub name-new : olds .count ≤ l → l < olds .count + news .count
-      → Inside add (getD (news .from) (l - olds .count) 0) (getD (news .to) (l - olds .count) 0)
-      × (part add (getD (news .from) (l - olds .count) 0) (getD (news .to) (l - olds .count) 0) ≡ getD (q .first ++ q .second) l [])
+  pub name-new : labelCount olds ≤ l → l < labelCount olds + news .count
+      → Inside add (getD (news .places) (l - labelCount olds) 0) (getD (news .places) (128 + (l - labelCount olds)) 0)
+      × (part add (getD (news .places) (l - labelCount olds) 0) (getD (news .places) (128 + (l - labelCount olds)) 0)
+      ≡ getD (q .first ++ q .second) l [])
   name-new h k =
-      let m = l - olds .count in
-      let (n, at, s) = name-at (q .new-names .at) m (omega arith) in
-      let c = q .old-names .at .count in
+      let m = l - labelCount olds in
+      let (n, at, s) = name-at (q .new-names) m (omega arith) in
+      let c = q .old-names .count in
       let z : l ≡ length (q .first) + m = omega arith in (
         s .inside,
         s .bytes-are
@@ -69,17 +68,17 @@ module _ {old add : List ℕ} {olds news : Names} (q : LabelsIn old add olds new
       )
 
 -- the fields of the labels that are on
-module _ {old add : List ℕ} {olds news : Names} (q : LabelsIn old add olds news) (on : ℕ → Bool) where
+module _ {old add olds : List ℕ} {news : Names} (q : LabelsIn old add olds news) (on : ℕ → Bool) where
   abbrev pub nameField : ℕ → List ℕ
   nameField l = onlyIf (on l) (fieldBytes 0x10 (getD (q .first ++ q .second) l []))
 
-  pub labels-joined : joinedOf nameField (numbersBelow (olds .count + news .count)) ≡ labelsBytes (q .first ++ q .second) on
+  pub labels-joined : joinedOf nameField (numbersBelow (labelCount olds + news .count)) ≡ labelsBytes (q .first ++ q .second) on
   labels-joined =
-      let a = q .old-names .at .count in
-      let b = q .new-names .at .count in
+      let a = q .old-names .count in
+      let b = q .new-names .count in
       let c = length-append (q .first) (q .second) in
-      let e : olds .count + news .count ≡ length (q .first ++ q .second) = omega arith in
-      joined-only on (λ l. fieldBytes 0x10 (getD (q .first ++ q .second) l [])) (numbersBelow (olds .count + news .count))
+      let e : labelCount olds + news .count ≡ length (q .first ++ q .second) = omega arith in
+      joined-only on (λ l. fieldBytes 0x10 (getD (q .first ++ q .second) l [])) (numbersBelow (labelCount olds + news .count))
       ∙ ap (λ (n : ℕ). joinedOf (λ l. fieldBytes 0x10 (getD (q .first ++ q .second) l [])) (keep on (numbersBelow n))) e
 
 -- the value of a rule's field

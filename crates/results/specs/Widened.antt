@@ -78,3 +78,4 @@ pub record StartSetsHeld (lim : Limits) (old add index : List ℕ) (union : Unio
   pub reduced : UnionReduced lim old add index union lists words first second
   pub held : SetsHeld words (labelSets (unite large first second) (isStart (unite large first second)))
   pub many : count ≡ length (labelSets (unite large first second) (isStart (unite large first second)))
+  pub few : count ≤ lim .types

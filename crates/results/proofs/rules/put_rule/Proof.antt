@@ -20,8 +20,8 @@ use Rattle.results.proofs.ResultLaws.{rule-value, scratch-long, scratch
 use Rattle.results.proofs.rules.put_rule.Statement.{statement}
 use Rattle.results.proofs.rules.put_rule.Tie as tie
 
-mul-load : tie.Need-mul-load
-mul-load c = search needs
+mul-load-eight : tie.Need-mul-load-eight
+mul-load-eight c = search needs
 
 load-eight-requires : tie.Need-load-eight-requires
 load-eight-requires c κs =
@@ -182,7 +182,7 @@ pub put-rule-spec : {M : Type 1} → statement M
 put-rule-spec =
     tie.close
     (tie.spec
-    mul-load
+    mul-load-eight
     load-eight-requires
     load-eight-requires-2
     set-label-requires

@@ -14,7 +14,7 @@ use Rattle.union.proofs.ViewLaws.{views-sized}
 use Rattle.contents.specs.Completing.{Made}
 use Rattle.forms.specs.SetForms.{pairsLabelled}
 use Rattle.results.specs.Widened.{kindOf}
-use Rattle.results.proofs.SetLaws.{labels-sized, set-held, set-eight, content-is}
+use Rattle.results.proofs.SetLaws.{set-held, set-eight, content-is}
 use Rattle.results.proofs.ContentLaws.{all-labels, merged}
 use Rattle.results.proofs.rules.set_content.Statement.{statement}
 use Rattle.results.proofs.rules.set_content.Tie as tie
@@ -30,7 +30,7 @@ pairs-within-requires c κs =
     let q = start .pre .3 in
     let room = q .room in (
       (q .in-words .table, q .in-words .views, q .lists-are),
-      ap length (c .load-eight .ensures) ∙ length-words _ _ 4 (omega arith),
+      ap length (c .load-eight .ensures) ∙ length-words _ _ 8 (omega arith),
       set-eight (q .in-words) (start .args .i) (start .pre .1) _ (start .pre .2),
     )
 
@@ -43,7 +43,7 @@ label-numbers-requires c κs =
     let m = q .in-words .held .few in (
       views-sized (q .in-words .views),
       omega arith,
-      record { few = omega arith; room = q .in-words .held .room; four = c .pairs-within .ensures .1 },
+      record { few = omega arith; room = q .in-words .held .room; eight = c .pairs-within .ensures .1 },
     )
 
 result-lists-requires : tie.Need-result-lists-requires
@@ -51,11 +51,8 @@ result-lists-requires c κs =
     let q = c .before .before .before .before .before .before .before .before .pre .3 in
     let room = q .room in (
       views-sized (q .in-words .views),
-      labels-sized (q .in-words .views) (q .in-words .labelled) (q .in-words .labels-few),
-      ap length (c .before .before .load-eight .ensures) ∙ length-words _ _ 4 (omega arith),
+      ap length (c .before .before .load-eight .ensures) ∙ length-words _ _ 8 (omega arith),
       c .label-numbers .ensures .1,
-      q .lists-are .old-listed .below,
-      q .lists-are .added-listed .below,
     )
 
 types-listed-requires : tie.Need-types-listed-requires
