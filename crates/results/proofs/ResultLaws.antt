@@ -8,7 +8,7 @@ use Prim.Native.Nat.{ℕ, suc, _+_, _-_, _≤_, _<_}
 use native.Mathlib.Omega.{arith}
 use mathlib.Core.Bool.{Bool, true}
 use mathlib.Core.List.{List, [], _∷_, _++_, append-assoc, map}
-use mathlib.Core.Path.{_≡_, refl, sym, _∙_, ap, subst}
+use mathlib.Core.Path.{_≡_, refl, sym, _∙_, ap, ap₂, subst}
 use lib.ListN.{length, length-append, getD, set, take, List·getD-append}
 use lib.Seq.{take-append-le, getD-append-add}
 use Rattle.grammar.specs.Lists.{keep, joinedOf, numbersBelow}
@@ -42,25 +42,33 @@ use Rattle.forms.specs.SetForms.{labelsOf, tableBySets, pairsWithin}
 use Rattle.results.specs.Results.{resultRule, isUsed, LabelsIn, labelsBytes, startsBytes, bodyBytes}
 
 -- names of labels
-module _ {old add olds : List ℕ} {news : Names} (q : LabelsIn old add olds news) (l : ℕ) where
-  pub name-old : l < labelCount olds
-      → Inside old (labelFrom olds l) (labelTo olds l) × (part old (labelFrom olds l) (labelTo olds l) ≡ getD (q .first ++ q .second) l [])
-  name-old h =
-      let (n, at, s) = name-at (q .old-names) l h in
+module _ {old add olds : List ℕ} {news : Names} (q : LabelsIn old add olds news) (l count from to : ℕ) (counted : count ≡ labelCount olds) where
+  pub name-old : from ≡ labelFrom olds l → to ≡ labelTo olds l → l < count
+      → Inside old from to × (part old from to ≡ getD (q .first ++ q .second) l [])
+  name-old a b h =
+      let (n, at, s) = name-at (q .old-names) l (omega arith) in
       let c = q .old-names .count in
-      (s .inside, s .bytes-are ∙ sym (List·getD-append (q .first) (q .second) [] l (omega arith) ∙ at-else (q .first) l [] at))
+      let order = s .inside .order in
+      let within = s .inside .within in (
+        record { order = omega arith; within = omega arith },
+        ap₂ (part old) a b
+            ∙ s .bytes-are
+            ∙ sym (List·getD-append (q .first) (q .second) [] l (omega arith) ∙ at-else (q .first) l [] at),
+      )
 
-  pub name-new : labelCount olds ≤ l → l < labelCount olds + news .count
-      → Inside add (getD (news .places) (l - labelCount olds) 0) (getD (news .places) (128 + (l - labelCount olds)) 0)
-      × (part add (getD (news .places) (l - labelCount olds) 0) (getD (news .places) (128 + (l - labelCount olds)) 0)
-      ≡ getD (q .first ++ q .second) l [])
-  name-new h k =
-      let m = l - labelCount olds in
+  pub name-new : from ≡ getD (news .places) (l - count) 0 → to ≡ getD (news .places) (128 + (l - count)) 0 → count ≤ l
+      → l < labelCount olds + news .count
+      → Inside add from to × (part add from to ≡ getD (q .first ++ q .second) l [])
+  name-new a b h k =
+      let m = l - count in
       let (n, at, s) = name-at (q .new-names) m (omega arith) in
       let c = q .old-names .count in
+      let order = s .inside .order in
+      let within = s .inside .within in
       let z : l ≡ length (q .first) + m = omega arith in (
-        s .inside,
-        s .bytes-are
+        record { order = omega arith; within = omega arith },
+        ap₂ (part add) a b
+            ∙ s .bytes-are
             ∙ sym
             (ap (λ (i : ℕ). getD (q .first ++ q .second) i []) z
             ∙ getD-append-add (q .first) (q .second) m []

@@ -21,7 +21,7 @@ use Rattle.results.proofs.labels_used.labels_used.Tie as tie
 abbrev Inv-loop : tie.InvT-loop
 Inv-loop v words count used₀ i₀ used i =
     (i ≤ count)
-    × (length (used .words) ≡ 4)
+    × (length (used .words) ≡ 8)
     × ((old add : List ℕ) (q : SetsIn old add v words count)
     → member (used .words) 0 ≡ puts (λ j. true) (labelAt (q .table) (q .sets)) nothing i)
 
@@ -35,14 +35,14 @@ loop-holds : tie.Need-loop-holds Inv-loop μ-loop
 loop-holds c =
     let zeros = c .empty .ensures in (
       omega arith,
-      ap length zeros ∙ length-replicate {A = ℕ} 4 0,
+      ap length zeros ∙ length-replicate {A = ℕ} 8 0,
       λ old add q.
           puts-start (λ j. true) (labelAt (q .table) (q .sets)) nothing _
-          (ap (λ (w : List ℕ). member w 0) zeros ∙ member-zeros 4 0),
+          (ap (λ (w : List ℕ). member w 0) zeros ∙ member-zeros 8 0),
     )
 
-mul-load : tie.Need-mul-load Inv-loop μ-loop
-mul-load c =
+mul-load-eight : tie.Need-mul-load-eight Inv-loop μ-loop
+mul-load-eight c =
     let start = c .before .before .before .before .before in
     let few = start .pre .0 .2 .held .few in
     let e = start .pre .0 .2 .count-is in
@@ -116,7 +116,7 @@ labels-used-spec =
     μ-loop
     empty-requires
     loop-holds
-    mul-load
+    mul-load-eight
     load-eight-requires
     set-label-requires
     with-requires

@@ -9,6 +9,7 @@ use borrow.Author.Needs.{needs}
 use Rattle.grammar.specs.Limits.{inputLimit}
 use Rattle.grammar.specs.Lists.{joinedOf, numbersBelow}
 use Rattle.grammar.specs.Fields.{fieldBytes}
+use Rattle.reader.specs.TableIndex.{labelCount}
 use Rattle.theory.specs.Alternatives.{onlyIf}
 use Rattle.sets.specs.Sets.{member}
 use Rattle.writer.specs.Writing.{Put}
@@ -32,6 +33,9 @@ load-eight-requires : tie.Need-load-eight-requires Inv-loop μ-loop
 load-eight-requires c κs =
     let room = c .before .before .before .before .pre .1 in
     omega arith
+
+label-count-requires : tie.Need-label-count-requires Inv-loop μ-loop
+label-count-requires c κs = search needs
 
 add-labels : tie.Need-add-labels Inv-loop μ-loop
 add-labels c =
@@ -58,7 +62,7 @@ has-requires c κs =
 put-label-requires : tie.Need-put-label-requires Inv-loop μ-loop
 put-label-requires c κs =
     let l = c .before .before .before .loop .inv .2 in
-    (c .before .before .before .loop .inv .1, omega arith, c .before .before .loop-test .taken, c .before .before .before .before .before .before .before .before .before .before .before .pre .2)
+    (c .before .before .before .loop .inv .1, omega arith, omega (arith, c .before .before .before .before .before .label-count .ensures, c .before .before .loop-test .taken), c .before .before .before .before .before .before .before .before .before .before .before .pre .2)
 
 enum-told : tie.Need-enum-told Inv-loop μ-loop
 enum-told c = search needs
@@ -77,7 +81,9 @@ returns c =
     _
     (c .before .before .before .before .before .before .before .loop-test .taken) in
     subst (λ (b : List ℕ). inputLimit < 0 + length b)
-    (labels-joined q on ∙ ap (labelsBytes (q .first ++ q .second)) (ap (λ (w : List ℕ). member w 0) (c .before .before .before .before .before .before .before .before .before .before .before .load-eight .ensures)))
+    (ap (λ (n : ℕ). joinedOf field (numbersBelow (n + c .before .before .before .before .before .before .before .before .before .before .before .before .before .before .before .before .args .news .count))) (c .before .before .before .before .before .before .before .before .before .before .label-count .ensures)
+    ∙ labels-joined q on
+    ∙ ap (labelsBytes (q .first ++ q .second)) (ap (λ (w : List ℕ). member w 0) (c .before .before .before .before .before .before .before .before .before .before .before .load-eight .ensures)))
     over
 
 enum-known-more : tie.Need-enum-known-more Inv-loop μ-loop
@@ -107,9 +113,9 @@ returns-2 c =
     let start = c .before .before .before .before .before .before .before .before .before in
     λ q.
     let on = member (c .before .before .before .before .load-eight .result .words) 0 in
-    let olds = start .args .olds in
+    let counted = c .before .before .before .label-count .ensures in
     let news = start .args .news in
-    let e : c .before .loop .l ≡ olds .count + news .count = omega arith in (
+    let e : c .before .loop .l ≡ labelCount (start .args .olds .now) + news .count = omega arith in (
       subst (λ (b : List ℕ). Put (start .args .draft .now) 0 b (c .before .loop .draft) (c .before .loop .end))
           (ap (λ (n : ℕ). joinedOf (nameField q on) (numbersBelow n)) e
           ∙ labels-joined q on
@@ -125,6 +131,7 @@ put-labels-spec =
     Inv-loop
     μ-loop
     load-eight-requires
+    label-count-requires
     add-labels
     loop-holds
     has-requires

@@ -16,7 +16,7 @@ use Rattle.results.proofs.start_types.first_numbers.Tie as tie
 
 abbrev Inv-loop : tie.InvT-loop
 Inv-loop n words set₀ t₀ set t =
-    (t ≤ n) × (member (set .words) 0 ≡ puts (λ s. true) (λ s. s) nothing t) × (length (set .words) ≡ 4)
+    (t ≤ n) × (member (set .words) 0 ≡ puts (λ s. true) (λ s. s) nothing t) × (length (set .words) ≡ 8)
 
 abbrev μ-loop : tie.MeasureT-loop
 μ-loop n words set₀ t₀ set t = n - t
@@ -25,8 +25,8 @@ loop-holds : tie.Need-loop-holds Inv-loop μ-loop
 loop-holds c =
     let zeros = c .empty .ensures in (
       omega arith,
-      puts-start _ _ _ _ (ap (λ (w : List ℕ). member w 0) zeros ∙ member-zeros 4 0),
-      ap length zeros ∙ length-replicate {A = ℕ} 4 0,
+      puts-start _ _ _ _ (ap (λ (w : List ℕ). member w 0) zeros ∙ member-zeros 8 0),
+      ap length zeros ∙ length-replicate {A = ℕ} 8 0,
     )
 
 put-if-requires : tie.Need-put-if-requires Inv-loop μ-loop

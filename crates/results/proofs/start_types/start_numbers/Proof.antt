@@ -17,73 +17,68 @@ abbrev Inv-loop : tie.InvT-loop
 Inv-loop words starts labels of rules set₀ p₀ set p =
     (p ≤ rules)
     × (member (set .words) 0 ≡ puts (member (starts .words) 0) (λ q. getD of (getD labels q 0) 0) nothing p)
-    × (length (set .words) ≡ 4)
+    × (length (set .words) ≡ 8)
 
 abbrev μ-loop : tie.MeasureT-loop
 μ-loop words starts labels of rules set₀ p₀ set p = rules - p
 
 load-eight-requires : tie.Need-load-eight-requires Inv-loop μ-loop
-load-eight-requires c κs =
-    let room = c .before .before .pre .2 in
-    omega arith
+load-eight-requires c κs = let room = c .before .before .pre .1 in omega arith
+
+empty-requires : tie.Need-empty-requires Inv-loop μ-loop
+empty-requires c κs = search needs
 
 loop-holds : tie.Need-loop-holds Inv-loop μ-loop
 loop-holds c =
     let zeros = c .empty .ensures in (
       omega arith,
-      puts-start _ _ _ _ (ap (λ (w : List ℕ). member w 0) zeros ∙ member-zeros 4 0),
-      ap length zeros ∙ length-replicate {A = ℕ} 4 0,
+      puts-start _ _ _ _ (ap (λ (w : List ℕ). member w 0) zeros ∙ member-zeros 8 0),
+      ap length zeros ∙ length-replicate {A = ℕ} 8 0,
     )
 
-mul-label : tie.Need-mul-label Inv-loop μ-loop
-mul-label c =
-    let h = c .before .before .before .before .before .before .before .before .pre .0 .few in
-    omega arith
+array-read-wide : tie.Need-array-read-wide Inv-loop μ-loop
+array-read-wide c = let few = c .before .before .before .before .before .before .before .before .pre .0 .few in omega arith
 
-array-read-label : tie.Need-array-read-label Inv-loop μ-loop
-array-read-label c =
-    let h = c .before .before .before .before .before .before .before .before .pre .0 .few in
-    omega arith
+wide-requires : tie.Need-wide-requires Inv-loop μ-loop
+wide-requires c κs = search needs
 
 has-requires : tie.Need-has-requires Inv-loop μ-loop
-has-requires c κs =
-    let h = c .before .before .before .before .before .before .before .before .pre .0 .few in
-    omega arith
+has-requires c κs = let few = c .before .before .before .before .before .before .before .before .before .pre .0 .few in omega arith
 
-array-read-wide : tie.Need-array-read-wide Inv-loop μ-loop
-array-read-wide c = c .before .before .before .before .before .before .before .before .before .pre .1 (c .before .before .loop .p) (c .before .loop-test .taken)
+array-read-wide-2 : tie.Need-array-read-wide-2 Inv-loop μ-loop
+array-read-wide-2 c = omega (arith, c .before .wide .ensures .1)
+
+wide-requires-2 : tie.Need-wide-requires-2 Inv-loop μ-loop
+wide-requires-2 c κs = search needs
 
 put-if-requires : tie.Need-put-if-requires Inv-loop μ-loop
-put-if-requires c κs =
-    let start = c .before .before .before .before .before .before .before .before .before .before in
-    let args = start .args in
-    let small = start .pre .3 (getD (args .v .labels) (c .before .before .before .loop .p) 0) in
-    let e = c .wide .ensures in
-    (omega arith, c .before .before .before .loop .inv .2)
+put-if-requires c κs = (c .wide2 .ensures .1, c .before .before .before .before .loop .inv .2)
 
 add-p : tie.Need-add-p Inv-loop μ-loop
-add-p c =
-    let h = c .before .before .before .before .before .before .before .before .before .before .before .pre .0 .few in
-    omega arith
+add-p c = let few = c .before .before .before .before .before .before .before .before .before .before .before .before .pre .0 .few in omega arith
+
+loop-less : tie.Need-loop-less Inv-loop μ-loop
+loop-less c = omega arith
 
 loop-again : tie.Need-loop-again Inv-loop μ-loop
-loop-again c = (
-  omega arith,
-  puts-step _ _ _ (c .before .before .before .before .loop .p) _ _ _ _ (c .before .before .before .before .loop .inv .1) (c .put-if .ensures .0) (c .before .before .has .ensures)
-      (c .before .wide .ensures .0),
-  c .put-if .ensures .1,
-)
+loop-again c =
+    let of = c .before .before .before .before .before .before .before .before .before .before .before .before .args .numbers .of in (
+      omega arith,
+      puts-step _ _ _ (c .before .before .before .before .before .loop .p) _ _ _ _ (c .before .before .before .before .before .loop .inv .1) (c .put-if .ensures .0) (c .before .before .has .ensures)
+          (c .before .wide2 .ensures .0 ∙ ap (λ (l : ℕ). getD of l 0) (c .before .before .before .wide .ensures .0)),
+      c .put-if .ensures .1,
+    )
 
 store-eight-requires : tie.Need-store-eight-requires Inv-loop μ-loop
-store-eight-requires c κs =
-    let room = c .before .before .before .before .before .before .before .before .before .pre .2 in
-    omega arith
+store-eight-requires c κs = let room = c .before .before .before .before .before .before .before .before .before .pre .1 in omega arith
+
+same-length : tie.Need-same-length Inv-loop μ-loop
+same-length c = search needs
 
 returns : tie.Need-returns Inv-loop μ-loop
 returns c =
-    let start = c .before .before .before .before .before .before .before .before .before .before .before .before in
-    let args = start .args in
-    let room = start .pre .2 in
+    let args = c .before .before .before .before .before .before .before .before .before .before .before .before .args in
+    let room = c .before .before .before .before .before .before .before .before .before .before .before .before .pre .1 in
     let key : ℕ → ℕ = λ q. getD (args .numbers .of) (getD (args .v .labels) q 0) 0 in
     let e : c .before .before .before .before .before .loop .p ≡ args .v .rules = omega arith in (
       eight-set _ startTypesAt _ _ (omega arith) (c .before .before .before .before .before .loop .inv .2) (c .before .before .store-eight .ensures)
@@ -100,17 +95,17 @@ start-numbers-spec =
     Inv-loop
     μ-loop
     load-eight-requires
-    (λ c κs. search needs)
+    empty-requires
     loop-holds
-    mul-label
-    array-read-label
-    has-requires
     array-read-wide
-    (λ c κs. search needs)
+    wide-requires
+    has-requires
+    array-read-wide-2
+    wide-requires-2
     put-if-requires
     add-p
-    (λ c. omega arith)
+    loop-less
     loop-again
     store-eight-requires
-    (λ c. search needs)
+    same-length
     returns)
