@@ -1,6 +1,6 @@
 -- Labels by the keys of their names. Equal names have one key (`key-same`), so the labels that a chain passes over have not the name that
 -- is sought (`sought-first`, `sought-next`).
-use Prim.Native.Nat.{ℕ, _+_, _*_, _/_, _%_, _≤_, _<_}
+use Prim.Native.Nat.{ℕ, _+_, _*_, _/_, _%_, _<_}
 use native.Mathlib.Omega.{arith}
 use mathlib.Core.Bool.{false}
 use mathlib.Core.List.{List, [], _∷_}

@@ -5,11 +5,11 @@ use native.Mathlib.Omega.{arith}
 use native.Mathlib.Nat.{add-zero}
 use native.Mathlib.Numerals.{add-one}
 use mathlib.Core.Bool.{Bool, _&&_}
-use mathlib.Core.List.{List, [], _∷_, _++_, map, append-nil}
+use mathlib.Core.List.{List, [], _∷_, map}
 use mathlib.Core.Option.{some as just}
 use mathlib.Core.Path.{_≡_, refl, sym, _∙_, ap, ap₂, subst, fun-ext}
-use lib.ListN.{length, getD, set, getElem?, take, drop, length-append, length-drop, drop-of-length-le}
-use lib.Seq.{length-take-le, take-all, drop-append-add, drop-cons, drop-drop, getD-set-other}
+use lib.ListN.{length, getD, set, getElem?, take, drop, length-drop, drop-of-length-le}
+use lib.Seq.{drop-cons, drop-drop, getD-set-other}
 use Rattle.grammar.specs.Lists.{keep}
 use Rattle.grammar.specs.Names.{Name}
 use Rattle.grammar.specs.Outcome.{given}
@@ -65,56 +65,6 @@ module _ (words after : List ℕ) (from : ℕ) (kept : drop from after ≡ drop 
   tests-behind zero at h = refl
   tests-behind (suc n) at h =
       ap₂ (λ (l : List ℕ) (ts : List (ℕ → Bool)). member (take 4 l) 0 ∷ ts) (drop-behind at h) (tests-behind n (at + 4) (omega arith))
-
--- The words from a place on are lent, and these are laid back.
-module _ (words : List ℕ) (base : ℕ) (inside : base ≤ length words) (made : List ℕ) where
-  abbrev lent : List ℕ
-  lent = take (length words - base) (drop base words)
-
-  abbrev laid : List ℕ
-  laid = take base words ++ (made ++ drop (length words - base) (drop base words))
-
-  lent-all : lent ≡ drop base words
-  lent-all = let size = length-drop base words in take-all (length words - base) (drop base words) (omega arith)
-
-  pub lent-length : length lent ≡ length words - base
-  lent-length = ap length lent-all ∙ length-drop base words
-
-  laid-drop : (n : ℕ) → drop (base + n) laid ≡ drop n made
-  laid-drop n =
-      let size = length-drop base words in
-      ap (λ (k : ℕ). drop (k + n) laid) (sym (length-take-le base words inside))
-      ∙ drop-append-add (take base words) (made ++ drop (length words - base) (drop base words)) n
-      ∙ ap (λ (l : List ℕ). drop n (made ++ l)) (drop-of-length-le (drop base words) {i = length words - base} (omega arith))
-      ∙ ap (drop n) (append-nil made)
-
-  pub laid-length : length made ≡ length lent → length laid ≡ length words
-  laid-length same =
-      let lent-size = lent-length in
-      let front = length-take-le base words inside in
-      let size = length-append (take base words) (made ++ drop (length words - base) (drop base words)) in
-      let back = length-append made (drop (length words - base) (drop base words)) in
-      let rest = length-drop (length words - base) (drop base words) in
-      let left = length-drop base words in
-      omega arith
-
-  pub laid-set : setAt laid base ≡ setAt made 0
-  unfolding wordsAt
-  laid-set = ap (λ (l : List ℕ). member (take 4 l) 0) (ap (λ (k : ℕ). drop k laid) (sym (add-zero base)) ∙ laid-drop 0)
-
-  pub laid-behind : drop 4 made ≡ drop 4 lent → drop (base + 4) laid ≡ drop (base + 4) words
-  laid-behind e = laid-drop 4 ∙ e ∙ ap (drop 4) lent-all ∙ drop-drop 4 base words
-
-  tests-from : (n at : ℕ) → testsAt (drop base words) at n ≡ testsAt words (base + at) n
-  unfolding testsAt wordsAt
-  tests-from zero at = refl
-  tests-from (suc n) at =
-      let place : base + (at + 4) ≡ base + at + 4 = omega arith in
-      ap₂ (λ (l : List ℕ) (ts : List (ℕ → Bool)). member (take 4 l) 0 ∷ ts) (drop-drop at base words)
-      (tests-from n (at + 4) ∙ ap (λ (k : ℕ). testsAt words k n) place)
-
-  pub lent-tests : (n : ℕ) → testsAt lent 4 n ≡ testsAt words (base + 4) n
-  lent-tests n = ap (λ (l : List ℕ). testsAt l 4 n) lent-all ∙ tests-from n 4
 
 -- the types of the first trees, and of those after them
 module _ (g : Table) where

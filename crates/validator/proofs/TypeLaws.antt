@@ -8,7 +8,7 @@ use native.Mathlib.Nat.{zero-add}
 use native.Mathlib.Numerals.{add-one}
 use mathlib.Core.Bool.{Bool, true, false, _&&_, _||_, or-comm, or-false}
 use mathlib.Core.List.{List, [], _∷_, _++_, map, append-nil, map-append}
-use mathlib.Core.Option.{none as nothing, some as just}
+use mathlib.Core.Option.{some as just}
 use mathlib.Core.Path.{_≡_, refl, sym, _∙_, ap, ap₂, subst, fun-ext}
 use lib.Bits.{bitOr}
 use lib.Dec.{eqb}
@@ -213,22 +213,22 @@ module _ (g : Table) (n : Name) (tests : List (ℕ → Bool)) where
   types-all i h = ap (typesFor g n tests) (take-all i (g .rules) h)
 
   -- one rule more
-  pub types-step : (i : ℕ) (r : Rule) → getElem? (g .rules) i ≡ just r → (words after : List ℕ) (fits : Bool) (k : ℕ)
-      → fits ≡ ruleFits g n tests r → k ≡ r .type → PutIf words fits k after
-      → setAt words 0 ≡ holds (typesFor g n tests (take i (g .rules)))
-      → setAt after 0 ≡ holds (typesFor g n tests (take (i + 1) (g .rules)))
-  types-step i r e words after fits k f q w o = go fits refl
+  pub types-step : (i : ℕ) (r : Rule) → getElem? (g .rules) i ≡ just r → (words after : List ℕ) (base : ℕ) (fits : Bool) (k : ℕ)
+      → fits ≡ ruleFits g n tests r → k ≡ r .type → PutIf words base fits k after
+      → setAt words base ≡ holds (typesFor g n tests (take i (g .rules)))
+      → setAt after base ≡ holds (typesFor g n tests (take (i + 1) (g .rules)))
+  types-step i r e words after base fits k f q w o = go fits refl
     where
-      go : (b : Bool) → fits ≡ b → setAt after 0 ≡ holds (typesFor g n tests (take (i + 1) (g .rules)))
+      go : (b : Bool) → fits ≡ b → setAt after base ≡ holds (typesFor g n tests (take (i + 1) (g .rules)))
       go true p =
           w .members
-          ∙ ap (λ (b : Bool). elim b as (λ f. ℕ → Bool) [ true ↦ add k (setAt words 0) | false ↦ setAt words 0 ]) p
+          ∙ ap (λ (b : Bool). elim b as (λ f. ℕ → Bool) [ true ↦ add k (setAt words base) | false ↦ setAt words base ]) p
           ∙ ap₂ add q o
           ∙ sym (ap holds (types-more i r e ∙ ap (λ (l : List ℕ). typesFor g n tests (take i (g .rules)) ++ l) (types-one r (sym f ∙ p)))
           ∙ holds-end (typesFor g n tests (take i (g .rules))) (r .type))
       go false p =
           w .members
-          ∙ ap (λ (b : Bool). elim b as (λ f. ℕ → Bool) [ true ↦ add k (setAt words 0) | false ↦ setAt words 0 ]) p
+          ∙ ap (λ (b : Bool). elim b as (λ f. ℕ → Bool) [ true ↦ add k (setAt words base) | false ↦ setAt words base ]) p
           ∙ o
           ∙ sym (ap holds (types-more i r e ∙ ap (λ (l : List ℕ). typesFor g n tests (take i (g .rules)) ++ l) (types-not r (sym f ∙ p))
           ∙ append-nil (typesFor g n tests (take i (g .rules)))))
@@ -262,15 +262,15 @@ module _ {s index : List ℕ} {g : Table} (known : Held large asciiClasses s ind
           ∙ rule-passed (from + more) (omega arith) (p .passed (from + more) (omega arith) (omega arith))
           ∙ go more (omega arith)
 
--- the set at the front is emptied
-pub emptied : (words after none : List ℕ) → 4 ≤ length words → none ≡ replicate 4 0 → after ≡ storeAt words 0 none
-    → (setAt after 0 ≡ sets.nothing) × (drop 4 after ≡ drop 4 words)
-emptied words after none room zeros e =
+-- the set at a word is emptied
+pub emptied : (words after none : List ℕ) (base : ℕ) → base + 4 ≤ length words → none ≡ replicate 4 0 → after ≡ storeAt words base none
+    → (setAt after base ≡ sets.nothing) × (drop (base + 4) after ≡ drop (base + 4) words)
+emptied words after none base room zeros e =
     let size : length none ≡ 4 = ap length zeros ∙ length-replicate {A = ℕ} 4 0 in (
-      ap (λ (l : List ℕ). setAt l 0) e
-          ∙ ap (λ (l : List ℕ). member l 0) (words-store words 0 none 4 (omega arith) size ∙ zeros)
+      ap (λ (l : List ℕ). setAt l base) e
+          ∙ ap (λ (l : List ℕ). member l 0) (words-store words base none 4 (omega arith) size ∙ zeros)
           ∙ member-zeros 4 0,
-      ap (drop 4) e ∙ drop-store words 0 none 4 (omega arith) (omega arith),
+      ap (drop (base + 4)) e ∙ drop-store words base none (base + 4) (omega arith) (omega arith),
     )
 
 -- one more number in a set that stands in words, if the flag says so
@@ -283,26 +283,26 @@ words-put words base k n h =
     ∙ ap₂ (λ (i y : ℕ). set (take n (drop base words)) i (bitOr y (2 ^ (k % 32)))) (sym (zero-add (k / 32)))
     (sym (ap (λ (i : ℕ). getD (take n (drop base words)) i 0) (zero-add (k / 32)) ∙ word-of words base n (k / 32) h))
 
-module _ (words after : List ℕ) (k : ℕ) (small : k < 128) (room : 4 ≤ length words) where
-  pub put-it : (flag : Bool) → flag ≡ true → after ≡ putAt words 0 k → PutIf words flag k after
+module _ (words after : List ℕ) (base k : ℕ) (small : k < 128) (room : base + 4 ≤ length words) where
+  pub put-it : (flag : Bool) → flag ≡ true → after ≡ putAt words base k → PutIf words base flag k after
   unfolding putAt
   put-it flag f e =
-      let size = length-words words 0 4 (omega arith) in
-      let inside : 0 + k / 32 < length (wordsAt words 0 4) = omega arith in
+      let size = length-words words base 4 room in
+      let inside : 0 + k / 32 < length (wordsAt words base 4) = omega arith in
       let word : k / 32 < 4 = omega arith in
       record {
         members =
-            ap (λ (l : List ℕ). setAt l 0) e
-            ∙ ap (λ (l : List ℕ). member l 0) (words-put words 0 k 4 word)
-            ∙ member-put (wordsAt words 0 4) 0 k inside
-            ∙ sym (ap (λ (b : Bool). elim b as (λ f. ℕ → Bool) [ true ↦ add k (setAt words 0) | false ↦ setAt words 0 ]) f);
-        behind = ap (drop 4) e ∙ drop-set-lt 4 words (0 + k / 32) _ (omega arith);
+            ap (λ (l : List ℕ). setAt l base) e
+            ∙ ap (λ (l : List ℕ). member l 0) (words-put words base k 4 word)
+            ∙ member-put (wordsAt words base 4) 0 k inside
+            ∙ sym (ap (λ (b : Bool). elim b as (λ f. ℕ → Bool) [ true ↦ add k (setAt words base) | false ↦ setAt words base ]) f);
+        behind = ap (drop (base + 4)) e ∙ drop-set-lt (base + 4) words (base + k / 32) _ (omega arith);
       }
 
-pub not-put : (words : List ℕ) (k : ℕ) (flag : Bool) → flag ≡ false → PutIf words flag k words
-not-put words k flag f =
+pub not-put : (words : List ℕ) (base k : ℕ) (flag : Bool) → flag ≡ false → PutIf words base flag k words
+not-put words base k flag f =
     record {
-      members = sym (ap (λ (b : Bool). elim b as (λ f. ℕ → Bool) [ true ↦ add k (setAt words 0) | false ↦ setAt words 0 ]) f);
+      members = sym (ap (λ (b : Bool). elim b as (λ f. ℕ → Bool) [ true ↦ add k (setAt words base) | false ↦ setAt words base ]) f);
       behind = refl;
     }
 

@@ -1,5 +1,5 @@
 -- The types that a table gives a node whose children are known, found rule by rule.
-use Prim.Native.Nat.{ℕ, _<_}
+use Prim.Native.Nat.{ℕ, _+_, _<_}
 use mathlib.Core.Bool.{Bool, true, false, _&&_}
 use mathlib.Core.List.{List, [], map}
 use mathlib.Core.Path.{_≡_}
@@ -31,14 +31,14 @@ unfoldable pub typesFor : Table → Name → List (ℕ → Bool) → List Rule �
 unfolding ruleFits keep
 typesFor g n tests rules = map (λ (r : Rule). r .type) (keep (ruleFits g n tests) rules)
 
--- the set at the front has one number more if the flag says so, and the words behind it are kept
-pub record PutIf (words : List ℕ) (flag : Bool) (k : ℕ) (after : List ℕ) : Type 0 where
-  pub members : setAt after 0 ≡ elim flag as (λ f. ℕ → Bool) [ true ↦ add k (setAt words 0) | false ↦ setAt words 0 ]
-  pub behind : drop 4 after ≡ drop 4 words
+-- the set at a word has one number more if the flag says so, and the words behind it are kept
+pub record PutIf (words : List ℕ) (base : ℕ) (flag : Bool) (k : ℕ) (after : List ℕ) : Type 0 where
+  pub members : setAt after base ≡ elim flag as (λ f. ℕ → Bool) [ true ↦ add k (setAt words base) | false ↦ setAt words base ]
+  pub behind : drop (base + 4) after ≡ drop (base + 4) words
 
--- the set at the front has the types of the rules that fit a node, the place of whose name among the labels is `label`; the sets of its
+-- the set at a word has the types of the rules that fit a node, the place of whose name among the labels is `label`; the sets of its
 -- children stand behind it, and the words there are kept
-pub record TypesAre (s index : List ℕ) (label : ℕ) (words : List ℕ) (count : ℕ) (after : List ℕ) : Type 0 where
+pub record TypesAre (s index : List ℕ) (label : ℕ) (words : List ℕ) (base count : ℕ) (after : List ℕ) : Type 0 where
   pub types : (g : Table) → Held large asciiClasses s index g → (n : Name) → label ≡ place sameName n (g .labels)
-      → setAt after 0 ≡ holds (typesFor g n (testsAt words 4 count) (g .rules))
-  pub behind : drop 4 after ≡ drop 4 words
+      → setAt after base ≡ holds (typesFor g n (testsAt words (base + 4) count) (g .rules))
+  pub behind : drop (base + 4) after ≡ drop (base + 4) words

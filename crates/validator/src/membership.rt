@@ -41,6 +41,12 @@ ghost use Rattle.validator.specs.Chains.{RulesChained};
 ghost use Rattle.validator.specs.KnownDocument.{indexOf, KnownNodes, Brought, RootTypes};
 ghost use Rattle.validator.specs.NodeTypes.{NullableAre, PutIf, TypesAre};
 
+// Where the set of a node stands in the lent words; behind it stand those of so many children.
+struct NodeSets {
+    at: usize,
+    children: usize,
+}
+
 // Whether the content of each rule matches no children.
 fn nullable_contents(
     table: &[u8],
@@ -63,35 +69,36 @@ fn nullable_contents(
     nullable
 }
 
-// Whether a content matches the children whose sets stand behind the first one; `nullable` says whether it matches none.
+// Whether a content matches the children whose sets stand from `top` on; `nullable` says whether it matches none.
 fn content_fits(
     content: &[u8],
     nullable: bool,
     marks: &mut [u8],
     words: &[u32],
+    top: usize,
     count: usize,
 ) -> bool
     requires { ⌜ (WholeAt large (now content)) × (WalkRoom (now content) (now marks) (now words) 0)
-        × (4 + 4 * count ≤ length (now words)) × (nullable ≡ runAt (now content) []) ⌝ }
-    ensures { λ r. ⌜ r ≡ runAt (now (content .entry)) (testsAt (now (words .entry)) 4 count) ⌝ }
+        × (top + 4 * count ≤ length (now words)) × (nullable ≡ runAt (now content) []) ⌝ }
+    ensures { λ r. ⌜ r ≡ runAt (now (content .entry)) (testsAt (now (words .entry)) top count) ⌝ }
 {
     if count == 0 {
         return nullable;
     }
-    matches(content, marks, words, 4, count)
+    matches(content, marks, words, top, count)
 }
 
-// Puts a type into the first set, if the rule fits.
-fn put_if(words: &mut [u32], fits: bool, k: usize)
-    requires { ⌜ (k < 128) × (4 ≤ length (now words)) ⌝ }
-    ensures { λ r. ⌜ PutIf (now (words .entry)) fits k (now (words .exit)) ⌝ }
+// Puts a type into the set at a word, if the rule fits.
+fn put_if(words: &mut [u32], base: usize, fits: bool, k: usize)
+    requires { ⌜ (k < 128) × (base + 4 ≤ length (now words)) ⌝ }
+    ensures { λ r. ⌜ PutIf (now (words .entry)) base fits k (now (words .exit)) ⌝ }
 {
     if fits {
-        put(words, 0, k);
+        put(words, base, k);
     }
 }
 
-// Makes the first set that of the types of the rules of a label that fit a node; behind it stand the sets of the node's children.
+// Makes the set of a node that of the types of the rules of its label that fit it.
 fn put_types(
     table: &[u8],
     index: &[u16; 899],
@@ -100,21 +107,24 @@ fn put_types(
     label: usize,
     marks: &mut [u8],
     words: &mut [u32],
-    count: usize,
+    node: NodeSets,
 )
     requires { ⌜ (SomeHeld large asciiClasses (now table) (now index)) × (RulesChained (now index) (now «by_label»))
         × (NullableAre (now table) (now index) (now nullable)) × (label ≤ 128) × (contentLimit ≤ length (now marks))
-        × (4 + 4 * count ≤ length (now words)) ⌝ }
-    ensures { λ r. ⌜ TypesAre (now (table .entry)) (now (index .entry)) label (now (words .entry)) count (now (words .exit)) ⌝ }
+        × (node .at + 4 + 4 * node .children ≤ length (now words)) ⌝ }
+    ensures { λ r. ⌜ TypesAre (now (table .entry)) (now (index .entry)) label (now (words .entry)) (node .at) (node .children)
+        (now (words .exit)) ⌝ }
 {
+    let base = node.at;
+    let count = node.children;
     let rules = rule_count(index);
-    store(words, 0, Set4::empty());
+    store(words, base, Set4::empty());
     let mut i = wide(by_label[128 + label]);
     while i < rules {
         let from = content_from(index, i);
         let to = content_to(index, i);
-        let fits = content_fits(&table[from..to], nullable[i], marks, words, count);
-        put_if(words, fits, rule_type(index, i));
+        let fits = content_fits(&table[from..to], nullable[i], marks, words, base + 4, count);
+        put_if(words, base, fits, rule_type(index, i));
         i = wide(by_label[i]);
     }
 }
@@ -161,6 +171,10 @@ fn root_types(
         let count = wider(children[at]);
         let label = label_of(&document[from..to], table, index, &by_key);
         let base = top - 4;
+        let node = NodeSets {
+            at: base,
+            children: count,
+        };
         put_types(
             table,
             index,
@@ -168,8 +182,8 @@ fn root_types(
             &nullable,
             label,
             &mut marks,
-            &mut words[base..],
-            count,
+            words,
+            node,
         );
         top = base + 4 * count;
         bring(words, base, top);

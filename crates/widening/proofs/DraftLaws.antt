@@ -245,7 +245,7 @@ module _ (l : SizeLimits) where
         (ap (λ (o : Outcome Tree). o >>= λ d. sampleTable lim d) (document-unread lim document f reads q e))
 
     module _ (e : f .answer ≡ Readable) where
-      pub nodes-indexed : HoldsNodes document (f .index)
+      pub nodes-indexed : HoldsNodes lim document (f .index)
       nodes-indexed = record { reads = nodes-read lim document f reads e; indexed = reads .indexed }
 
       module _ (before draft : List ℕ) (m : Drafted)

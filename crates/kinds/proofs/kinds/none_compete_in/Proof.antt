@@ -5,7 +5,6 @@ use Rattle.grammar.specs.Content.{typesIn}
 use Rattle.reader.specs.TableIndex.{part}
 use Rattle.reader.proofs.TableIndexLaws.{rule-at}
 use Rattle.kinds.proofs.IndexedKinds.{types-below}
-use borrow.Author.Needs.{needs}
 use Rattle.kinds.proofs.kinds.none_compete_in.Statement.{statement}
 use Rattle.kinds.proofs.kinds.none_compete_in.Tie as tie
 

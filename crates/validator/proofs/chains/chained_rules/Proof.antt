@@ -1,6 +1,5 @@
 -- `chained_rules` meets its contract.
 use Rattle.validator.proofs.ChainLaws.{keyed-as, chain-as}
-use borrow.Author.Needs.{needs}
 use Rattle.validator.proofs.chains.chained_rules.Statement.{statement}
 use Rattle.validator.proofs.chains.chained_rules.Tie as tie
 

@@ -1,7 +1,6 @@
 -- `chained_labels` meets its contract: the keys of names are below 64.
 use Rattle.validator.proofs.ChainLaws.{keyed-as, chain-as}
 use Rattle.validator.proofs.LabelKeyLaws.{labels-keyed}
-use borrow.Author.Needs.{needs}
 use Rattle.validator.proofs.label_search.chained_labels.Statement.{statement}
 use Rattle.validator.proofs.label_search.chained_labels.Tie as tie
 

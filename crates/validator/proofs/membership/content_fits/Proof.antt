@@ -3,13 +3,12 @@ use Prim.Native.Nat.{ℕ}
 use mathlib.Core.Path.{sym, _∙_, ap}
 use Rattle.walks.specs.TypeSets.{testsAt}
 use Rattle.walks.specs.WalkAt.{runAt}
-use borrow.Author.Needs.{needs}
 use Rattle.validator.proofs.membership.content_fits.Statement.{statement}
 use Rattle.validator.proofs.membership.content_fits.Tie as tie
 
 returns : tie.Need-returns
 unfolding testsAt
-returns c = c .before .before .before .before .pre .3 ∙ sym (ap (λ (n : ℕ). runAt (c .before .before .before .before .args .content .now) (testsAt (c .before .before .before .before .args .words .now) 4 n)) (c .if1 .taken))
+returns c = c .before .before .before .before .pre .3 ∙ sym (ap (λ (n : ℕ). runAt (c .before .before .before .before .args .content .now) (testsAt (c .before .before .before .before .args .words .now) (c .before .before .before .before .args .top) n)) (c .if1 .taken))
 
 matches-requires : tie.Need-matches-requires
 matches-requires c κs = (c .before .before .before .before .before .pre .0, c .before .before .before .before .before .pre .1, c .before .before .before .before .before .pre .2)

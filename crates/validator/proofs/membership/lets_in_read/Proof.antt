@@ -5,7 +5,6 @@ use mathlib.Core.Path.{_∙_, ap}
 use Rattle.grammar.specs.Lists.{anyPass}
 use Rattle.grammar.specs.Membership.{letsIn}
 use Rattle.kinds.proofs.IndexedKinds.{types-below}
-use borrow.Author.Needs.{needs}
 use Rattle.validator.proofs.membership.lets_in_read.Statement.{statement}
 use Rattle.validator.proofs.membership.lets_in_read.Tie as tie
 

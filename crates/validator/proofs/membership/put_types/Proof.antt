@@ -22,17 +22,17 @@ use Rattle.validator.proofs.membership.put_types.Statement.{statement}
 use Rattle.validator.proofs.membership.put_types.Tie as tie
 
 abbrev Inv-loop : tie.InvT-loop
-Inv-loop table index by-label nullable label marks₀ words₀ count rules i₀ marks words i =
+Inv-loop table index by-label nullable label marks₀ words₀ base count rules i₀ marks words i =
     (i ≤ rules)
     × (length marks ≡ length marks₀)
     × (length words ≡ length words₀)
-    × (drop 4 words ≡ drop 4 words₀)
+    × (drop (base + 4) words ≡ drop (base + 4) words₀)
     × (i < rules → ruleLabel index i ≡ label)
     × ((g : Table) → Held large asciiClasses table index g → (n : Name) → label ≡ place sameName n (g .labels)
-    → setAt words 0 ≡ holds (typesFor g n (testsAt words₀ 4 count) (take i (g .rules))))
+    → setAt words base ≡ holds (typesFor g n (testsAt words₀ (base + 4) count) (take i (g .rules))))
 
 abbrev μ-loop : tie.MeasureT-loop
-μ-loop table index by-label nullable label marks₀ words₀ count rules i₀ marks words i = rules - i
+μ-loop table index by-label nullable label marks₀ words₀ base count rules i₀ marks words i = rules - i
 
 store-requires : tie.Need-store-requires Inv-loop μ-loop
 store-requires c κs = let room = c .before .before .before .before .before .before .pre .5 in omega arith
@@ -50,7 +50,7 @@ loop-holds c =
     let pre = c .before .before .before .before .before .before .before .before .before .before .before .pre in
     let counted = c .before .before .before .before .before .before .before .rule-count .ensures in
     let first = c .before .before .before .before .store .last .0 in
-    let tests = testsAt first 4 (a .count) in
+    let tests = testsAt first (a .node .at + 4) (a .node .children) in
     let at = subst (PlaceFrom (ruleLabel index) (ruleCount index) (a .label) 0) (sym (c .wide .ensures .0)) (pre .1 .first (a .label) (pre .3)) in
     let room = pre .5 in (
       omega (arith, at .within),
@@ -60,7 +60,7 @@ loop-holds c =
       λ h. at .found (omega arith),
       λ g x n named.
           laws.types-passed x n tests (a .label) named _ 0 (c .wide .result) at
-          (laws.emptied (a .words .now) first _ (omega arith) (c .before .before .before .before .before .empty .ensures) (c .before .before .before .before .store .ensures) .0 ∙ sym (laws.types-none g n tests)),
+          (laws.emptied (a .words .now) first _ (a .node .at) (omega arith) (c .before .before .before .before .before .empty .ensures) (c .before .before .before .before .store .ensures) .0 ∙ sym (laws.types-none g n tests)),
     )
 
 content-from-requires : tie.Need-content-from-requires Inv-loop μ-loop
@@ -80,6 +80,9 @@ part-content-fits-end c = laws.content-inside (c .before .before .before .before
 
 element-copy-out-content-fits : tie.Need-element-copy-out-content-fits Inv-loop μ-loop
 element-copy-out-content-fits c = omega (arith, c .before .before .before .before .before .before .before .before .before .before .before .before .before .before .before .before .pre .0 .held .indexes .few-rules, c .before .before .before .before .before .before .before .before .before .before .before .before .rule-count .ensures)
+
+add-content-fits : tie.Need-add-content-fits Inv-loop μ-loop
+add-content-fits c = let room = c .before .before .before .before .before .before .before .before .before .before .before .before .before .before .before .before .before .before .before .pre .5 in let small = c .before .before .before .before .before .before .before .before .before .before .before .before .before .before .before .before .before .before .before .good in omega arith
 
 content-fits-requires : tie.Need-content-fits-requires Inv-loop μ-loop
 content-fits-requires c κs =
@@ -119,8 +122,8 @@ loop-again c =
     let inv = c .before .before .before .before .before .before .before .before .before .before .before .before .before .before .before .before .before .loop .inv in
     let counted = c .before .before .before .before .before .before .before .before .before .before .before .before .before .before .before .before .before .before .before .before .before .before .before .before .before .rule-count .ensures in
     let below : i < ruleCount index = omega (arith, c .before .before .before .before .before .before .before .before .before .before .before .before .before .before .before .before .loop-test .taken) in
-    let tests = testsAt first 4 (a .count) in
-    let same : testsAt old 4 (a .count) ≡ tests = tests-behind first old 4 (inv .3) (a .count) 4 (omega arith) in
+    let tests = testsAt first (a .node .at + 4) (a .node .children) in
+    let same : testsAt old (a .node .at + 4) (a .node .children) ≡ tests = tests-behind first old (a .node .at + 4) (inv .3) (a .node .children) (a .node .at + 4) (omega arith) in
     let onward : PlaceFrom (ruleLabel index) (ruleCount index) (a .label) (i + 1) (c .wide2 .result) =
     subst (λ (k : ℕ). PlaceFrom (ruleLabel index) (ruleCount index) k (i + 1) (c .wide2 .result)) (inv .4 (c .before .before .before .before .before .before .before .before .before .before .before .before .before .before .before .before .loop-test .taken))
     (subst (PlaceFrom (ruleLabel index) (ruleCount index) (ruleLabel index i) (i + 1)) (sym (c .wide2 .ensures .0)) (c .before .before .before .before .before .before .before .before .before .before .before .before .before .before .before .before .before .before .before .before .before .before .before .before .before .before .before .before .before .pre .1 .after i below)) in (
@@ -132,9 +135,9 @@ loop-again c =
       λ g x n named.
           let rule = laws.known-rule x i below in
           laws.types-passed x n tests (a .label) named _ (i + 1) (c .wide2 .result) onward
-          (laws.types-step g n tests i (rule .rule) (rule .listed) old (c .before .before .before .before .put-if .last .0) (c .before .before .before .before .before .before .before .before .before .content-fits .result) (c .before .before .before .before .before .rule-type .result)
+          (laws.types-step g n tests i (rule .rule) (rule .listed) old (c .before .before .before .before .put-if .last .0) (a .node .at) (c .before .before .before .before .before .before .before .before .before .content-fits .result) (c .before .before .before .before .before .rule-type .result)
           (c .before .before .before .before .before .before .before .before .before .content-fits .ensures
-          ∙ ap (λ (l : List ℕ). runAt l (testsAt old 4 (a .count))) (laws.content-there (c .before .before .before .before .before .before .before .before .before .before .before .before .before .before .before .before .before .before .before .before .before .before .before .before .before .before .before .before .before .pre .0 .held) (c .before .before .before .before .before .before .before .before .before .before .before .before .before .before .before .before .before .loop .i) (omega (arith, c .before .before .before .before .before .before .before .before .before .before .before .before .before .before .before .before .loop-test .taken, c .before .before .before .before .before .before .before .before .before .before .before .before .before .before .before .before .before .before .before .before .before .before .before .before .before .rule-count .ensures)) (c .before .before .before .before .before .before .before .before .before .before .before .before .before .before .before .content-from .ensures) (c .before .before .before .before .before .before .before .before .before .before .before .before .before .before .content-to .ensures))
+          ∙ ap (λ (l : List ℕ). runAt l (testsAt old (a .node .at + 4) (a .node .children))) (laws.content-there (c .before .before .before .before .before .before .before .before .before .before .before .before .before .before .before .before .before .before .before .before .before .before .before .before .before .before .before .before .before .pre .0 .held) (c .before .before .before .before .before .before .before .before .before .before .before .before .before .before .before .before .before .loop .i) (omega (arith, c .before .before .before .before .before .before .before .before .before .before .before .before .before .before .before .before .loop-test .taken, c .before .before .before .before .before .before .before .before .before .before .before .before .before .before .before .before .before .before .before .before .before .before .before .before .before .rule-count .ensures)) (c .before .before .before .before .before .before .before .before .before .before .before .before .before .before .before .content-from .ensures) (c .before .before .before .before .before .before .before .before .before .before .before .before .before .before .content-to .ensures))
           ∙ ap (runAt _) same
           ∙ laws.asked-is x i below n tests (a .label) named (inv .4 (c .before .before .before .before .before .before .before .before .before .before .before .before .before .before .before .before .loop-test .taken)))
           (c .before .before .before .before .before .rule-type .ensures ∙ rule .at .type)
@@ -152,15 +155,15 @@ returns c =
     let inv = c .before .loop .inv in
     let room = c .before .before .before .before .before .before .before .before .before .before .before .before .before .pre .5 in
     let counted = c .before .before .before .before .before .before .before .before .before .rule-count .ensures in
-    let empty = laws.emptied (a .words .now) first _ (omega arith) (c .before .before .before .before .before .before .before .empty .ensures) (c .before .before .before .before .before .before .store .ensures) in
+    let empty = laws.emptied (a .words .now) first _ (a .node .at) (omega arith) (c .before .before .before .before .before .before .before .empty .ensures) (c .before .before .before .before .before .before .store .ensures) in
     record {
       types =
           λ g x n named.
           let all = x .indexes .rules in
           inv .5 g x n named
-          ∙ ap holds (laws.types-all g n (testsAt first 4 (a .count)) (c .before .loop .i) (omega arith))
+          ∙ ap holds (laws.types-all g n (testsAt first (a .node .at + 4) (a .node .children)) (c .before .loop .i) (omega arith))
           ∙ ap (λ (ts : List (ℕ → Bool)). holds (typesFor g n ts (g .rules)))
-          (tests-behind (a .words .now) first 4 (empty .1) (a .count) 4 (omega arith));
+          (tests-behind (a .words .now) first (a .node .at + 4) (empty .1) (a .node .children) (a .node .at + 4) (omega arith));
       behind = inv .3 ∙ empty .1;
     }
 
@@ -183,6 +186,7 @@ put-types-spec =
     part-content-fits-start
     part-content-fits-end
     element-copy-out-content-fits
+    add-content-fits
     content-fits-requires
     rule-type-requires
     put-if-requires

@@ -1,10 +1,8 @@
 -- `root_types` meets its contract: from the top on, set by set, stand the types of the trees of the nodes gone through.
 use Prim.Native.Nat.{ℕ, _+_, _*_, _-_, _≤_}
 use native.Mathlib.Omega.{arith}
-use mathlib.Core.List.{List}
-use mathlib.Core.Bool.{Bool}
 use mathlib.Core.Path.{_≡_, refl, sym, _∙_, ap, ap₂, subst}
-use lib.ListN.{length, getD, take, drop, length-replicate}
+use lib.ListN.{length, take, drop, length-replicate}
 use Rattle.grammar.specs.Limits.{large}
 use Rattle.grammar.specs.Names.{asciiClasses}
 use Rattle.grammar.specs.Table.{Table}
@@ -89,28 +87,17 @@ sub-base c = let fits = laws.round-room _ _ _ _ _ (c .before .before .before .be
 slice-aggregate-put-types : tie.Need-slice-aggregate-put-types Inv-loop μ-loop
 slice-aggregate-put-types c = sym (c .before .before .before .before .before .before .before .before .before .before .before .before .before .loop .inv .1)
 
-mul-put-types : tie.Need-mul-put-types Inv-loop μ-loop
-mul-put-types c = let fits = laws.round-room _ _ _ _ _ (c .before .before .before .before .before .before .before .before .before .before .before .before .before .loop .i) (c .before .before .before .before .before .before .before .before .before .before .before .before .before .loop .top) (c .before .before .before .before .before .before .before .before .before .before .before .before .before .before .before .before .before .before .before .before .before .before .before .pre .1) (c .before .before .before .before .before .before .before .before .before .before .before .before .loop-test .taken) (c .before .before .before .before .before .before .before .before .before .before .before .before .before .loop .inv .0) (c .before .before .before .before .before .before .before .before .before .before .before .before .before .loop .inv .3) in omega (arith, fits .0, fits .1, fits .2, c .before .before .before .before .before .before .before .before .before .before .before .before .before .before .before .before .before .before .before .before .before .before .before .pre .2, c .before .before .before .before .before .before .before .before .before .before .before .before .before .loop .inv .2)
-
-sub-put-types : tie.Need-sub-put-types Inv-loop μ-loop
-sub-put-types c = let fits = laws.round-room _ _ _ _ _ (c .before .before .before .before .before .before .before .before .before .before .before .before .before .loop .i) (c .before .before .before .before .before .before .before .before .before .before .before .before .before .loop .top) (c .before .before .before .before .before .before .before .before .before .before .before .before .before .before .before .before .before .before .before .before .before .before .before .pre .1) (c .before .before .before .before .before .before .before .before .before .before .before .before .loop-test .taken) (c .before .before .before .before .before .before .before .before .before .before .before .before .before .loop .inv .0) (c .before .before .before .before .before .before .before .before .before .before .before .before .before .loop .inv .3) in omega (arith, fits .0, fits .1, fits .2, c .before .before .before .before .before .before .before .before .before .before .before .before .before .before .before .before .before .before .before .before .before .before .before .pre .2, c .before .before .before .before .before .before .before .before .before .before .before .before .before .loop .inv .2)
-
-part-put-types-start : tie.Need-part-put-types-start Inv-loop μ-loop
-part-put-types-start c = let fits = laws.round-room _ _ _ _ _ (c .before .before .before .before .before .before .before .before .before .before .before .before .before .loop .i) (c .before .before .before .before .before .before .before .before .before .before .before .before .before .loop .top) (c .before .before .before .before .before .before .before .before .before .before .before .before .before .before .before .before .before .before .before .before .before .before .before .pre .1) (c .before .before .before .before .before .before .before .before .before .before .before .before .loop-test .taken) (c .before .before .before .before .before .before .before .before .before .before .before .before .before .loop .inv .0) (c .before .before .before .before .before .before .before .before .before .before .before .before .before .loop .inv .3) in omega (arith, fits .0, fits .1, fits .2, c .before .before .before .before .before .before .before .before .before .before .before .before .before .before .before .before .before .before .before .before .before .before .before .pre .2, c .before .before .before .before .before .before .before .before .before .before .before .before .before .loop .inv .2)
-
 put-types-requires : tie.Need-put-types-requires Inv-loop μ-loop
 put-types-requires c κs =
     let pre = c .before .before .before .before .before .before .before .before .before .before .before .before .before .before .before .before .before .before .before .before .before .before .before .before .pre in
-    let words = c .before .before .before .before .before .before .before .before .before .before .before .before .before .before .loop .words in
     let marks = c .before .before .before .before .before .before .before .before .before .before .before .before .before .before .loop .inv .1 in
-    let fits = laws.round-room _ _ _ _ _ (c .before .before .before .before .before .before .before .before .before .before .before .before .before .before .loop .i) (c .before .before .before .before .before .before .before .before .before .before .before .before .before .before .loop .top) (c .before .before .before .before .before .before .before .before .before .before .before .before .before .before .before .before .before .before .before .before .before .before .before .before .pre .1) (c .before .before .before .before .before .before .before .before .before .before .before .before .before .loop-test .taken) (c .before .before .before .before .before .before .before .before .before .before .before .before .before .before .loop .inv .0) (c .before .before .before .before .before .before .before .before .before .before .before .before .before .before .loop .inv .3) in
-    let size = laws.lent-length words (c .before .before .before .before .before .before .before .before .before .before .before .before .before .before .loop .top - 4) (omega (arith, fits .0, fits .1, fits .2, pre .2, c .before .before .before .before .before .before .before .before .before .before .before .before .before .before .loop .inv .2)) words in (
+    let fits = laws.round-room _ _ _ _ _ (c .before .before .before .before .before .before .before .before .before .before .before .before .before .before .loop .i) (c .before .before .before .before .before .before .before .before .before .before .before .before .before .before .loop .top) (c .before .before .before .before .before .before .before .before .before .before .before .before .before .before .before .before .before .before .before .before .before .before .before .before .pre .1) (c .before .before .before .before .before .before .before .before .before .before .before .before .before .loop-test .taken) (c .before .before .before .before .before .before .before .before .before .before .before .before .before .before .loop .inv .0) (c .before .before .before .before .before .before .before .before .before .before .before .before .before .before .loop .inv .3) in (
       pre .0,
       c .before .before .before .before .before .before .before .before .before .before .before .before .before .before .before .before .before .before .before .chained-rules .ensures,
       c .before .before .before .before .before .before .before .before .before .before .before .before .before .before .before .before .nullable-contents .ensures,
       label-few (pre .0 .held) _ (c .before .before .before .before .label-of .ensures (pre .0 .table) (pre .0 .held .indexes)),
       omega arith,
-      omega (arith, size, fits .0, fits .1, fits .2, pre .2, c .before .before .before .before .before .before .before .before .before .before .before .before .before .before .loop .inv .2, c .before .before .before .before .before .before .before .wider3 .ensures .0),
+      omega (arith, fits .0, fits .1, fits .2, pre .2, c .before .before .before .before .before .before .before .before .before .before .before .before .before .before .loop .inv .2, c .before .before .before .before .before .before .before .wider3 .ensures .0),
     )
 
 mul-top-2 : tie.Need-mul-top-2 Inv-loop μ-loop
@@ -121,12 +108,9 @@ add-top c = let fits = laws.round-room _ _ _ _ _ (c .before .before .before .bef
 
 bring-requires : tie.Need-bring-requires Inv-loop μ-loop
 bring-requires c κs =
-    let words = c .before .before .before .before .before .before .before .before .before .before .before .before .before .before .before .before .before .before .before .loop .words in
-    let base = c .before .before .before .before .before .before .before .before .before .before .before .before .before .before .before .before .before .before .before .loop .top - 4 in
     let fits = laws.round-room _ _ _ _ _ (c .before .before .before .before .before .before .before .before .before .before .before .before .before .before .before .before .before .before .before .loop .i) (c .before .before .before .before .before .before .before .before .before .before .before .before .before .before .before .before .before .before .before .loop .top) (c .before .before .before .before .before .before .before .before .before .before .before .before .before .before .before .before .before .before .before .before .before .before .before .before .before .before .before .before .before .pre .1) (c .before .before .before .before .before .before .before .before .before .before .before .before .before .before .before .before .before .before .loop-test .taken) (c .before .before .before .before .before .before .before .before .before .before .before .before .before .before .before .before .before .before .before .loop .inv .0) (c .before .before .before .before .before .before .before .before .before .before .before .before .before .before .before .before .before .before .before .loop .inv .3) in
-    let inside : base ≤ length words = omega (arith, fits .0, fits .1, fits .2, c .before .before .before .before .before .before .before .before .before .before .before .before .before .before .before .before .before .before .before .before .before .before .before .before .before .before .before .before .before .pre .2, c .before .before .before .before .before .before .before .before .before .before .before .before .before .before .before .before .before .before .before .loop .inv .2) in
-    let size = laws.laid-length words base inside (c .before .before .before .before .put-types .last .1 .1 .1 .1 .1 .1 .0) (c .before .before .before .before .put-types .kept .1 .1 .1 .1 .1 .1 .0) in
-    (omega arith, λ h. omega arith, omega (arith, size, fits .0, fits .1, fits .2, c .before .before .before .before .before .before .before .before .before .before .before .before .before .before .before .before .before .before .before .before .before .before .before .before .before .before .before .before .before .pre .2, c .before .before .before .before .before .before .before .before .before .before .before .before .before .before .before .before .before .before .before .loop .inv .2, c .before .before .before .before .before .before .before .before .before .before .before .before .wider3 .ensures .0))
+    let kept = c .before .before .before .before .put-types .kept .1 .1 .1 .1 .1 .1 .0 in
+    (omega arith, λ h. omega arith, omega (arith, kept, fits .0, fits .1, fits .2, c .before .before .before .before .before .before .before .before .before .before .before .before .before .before .before .before .before .before .before .before .before .before .before .before .before .before .before .before .before .pre .2, c .before .before .before .before .before .before .before .before .before .before .before .before .before .before .before .before .before .before .before .loop .inv .2, c .before .before .before .before .before .before .before .before .before .before .before .before .wider3 .ensures .0))
 
 loop-less : tie.Need-loop-less Inv-loop μ-loop
 loop-less c = omega (arith, c .before .before .before .before .before .before .before .before .before .before .before .before .before .before .before .before .before .before .before .before .before .loop-test .taken)
@@ -147,18 +131,16 @@ loop-again c =
     let fits = laws.round-room _ _ _ _ _ i top known some (inv .0) (inv .3) in
     let count = laws.round-count d nodes known i (i - 1) before (inv .0) in
     let place : top - 4 + 4 ≡ top = omega (arith, fits .0) in
-    let inside : top - 4 ≤ length words = omega (arith, fits .0, fits .1, fits .2, c .before .before .before .before .before .before .before .before .before .before .before .before .before .before .before .before .before .before .before .before .before .before .before .before .before .before .before .before .before .before .before .before .pre .2, inv .2) in
     let from = c .before .before .before .before .before .before .before .before .before .before .before .before .before .before .before .before .before .before .before .wider .result in
     let size = c .before .before .before .before .before .before .before .before .before .before .before .before .before .before .before .before .before .wider2 .result in
-    let put = c .before .before .before .before .before .before .before .put-types .last .1 .1 .1 .1 .1 .1 .0 in
     let made = c .before .before .before .before .before .before .before .put-types .ensures in
     let children = c .before .before .before .before .before .before .before .before .before .before .before .before .before .before .before .wider3 .ensures .0 in (
       omega arith,
       c .before .before .before .before .before .before .before .put-types .kept .1 .1 .1 .1 .1 .0 ∙ inv .1,
-      c .before .before .bring .kept .0 ∙ laws.laid-length words (top - 4) inside put (c .before .before .before .before .before .before .before .put-types .kept .1 .1 .1 .1 .1 .1 .0) ∙ inv .2,
+      c .before .before .bring .kept .0 ∙ c .before .before .before .before .before .before .before .put-types .kept .1 .1 .1 .1 .1 .1 .0 ∙ inv .2,
       omega (arith, inv .3, count, enough, fits .0, children),
       λ g x.
-          laws.round-stacked d nodes known i (i - 1) before (inv .0) g words _ (c .before .before .bring .last .0)
+          laws.round-stacked d nodes known i (i - 1) before (inv .0) g words (c .before .before .before .before .before .before .before .put-types .last .1 .1 .1 .1 .1 .1 .0) (c .before .before .bring .last .0)
           (part d from (from + size))
           top
           (top - 4)
@@ -167,11 +149,9 @@ loop-again c =
           (inv .4 g x)
           place
           (ap (λ (n : ℕ). top - 4 + 4 * n) children)
-          (laws.laid-set words (top - 4) inside put
-          ∙ made .types g x (part d from (from + size)) (c .before .before .before .before .before .before .before .before .before .before .before .before .label-of .ensures g (x .indexes))
-          ∙ ap (λ (ts : List (ℕ → Bool)). holds (typesFor g (part d from (from + size)) ts (g .rules)))
-          (laws.lent-tests words (top - 4) inside put (c .before .before .before .before .before .before .before .before .before .before .before .before .before .before .before .wider3 .result) ∙ ap (testsAt words (top - 4 + 4)) children))
-          (laws.laid-behind words (top - 4) inside put (made .behind))
+          (made .types g x (part d from (from + size)) (c .before .before .before .before .before .before .before .before .before .before .before .before .label-of .ensures g (x .indexes))
+          ∙ ap (λ (n : ℕ). holds (typesFor g (part d from (from + size)) (testsAt words (top - 4 + 4) n) (g .rules))) children)
+          (made .behind)
           (c .before .before .bring .ensures),
     )
 
@@ -226,10 +206,6 @@ root-types-spec =
     label-of-requires
     sub-base
     slice-aggregate-put-types
-    mul-put-types
-    sub-put-types
-    part-put-types-start
-    (λ c. omega arith)
     put-types-requires
     mul-top-2
     add-top

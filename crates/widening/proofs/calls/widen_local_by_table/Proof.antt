@@ -4,15 +4,18 @@ use borrow.Author.Needs.{needs}
 use Rattle.widening.proofs.calls.widen_local_by_table.Statement.{statement}
 use Rattle.widening.proofs.calls.widen_local_by_table.Tie as tie
 
+widen-requires : tie.Need-widen-requires
+widen-requires c κs = search needs
+
+same-length : tie.Need-same-length
+same-length c = search needs
+
+same-length-2 : tie.Need-same-length-2
+same-length-2 c = search needs
+
 returns : tie.Need-returns
 unfolding kindOf
 returns c = c .before .before .before .before .widen .ensures
 
 pub widen-local-by-table-spec : {M : Type 1} → statement M
-widen-local-by-table-spec =
-    tie.close
-    (tie.spec
-    (λ c κs. search needs)
-    (λ c. search needs)
-    (λ c. search needs)
-    returns)
+widen-local-by-table-spec = tie.close (tie.spec widen-requires same-length same-length-2 returns)

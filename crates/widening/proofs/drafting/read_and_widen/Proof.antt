@@ -1,65 +1,103 @@
 -- `read_and_widen` meets its contract: the refusal of the addition, else what widening by it made.
 use Rattle.results.specs.Widened.{kindOf}
-use borrow.Author.Needs.{needs}
 use Rattle.reader.proofs.TableFoundLaws.{table-found}
 use Rattle.widening.proofs.DraftLaws as laws
+use Rattle.grammar.specs.LimitSets.{limitsOf}
+use borrow.Author.Needs.{needs}
 use Rattle.widening.proofs.drafting.read_and_widen.Statement.{statement}
 use Rattle.widening.proofs.drafting.read_and_widen.Tie as tie
 
+read-table-requires : tie.Need-read-table-requires
+read-table-requires c κs = search needs
+
+enum-known-readable : tie.Need-enum-known-readable
+enum-known-readable c = search needs
+
 returns : tie.Need-returns
-returns c =
-    let a = c .before .before .before .before .before .before .before .before .args in
+returns c = 
+    let a = c .before .before .before .before .before .before .before .before .before .args in
     let t = c .before .before .before .read-table in
-    λ g held. laws.addition-refuses (kindOf (a .kind)) g (a .addition .now) (t .result) (t .ensures) _ _ (c .before .readable .given .1)
+    λ g held. laws.addition-refuses (c .before .before .before .before .before .before .before .before .before .args .limits) (kindOf (a .kind)) g (a .addition .now) (t .result) _ (t .ensures) _ _ (c .before .readable .given .1)
+
+enum-told : tie.Need-enum-told
+enum-told c = search needs
 
 widen-tables-requires : tie.Need-widen-tables-requires
-widen-tables-requires c κs =
-    let a = c .before .before .before .before .before .before .before .before .before .args in
-    let t = c .before .before .before .before .read-table in
-    (c .before .before .before .before .before .before .before .before .before .pre .0, table-found (a .addition .now) (t .result) (t .ensures) (c .before .before .enum-told .given .1) .some, c .before .before .before .before .before .before .before .before .before .pre .1, c .before .before .before .before .before .before .before .before .before .pre .2)
+widen-tables-requires c κs = 
+    let a = c .before .before .before .before .before .before .before .before .before .before .before .args in
+    let t = c .before .before .before .before .before .read-table in
+    let (within, held, words, draft) = c .before .before .before .before .before .before .before .before .before .before .before .pre in
+    (within, held, table-found (limitsOf (c .before .before .before .before .before .before .before .before .before .before .before .args .limits)) (a .addition .now) (t .result) _ (t .ensures) (c .before .before .before .enum-told .given .1) .some, words, draft)
+
+enum-told-2 : tie.Need-enum-told-2
+enum-told-2 c = search needs
+
+enum-told-3 : tie.Need-enum-told-3
+enum-told-3 c = search needs
+
+enum-known-n : tie.Need-enum-known-n
+enum-known-n c = search needs
+
+same-length : tie.Need-same-length
+same-length c = search needs
+
+same-length-2 : tie.Need-same-length-2
+same-length-2 c = search needs
 
 returns-2 : tie.Need-returns-2
-returns-2 c =
-    let a = c .before .before .before .before .before .before .before .before .before .before .before .before .before .before .before .before .args in
-    let t = c .before .before .before .before .before .before .before .before .before .before .before .read-table in
+returns-2 c = 
+    let a = c .before .before .before .before .before .before .before .before .before .before .before .before .before .before .before .before .before .before .args in
+    let t = c .before .before .before .before .before .before .before .before .before .before .before .before .read-table in
     let m = c .before .before .before .before .before .before .widen-tables in
-    λ g held. laws.widens-nothing (kindOf (a .kind)) g (a .addition .now) (t .result) (t .ensures) _ (c .before .before .before .before .before .before .before .before .before .enum-told .given .1) (a .draft .now)
+    λ g held. laws.widens-nothing (c .before .before .before .before .before .before .before .before .before .before .before .before .before .before .before .before .before .before .args .limits) (kindOf (a .kind)) g (a .addition .now) (t .result) _ (t .ensures) _ (c .before .before .before .before .before .before .before .before .before .before .enum-told .given .1) (a .draft .now)
     (m .result) (λ h also. m .ensures g h held also) (c .enum-told2 .given .1)
 
+same-length-3 : tie.Need-same-length-3
+same-length-3 c = search needs
+
+same-length-4 : tie.Need-same-length-4
+same-length-4 c = search needs
+
 returns-3 : tie.Need-returns-3
-returns-3 c =
-    let a = c .before .before .before .before .before .before .before .before .before .before .before .before .before .before .before .before .args in
-    let t = c .before .before .before .before .before .before .before .before .before .before .before .read-table in
+returns-3 c = 
+    let a = c .before .before .before .before .before .before .before .before .before .before .before .before .before .before .before .before .before .before .args in
+    let t = c .before .before .before .before .before .before .before .before .before .before .before .before .read-table in
     let m = c .before .before .before .before .before .before .widen-tables in
-    λ g held. laws.widens-too-far (kindOf (a .kind)) g (a .addition .now) (t .result) (t .ensures) _ (c .before .before .before .before .before .before .before .before .before .enum-told .given .1) (a .draft .now)
+    λ g held. laws.widens-too-far (c .before .before .before .before .before .before .before .before .before .before .before .before .before .before .before .before .before .before .args .limits) (kindOf (a .kind)) g (a .addition .now) (t .result) _ (t .ensures) _ (c .before .before .before .before .before .before .before .before .before .before .enum-told .given .1) (a .draft .now)
     (m .result) (λ h also. m .ensures g h held also) (c .enum-told3 .given .1)
 
+same-length-5 : tie.Need-same-length-5
+same-length-5 c = search needs
+
+same-length-6 : tie.Need-same-length-6
+same-length-6 c = search needs
+
 returns-4 : tie.Need-returns-4
-returns-4 c =
-    let a = c .before .before .before .before .before .before .before .before .before .before .before .before .before .before .before .before .before .args in
-    let t = c .before .before .before .before .before .before .before .before .before .before .before .before .read-table in
+returns-4 c = 
+    let a = c .before .before .before .before .before .before .before .before .before .before .before .before .before .before .before .before .before .before .before .args in
+    let t = c .before .before .before .before .before .before .before .before .before .before .before .before .before .read-table in
     let m = c .before .before .before .before .before .before .before .widen-tables in
-    λ g held. laws.widens-to (kindOf (a .kind)) g (a .addition .now) (t .result) (t .ensures) _ (c .before .before .before .before .before .before .before .before .before .before .enum-told .given .1) (a .draft .now)
+    λ g held. laws.widens-to (c .before .before .before .before .before .before .before .before .before .before .before .before .before .before .before .before .before .before .before .args .limits) (kindOf (a .kind)) g (a .addition .now) (t .result) _ (t .ensures) _ (c .before .before .before .before .before .before .before .before .before .before .before .enum-told .given .1) (a .draft .now)
     (m .result) (λ h also. m .ensures g h held also) _ (c .before .n .given .1)
 
 pub read-and-widen-spec : {M : Type 1} → statement M
 read-and-widen-spec =
     tie.close
     (tie.spec
-    (λ c κs. search needs)
-    (λ c. search needs)
+    read-table-requires
+    enum-known-readable
     returns
-    (λ c. search needs)
+    enum-told
     widen-tables-requires
-    (λ c. search needs)
-    (λ c. search needs)
-    (λ c. search needs)
-    (λ c. search needs)
-    (λ c. search needs)
+    enum-told-2
+    enum-told-3
+    enum-known-n
+    same-length
+    same-length-2
     returns-2
-    (λ c. search needs)
-    (λ c. search needs)
+    same-length-3
+    same-length-4
     returns-3
-    (λ c. search needs)
-    (λ c. search needs)
+    same-length-5
+    same-length-6
     returns-4)
