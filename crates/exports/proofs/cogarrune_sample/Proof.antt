@@ -1,0 +1,48 @@
+-- `cogarrune_sample` meets its contract.
+use mathlib.Core.Path.{ap}
+use Rattle.grammar.specs.LimitSets.{sizeLimits, sizeNumbered}
+use Rattle.grammar.specs.Names.{asciiClasses}
+use Rattle.grammar.specs.Calls.{after}
+use Rattle.grammar.specs.Answers.{writtenNumbers}
+use Rattle.grammar.specs.Promises.{Sampling}
+use Rattle.theory.proofs.theorems.SizedPromises.{sampling-sized}
+use Rattle.exports.proofs.Apart.{retold}
+use Rattle.exports.proofs.Lengths.{sampled-value}
+use borrow.Author.Needs.{needs}
+use Rattle.exports.proofs.cogarrune_sample.Statement.{statement}
+use Rattle.exports.proofs.cogarrune_sample.Tie as tie
+
+size-numbered-requires : tie.Need-size-numbered-requires
+size-numbered-requires c κs = search needs
+
+sample-requires : tie.Need-sample-requires
+sample-requires c κs = search needs
+
+of-written-requires : tie.Need-of-written-requires
+of-written-requires c κs = search needs
+
+same-length : tie.Need-same-length
+same-length c = search needs
+
+same-length-2 : tie.Need-same-length-2
+same-length-2 c = search needs
+
+returns : tie.Need-returns
+returns c = 
+    let a = c .before .before .before .before .before .before .before .before .before .before .before .before .args in
+    let m = c .before .before .before .before .before .sample in
+    let told = sampling-sized (ap sizeLimits (c .before .before .before .before .before .before .before .before .size-numbered .ensures)) (m .ensures) in
+    retold (λ n. Sampling (sizeLimits (sizeNumbered (a .size))) asciiClasses (a .document .now) (a .out .now) (a .work .now) (after n (m .last .1 .1 .0) (m .last .1 .1 .1 .0)))
+    (writtenNumbers (m .result)) _ (c .of-written .ensures)
+    (sampled-value (sizeNumbered (a .size)) (a .document .now) (a .out .now) (a .work .now) _ _ _ told) told
+
+pub cogarrune-sample-spec : {M : Type 1} → statement M
+cogarrune-sample-spec =
+    tie.close
+    (tie.spec
+    size-numbered-requires
+    sample-requires
+    of-written-requires
+    same-length
+    same-length-2
+    returns)
