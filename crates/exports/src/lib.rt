@@ -52,7 +52,12 @@ pub extern "C" fn cogarrune_document_reads(size: u32, document: &[u8], work: &mu
 
 // Where the name of a label stands in its table.
 #[no_mangle]
-pub extern "C" fn cogarrune_label_name(size: u32, table: &[u8], label: usize, work: &mut [u32]) -> u64
+pub extern "C" fn cogarrune_label_name(
+    size: u32,
+    table: &[u8],
+    label: usize,
+    work: &mut [u32],
+) -> u64
     ensures { λ r. ⌜ NamePlace (sizeLimits (sizeNumbered size)) asciiClasses (now (table .entry)) label (now (work .entry))
         (after (parted r) [] (now (work .exit))) ⌝ }
 {
@@ -67,7 +72,12 @@ pub extern "C" fn cogarrune_label_name(size: u32, table: &[u8], label: usize, wo
 
 // Does the table let in the document?
 #[no_mangle]
-pub extern "C" fn cogarrune_lets_in(size: u32, table: &[u8], document: &[u8], work: &mut [u32]) -> u64
+pub extern "C" fn cogarrune_lets_in(
+    size: u32,
+    table: &[u8],
+    document: &[u8],
+    work: &mut [u32],
+) -> u64
     ensures { λ r. ⌜ Membership (sizeLimits (sizeNumbered size)) asciiClasses (now (table .entry)) (now (document .entry)) (now (work .entry))
         (after (parted r) [] (now (work .exit))) ⌝ }
 {
@@ -94,7 +104,12 @@ pub extern "C" fn cogarrune_is_single_type(size: u32, table: &[u8], work: &mut [
 
 // Writes the sample table of a document.
 #[no_mangle]
-pub extern "C" fn cogarrune_sample(size: u32, document: &[u8], out: &mut [u8], work: &mut [u32]) -> u64
+pub extern "C" fn cogarrune_sample(
+    size: u32,
+    document: &[u8],
+    out: &mut [u8],
+    work: &mut [u32],
+) -> u64
     ensures { λ r. ⌜ Sampling (sizeLimits (sizeNumbered size)) asciiClasses (now (document .entry)) (now (out .entry)) (now (work .entry))
         (after (parted r) (now (out .exit)) (now (work .exit))) ⌝ }
 {

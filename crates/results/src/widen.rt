@@ -93,16 +93,7 @@ fn widen_local(
                 count,
                 kind: Kind::Local,
             };
-            told(put_result(
-                draft,
-                &mut scratch,
-                old,
-                add,
-                plan,
-                index,
-                news,
-                words,
-            ))
+            told(put_result(draft, &mut scratch, old, add, plan, index, news, words))
         }
     }
 }
@@ -141,16 +132,7 @@ fn widen_from_starts(
                 count,
                 kind: Kind::SingleType,
             };
-            told(put_result(
-                draft,
-                &mut scratch,
-                old,
-                add,
-                plan,
-                index,
-                news,
-                words,
-            ))
+            told(put_result(draft, &mut scratch, old, add, plan, index, news, words))
         }
     }
 }
@@ -177,7 +159,17 @@ fn widen_single_type(
     let starts = load_eight(words, STARTS);
     match label_sets(limits.rules, v, labels, starts, &mut words[0..SETS]) {
         Counted::TooMany => Made::TooLarge,
-        Counted::Count(first) => widen_from_starts(limits, old, add, index, union, lists, words, first, draft),
+        Counted::Count(first) => widen_from_starts(
+            limits,
+            old,
+            add,
+            index,
+            union,
+            lists,
+            words,
+            first,
+            draft,
+        ),
     }
 }
 

@@ -54,7 +54,15 @@ fn widen(
         return Written::Refused(Refusal::WorkTooShort);
     }
     let mut draft = [0u8; INPUT];
-    let made = draft_widened(limits, kind, source, old, addition, &mut work[0..words], &mut draft);
+    let made = draft_widened(
+        limits,
+        kind,
+        source,
+        old,
+        addition,
+        &mut work[0..words],
+        &mut draft,
+    );
     clear_work(limits, work);
     deliver(&draft, made, out)
 }
@@ -84,7 +92,15 @@ pub fn widen_single_type_by_table(
     ensures { λ r. ⌜ Widening (sizeLimits size) asciiClasses singleType aTable (now (old .entry)) (now (addition .entry)) (now (out .entry))
         (now (work .entry)) (after (writtenNumbers r) (now (out .exit)) (now (work .exit))) ⌝ }
 {
-    widen(size, Kind::SingleType, Source::Table, old, addition, out, work)
+    widen(
+        size,
+        Kind::SingleType,
+        Source::Table,
+        old,
+        addition,
+        out,
+        work,
+    )
 }
 
 // The least local table that lets in all that the old table lets in, and the document.
@@ -98,7 +114,15 @@ pub fn widen_local_by_document(
     ensures { λ r. ⌜ Widening (sizeLimits size) asciiClasses local aDocument (now (old .entry)) (now (document .entry)) (now (out .entry))
         (now (work .entry)) (after (writtenNumbers r) (now (out .exit)) (now (work .exit))) ⌝ }
 {
-    widen(size, Kind::Local, Source::Document, old, document, out, work)
+    widen(
+        size,
+        Kind::Local,
+        Source::Document,
+        old,
+        document,
+        out,
+        work,
+    )
 }
 
 // The least single-type table that lets in all that the old table lets in, and the document.
@@ -112,5 +136,13 @@ pub fn widen_single_type_by_document(
     ensures { λ r. ⌜ Widening (sizeLimits size) asciiClasses singleType aDocument (now (old .entry)) (now (document .entry)) (now (out .entry))
         (now (work .entry)) (after (writtenNumbers r) (now (out .exit)) (now (work .exit))) ⌝ }
 {
-    widen(size, Kind::SingleType, Source::Document, old, document, out, work)
+    widen(
+        size,
+        Kind::SingleType,
+        Source::Document,
+        old,
+        document,
+        out,
+        work,
+    )
 }

@@ -26,7 +26,7 @@ same-length : tie.Need-same-length
 same-length c = search needs
 
 returns : tie.Need-returns
-returns c = 
+returns c =
     let a = c .before .before .before .before .before .before .before .before .args in
     let m = c .before .before .before .is-single-type in
     retold (λ n. KindTest (sizeLimits (sizeNumbered (a .size))) asciiClasses singleType (a .table .now) (a .work .now) (after n [] (m .last .1 .1 .0))) (verdictNumbers (m .result)) _ (c .of-verdict .ensures)

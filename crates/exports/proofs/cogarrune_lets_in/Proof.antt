@@ -25,7 +25,7 @@ same-length : tie.Need-same-length
 same-length c = search needs
 
 returns : tie.Need-returns
-returns c = 
+returns c =
     let a = c .before .before .before .before .before .before .before .before .before .args in
     let m = c .before .before .before .lets-in in
     retold (λ n. Membership (sizeLimits (sizeNumbered (a .size))) asciiClasses (a .table .now) (a .document .now) (a .work .now) (after n [] (m .last .1 .1 .1 .0))) (verdictNumbers (m .result)) _ (c .of-verdict .ensures)

@@ -27,12 +27,12 @@ part-more-sets-start : tie.Need-part-more-sets-start
 part-more-sets-start c = search needs
 
 part-more-sets-end : tie.Need-part-more-sets-end
-part-more-sets-end c = 
+part-more-sets-end c =
     let room = c .before .before .before .before .before .before .before .before .pre .2 in
     omega arith
 
 more-sets-requires : tie.Need-more-sets-requires
-more-sets-requires c κs = 
+more-sets-requires c κs =
     let start = c .before .before .before .before .before .before .before .before .before in
     let q = start .pre .1 in
     (start .pre .0 .rules, seen-viewed (q .reduced .seen), listed-both (q .reduced .lists-are), q .few, laws.lent-room (start .args .words .now) (start .pre .2))
@@ -44,7 +44,7 @@ enum-known-count : tie.Need-enum-known-count
 enum-known-count c = search needs
 
 first-numbers-requires : tie.Need-first-numbers-requires
-first-numbers-requires c κs = 
+first-numbers-requires c κs =
     let start = c .before .before .before .before .before .before .before .before .before .before .before .before .before .before .before .before in
     let s = c .before .before .before .before .before .before .more-sets in
     let q = start .pre .1 in
@@ -60,7 +60,7 @@ slice-aggregate-put-result c = search needs
 
 put-result-requires : tie.Need-put-result-requires
 unfolding kindOf
-put-result-requires c κs = 
+put-result-requires c κs =
     let start = c .before .before .before .before .before .before .before .before .before .before .before .before .before .before .before .before .before .before .before .before .before .before in
     let counted = c .before .before .before .before .before .before .before .before .before .before .before .before .before .before .before .label-count in
     let s = c .before .before .before .before .before .before .before .before .before .before .before .before .more-sets in
@@ -87,7 +87,7 @@ same-length : tie.Need-same-length
 same-length c = search needs
 
 returns : tie.Need-returns
-returns c g h r held many = 
+returns c g h r held many =
     let start = c .before .before .before .before .before .before .before .before .before .before .before .before .before .before in
     let s = c .before .before .before .before .more-sets in
     let first-held = laws.sets-lent (start .args .words .now) (start .pre .2) held in
@@ -101,7 +101,7 @@ same-length-3 c = search needs
 
 returns-2 : tie.Need-returns-2
 unfolding kindOf
-returns-2 c g h r start-held start-many = 
+returns-2 c g h r start-held start-many =
     let start = c .before .before .before .before .before .before .before .before .before .before .before .before .before .before .before .before .before .before .before .before .before .before .before .before .before .before .before .before .before in
     let counted = c .before .before .before .before .before .before .before .before .before .before .before .before .before .before .before .before .before .before .before .before .before .before .label-count in
     let s = c .before .before .before .before .before .before .before .before .before .before .before .before .before .before .before .before .before .before .before .more-sets in

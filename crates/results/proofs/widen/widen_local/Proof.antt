@@ -26,7 +26,7 @@ add-labels : tie.Need-add-labels
 add-labels c = let few = laws.names-few (c .before .before .before .before .before .before .before .before .args .limits) (c .before .before .before .before .before .before .before .before .pre .0) (c .before .before .before .before .before .before .before .before .pre .1 .reduced) in omega (arith, few .0, few .1, c .before .label-count .ensures)
 
 load-eight-requires : tie.Need-load-eight-requires
-load-eight-requires c κs = 
+load-eight-requires c κs =
     let room = c .before .before .before .before .before .before .before .before .before .pre .2 in
     omega arith
 
@@ -37,12 +37,12 @@ part-label-sets-start : tie.Need-part-label-sets-start
 part-label-sets-start c = search needs
 
 part-label-sets-end : tie.Need-part-label-sets-end
-part-label-sets-end c = 
+part-label-sets-end c =
     let room = c .before .before .before .before .before .before .before .before .before .before .pre .2 in
     omega arith
 
 label-sets-requires : tie.Need-label-sets-requires
-label-sets-requires c κs = 
+label-sets-requires c κs =
     let start = c .before .before .before .before .before .before .before .before .before .before .before in
     let r = start .pre .1 .reduced in
     let room = start .pre .2 in (
@@ -62,7 +62,7 @@ enum-known-count : tie.Need-enum-known-count
 enum-known-count c = search needs
 
 label-numbers-requires : tie.Need-label-numbers-requires
-label-numbers-requires c κs = 
+label-numbers-requires c κs =
     let start = c .before .before .before .before .before .before .before .before .before .before .before .before .before .before .before .before .before .before in
     let loaded = c .before .before .before .before .before .before .before .before .load-eight in
     let counted = c .before .before .before .before .before .before .before .before .before .before .before .label-count in
@@ -84,7 +84,7 @@ label-numbers-requires c κs =
     )
 
 start-numbers-requires : tie.Need-start-numbers-requires
-start-numbers-requires c κs = 
+start-numbers-requires c κs =
     let start = c .before .before .before .before .before .before .before .before .before .before .before .before .before .before .before .before .before .before .before .before in
     let s = c .before .before .before .before .before .before .before .before .label-sets in
     let r = start .pre .1 .reduced in
@@ -101,7 +101,7 @@ slice-aggregate-put-result c = search needs
 
 put-result-requires : tie.Need-put-result-requires
 unfolding kindOf
-put-result-requires c κs = 
+put-result-requires c κs =
     let start = c .before .before .before .before .before .before .before .before .before .before .before .before .before .before .before .before .before .before .before .before .before .before .before .before .before .before in
     let loaded = c .before .before .before .before .before .before .before .before .before .before .before .before .before .before .before .before .load-eight in
     let counted = c .before .before .before .before .before .before .before .before .before .before .before .before .before .before .before .before .before .before .before .label-count in
@@ -126,7 +126,7 @@ same-length : tie.Need-same-length
 same-length c = search needs
 
 returns : tie.Need-returns
-returns c g h r = 
+returns c g h r =
     let loaded = c .before .before .before .before .before .before .load-eight in
     let counted = c .before .before .before .before .before .before .before .before .before .label-count in
     let s = c .before .before .before .before .label-sets in
@@ -142,7 +142,7 @@ same-length-3 c = search needs
 
 returns-2 : tie.Need-returns-2
 unfolding setsOf kindOf
-returns-2 c g h r = 
+returns-2 c g h r =
     let start = c .before .before .before .before .before .before .before .before .before .before .before .before .before .before .before .before .before .before .before .before .before .before .before .before .before .before .before .before .before .before .before .before .before in
     let loaded = c .before .before .before .before .before .before .before .before .before .before .before .before .before .before .before .before .before .before .before .before .before .before .before .load-eight in
     let counted = c .before .before .before .before .before .before .before .before .before .before .before .before .before .before .before .before .before .before .before .before .before .before .before .before .before .before .label-count in

@@ -20,7 +20,7 @@ add-labels : tie.Need-add-labels
 add-labels c = let few = laws.names-few (c .before .before .before .before .before .before .before .before .args .limits) (c .before .before .before .before .before .before .before .before .pre .0) (c .before .before .before .before .before .before .before .before .pre .1 .reduced) in omega (arith, few .0, few .1, c .before .label-count .ensures)
 
 load-eight-requires : tie.Need-load-eight-requires
-load-eight-requires c κs = 
+load-eight-requires c κs =
     let room = c .before .before .before .before .before .before .before .before .before .pre .2 in
     omega arith
 
@@ -31,12 +31,12 @@ part-label-sets-start : tie.Need-part-label-sets-start
 part-label-sets-start c = search needs
 
 part-label-sets-end : tie.Need-part-label-sets-end
-part-label-sets-end c = 
+part-label-sets-end c =
     let room = c .before .before .before .before .before .before .before .before .before .before .pre .2 in
     omega arith
 
 label-sets-requires : tie.Need-label-sets-requires
-label-sets-requires c κs = 
+label-sets-requires c κs =
     let start = c .before .before .before .before .before .before .before .before .before .before .before in
     let r = start .pre .1 .reduced in
     let room = start .pre .2 in (
@@ -56,7 +56,7 @@ enum-known-first : tie.Need-enum-known-first
 enum-known-first c = search needs
 
 widen-from-starts-requires : tie.Need-widen-from-starts-requires
-widen-from-starts-requires c κs = 
+widen-from-starts-requires c κs =
     let start = c .before .before .before .before .before .before .before .before .before .before .before .before .before .before .before .before .before .before .before in
     let q = start .pre .1 in
     let room = start .pre .2 in
@@ -84,7 +84,7 @@ same-length : tie.Need-same-length
 same-length c = search needs
 
 returns : tie.Need-returns
-returns c g h r = 
+returns c g h r =
     let n = ap (λ (k : ℕ). k + c .before .before .before .before .before .before .before .before .before .before .before .before .before .before .before .before .args .union .«new_names» .count) (c .before .before .before .before .before .before .before .before .before .label-count .ensures) ∙ laws.label-count-is (c .before .before .before .before .before .before .before .before .before .before .before .before .before .before .before .before .args .limits) (c .before .before .before .before .before .before .before .before .before .before .before .before .before .before .before .before .pre .0) r in
     let s = c .before .before .before .before .label-sets in
     laws.start-over (c .before .before .before .before .before .before .before .before .before .before .before .before .before .before .before .before .args .limits) (c .before .before .before .before .before .before .before .before .before .before .before .before .before .before .before .before .pre .0) r _ (s .result) _ (ap (λ (w : List ℕ). member w 0) (c .before .before .before .before .before .before .load-eight .ensures) ∙ r .starts-are) (s .ensures _ _ _ (r .seen .rules) n) (c .enum-told .given .1) _ _
@@ -96,7 +96,7 @@ same-length-3 : tie.Need-same-length-3
 same-length-3 c = search needs
 
 returns-2 : tie.Need-returns-2
-returns-2 c g h r = 
+returns-2 c g h r =
     let start = c .before .before .before .before .before .before .before .before .before .before .before .before .before .before .before .before .before .before .before .before .before .before .before .before in
     let room = start .pre .2 in
     let n = ap (λ (k : ℕ). k + c .before .before .before .before .before .before .before .before .before .before .before .before .before .before .before .before .before .before .before .before .before .before .before .before .args .union .«new_names» .count) (c .before .before .before .before .before .before .before .before .before .before .before .before .before .before .before .before .before .label-count .ensures) ∙ laws.label-count-is (c .before .before .before .before .before .before .before .before .before .before .before .before .before .before .before .before .before .before .before .before .before .before .before .before .args .limits) (c .before .before .before .before .before .before .before .before .before .before .before .before .before .before .before .before .before .before .before .before .before .before .before .before .pre .0) r in

@@ -20,20 +20,20 @@ unite-tables-requires c κs =
     (some-roomier (within-large within) p, some-roomier (within-large within) q)
 
 fruitful-pairs-requires : tie.Need-fruitful-pairs-requires
-fruitful-pairs-requires c κs = 
+fruitful-pairs-requires c κs =
     let (within, p, q, words, draft) = c .before .before .before .before .before .before .before .pre in
     let big = within-large within in
     (laws.seen-viewed (c .before .before .unite-tables .ensures (p .table) (q .table) (held-roomier big (p .held)) (held-roomier big (q .held))), words)
 
 fruitful-lists-requires : tie.Need-fruitful-lists-requires
-fruitful-lists-requires c κs = 
+fruitful-lists-requires c κs =
     let (within, p, q, words, draft) = c .before .before .before .before .before .before .before .before .before .before .before .pre in
     let big = within-large within in
     let seen = c .before .before .before .before .before .before .unite-tables .ensures (p .table) (q .table) (held-roomier big (p .held)) (held-roomier big (q .held)) in
     (views-sized (seen .rules), search needs)
 
 start-pairs-requires : tie.Need-start-pairs-requires
-start-pairs-requires c κs = 
+start-pairs-requires c κs =
     let (within, p, q, words, draft) = c .before .before .before .before .before .before .before .before .before .before .before .before .before .pre in
     let big = within-large within in
     let seen = c .before .before .before .before .before .before .before .before .unite-tables .ensures (p .table) (q .table) (held-roomier big (p .held)) (held-roomier big (q .held)) in
@@ -42,7 +42,7 @@ start-pairs-requires c κs =
     (laws.listed-both lists, starts-small (held-roomier big (p .held)), starts-small (held-roomier big (q .held)), search needs)
 
 load-eight-requires : tie.Need-load-eight-requires
-load-eight-requires c κs = 
+load-eight-requires c κs =
     let start = c .before .before .before .before .before .before .before .before .before .before .before .before .before .before .before .before .before in
     let (within, p, q, words, draft) = start .pre in
     let same : length (c .before .before .before .start-pairs .last .1 .1 .1 .0) ≡ length (start .args .words .now) = search needs in
@@ -65,7 +65,7 @@ returns c g h p q =
     laws.none-started (c .before .before .before .before .before .before .before .before .before .before .before .before .before .before .before .before .before .before .before .before .args .limits) (c .before .before .before .before .before .before .before .before .before .before .before .before .before .before .before .before .before .before .before .before .pre .0) p q (c .before .before .before .before .before .before .before .before .before .before .before .before .before .before .before .before .before .before .before .before .args .kind) _ are (c .before .before .load-eight .ensures) (c .before .is-empty .ensures) (c .if1 .taken)
 
 pairs-left-requires : tie.Need-pairs-left-requires
-pairs-left-requires c κs = 
+pairs-left-requires c κs =
     let (within, p, q, words, draft) = c .before .before .before .before .before .before .before .before .before .before .before .before .before .before .before .before .before .before .before .before .before .pre in
     let big = within-large within in
     let seen = c .before .before .before .before .before .before .before .before .before .before .before .before .before .before .before .before .unite-tables .ensures (p .table) (q .table) (held-roomier big (p .held)) (held-roomier big (q .held)) in
@@ -77,7 +77,7 @@ enum-told : tie.Need-enum-told
 enum-told c = search needs
 
 widen-local-requires : tie.Need-widen-local-requires
-widen-local-requires c κs = 
+widen-local-requires c κs =
     let (within, p, q, words, draft) = c .before .before .before .before .before .before .before .before .before .before .before .before .before .before .before .before .before .before .before .before .before .before .before .before .before .before .before .before .pre in
     let big = within-large within in
     let seen = c .before .before .before .before .before .before .before .before .before .before .before .before .before .before .before .before .before .before .before .before .before .before .before .unite-tables .ensures (p .table) (q .table) (held-roomier big (p .held)) (held-roomier big (q .held)) in
@@ -99,7 +99,7 @@ enum-told-2 : tie.Need-enum-told-2
 enum-told-2 c = search needs
 
 widen-single-type-requires : tie.Need-widen-single-type-requires
-widen-single-type-requires c κs = 
+widen-single-type-requires c κs =
     let (within, p, q, words, draft) = c .before .before .before .before .before .before .before .before .before .before .before .before .before .before .before .before .before .before .before .before .before .before .before .before .before .before .before .before .pre in
     let big = within-large within in
     let seen = c .before .before .before .before .before .before .before .before .before .before .before .before .before .before .before .before .before .before .before .before .before .before .before .unite-tables .ensures (p .table) (q .table) (held-roomier big (p .held)) (held-roomier big (q .held)) in

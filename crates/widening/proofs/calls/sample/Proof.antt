@@ -27,7 +27,7 @@ slice-aggregate-deliver : tie.Need-slice-aggregate-deliver
 slice-aggregate-deliver c = search needs
 
 deliver-requires : tie.Need-deliver-requires
-deliver-requires c κs = 
+deliver-requires c κs =
     let a = c .before .before .before .before .before .before .before .before .before .before .before .before .before .before .before .args in
     let d = c .before .before .before .before .before .before .before .draft-sample in
     (d .kept .1 .1 .0, drafts.fits (sampleOf (limitsOf (c .before .before .before .before .before .before .before .before .before .before .before .limits-of .result)) (a .document .now)) _ (d .result) (d .ensures))
@@ -39,7 +39,7 @@ same-length-2 : tie.Need-same-length-2
 same-length-2 c = search needs
 
 returns-2 : tie.Need-returns-2
-returns-2 c = 
+returns-2 c =
     let a = c .before .before .before .before .before .before .before .before .before .before .before .before .before .before .before .before .before .before .args in
     sampling-sized (c .before .before .before .before .before .before .before .before .before .before .before .before .before .before .limits-of .ensures .0)
     (laws.sample-answered (c .before .before .before .before .before .before .before .before .before .before .before .before .before .before .limits-of .result) (a .document .now) (a .out .now) (a .work .now) (c .before .before .before .before .before .before .before .before .before .before .before .before .if1 .left) (c .before .before .deliver .result) _ _

@@ -16,7 +16,7 @@ limits-of-requires : tie.Need-limits-of-requires
 limits-of-requires c κs = search needs
 
 returns : tie.Need-returns
-returns c = 
+returns c =
     let a = c .before .before .before .before .before .before .args in
     widening-sized (c .before .limits-of .ensures .0)
     (laws.widening-unanswered (c .before .limits-of .result) (kindOf (a .kind)) (a .source) (a .old .now) (a .addition .now) (a .out .now) (a .work .now) (c .if1 .taken))
@@ -43,7 +43,7 @@ slice-aggregate-deliver : tie.Need-slice-aggregate-deliver
 slice-aggregate-deliver c = search needs
 
 deliver-requires : tie.Need-deliver-requires
-deliver-requires c κs = 
+deliver-requires c κs =
     let a = c .before .before .before .before .before .before .before .before .before .before .before .before .before .before .before .before .before .before .args in
     let d = c .before .before .before .before .before .before .before .before .before .draft-widened in
     (d .kept .1 .1 .1 .1 .1 .1 .0, drafts.fits (widenedFrom (limitsOf (c .before .before .before .before .before .before .before .before .before .before .before .before .before .limits-of .result)) (a .source) (kindOf (a .kind)) (a .old .now) (a .addition .now)) _ (d .result) (d .ensures))
@@ -55,7 +55,7 @@ same-length-2 : tie.Need-same-length-2
 same-length-2 c = search needs
 
 returns-2 : tie.Need-returns-2
-returns-2 c = 
+returns-2 c =
     let a = c .before .before .before .before .before .before .before .before .before .before .before .before .before .before .before .before .before .before .before .before .before .args in
     let d = c .before .before .before .before .before .before .before .before .before .before .before .before .draft-widened in
     widening-sized (c .before .before .before .before .before .before .before .before .before .before .before .before .before .before .before .before .limits-of .ensures .0)

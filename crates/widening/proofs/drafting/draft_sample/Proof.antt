@@ -11,7 +11,7 @@ enum-known-readable : tie.Need-enum-known-readable
 enum-known-readable c = search needs
 
 returns : tie.Need-returns
-returns c = 
+returns c =
     let d = c .before .before .before .read-document in
     laws.document-refuses (c .before .before .before .before .before .before .args .limits) (c .before .before .before .before .before .before .args .document .now) (d .result) (d .ensures) _ _ (c .before .readable .given .1)
 
@@ -19,7 +19,7 @@ enum-told : tie.Need-enum-told
 enum-told c = search needs
 
 sample-table-requires : tie.Need-sample-table-requires
-sample-table-requires c κs = 
+sample-table-requires c κs =
     let d = c .before .before .before .read-document in
     (c .before .before .before .before .before .before .pre .0, (c .before .before .before .before .before .before .pre .1, laws.nodes-indexed (c .before .before .before .before .before .before .args .limits) (c .before .before .before .before .before .before .args .document .now) (d .result) (d .ensures) (c .before .enum-told .given .1)))
 
@@ -33,7 +33,7 @@ same-length : tie.Need-same-length
 same-length c = search needs
 
 returns-2 : tie.Need-returns-2
-returns-2 c = 
+returns-2 c =
     let a = c .before .before .before .before .before .before .before .before .before .before .before .args in
     let d = c .before .before .before .before .before .before .before .before .read-document in
     let s = c .before .before .before .before .sample-table in
@@ -43,7 +43,7 @@ same-length-2 : tie.Need-same-length-2
 same-length-2 c = search needs
 
 returns-3 : tie.Need-returns-3
-returns-3 c = 
+returns-3 c =
     let a = c .before .before .before .before .before .before .before .before .before .before .before .before .args in
     let d = c .before .before .before .before .before .before .before .before .before .read-document in
     let s = c .before .before .before .before .before .sample-table in

@@ -15,7 +15,7 @@ enum-known-readable : tie.Need-enum-known-readable
 enum-known-readable c = search needs
 
 returns : tie.Need-returns
-returns c = 
+returns c =
     let a = c .before .before .before .before .before .before .before .before .before .args in
     let t = c .before .before .before .read-table in
     laws.old-refuses (c .before .before .before .before .before .before .before .before .before .args .limits) (a .old .now) (t .result) _ (t .ensures) (λ g. widenedBy (limitsOf (c .before .before .before .before .before .before .before .before .before .args .limits)) (a .source) (kindOf (a .kind)) g (a .addition .now)) _
@@ -25,7 +25,7 @@ enum-told : tie.Need-enum-told
 enum-told c = search needs
 
 widen-read-requires : tie.Need-widen-read-requires
-widen-read-requires c κs = 
+widen-read-requires c κs =
     let a = c .before .before .before .before .before .before .before .before .before .before .before .args in
     let t = c .before .before .before .before .before .read-table in
     let (within, words, draft) = c .before .before .before .before .before .before .before .before .before .before .before .pre in
@@ -38,7 +38,7 @@ same-length-2 : tie.Need-same-length-2
 same-length-2 c = search needs
 
 returns-2 : tie.Need-returns-2
-returns-2 c = 
+returns-2 c =
     let a = c .before .before .before .before .before .before .before .before .before .before .before .before .before .before .before .before .args in
     let t = c .before .before .before .before .before .before .before .before .before .before .read-table in
     laws.old-goes-on (c .before .before .before .before .before .before .before .before .before .before .before .before .before .before .before .before .args .limits) (a .old .now) (t .result) _ (t .ensures) (λ g. widenedBy (limitsOf (c .before .before .before .before .before .before .before .before .before .before .before .before .before .before .before .before .args .limits)) (a .source) (kindOf (a .kind)) g (a .addition .now)) _

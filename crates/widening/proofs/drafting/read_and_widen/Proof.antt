@@ -14,7 +14,7 @@ enum-known-readable : tie.Need-enum-known-readable
 enum-known-readable c = search needs
 
 returns : tie.Need-returns
-returns c = 
+returns c =
     let a = c .before .before .before .before .before .before .before .before .before .args in
     let t = c .before .before .before .read-table in
     λ g held. laws.addition-refuses (c .before .before .before .before .before .before .before .before .before .args .limits) (kindOf (a .kind)) g (a .addition .now) (t .result) _ (t .ensures) _ _ (c .before .readable .given .1)
@@ -23,7 +23,7 @@ enum-told : tie.Need-enum-told
 enum-told c = search needs
 
 widen-tables-requires : tie.Need-widen-tables-requires
-widen-tables-requires c κs = 
+widen-tables-requires c κs =
     let a = c .before .before .before .before .before .before .before .before .before .before .before .args in
     let t = c .before .before .before .before .before .read-table in
     let (within, held, words, draft) = c .before .before .before .before .before .before .before .before .before .before .before .pre in
@@ -45,7 +45,7 @@ same-length-2 : tie.Need-same-length-2
 same-length-2 c = search needs
 
 returns-2 : tie.Need-returns-2
-returns-2 c = 
+returns-2 c =
     let a = c .before .before .before .before .before .before .before .before .before .before .before .before .before .before .before .before .before .before .args in
     let t = c .before .before .before .before .before .before .before .before .before .before .before .before .read-table in
     let m = c .before .before .before .before .before .before .widen-tables in
@@ -59,7 +59,7 @@ same-length-4 : tie.Need-same-length-4
 same-length-4 c = search needs
 
 returns-3 : tie.Need-returns-3
-returns-3 c = 
+returns-3 c =
     let a = c .before .before .before .before .before .before .before .before .before .before .before .before .before .before .before .before .before .before .args in
     let t = c .before .before .before .before .before .before .before .before .before .before .before .before .read-table in
     let m = c .before .before .before .before .before .before .widen-tables in
@@ -73,7 +73,7 @@ same-length-6 : tie.Need-same-length-6
 same-length-6 c = search needs
 
 returns-4 : tie.Need-returns-4
-returns-4 c = 
+returns-4 c =
     let a = c .before .before .before .before .before .before .before .before .before .before .before .before .before .before .before .before .before .before .before .args in
     let t = c .before .before .before .before .before .before .before .before .before .before .before .before .before .read-table in
     let m = c .before .before .before .before .before .before .before .widen-tables in

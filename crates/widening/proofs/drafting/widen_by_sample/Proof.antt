@@ -27,7 +27,7 @@ part-read-and-widen-start : tie.Need-part-read-and-widen-start
 part-read-and-widen-start c = search needs
 
 part-read-and-widen-end : tie.Need-part-read-and-widen-end
-part-read-and-widen-end c = 
+part-read-and-widen-end c =
     let s = c .before .before .before .before .before .draft-sample in
     laws.made-fits (sampleOf (limitsOf (c .before .before .before .before .before .before .before .before .before .before .before .args .limits)) (c .before .before .before .before .before .before .before .before .before .before .before .args .document .now)) _ (s .result) (s .ensures) _ (c .before .before .n .given .1)
 
@@ -35,7 +35,7 @@ read-and-widen-requires : tie.Need-read-and-widen-requires
 read-and-widen-requires c κs = search needs
 
 returns : tie.Need-returns
-returns c = 
+returns c =
     let a = c .before .before .before .before .before .before .before .before .before .before .args in
     let s = c .before .before .before .before .draft-sample in
     λ g held. laws.sample-refuses (c .before .before .before .before .before .before .before .before .before .before .args .limits) (kindOf (a .kind)) g (a .document .now) _ (s .result) (s .ensures) _ _ (c .before .r .given .1)
@@ -47,7 +47,7 @@ same-length-2 : tie.Need-same-length-2
 same-length-2 c = search needs
 
 returns-2 : tie.Need-returns-2
-returns-2 c = 
+returns-2 c =
     let a = c .before .before .before .before .before .before .before .before .before .before .before .before .before .before .before .before .before .before .before .args in
     let s = c .before .before .before .before .before .before .before .before .before .before .before .before .before .draft-sample in
     let m = c .before .before .before .before .read-and-widen in

@@ -27,7 +27,7 @@ same-length-2 : tie.Need-same-length-2
 same-length-2 c = search needs
 
 returns : tie.Need-returns
-returns c = 
+returns c =
     let a = c .before .before .before .before .before .before .before .before .before .before .before .before .before .args in
     let m = c .before .before .before .before .read-and-widen in
     λ g held. subst (λ (s : Source). InDraft (widenedBy (limitsOf (a .limits)) s (kindOf (a .kind)) g (a .addition .now)) (m .last .1 .1 .1 .1 .1 .1 .0) (m .result)) (sym (c .before .before .before .before .before .before .before .enum-told .given .1)) (m .ensures g held)
@@ -39,7 +39,7 @@ same-length-4 : tie.Need-same-length-4
 same-length-4 c = search needs
 
 returns-2 : tie.Need-returns-2
-returns-2 c = 
+returns-2 c =
     let a = c .before .before .before .before .before .before .before .before .before .before .before .before .before .args in
     let m = c .before .before .before .before .widen-by-sample in
     λ g held. subst (λ (s : Source). InDraft (widenedBy (limitsOf (a .limits)) s (kindOf (a .kind)) g (a .addition .now)) (m .last .1 .1 .1 .1 .1 .1 .0) (m .result)) (sym (c .before .before .before .before .before .before .before .enum-told2 .given .1)) (m .ensures g held)
