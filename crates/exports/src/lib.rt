@@ -78,7 +78,8 @@ pub extern "C" fn cogarrune_lets_in(
     document: &[u8],
     work: &mut [u32],
 ) -> u64
-    ensures { λ r. ⌜ Membership (sizeLimits (sizeNumbered size)) asciiClasses (now (table .entry)) (now (document .entry)) (now (work .entry))
+    ensures { λ r. ⌜ Membership (sizeLimits (sizeNumbered size)) asciiClasses (now (table .entry)) (now (document .entry))
+        (now (work .entry))
         (after (parted r) [] (now (work .exit))) ⌝ }
 {
     of_verdict(lets_in(size_numbered(size), table, document, work))
@@ -125,7 +126,8 @@ pub extern "C" fn cogarrune_widen_local_by_table(
     out: &mut [u8],
     work: &mut [u32],
 ) -> u64
-    ensures { λ r. ⌜ Widening (sizeLimits (sizeNumbered size)) asciiClasses local aTable (now (old .entry)) (now (addition .entry)) (now (out .entry))
+    ensures { λ r. ⌜ Widening (sizeLimits (sizeNumbered size)) asciiClasses local aTable (now (old .entry))
+        (now (addition .entry)) (now (out .entry))
         (now (work .entry))
         (after (parted r) (now (out .exit)) (now (work .exit))) ⌝ }
 {
@@ -141,7 +143,8 @@ pub extern "C" fn cogarrune_widen_local_by_document(
     out: &mut [u8],
     work: &mut [u32],
 ) -> u64
-    ensures { λ r. ⌜ Widening (sizeLimits (sizeNumbered size)) asciiClasses local aDocument (now (old .entry)) (now (document .entry)) (now (out .entry))
+    ensures { λ r. ⌜ Widening (sizeLimits (sizeNumbered size)) asciiClasses local aDocument (now (old .entry))
+        (now (document .entry)) (now (out .entry))
         (now (work .entry))
         (after (parted r) (now (out .exit)) (now (work .exit))) ⌝ }
 {
@@ -157,7 +160,8 @@ pub extern "C" fn cogarrune_widen_single_type_by_table(
     out: &mut [u8],
     work: &mut [u32],
 ) -> u64
-    ensures { λ r. ⌜ Widening (sizeLimits (sizeNumbered size)) asciiClasses singleType aTable (now (old .entry)) (now (addition .entry)) (now (out .entry))
+    ensures { λ r. ⌜ Widening (sizeLimits (sizeNumbered size)) asciiClasses singleType aTable (now (old .entry))
+        (now (addition .entry)) (now (out .entry))
         (now (work .entry))
         (after (parted r) (now (out .exit)) (now (work .exit))) ⌝ }
 {
@@ -173,7 +177,8 @@ pub extern "C" fn cogarrune_widen_single_type_by_document(
     out: &mut [u8],
     work: &mut [u32],
 ) -> u64
-    ensures { λ r. ⌜ Widening (sizeLimits (sizeNumbered size)) asciiClasses singleType aDocument (now (old .entry)) (now (document .entry))
+    ensures { λ r. ⌜ Widening (sizeLimits (sizeNumbered size)) asciiClasses singleType aDocument (now (old .entry))
+        (now (document .entry))
         (now (out .entry)) (now (work .entry))
         (after (parted r) (now (out .exit)) (now (work .exit))) ⌝ }
 {

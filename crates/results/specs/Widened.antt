@@ -56,7 +56,8 @@ madeOf Over = TooLarge
 
 -- What is known of two tables once their union is reduced: its view, its fruitful pairs by type, and in the words the start pairs, of
 -- which there is one, and the pairs that are left.
-pub record UnionReduced (lim : Limits) (old add index : List ℕ) (union : Union) (lists : TypeLists) (words : List ℕ) (g h : Table) : Type 0 where
+pub record UnionReduced (lim : Limits) (old add index : List ℕ) (union : Union)
+    (lists : TypeLists) (words : List ℕ) (g h : Table) : Type 0 where
   pub old-held : Held lim asciiClasses old index g
   pub second-within : TableWithin lim asciiClasses h
   pub seen : UnionSeen old add g h union
@@ -72,7 +73,8 @@ pub record SomeReduced (lim : Limits) (old add index : List ℕ) (union : Union)
   pub reduced : UnionReduced lim old add index union lists words first second
 
 -- and the start sets stand in the words
-pub record StartSetsHeld (lim : Limits) (old add index : List ℕ) (union : Union) (lists : TypeLists) (words : List ℕ) (count : ℕ) : Type 0 where
+pub record StartSetsHeld (lim : Limits) (old add index : List ℕ) (union : Union)
+    (lists : TypeLists) (words : List ℕ) (count : ℕ) : Type 0 where
   pub first : Table
   pub second : Table
   pub reduced : UnionReduced lim old add index union lists words first second

@@ -117,7 +117,8 @@ fn put_label(
     requires { ⌜ (at ≤ inputLimit) × (inputLimit ≤ length (now draft)) × (label < labelCount (now olds) + news .count)
         × LabelsIn (now old) (now add) (now olds) news ⌝ }
     ensures { λ r. ⌜ ((q : LabelsIn (now (old .entry)) (now (add .entry)) (now (olds .entry)) news)
-        → Puts (now (draft .entry)) at (onlyIf on (fieldBytes labelTag (getD (q .first ++ q .second) label []))) (now (draft .exit)) r) ⌝ }
+        → Puts (now (draft .entry)) at (onlyIf on (fieldBytes labelTag (getD (q .first ++ q .second) label [])))
+        (now (draft .exit)) r) ⌝ }
 {
     if on {
         return put_name(draft, at, old, add, olds, news, label);
@@ -136,7 +137,8 @@ pub fn put_labels(
 ) -> Drafted
     requires { ⌜ (inputLimit ≤ length (now draft)) × (12288 ≤ length (now words)) × LabelsIn (now old) (now add) (now olds) news ⌝ }
     ensures { λ r. ⌜ ((q : LabelsIn (now (old .entry)) (now (add .entry)) (now (olds .entry)) news)
-        → Puts (now (draft .entry)) 0 (labelsBytes (q .first ++ q .second) (setOfEightAt (now (words .entry)) usedAt)) (now (draft .exit)) r) ⌝ }
+        → Puts (now (draft .entry)) 0 (labelsBytes (q .first ++ q .second) (setOfEightAt (now (words .entry)) usedAt))
+        (now (draft .exit)) r) ⌝ }
 {
     let used = load_eight(words, USED);
     let labels = label_count(olds) + news.count;

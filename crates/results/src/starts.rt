@@ -31,7 +31,8 @@ fn put_start(draft: &mut [u8], at: usize, ty: usize, on: bool) -> Drafted
 // Writes the starts, ascending.
 pub fn put_starts(draft: &mut [u8], at: usize, words: &[u32], count: usize) -> Drafted
     requires { ⌜ (at ≤ inputLimit) × (inputLimit ≤ length (now draft)) × (12288 ≤ length (now words)) × (count ≤ 128) ⌝ }
-    ensures { λ r. ⌜ Puts (now (draft .entry)) at (startsBytes (setOfEightAt (now (words .entry)) startTypesAt) count) (now (draft .exit)) r ⌝ }
+    ensures { λ r. ⌜ Puts (now (draft .entry)) at (startsBytes (setOfEightAt (now (words .entry)) startTypesAt) count)
+        (now (draft .exit)) r ⌝ }
 {
     let starts = load_eight(words, START_TYPES);
     let mut end = at;

@@ -71,9 +71,11 @@ fn widen_local(
     words: &mut [u32],
     draft: &mut [u8],
 ) -> Made
-    requires { ⌜ (Within limits) × (SomeReduced (limitsOf limits) (now old) (now add) (now index) union lists (now words)) × (12288 ≤ length (now words))
+    requires { ⌜ (Within limits) × (SomeReduced (limitsOf limits) (now old) (now add) (now index) union lists (now words))
+        × (12288 ≤ length (now words))
         × (inputLimit ≤ length (now draft)) ⌝ }
-    ensures { λ r. ⌜ ((g h : Table) → UnionReduced (limitsOf limits) (now (old .entry)) (now (add .entry)) (now (index .entry)) union lists (now (words .entry)) g h
+    ensures { λ r. ⌜ ((g h : Table) → UnionReduced (limitsOf limits) (now (old .entry)) (now (add .entry))
+        (now (index .entry)) union lists (now (words .entry)) g h
         → Widens (limitsOf limits) local g h (now (draft .entry)) (now (draft .exit)) r) ⌝ }
 {
     let v = union.rules;
@@ -110,9 +112,11 @@ fn widen_from_starts(
     first: usize,
     draft: &mut [u8],
 ) -> Made
-    requires { ⌜ (Within limits) × (StartSetsHeld (limitsOf limits) (now old) (now add) (now index) union lists (now words) first) × (12288 ≤ length (now words))
+    requires { ⌜ (Within limits) × (StartSetsHeld (limitsOf limits) (now old) (now add) (now index) union lists (now words) first)
+        × (12288 ≤ length (now words))
         × (inputLimit ≤ length (now draft)) ⌝ }
-    ensures { λ r. ⌜ ((g h : Table) → UnionReduced (limitsOf limits) (now (old .entry)) (now (add .entry)) (now (index .entry)) union lists (now (words .entry)) g h
+    ensures { λ r. ⌜ ((g h : Table) → UnionReduced (limitsOf limits) (now (old .entry)) (now (add .entry))
+        (now (index .entry)) union lists (now (words .entry)) g h
         → SetsHeld (now (words .entry)) (labelSets (unite large g h) (isStart (unite large g h)))
         → first ≡ length (labelSets (unite large g h) (isStart (unite large g h)))
         → Widens (limitsOf limits) singleType g h (now (draft .entry)) (now (draft .exit)) r) ⌝ }
@@ -148,9 +152,11 @@ fn widen_single_type(
     words: &mut [u32],
     draft: &mut [u8],
 ) -> Made
-    requires { ⌜ (Within limits) × (SomeReduced (limitsOf limits) (now old) (now add) (now index) union lists (now words)) × (12288 ≤ length (now words))
+    requires { ⌜ (Within limits) × (SomeReduced (limitsOf limits) (now old) (now add) (now index) union lists (now words))
+        × (12288 ≤ length (now words))
         × (inputLimit ≤ length (now draft)) ⌝ }
-    ensures { λ r. ⌜ ((g h : Table) → UnionReduced (limitsOf limits) (now (old .entry)) (now (add .entry)) (now (index .entry)) union lists (now (words .entry)) g h
+    ensures { λ r. ⌜ ((g h : Table) → UnionReduced (limitsOf limits) (now (old .entry)) (now (add .entry))
+        (now (index .entry)) union lists (now (words .entry)) g h
         → Widens (limitsOf limits) singleType g h (now (draft .entry)) (now (draft .exit)) r) ⌝ }
 {
     let v = union.rules;
@@ -185,7 +191,8 @@ pub fn widen_tables(
     draft: &mut [u8],
 ) -> Made
     requires { ⌜ (Within limits) × (SomeHeld (limitsOf limits) asciiClasses (now old) (now index))
-        × (SomeHeld (limitsOf limits) asciiClasses (now add) (now addition)) × (12288 ≤ length (now words)) × (inputLimit ≤ length (now draft)) ⌝ }
+        × (SomeHeld (limitsOf limits) asciiClasses (now add) (now addition)) × (12288 ≤ length (now words))
+        × (inputLimit ≤ length (now draft)) ⌝ }
     ensures { λ r. ⌜ ((g h : Table) → Held (limitsOf limits) asciiClasses (now (old .entry)) (now (index .entry)) g
         → Held (limitsOf limits) asciiClasses (now (add .entry)) (now (addition .entry)) h
         → Widens (limitsOf limits) (kindOf kind) g h (now (draft .entry)) (now (draft .exit)) r) ⌝ }

@@ -45,7 +45,8 @@ fn widen(
     out: &mut [u8],
     work: &mut [u32],
 ) -> Written
-    ensures { λ r. ⌜ Widening (sizeLimits size) asciiClasses (kindOf kind) source (now (old .entry)) (now (addition .entry)) (now (out .entry))
+    ensures { λ r. ⌜ Widening (sizeLimits size) asciiClasses (kindOf kind) source (now (old .entry)) (now (addition .entry))
+        (now (out .entry))
         (now (work .entry)) (after (writtenNumbers r) (now (out .exit)) (now (work .exit))) ⌝ }
 {
     let limits = limits_of(size);
@@ -89,7 +90,8 @@ pub fn widen_single_type_by_table(
     out: &mut [u8],
     work: &mut [u32],
 ) -> Written
-    ensures { λ r. ⌜ Widening (sizeLimits size) asciiClasses singleType aTable (now (old .entry)) (now (addition .entry)) (now (out .entry))
+    ensures { λ r. ⌜ Widening (sizeLimits size) asciiClasses singleType aTable (now (old .entry)) (now (addition .entry))
+        (now (out .entry))
         (now (work .entry)) (after (writtenNumbers r) (now (out .exit)) (now (work .exit))) ⌝ }
 {
     widen(
@@ -133,7 +135,8 @@ pub fn widen_single_type_by_document(
     out: &mut [u8],
     work: &mut [u32],
 ) -> Written
-    ensures { λ r. ⌜ Widening (sizeLimits size) asciiClasses singleType aDocument (now (old .entry)) (now (document .entry)) (now (out .entry))
+    ensures { λ r. ⌜ Widening (sizeLimits size) asciiClasses singleType aDocument (now (old .entry)) (now (document .entry))
+        (now (out .entry))
         (now (work .entry)) (after (writtenNumbers r) (now (out .exit)) (now (work .exit))) ⌝ }
 {
     widen(

@@ -69,7 +69,8 @@ fn read_and_widen(
     words: &mut [u32],
     draft: &mut [u8],
 ) -> Written
-    requires { ⌜ (Within limits) × (SomeHeld (limitsOf limits) asciiClasses (now old) (now index)) × (12288 ≤ length (now words)) × (inputLimit ≤ length (now draft)) ⌝ }
+    requires { ⌜ (Within limits) × (SomeHeld (limitsOf limits) asciiClasses (now old) (now index)) × (12288 ≤ length (now words))
+        × (inputLimit ≤ length (now draft)) ⌝ }
     ensures { λ r. ⌜ ((g : Table) → Held (limitsOf limits) asciiClasses (now (old .entry)) (now (index .entry)) g
         → InDraft (widenedBy (limitsOf limits) aTable (kindOf kind) g (now (addition .entry))) (now (draft .exit)) r) ⌝ }
 {
@@ -111,7 +112,8 @@ fn widen_by_sample(
     words: &mut [u32],
     draft: &mut [u8],
 ) -> Written
-    requires { ⌜ (Within limits) × (SomeHeld (limitsOf limits) asciiClasses (now old) (now index)) × (12288 ≤ length (now words)) × (inputLimit ≤ length (now draft)) ⌝ }
+    requires { ⌜ (Within limits) × (SomeHeld (limitsOf limits) asciiClasses (now old) (now index)) × (12288 ≤ length (now words))
+        × (inputLimit ≤ length (now draft)) ⌝ }
     ensures { λ r. ⌜ ((g : Table) → Held (limitsOf limits) asciiClasses (now (old .entry)) (now (index .entry)) g
         → InDraft (widenedBy (limitsOf limits) aDocument (kindOf kind) g (now (document .entry))) (now (draft .exit)) r) ⌝ }
 {
@@ -133,7 +135,8 @@ fn widen_read(
     words: &mut [u32],
     draft: &mut [u8],
 ) -> Written
-    requires { ⌜ (Within limits) × (SomeHeld (limitsOf limits) asciiClasses (now old) (now index)) × (12288 ≤ length (now words)) × (inputLimit ≤ length (now draft)) ⌝ }
+    requires { ⌜ (Within limits) × (SomeHeld (limitsOf limits) asciiClasses (now old) (now index)) × (12288 ≤ length (now words))
+        × (inputLimit ≤ length (now draft)) ⌝ }
     ensures { λ r. ⌜ ((g : Table) → Held (limitsOf limits) asciiClasses (now (old .entry)) (now (index .entry)) g
         → InDraft (widenedBy (limitsOf limits) source (kindOf kind) g (now (addition .entry))) (now (draft .exit)) r) ⌝ }
 {
@@ -154,7 +157,8 @@ pub fn draft_widened(
     draft: &mut [u8],
 ) -> Written
     requires { ⌜ (Within limits) × (12288 ≤ length (now words)) × (inputLimit ≤ length (now draft)) ⌝ }
-    ensures { λ r. ⌜ InDraft (widenedFrom (limitsOf limits) source (kindOf kind) (now (old .entry)) (now (addition .entry))) (now (draft .exit)) r ⌝ }
+    ensures { λ r. ⌜ InDraft (widenedFrom (limitsOf limits) source (kindOf kind) (now (old .entry)) (now (addition .entry)))
+        (now (draft .exit)) r ⌝ }
 {
     let mut index = [0u16; INDEX];
     let readable = read_table(limits, old, &mut index);
