@@ -1,4 +1,3 @@
-pub mod CountedRoomier
 pub mod KeptLists
 pub mod LabelLaws
 pub mod LocalBySets

@@ -30,9 +30,9 @@ use Rattle.theory.proofs.lists.BoolLaws.{or-left}
 use Rattle.theory.proofs.lists.ListLaws.{numbers-below, numbers-length}
 use Rattle.theory.proofs.bytes.NumberedTable.{Numbered, finished-numbered}
 use Rattle.theory.proofs.bytes.FormsNumbered.{form-numbered}
+use Rattle.theory.proofs.tables.RoomierLimits.{counted-roomier}
 use Rattle.forms.specs.SetForms.{ruleBySet, tableBySets, pairsWithin, localSets, localTable, singleTypeSets, singleTypeTable}
 use Rattle.forms.proofs.UnionFit.{UnionFit}
-use Rattle.forms.proofs.CountedRoomier.{counted-roomier}
 use Rattle.forms.proofs.SetsFound.{SetOfLabel}
 use Rattle.forms.proofs.TablesBySets.{FormOfSets}
 use Rattle.forms.proofs.SingleTypeBySets.{single-type-set, single-form, single-by-sets}

@@ -26,7 +26,7 @@ sizeNumbered n =
 abbrev pub limitsOf : SizeLimits → Limits
 limitsOf l = limitsFor (l .rules) (l .nodes) (l .levels) (l .words)
 
--- None of the four is above that of the largest size, and the words are as many as the smallest has.
+-- No more rules, nodes and levels than the largest size has, and at least as many words as the smallest.
 pub record Within (l : SizeLimits) : Type 0 where
   pub rules : l .rules ≤ 128
   pub nodes : l .nodes ≤ 2048

@@ -12,7 +12,6 @@ use lib.ListN.{
   set,
   replicate,
   length-append,
-  length-drop,
   length-replicate,
   replicate-append-replicate,
   drop-of-length-le,
@@ -64,15 +63,8 @@ module _ (lim : Limits) (work : List ℕ) where
       ∙ ap (λ (k : ℕ). replicate k 0 ++ drop k work) e
       ∙ work-cleared (omega arith)
 
--- the words after a call has used those that it needs: as many as before
-pub used-length : (n : ℕ) (work front : List ℕ) → n ≤ length work → length front ≡ n → length (front ++ drop n work) ≡ length work
-used-length n work front h size =
-    let rest = length-append front (drop n work) in
-    let left = length-drop n work in
-    omega arith
-
 -- what a call does with the words that it needs is cleared away
-pub cleared-after : (lim : Limits) (work front : List ℕ) → lim .words ≤ length work → length front ≡ lim .words
+cleared-after : (lim : Limits) (work front : List ℕ) → lim .words ≤ length work → length front ≡ lim .words
     → workAfter lim (front ++ drop (lim .words) work) ≡ workAfter lim work
 cleared-after lim work front h size =
     let rest = length-append front (drop (lim .words) work) in
@@ -80,3 +72,11 @@ cleared-after lim work front h size =
     ∙ ap (λ (l : List ℕ). replicate (lim .words) 0 ++ l)
     (ap (λ (k : ℕ). drop k (front ++ drop (lim .words) work)) (sym size) ∙ drop-append-seam front (drop (lim .words) work))
     ∙ work-cleared lim work h
+
+-- the front of the working memory is lent, and then cleared
+pub lent-cleared : (lim : Limits) (work front : List ℕ) (n : ℕ) → n ≡ lim .words → lim .words ≤ length work
+    → length front ≡ length (take n work)
+    → workAfter lim (front ++ drop n work) ≡ workAfter lim work
+lent-cleared lim work front n e h size =
+    ap (λ (k : ℕ). workAfter lim (front ++ drop k work)) e
+    ∙ cleared-after lim work front h (size ∙ ap (λ (k : ℕ). length (take k work)) e ∙ length-take-le (lim .words) work h)

@@ -8,6 +8,5 @@ pub mod KidLaws
 pub mod SequenceLaws
 pub mod FlatLaws
 pub mod RuleLaws
-pub mod SampleSize
 pub mod SampleWritten
 pub mod SampleIndexed

@@ -12,18 +12,18 @@ use lib.Dec.{eqb}
 use lib.ListN.{length, length-map, getD, take, drop}
 use lib.Seq.{length-take-le, getD-take}
 use Rattle.grammar.specs.Lists.{keep, distinct, place, joinedOf, numbersFrom, numbersBelow}
-use Rattle.grammar.specs.Limits.{standard, large}
+use Rattle.grammar.specs.Limits.{large}
 use Rattle.grammar.specs.LimitSets.{limitsOf}
 use Rattle.grammar.specs.Names.{Name, sameName}
 use Rattle.grammar.specs.Content.{Content, choiceOf}
 use Rattle.grammar.specs.ReadContent.{sameContent}
-use Rattle.grammar.specs.Outcome.{refused}
+use Rattle.grammar.specs.Outcome.{given, refused}
 use Rattle.grammar.specs.Tree.{Tree}
 use Rattle.grammar.specs.Table.{Rule, Table}
 use Rattle.grammar.specs.Fields.{fieldBytes}
 use Rattle.grammar.specs.ReadDocument.{Node}
 use Rattle.grammar.specs.WriteTable.{ruleBytes, tableBytes}
-use Rattle.grammar.specs.Size.{contentTooLarge}
+use Rattle.grammar.specs.Size.{contentTooLarge, tooLarge}
 use Rattle.grammar.specs.Sample.{sample, sequenceOf}
 use Rattle.grammar.specs.Widen.{sampleTable}
 use Rattle.grammar.specs.declared.Refusal.the-variants.{ResultTooLarge}
@@ -49,6 +49,7 @@ use Rattle.writer.specs.declared.writing.Drafted.{Drafted}
 use Rattle.writer.specs.declared.writing.Drafted.the-variants.{Length, TooLarge}
 use Rattle.sampling.specs.SampleContents.{kidTypes, sequenceIn, sequencesAmong}
 use Rattle.writer.specs.Tables.{ruleField, rulesBytes, TablePut}
+use Rattle.writer.proofs.TableSize.{size-over, size-fits, types-over, content-over, bytes-over, all-fit}
 use Rattle.sampling.specs.SampleTable.{contentIn, ruleIn, labelField, startBytes, SampleHeld, SampleReady, NodesHeld, RulesHeld, SampleDrafted}
 use Rattle.sampling.specs.SampleNodes.{
   KeyAt,
@@ -72,7 +73,6 @@ use Rattle.sampling.specs.SampleNodes.{
 }
 use Rattle.sampling.proofs.NumberingLaws.{place-agree}
 use Rattle.sampling.proofs.SampleByNodes.{sample-nodes, kids-count}
-use Rattle.sampling.proofs.SampleSize.{types-over, content-over, bytes-over, all-fit}
 
 -- lists by places
 taken-at : (l : List ℕ) (c : ℕ) → c ≤ length l → take c l ≡ map (λ (t : ℕ). getD l t 0) (numbersBelow c)
@@ -154,9 +154,18 @@ module _ {s names sizes parents types firsts : List ℕ} {n count : ℕ} (q : Sa
   sample-is : sample d ≡ sampleOfNodes ns d
   sample-is = sample-nodes ns (q .whole .one) (q .whole .enough) d (q .whole .is-tree)
 
+  -- the sample is given if a file can hold it
+  too-large : (limits : SizeLimits) → tooLarge (limitsOf limits) (sample d) ≡ true → sampleTable (limitsOf limits) d ≡ refused ResultTooLarge
+  unfolding sampleTable
+  too-large limits e = size-over limits (sample d) e
+
+  fitting : (limits : SizeLimits) → tooLarge (limitsOf limits) (sample d) ≡ false → sampleTable (limitsOf limits) d ≡ given (sample d)
+  unfolding sampleTable
+  fitting limits e = size-fits limits (sample d) e
+
   -- too many types
   pub sample-wide : (limits : SizeLimits) → limits .rules < count → sampleTable (limitsOf limits) d ≡ refused ResultTooLarge
-  sample-wide limits h = let m = rules-many in types-over (limitsOf limits) d (omega arith)
+  sample-wide limits h = let m = rules-many in too-large limits (types-over limits (sample d) (omega arith))
 
   module _ {labels lfirsts : List ℕ} {lcount : ℕ} (l : LabelledTo s names sizes firsts labels lfirsts lcount count) (held : lcount ≤ length lfirsts) where
     labels-distinct : distinct (sameNameIn s names sizes) (take count firsts) ≡ labelNodes ns d
@@ -234,16 +243,16 @@ module _ {s names sizes parents types firsts : List ℕ} {n count : ℕ} (q : Sa
     -- The limits of a content are the same for all sizes.
     pub sample-drafted : (limits : SizeLimits) → count ≤ limits .rules → (before after : List ℕ) (r : Drafted)
         → TablePut before 0 rule count bytes after r → SampleDrafted (limitsOf limits) d before after r
-    unfolding contentTooLarge standard large
     sample-drafted limits few before after (Length m) (p, small, fits) =
         let e = table-same in
         let long : m ≡ length (tableBytes (sample d)) = p .next-is ∙ (let z : 0 + length bytes ≡ length bytes = omega arith in z) ∙ ap length e in
         let k = rules-many in (
-          all-fit (limitsOf limits) d (omega arith)
+          fitting limits
+              (all-fit limits (sample d) (omega arith)
               (λ r m.
               let (t, h, f) = from-sample r m in
-              subst (λ (z : Rule). contentTooLarge (limitsOf limits) (z .content) ≡ false) f (fits t h))
-              (omega arith),
+              subst (λ (z : Rule). contentTooLarge large (z .content) ≡ false) f (fits t h))
+              (omega arith)),
           p .is ∙ ap (λ (x : List ℕ). x ++ drop m before) e,
           long,
           small,
@@ -251,8 +260,8 @@ module _ {s names sizes parents types firsts : List ℕ} {n count : ℕ} (q : Sa
     sample-drafted limits few before after TooLarge o =
         let e = ap length table-same in
         ⊎-elim
-        (λ x. content-over (limitsOf limits) d (in-sample (x .0) (x .1)) (x .2))
-        (λ x. bytes-over (limitsOf limits) d (omega arith))
+        (λ x. too-large limits (content-over limits (sample d) (in-sample (x .0) (x .1)) (x .2)))
+        (λ x. too-large limits (bytes-over limits (sample d) (omega arith)))
         o
 
 -- what the writing asks of the arrays

@@ -1,8 +1,7 @@
 -- Sets in words, as tests on numbers. Main statements: `member-put` (putting k in adds k and nothing else), `words-stored`,
 -- `stored-kept` (what is laid down stands there, the words around it are kept), `words-before`, `words-after` (words stay where those
--- around them stay), `store-set`, `store-kept`, `set-before`, `set-after` (the same of sets of four words), `member-words` (a set
--- that is taken out has the members it had), `member-zeros`, `member-union`, and `words-differ` (different words of 32 bits have
--- different members).
+-- around them stay), `member-words` (a set that is taken out has the members it had), `member-zeros`, `member-union`, and
+-- `words-differ` (different words of 32 bits have different members).
 use Prim.Native.Nat.{ℕ, zero, suc, _+_, _*_, _-_, _/_, _%_, _^_, _≤_, _<_}
 use mathlib.Core.Bool.{Bool, true, false, _||_, or-comm}
 use mathlib.Core.List.{List, [], _∷_, _++_}
@@ -32,7 +31,6 @@ use Rattle.sets.specs.Sets.{
   member,
   putAt,
   wordsAt,
-  setAt,
   setOfEightAt,
   storeAt,
   unionOf,
@@ -202,28 +200,8 @@ module _ (words : List ℕ) (base n : ℕ) (set after : List ℕ) (room : base +
         back = ap (drop (base + n)) stored ∙ drop-store words base set (base + n) (omega arith) (omega arith);
       }
 
--- ---- sets of four words
+-- ---- sets of eight words
 
-pub set-before : (before after : List ℕ) (n other : ℕ) → take n after ≡ take n before → other + 4 ≤ n
-    → setAt after other ≡ setAt before other
-set-before before after n other e h = ap (λ (w : List ℕ). member w 0) (words-before before after n other 4 e h)
-
-pub set-after : (before after : List ℕ) (n other : ℕ) → drop n after ≡ drop n before → n ≤ other → setAt after other ≡ setAt before other
-set-after before after n other e h = ap (λ (w : List ℕ). member w 0) (words-after before after n other 4 e h)
-
-module _ (words : List ℕ) (base : ℕ) (set after : List ℕ) (room : base + 4 ≤ length words) (four : length set ≡ 4)
-    (stored : after ≡ storeAt words base set) where
-  pub store-set : setAt after base ≡ member set 0
-  store-set = ap (λ (w : List ℕ). member w 0) (words-stored words base 4 set after room four stored)
-
-  pub store-kept : OthersKept base words after
-  store-kept = stored-kept words base 4 set after room four stored
-
-pub kept-before : {base : ℕ} {before after : List ℕ} → OthersKept base before after → (other : ℕ) → other + 4 ≤ base
-    → setAt after other ≡ setAt before other
-kept-before {base} {before} {after} k other h = set-before before after base other (k .front) h
-
--- the same of sets of eight words
 pub eight-before : {base n : ℕ} {before after : List ℕ} → KeptAround base n before after → (other : ℕ) → other + 8 ≤ base
     → setOfEightAt after other ≡ setOfEightAt before other
 eight-before {base} {n} {before} {after} k other h =

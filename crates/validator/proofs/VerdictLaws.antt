@@ -1,10 +1,9 @@
 -- The public calls of the validator, case by case: too few working words; a table or a document that is refused; the test itself.
 use Prim.Native.Nat.{ℕ, _≤_, _<_}
 use mathlib.Core.Bool.{Bool}
-use mathlib.Core.List.{List, [], _++_}
+use mathlib.Core.List.{List, []}
 use mathlib.Core.Path.{_≡_, sym, _∙_, ap}
-use lib.ListN.{length, take, drop}
-use lib.Seq.{length-take-le}
+use lib.ListN.{length}
 use Rattle.grammar.specs.Limits.{Limits, NoneAbove, large}
 use Rattle.grammar.specs.Names.{asciiClasses}
 use Rattle.grammar.specs.Table.{Table}
@@ -32,7 +31,6 @@ use Rattle.reader.specs.TableIndex.{Reads}
 use Rattle.reader.specs.declared.documents.DocumentRead.{DocumentRead}
 use Rattle.reader.specs.Held.{Held}
 use Rattle.reader.proofs.CallLaws.{left-as, left-short}
-use Rattle.reader.proofs.WorkLaws.{cleared-after}
 use Rattle.reader.proofs.DocumentTrees.{complete}
 use Rattle.reader.proofs.DocumentAnswers.{document-tree, nodes-read, document-unread}
 use Rattle.reader.proofs.TableFoundLaws.{TableFound, table-found, table-refused, held-roomier}
@@ -50,14 +48,6 @@ module _ (lim : Limits) (o : Outcome Bool) (work : List ℕ) where
       → answer ≡ verdict same → after (verdictNumbers answer) [] left ≡ answered lim bit o work
   so-answered same e left w answer a =
       left-as lim bit o work (verdictNumbers answer) left (ap verdictNumbers a ∙ verdict-numbers same ∙ ap (numbersOf bit) (sym e)) w
-
--- the front of the working memory is lent, and then cleared
-pub lent-cleared : (lim : Limits) (work front : List ℕ) (n : ℕ) → n ≡ lim .words → lim .words ≤ length work
-    → length front ≡ length (take n work)
-    → workAfter lim (front ++ drop n work) ≡ workAfter lim work
-lent-cleared lim work front n e h size =
-    ap (λ (k : ℕ). workAfter lim (front ++ drop k work)) e
-    ∙ cleared-after lim work front h (size ∙ ap (λ (k : ℕ). length (take k work)) e ∙ length-take-le (lim .words) work h)
 
 -- letting in
 module _ (lim : Limits) (table document : List ℕ) where

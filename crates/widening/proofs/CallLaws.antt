@@ -1,9 +1,8 @@
 -- The public calls that write, case by case: too few working words, or what was made in the draft handed over.
 use Prim.Native.Nat.{ℕ, _≤_, _<_}
-use mathlib.Core.List.{List, _++_}
+use mathlib.Core.List.{List}
 use mathlib.Core.Path.{_≡_, refl, sym, _∙_, ap}
-use lib.ListN.{length, take, drop}
-use lib.Seq.{length-take-le}
+use lib.ListN.{length}
 use Rattle.grammar.specs.Limits.{Limits}
 use Rattle.grammar.specs.LimitSets.{limitsOf}
 use Rattle.grammar.specs.declared.SizeLimits.{SizeLimits}
@@ -37,7 +36,7 @@ use Rattle.theory.proofs.bytes.NumberedTable.{sized-agree}
 use Rattle.theory.proofs.theorems.AnswerNumbers.{written-numbers}
 use Rattle.theory.proofs.theorems.CallPromises.{lent-short, lent-enough, sampling, widening}
 use Rattle.reader.proofs.AnswerLaws.{both-then-last}
-use Rattle.reader.proofs.WorkLaws.{work-kept, cleared-after}
+use Rattle.reader.proofs.WorkLaws.{work-kept}
 use Rattle.widening.specs.Drafting.{sampleOf, widenedBy, widenedFrom, HandedOver}
 
 module _ (l : SizeLimits) where
@@ -65,13 +64,6 @@ module _ (l : SizeLimits) where
         → after (writtenNumbers answer) left workLeft ≡ wrote lim o out work
     left-handed table e answer left workLeft d w =
         left-as answer left workLeft (d .0 ∙ sym (ap written e)) (d .1 ∙ sym (ap (λ (x : Outcome (List ℕ)). outAfter x out) e)) w
-
-  -- the front of the working memory is lent, and then cleared
-  pub front-cleared : (work front : List ℕ) (n : ℕ) → n ≡ lim .words → lim .words ≤ length work → length front ≡ length (take n work)
-      → workAfter lim (front ++ drop n work) ≡ workAfter lim work
-  front-cleared work front n e h size =
-      ap (λ (k : ℕ). workAfter lim (front ++ drop k work)) e
-      ∙ cleared-after lim work front h (size ∙ ap (λ (k : ℕ). length (take k work)) e ∙ length-take-le (lim .words) work h)
 
   -- steps in a row, and the last of them apart
   then-last : {A B C : Type 0} (x : Outcome A) (f : A → Outcome B) (k : B → Outcome C) → (x >>= λ a. (f a >>= k)) ≡ ((x >>= f) >>= k)

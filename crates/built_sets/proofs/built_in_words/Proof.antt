@@ -6,7 +6,7 @@ use native.Mathlib.Omega.{arith}
 use borrow.Author.Needs.{needs}
 use lib.ListN.{length, take, drop, replicate}
 use Rattle.sets.specs.Sets.{putAll, wordsAt, storeAt, AllBelow, HasJust, OthersKept}
-use Rattle.sets.proofs.SetLaws.{length-store, words-store, store-kept}
+use Rattle.sets.proofs.SetLaws.{length-store, words-store, stored-kept}
 use Rattle.sets.proofs.BuiltSets.{in-words-has-just, put-all-front, put-all-back}
 use Rattle.built_sets.specs.Remainders.{remainders}
 use Rattle.built_sets.proofs.RemainderLaws.{remainders-below}
@@ -28,7 +28,7 @@ module _ (words none numbers : List ℕ) (base : ℕ) (room : base + 4 ≤ lengt
 
   others : OthersKept base words after
   others =
-      let kept = store-kept words base none emptied room four stored in
+      let kept = stored-kept words base 4 none emptied room four stored in
       record {
         front = ap (take base) put ∙ put-all-front emptied base numbers ∙ kept .front;
         back = ap (drop (base + 4)) put ∙ put-all-back emptied base 4 numbers below ∙ kept .back;

@@ -1,5 +1,6 @@
 -- What is within some limits is within all that are nowhere below them:
 --     proper-roomier, are-proper-roomier    of a proper content, of proper operands
+--     counted-roomier                       of a counted content
 --     content-roomier, rule-roomier, table-roomier, document-roomier    of what a file holds
 -- Limits that are nowhere above others:
 --     none-above-self                       themselves
@@ -34,6 +35,7 @@ use Rattle.grammar.specs.Table.{Rule, Table}
 use Rattle.grammar.specs.ReadContent.{isProper, areProper}
 use Rattle.grammar.specs.ReadDocument.{Node}
 use Rattle.grammar.specs.WithinLimits.{NameWithin, ContentWithin, RuleWithin, TableWithin, NodeWithin, DocumentWithin}
+use Rattle.theory.specs.Conditions.{Counted, AllCounted}
 use Rattle.theory.proofs.lists.BoolLaws.{and-left, and-right, and-intro}
 use Rattle.theory.proofs.contents.ProperContents.{proper-operands}
 
@@ -68,6 +70,21 @@ module _ {lim lim′ : Limits} (none-above : NoneAbove lim lim′) where
         and-intro (isProper lim′ c) (areProper lim′ cs)
         (proper-roomier c (and-left (isProper lim c) (areProper lim cs) e))
         (are-proper-roomier cs (and-right (isProper lim c) (areProper lim cs) e))
+
+  mutual
+    pub counted-roomier : (c : Content) → Counted lim c → Counted lim′ c
+    counted-roomier none h = tt
+    counted-roomier empty h = tt
+    counted-roomier (type k) h = tt
+    counted-roomier (sequence cs) h = (h .0, le-trans (h .1) (none-above .operands), all-counted-roomier cs (h .2))
+    counted-roomier (choice cs) h = (h .0, all-counted-roomier cs (h .1))
+    counted-roomier (anyNumber c) h = counted-roomier c h
+    counted-roomier (oneOrMore c) h = counted-roomier c h
+    counted-roomier (optional c) h = counted-roomier c h
+
+    all-counted-roomier : (cs : Contents) → AllCounted lim cs → AllCounted lim′ cs
+    all-counted-roomier []ᶜ h = tt
+    all-counted-roomier (c ∷ᶜ cs) h = (counted-roomier c (h .0), all-counted-roomier cs (h .1))
 
   name-roomier : {classes : Classes} {n : Name} → NameWithin lim classes n → NameWithin lim′ classes n
   name-roomier within = record { rule = within .rule; size = le-trans (within .size) (none-above .name) }

@@ -5,6 +5,7 @@ use mathlib.Core.Path.{_∙_}
 use borrow.Author.Needs.{needs}
 use Rattle.grammar.specs.LimitSets.{limitsOf}
 use Rattle.theory.proofs.theorems.SizedPromises.{membership-sized}
+use Rattle.reader.proofs.WorkLaws.{lent-cleared}
 use Rattle.validator.proofs.VerdictLaws as laws
 use Rattle.validator.proofs.calls.lets_in.Statement.{statement}
 use Rattle.validator.proofs.calls.lets_in.Tie as tie
@@ -16,7 +17,7 @@ returns-2 : tie.Need-returns-2
 returns-2 c =
     membership-sized (c .before .before .before .before .before .before .before .before .before .before .limits-of .ensures .0)
     (laws.lets-in-answered (limitsOf (c .before .before .before .before .before .before .before .before .before .before .limits-of .result)) (c .before .before .before .before .before .before .before .before .before .before .before .before .before .before .args .table .now) (c .before .before .before .before .before .before .before .before .before .before .before .before .before .before .args .document .now) (c .before .before .before .before .before .before .before .before .before .before .before .before .before .before .args .work .now) (c .before .before .before .before .before .before .before .before .if1 .left) _
-    (c .before .before .clear-work .ensures ∙ laws.lent-cleared (limitsOf (c .before .before .before .before .before .before .before .before .before .before .limits-of .result)) (c .before .before .before .before .before .before .before .before .before .before .before .before .before .before .args .work .now) (c .before .before .before .before .before .before .read-and-decide .last .1 .1 .1 .0) (c .before .before .before .before .before .before .before .before .before .before .limits-of .result .words - 0) (omega arith) (c .before .before .before .before .before .before .before .before .if1 .left) (c .before .before .before .before .before .before .read-and-decide .kept .1 .1 .1 .0))
+    (c .before .before .clear-work .ensures ∙ lent-cleared (limitsOf (c .before .before .before .before .before .before .before .before .before .before .limits-of .result)) (c .before .before .before .before .before .before .before .before .before .before .before .before .before .before .args .work .now) (c .before .before .before .before .before .before .read-and-decide .last .1 .1 .1 .0) (c .before .before .before .before .before .before .before .before .before .before .limits-of .result .words - 0) (omega arith) (c .before .before .before .before .before .before .before .before .if1 .left) (c .before .before .before .before .before .before .read-and-decide .kept .1 .1 .1 .0))
     (c .before .before .before .before .before .before .read-and-decide .result) (c .before .before .before .before .before .before .read-and-decide .ensures))
 
 pub lets-in-spec : {M : Type 1} → statement M

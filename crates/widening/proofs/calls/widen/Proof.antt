@@ -4,6 +4,7 @@ use native.Mathlib.Omega.{arith}
 use mathlib.Core.Path.{_∙_}
 use Rattle.results.specs.Widened.{kindOf}
 use Rattle.widening.specs.Drafting.{widenedFrom}
+use Rattle.reader.proofs.WorkLaws.{lent-cleared}
 use Rattle.widening.proofs.CallLaws as laws
 use Rattle.widening.proofs.DraftLaws as drafts
 use Rattle.grammar.specs.LimitSets.{limitsOf}
@@ -61,7 +62,7 @@ returns-2 c =
     widening-sized (c .before .before .before .before .before .before .before .before .before .before .before .before .before .before .before .before .limits-of .ensures .0)
     (laws.widening-answered (c .before .before .before .before .before .before .before .before .before .before .before .before .before .before .before .before .limits-of .result) (kindOf (a .kind)) (a .source) (a .old .now) (a .addition .now) (a .out .now) (a .work .now) (c .before .before .before .before .before .before .before .before .before .before .before .before .before .before .before .if1 .left) (c .before .before .deliver .result) _ _
     (c .before .before .deliver .ensures (widenedFrom (limitsOf (c .before .before .before .before .before .before .before .before .before .before .before .before .before .before .before .before .limits-of .result)) (a .source) (kindOf (a .kind)) (a .old .now) (a .addition .now)) (d .ensures))
-    (c .before .before .before .before .before .before .before .clear-work .ensures ∙ laws.front-cleared (c .before .before .before .before .before .before .before .before .before .before .before .before .before .before .before .before .limits-of .result) (a .work .now) (d .last .1 .1 .1 .1 .1 .0) (c .before .before .before .before .before .before .before .before .before .before .before .before .before .before .before .before .limits-of .result .words - 0) (omega arith) (c .before .before .before .before .before .before .before .before .before .before .before .before .before .before .before .if1 .left) (d .kept .1 .1 .1 .1 .1 .0)))
+    (c .before .before .before .before .before .before .before .clear-work .ensures ∙ lent-cleared (limitsOf (c .before .before .before .before .before .before .before .before .before .before .before .before .before .before .before .before .limits-of .result)) (a .work .now) (d .last .1 .1 .1 .1 .1 .0) (c .before .before .before .before .before .before .before .before .before .before .before .before .before .before .before .before .limits-of .result .words - 0) (omega arith) (c .before .before .before .before .before .before .before .before .before .before .before .before .before .before .before .if1 .left) (d .kept .1 .1 .1 .1 .1 .0)))
 
 pub widen-spec : {M : Type 1} → statement M
 widen-spec =
