@@ -1,15 +1,15 @@
 /* Cogarrune: schema tables for card lists, as verified software. The calls of crates/exports for C.
  *
  * Link target/staticlib/libexports.a (`rt staticlib exports`). The library has no state, allocates nothing, and calls nothing but memcpy,
- * memmove and memset. It may be used from several threads as long as no lent slice is shared between them. A call takes up to
+ * memmove and memset. It may be used from several threads as long as they share no `out` and no `work`. A call takes up to
  * COGARRUNE_STACK_BYTES bytes of stack.
  *
  * Slices. Each is a pointer and a length; a length counts bytes for `uint8_t` and words for `uint32_t`. A pointer must be good for
- * its length: to read for inputs, to read and write for `out` and `work`. With length 0 it must still not be null. `out` and `work`
- * overlap nothing else. Inputs may have any bytes and any length.
+ * its length: to read for classes and inputs, to read and write for `out` and `work`. With length 0 it must still not be null. `out` and
+ * `work` overlap nothing else. Classes and inputs may have any bytes and any length.
  *
  * Sizes. Every call picks one of three sets of limits by its first argument. Any other number counts as COGARRUNE_STANDARD. What reads
- * at one size reads at every larger one.
+ * at one size reads, under the same classes, at every larger one.
  *
  *     size                  rules, labels, starts, types   nodes   levels   working words
  *     COGARRUNE_SMALL                                 16     256       16          12,288
@@ -18,11 +18,21 @@
  *
  * Type numbers run below the limit on types. A table that is written keeps the limits of its call, so it reads at the same size.
  *
- * Working memory. Every call is lent `work`, of at least as many words as its size needs, with any content. Afterwards just these words
- * are zero, and words beyond are as they came. With fewer words the call answers refusal 1 and changes none.
+ * Classes. Every call is lent, after its size, a class for each byte from 00 to FF in order: 0 if the byte is never in a name, 1 if it is
+ * not first in one, 2 if it stands anywhere. All names of the call's inputs are read under them. A table that is written has no names but
+ * those of the inputs, so it reads under the same classes. Classes load if
+ *     - there are 256, each is 0, 1 or 2, and at least one is 2;
+ *     - bytes 00 to 20 (hexadecimal) and ( ) | , * + ? ! < > / = have class 0.
+ * Every other byte may have any class, also # " & and 7F to FF. Classes that do not load are refusal 18, whatever the inputs are.
+ * COGARRUNE_ASCII_CLASSES, below, load.
  *
- * Answers. Every answer is one number: refusal x 2^32 + value. The refusal is 0, or the first fault of the list below that the
- * input has; the value is then 0, and nothing is written to `out`.
+ * Working memory. Every call is lent `work`, of at least as many words as its size needs, with any content. Afterwards just these words
+ * are zero, with every refusal too (18 included), and words beyond are as they came. With fewer words the call answers refusal 1 and
+ * changes none.
+ *
+ * Answers. Every answer is one number: refusal x 2^32 + value. The refusal is 0, or the first fault found; then the value is 0, and
+ * nothing is written to `out`. First 1 is tried, then 18, then the inputs one after the other: 2, and field by field, front to back, 3 to
+ * 12. After the inputs come a caller's label number (8), then 13, 14 and 15. So the order is no longer that of the numbers.
  */
 #ifndef COGARRUNE_H
 #define COGARRUNE_H
@@ -48,13 +58,36 @@ enum cogarrune_size { COGARRUNE_SMALL = 0, COGARRUNE_STANDARD = 1, COGARRUNE_LAR
 /* No input is longer, and no table written. An output of this many bytes is never too short. */
 #define COGARRUNE_MOST_BYTES 32768
 
+/* The classes of plain ASCII names: letters and _ anywhere, digits, - and . not first, no other byte. They load. To lend them:
+ *     static const uint8_t classes[256] = COGARRUNE_ASCII_CLASSES; */
+#define COGARRUNE_ASCII_CLASSES                                             \
+    {                                                                       \
+        0, 0, 0, 0, 0, 0, 0, 0, 0, 0, 0, 0, 0, 0, 0, 0, /* 00 */            \
+        0, 0, 0, 0, 0, 0, 0, 0, 0, 0, 0, 0, 0, 0, 0, 0, /* 10 */            \
+        0, 0, 0, 0, 0, 0, 0, 0, 0, 0, 0, 0, 0, 1, 1, 0, /* 20: - . */       \
+        1, 1, 1, 1, 1, 1, 1, 1, 1, 1, 0, 0, 0, 0, 0, 0, /* 30: 0 to 9 */    \
+        0, 2, 2, 2, 2, 2, 2, 2, 2, 2, 2, 2, 2, 2, 2, 2, /* 40: A to O */    \
+        2, 2, 2, 2, 2, 2, 2, 2, 2, 2, 2, 0, 0, 0, 0, 2, /* 50: P to Z, _ */ \
+        0, 2, 2, 2, 2, 2, 2, 2, 2, 2, 2, 2, 2, 2, 2, 2, /* 60: a to o */    \
+        2, 2, 2, 2, 2, 2, 2, 2, 2, 2, 2, 0, 0, 0, 0, 0, /* 70: p to z */    \
+        0, 0, 0, 0, 0, 0, 0, 0, 0, 0, 0, 0, 0, 0, 0, 0, /* 80 */            \
+        0, 0, 0, 0, 0, 0, 0, 0, 0, 0, 0, 0, 0, 0, 0, 0, /* 90 */            \
+        0, 0, 0, 0, 0, 0, 0, 0, 0, 0, 0, 0, 0, 0, 0, 0, /* A0 */            \
+        0, 0, 0, 0, 0, 0, 0, 0, 0, 0, 0, 0, 0, 0, 0, 0, /* B0 */            \
+        0, 0, 0, 0, 0, 0, 0, 0, 0, 0, 0, 0, 0, 0, 0, 0, /* C0 */            \
+        0, 0, 0, 0, 0, 0, 0, 0, 0, 0, 0, 0, 0, 0, 0, 0, /* D0 */            \
+        0, 0, 0, 0, 0, 0, 0, 0, 0, 0, 0, 0, 0, 0, 0, 0, /* E0 */            \
+        0, 0, 0, 0, 0, 0, 0, 0, 0, 0, 0, 0, 0, 0, 0, 0  /* F0 */            \
+    }
+
 /* Why a call turned its input back, in the order in which the reasons are tried. */
 enum cogarrune_refusal {
     COGARRUNE_WORK_TOO_SHORT = 1,    /* fewer words are lent than the size needs */
+    COGARRUNE_BAD_CLASSES = 18,      /* the classes do not load */
     COGARRUNE_INPUT_TOO_LONG = 2,    /* an input is longer than 32,768 bytes */
     COGARRUNE_FIELD_PAST_END = 3,    /* a field runs past the input's end, or the input stops before an end field */
     COGARRUNE_BAD_FIELD = 4,         /* a tag is foreign or out of order, or its length is not one of its own */
-    COGARRUNE_BAD_NAME = 5,          /* a name breaks the name rule */
+    COGARRUNE_BAD_NAME = 5,          /* a name has a byte of class 0, or its first byte is not of class 2 */
     COGARRUNE_REPEATED = 6,          /* a label name or a start type repeats an earlier one */
     COGARRUNE_TOO_MANY = 7,          /* a label, start or rule more than the size allows */
     COGARRUNE_OUT_OF_RANGE = 8,      /* a start or rule type not below the size's limit, or a label number not among the labels */
@@ -81,44 +114,48 @@ static inline size_t cogarrune_words_of(uint32_t size) {
 }
 
 /* Does a table read? Value 1. */
-uint64_t cogarrune_table_reads(uint32_t size, const uint8_t *table, size_t table_length, uint32_t *work, size_t work_length);
+uint64_t cogarrune_table_reads(uint32_t size, const uint8_t *classes, size_t classes_length, const uint8_t *table, size_t table_length,
+                               uint32_t *work, size_t work_length);
 
 /* Does a document read? Value 1. */
-uint64_t cogarrune_document_reads(uint32_t size, const uint8_t *document, size_t document_length, uint32_t *work, size_t work_length);
+uint64_t cogarrune_document_reads(uint32_t size, const uint8_t *classes, size_t classes_length, const uint8_t *document,
+                                  size_t document_length, uint32_t *work, size_t work_length);
 
 /* The name of a label, counted from 0, as a part of the table's own bytes. Value: offset x 65,536 + length. */
-uint64_t cogarrune_label_name(uint32_t size, const uint8_t *table, size_t table_length, size_t label, uint32_t *work,
-                              size_t work_length);
+uint64_t cogarrune_label_name(uint32_t size, const uint8_t *classes, size_t classes_length, const uint8_t *table, size_t table_length,
+                              size_t label, uint32_t *work, size_t work_length);
 
 /* Does the table let in the document? Value 1 for yes, 0 for no. A name that the table does not know means no. */
-uint64_t cogarrune_lets_in(uint32_t size, const uint8_t *table, size_t table_length, const uint8_t *document, size_t document_length,
-                           uint32_t *work, size_t work_length);
+uint64_t cogarrune_lets_in(uint32_t size, const uint8_t *classes, size_t classes_length, const uint8_t *table, size_t table_length,
+                           const uint8_t *document, size_t document_length, uint32_t *work, size_t work_length);
 
 /* Is the table local: has no label two rules? Value 1 for yes, 0 for no. */
-uint64_t cogarrune_is_local(uint32_t size, const uint8_t *table, size_t table_length, uint32_t *work, size_t work_length);
+uint64_t cogarrune_is_local(uint32_t size, const uint8_t *classes, size_t classes_length, const uint8_t *table, size_t table_length,
+                            uint32_t *work, size_t work_length);
 
 /* Is the table single-type: neither among its starts nor within one content do two types have rules with one label, and no two
  * rules share type and label? Value 1 for yes, 0 for no. */
-uint64_t cogarrune_is_single_type(uint32_t size, const uint8_t *table, size_t table_length, uint32_t *work, size_t work_length);
+uint64_t cogarrune_is_single_type(uint32_t size, const uint8_t *classes, size_t classes_length, const uint8_t *table,
+                                  size_t table_length, uint32_t *work, size_t work_length);
 
 /* Writes the sample table of a document. Value: how many bytes of `out` it takes; bytes past them stay as they came. */
-uint64_t cogarrune_sample(uint32_t size, const uint8_t *document, size_t document_length, uint8_t *out, size_t out_length,
-                          uint32_t *work, size_t work_length);
+uint64_t cogarrune_sample(uint32_t size, const uint8_t *classes, size_t classes_length, const uint8_t *document, size_t document_length,
+                          uint8_t *out, size_t out_length, uint32_t *work, size_t work_length);
 
 /* Writes the least local (or single-type) table that lets in all that the old table and the addition let in. Value as for
  * cogarrune_sample. A document is added through its sample; the result is least over the old table and that one document. */
-uint64_t cogarrune_widen_local_by_table(uint32_t size, const uint8_t *old, size_t old_length, const uint8_t *addition,
-                                        size_t addition_length, uint8_t *out, size_t out_length, uint32_t *work,
-                                        size_t work_length);
-uint64_t cogarrune_widen_local_by_document(uint32_t size, const uint8_t *old, size_t old_length, const uint8_t *document,
-                                           size_t document_length, uint8_t *out, size_t out_length, uint32_t *work,
-                                           size_t work_length);
-uint64_t cogarrune_widen_single_type_by_table(uint32_t size, const uint8_t *old, size_t old_length, const uint8_t *addition,
-                                              size_t addition_length, uint8_t *out, size_t out_length, uint32_t *work,
-                                              size_t work_length);
-uint64_t cogarrune_widen_single_type_by_document(uint32_t size, const uint8_t *old, size_t old_length, const uint8_t *document,
-                                                 size_t document_length, uint8_t *out, size_t out_length, uint32_t *work,
-                                                 size_t work_length);
+uint64_t cogarrune_widen_local_by_table(uint32_t size, const uint8_t *classes, size_t classes_length, const uint8_t *old,
+                                        size_t old_length, const uint8_t *addition, size_t addition_length, uint8_t *out,
+                                        size_t out_length, uint32_t *work, size_t work_length);
+uint64_t cogarrune_widen_local_by_document(uint32_t size, const uint8_t *classes, size_t classes_length, const uint8_t *old,
+                                           size_t old_length, const uint8_t *document, size_t document_length, uint8_t *out,
+                                           size_t out_length, uint32_t *work, size_t work_length);
+uint64_t cogarrune_widen_single_type_by_table(uint32_t size, const uint8_t *classes, size_t classes_length, const uint8_t *old,
+                                              size_t old_length, const uint8_t *addition, size_t addition_length, uint8_t *out,
+                                              size_t out_length, uint32_t *work, size_t work_length);
+uint64_t cogarrune_widen_single_type_by_document(uint32_t size, const uint8_t *classes, size_t classes_length, const uint8_t *old,
+                                                 size_t old_length, const uint8_t *document, size_t document_length, uint8_t *out,
+                                                 size_t out_length, uint32_t *work, size_t work_length);
 
 #ifdef __cplusplus
 }

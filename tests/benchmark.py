@@ -15,6 +15,7 @@ import argparse, itertools, pathlib, re, resource, subprocess, sys, tempfile
 ROOT = pathlib.Path(__file__).resolve().parent.parent
 LETS_IN, LOCAL, SINGLE_TYPE = 4, 8, 10
 OUTPUT = 32768
+ASCII_CLASSES = 0xFFFFFFFF
 STANDARD, LARGE = 1, 2
 WORDS = {STANDARD: 16384, LARGE: 32768}
 
@@ -131,7 +132,7 @@ def case(size, call, first, second):
     """A case as tests/second_validator/README.md lays it down."""
     number = lambda n: n.to_bytes(4, "big")
     part = lambda b: number(len(b)) + b
-    lent = number(WORDS[size]) + number(0) + number(0 if call == LETS_IN else OUTPUT)
+    lent = number(ASCII_CLASSES) + number(WORDS[size]) + number(0) + number(0 if call == LETS_IN else OUTPUT)
     return bytes([call]) + number(size) + lent + number(0) + part(first) + part(second)
 
 

@@ -2,8 +2,9 @@
 """The written meaning against the second validator: cases of every call, computed by the checker itself.
 
 Takes cases with small inputs and enough working words (so not refusals 1 and 2) from the second validator's generator, at the three
-sizes, writes each as an equation between grammar's definition of the call, over the limits of the size, and the second validator's answer,
-and has the checker compute them, in a copy of crates/grammar. Not part of the gate.
+sizes, under document 01's classes and others, writes each as an equation between grammar's definition of the call, over the limits of
+the size and the classes, and the second validator's answer, and has the checker compute them, in a copy of crates/grammar. Not part of
+the gate.
 
     python3 tests/definitions_agree.py [--seed N] [--most BYTES] [--each N]
 """
@@ -13,9 +14,11 @@ ROOT = pathlib.Path(__file__).resolve().parent.parent
 sys.path.insert(0, str(ROOT / "tests/second_validator"))
 sys.dont_write_bytecode = True
 import generate  # noqa: E402
+import reference  # noqa: E402
 
-REFUSALS = """WorkTooShort InputTooLong FieldPastEnd BadField BadName Repeated TooMany OutOfRange BadContent NestedTooDeep BadTree
-BytesAfterEnd NoDocument ResultTooLarge OutputTooShort""".split()
+REFUSALS = dict(enumerate("""WorkTooShort InputTooLong FieldPastEnd BadField BadName Repeated TooMany OutOfRange BadContent NestedTooDeep
+BadTree BytesAfterEnd NoDocument ResultTooLarge OutputTooShort""".split(), 1))
+REFUSALS[18] = "BadClasses"
 HEAD = """use Prim.Native.Nat.{ℕ}
 use mathlib.Core.Bool.{true, false}
 use mathlib.Core.List.{List, [], _∷_}
@@ -38,7 +41,7 @@ standardWork = replicate 16384 0
 
 largeWork : List ℕ
 largeWork = replicate 32768 0
-""" % ", ".join(REFUSALS)
+""" % ", ".join(REFUSALS.values())
 LIMITS = ("small", "standard", "large")
 DECISIONS = {4: ("tableLetsIn", ""), 5: ("tableIsOfKind", "local "), 6: ("tableIsOfKind", "singleType ")}
 WIDENINGS = {8: "local aTable", 9: "local aDocument", 10: "singleType aTable", 11: "singleType aDocument"}
@@ -60,8 +63,9 @@ def equation(case, refusal, value):
     """The definition that the equation computes, and the equation."""
     call, a, b, lent = case.call, numbers(case.first), numbers(case.second), f"(replicate {case.out_len} 0)"
     limits = LIMITS[case.size]
-    fixed, work = f"{limits} asciiClasses", f"{limits}Work"
-    refused = f"refused {REFUSALS[refusal - 1]}"
+    classes = "asciiClasses" if case.classes == reference.ASCII else numbers(case.classes)
+    fixed, work = f"{limits} {classes}", f"{limits}Work"
+    refused = f"refused {REFUSALS.get(refusal)}"
     if call in (1, 2):
         name = "tableReads" if call == 1 else "documentReads"
         return name, f"numberAfter ({name} {fixed} {a} {work}) ≡ {refusal}"
@@ -79,14 +83,15 @@ def equation(case, refusal, value):
 
 
 def chosen(folder, most, each, seed):
-    """Up to `each` small cases of each call, size and refusal, ten times as many that were not refused."""
+    """Up to `each` small cases of each call, size, sort of classes and refusal, ten times as many that were not refused."""
     sorts = {}
     for case, refusal, value in cases(folder):
         enough = case.size in generate.SIZES and case.work_len >= generate.limits_of(case).words
         if enough and len(case.first) + len(case.second) <= most:
-            sorts.setdefault((case.call, case.size, refusal), []).append((case, refusal, value))
+            own = case.classes != reference.ASCII
+            sorts.setdefault((case.call, case.size, own, refusal), []).append((case, refusal, value))
     pick = random.Random(seed)
-    for (_, _, refusal), found in sorted(sorts.items()):
+    for (_, _, _, refusal), found in sorted(sorts.items()):
         pick.shuffle(found)
         yield from found[: each * (1 if refusal else 10)]
 

@@ -12,6 +12,9 @@
 static uint8_t table[COGARRUNE_MOST_BYTES + 1], document[COGARRUNE_MOST_BYTES + 1];
 static uint32_t work[COGARRUNE_WORDS_STANDARD];
 
+/* Which bytes names have. Other letters, say bytes above 7F, are other classes. */
+static const uint8_t classes[256] = COGARRUNE_ASCII_CLASSES;
+
 /* The bytes of a file; a file that cannot be read counts as no bytes. */
 static size_t read_file(const char *path, uint8_t *bytes) {
     FILE *file = fopen(path, "rb");
@@ -28,7 +31,7 @@ int main(int count, char **arguments) {
     }
     size_t table_length = read_file(arguments[1], table);
     size_t document_length = read_file(arguments[2], document);
-    uint64_t answer = cogarrune_lets_in(COGARRUNE_STANDARD, table, table_length, document, document_length, work,
+    uint64_t answer = cogarrune_lets_in(COGARRUNE_STANDARD, classes, sizeof classes, table, table_length, document, document_length, work,
                                         COGARRUNE_WORDS_STANDARD);
     if (cogarrune_refusal_of(answer) != 0) {
         printf("refused %u\n", cogarrune_refusal_of(answer));

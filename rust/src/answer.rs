@@ -2,19 +2,21 @@
 
 use std::fmt;
 
-/// Why a call turned its input back, in the order in which the reasons are tried.
+/// Why a call turned its input back, in the order in which the reasons are tried. It is not that of the numbers.
 #[derive(Clone, Copy, Debug, PartialEq, Eq, Hash)]
 #[repr(u8)]
 pub enum Refusal {
     /// Fewer words are lent than the [`Size`](crate::Size) needs.
     WorkTooShort = 1,
+    /// The classes do not load; the answer of [`Classes::load`](crate::Classes::load) alone.
+    BadClasses = 18,
     /// An input is longer than 32,768 bytes.
-    InputTooLong,
+    InputTooLong = 2,
     /// A field runs past the input's end, or the input stops before an end field.
     FieldPastEnd,
     /// A tag is foreign to this file or out of order, or its length is not one of its own.
     BadField,
-    /// A name breaks the name rule.
+    /// A name has a byte of class 0, or its first byte is not of class 2.
     BadName,
     /// A label name or a start type repeats an earlier one of its table.
     Repeated,
@@ -38,9 +40,10 @@ pub enum Refusal {
     OutputTooShort,
 }
 
-/// The refusals by their numbers, from 1.
-const REFUSALS: [Refusal; 15] = [
+/// All refusals.
+const REFUSALS: [Refusal; 16] = [
     Refusal::WorkTooShort,
+    Refusal::BadClasses,
     Refusal::InputTooLong,
     Refusal::FieldPastEnd,
     Refusal::BadField,
@@ -58,15 +61,16 @@ const REFUSALS: [Refusal; 15] = [
 ];
 
 impl Refusal {
-    /// The number of the refusal, 1 to 15.
+    /// The number of the refusal: 1 to 15, or 18.
     pub fn number(self) -> u8 {
         self as u8
     }
 
     /// The refusal of a number.
     pub fn from_number(number: u64) -> Option<Refusal> {
-        let place = usize::try_from(number).ok()?.checked_sub(1)?;
-        REFUSALS.get(place).copied()
+        REFUSALS
+            .into_iter()
+            .find(|refusal| u64::from(refusal.number()) == number)
     }
 }
 

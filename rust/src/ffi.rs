@@ -8,6 +8,8 @@ mod archive {
     extern "C" {
         pub fn cogarrune_table_reads(
             size: u32,
+            classes: *const u8,
+            classes_length: usize,
             table: *const u8,
             table_length: usize,
             work: *mut u32,
@@ -15,6 +17,8 @@ mod archive {
         ) -> u64;
         pub fn cogarrune_document_reads(
             size: u32,
+            classes: *const u8,
+            classes_length: usize,
             document: *const u8,
             document_length: usize,
             work: *mut u32,
@@ -22,6 +26,8 @@ mod archive {
         ) -> u64;
         pub fn cogarrune_label_name(
             size: u32,
+            classes: *const u8,
+            classes_length: usize,
             table: *const u8,
             table_length: usize,
             label: usize,
@@ -30,6 +36,8 @@ mod archive {
         ) -> u64;
         pub fn cogarrune_lets_in(
             size: u32,
+            classes: *const u8,
+            classes_length: usize,
             table: *const u8,
             table_length: usize,
             document: *const u8,
@@ -39,6 +47,8 @@ mod archive {
         ) -> u64;
         pub fn cogarrune_is_local(
             size: u32,
+            classes: *const u8,
+            classes_length: usize,
             table: *const u8,
             table_length: usize,
             work: *mut u32,
@@ -46,6 +56,8 @@ mod archive {
         ) -> u64;
         pub fn cogarrune_is_single_type(
             size: u32,
+            classes: *const u8,
+            classes_length: usize,
             table: *const u8,
             table_length: usize,
             work: *mut u32,
@@ -53,6 +65,8 @@ mod archive {
         ) -> u64;
         pub fn cogarrune_sample(
             size: u32,
+            classes: *const u8,
+            classes_length: usize,
             document: *const u8,
             document_length: usize,
             out: *mut u8,
@@ -62,6 +76,8 @@ mod archive {
         ) -> u64;
         pub fn cogarrune_widen_local_by_table(
             size: u32,
+            classes: *const u8,
+            classes_length: usize,
             old: *const u8,
             old_length: usize,
             addition: *const u8,
@@ -73,6 +89,8 @@ mod archive {
         ) -> u64;
         pub fn cogarrune_widen_local_by_document(
             size: u32,
+            classes: *const u8,
+            classes_length: usize,
             old: *const u8,
             old_length: usize,
             document: *const u8,
@@ -84,6 +102,8 @@ mod archive {
         ) -> u64;
         pub fn cogarrune_widen_single_type_by_table(
             size: u32,
+            classes: *const u8,
+            classes_length: usize,
             old: *const u8,
             old_length: usize,
             addition: *const u8,
@@ -95,6 +115,8 @@ mod archive {
         ) -> u64;
         pub fn cogarrune_widen_single_type_by_document(
             size: u32,
+            classes: *const u8,
+            classes_length: usize,
             old: *const u8,
             old_length: usize,
             document: *const u8,
@@ -108,19 +130,34 @@ mod archive {
 }
 
 /// A call on one input.
-type OneInput = unsafe extern "C" fn(u32, *const u8, usize, *mut u32, usize) -> u64;
+type OneInput = unsafe extern "C" fn(u32, *const u8, usize, *const u8, usize, *mut u32, usize) -> u64;
 
 /// A call on two inputs.
-type TwoInputs = unsafe extern "C" fn(u32, *const u8, usize, *const u8, usize, *mut u32, usize) -> u64;
+type TwoInputs =
+    unsafe extern "C" fn(u32, *const u8, usize, *const u8, usize, *const u8, usize, *mut u32, usize) -> u64;
 
 /// A call that widens.
-type Widening = unsafe extern "C" fn(u32, *const u8, usize, *const u8, usize, *mut u8, usize, *mut u32, usize) -> u64;
+type Widening = unsafe extern "C" fn(
+    u32,
+    *const u8,
+    usize,
+    *const u8,
+    usize,
+    *const u8,
+    usize,
+    *mut u8,
+    usize,
+    *mut u32,
+    usize,
+) -> u64;
 
-fn one_input(call: OneInput, size: Size, input: &[u8], work: &mut [u32]) -> u64 {
-    // SAFETY: both pointers come from slices of these lengths, and no two of the slices overlap.
+fn one_input(call: OneInput, size: Size, classes: &[u8], input: &[u8], work: &mut [u32]) -> u64 {
+    // SAFETY: all pointers come from slices of these lengths, and `work` overlaps no other of them.
     unsafe {
         call(
             size.number(),
+            classes.as_ptr(),
+            classes.len(),
             input.as_ptr(),
             input.len(),
             work.as_mut_ptr(),
@@ -129,11 +166,13 @@ fn one_input(call: OneInput, size: Size, input: &[u8], work: &mut [u32]) -> u64 
     }
 }
 
-fn two_inputs(call: TwoInputs, size: Size, first: &[u8], second: &[u8], work: &mut [u32]) -> u64 {
-    // SAFETY: as above; the two inputs are only read.
+fn two_inputs(call: TwoInputs, size: Size, classes: &[u8], first: &[u8], second: &[u8], work: &mut [u32]) -> u64 {
+    // SAFETY: as above; classes and inputs are only read.
     unsafe {
         call(
             size.number(),
+            classes.as_ptr(),
+            classes.len(),
             first.as_ptr(),
             first.len(),
             second.as_ptr(),
@@ -144,19 +183,21 @@ fn two_inputs(call: TwoInputs, size: Size, first: &[u8], second: &[u8], work: &m
     }
 }
 
-pub fn table_reads(size: Size, table: &[u8], work: &mut [u32]) -> u64 {
-    one_input(archive::cogarrune_table_reads, size, table, work)
+pub fn table_reads(size: Size, classes: &[u8], table: &[u8], work: &mut [u32]) -> u64 {
+    one_input(archive::cogarrune_table_reads, size, classes, table, work)
 }
 
-pub fn document_reads(size: Size, document: &[u8], work: &mut [u32]) -> u64 {
-    one_input(archive::cogarrune_document_reads, size, document, work)
+pub fn document_reads(size: Size, classes: &[u8], document: &[u8], work: &mut [u32]) -> u64 {
+    one_input(archive::cogarrune_document_reads, size, classes, document, work)
 }
 
-pub fn label_name(size: Size, table: &[u8], label: usize, work: &mut [u32]) -> u64 {
+pub fn label_name(size: Size, classes: &[u8], table: &[u8], label: usize, work: &mut [u32]) -> u64 {
     // SAFETY: as above.
     unsafe {
         archive::cogarrune_label_name(
             size.number(),
+            classes.as_ptr(),
+            classes.len(),
             table.as_ptr(),
             table.len(),
             label,
@@ -166,23 +207,25 @@ pub fn label_name(size: Size, table: &[u8], label: usize, work: &mut [u32]) -> u
     }
 }
 
-pub fn lets_in(size: Size, table: &[u8], document: &[u8], work: &mut [u32]) -> u64 {
-    two_inputs(archive::cogarrune_lets_in, size, table, document, work)
+pub fn lets_in(size: Size, classes: &[u8], table: &[u8], document: &[u8], work: &mut [u32]) -> u64 {
+    two_inputs(archive::cogarrune_lets_in, size, classes, table, document, work)
 }
 
-pub fn is_local(size: Size, table: &[u8], work: &mut [u32]) -> u64 {
-    one_input(archive::cogarrune_is_local, size, table, work)
+pub fn is_local(size: Size, classes: &[u8], table: &[u8], work: &mut [u32]) -> u64 {
+    one_input(archive::cogarrune_is_local, size, classes, table, work)
 }
 
-pub fn is_single_type(size: Size, table: &[u8], work: &mut [u32]) -> u64 {
-    one_input(archive::cogarrune_is_single_type, size, table, work)
+pub fn is_single_type(size: Size, classes: &[u8], table: &[u8], work: &mut [u32]) -> u64 {
+    one_input(archive::cogarrune_is_single_type, size, classes, table, work)
 }
 
-pub fn sample(size: Size, document: &[u8], out: &mut [u8], work: &mut [u32]) -> u64 {
-    // SAFETY: as above; `out` is written within its length.
+pub fn sample(size: Size, classes: &[u8], document: &[u8], out: &mut [u8], work: &mut [u32]) -> u64 {
+    // SAFETY: as above; `out` overlaps no other slice either, and is written within its length.
     unsafe {
         archive::cogarrune_sample(
             size.number(),
+            classes.as_ptr(),
+            classes.len(),
             document.as_ptr(),
             document.len(),
             out.as_mut_ptr(),
@@ -193,11 +236,21 @@ pub fn sample(size: Size, document: &[u8], out: &mut [u8], work: &mut [u32]) -> 
     }
 }
 
-fn widen(call: Widening, size: Size, old: &[u8], added: &[u8], out: &mut [u8], work: &mut [u32]) -> u64 {
+fn widen(
+    call: Widening,
+    size: Size,
+    classes: &[u8],
+    old: &[u8],
+    added: &[u8],
+    out: &mut [u8],
+    work: &mut [u32],
+) -> u64 {
     // SAFETY: as above.
     unsafe {
         call(
             size.number(),
+            classes.as_ptr(),
+            classes.len(),
             old.as_ptr(),
             old.len(),
             added.as_ptr(),
@@ -210,25 +263,18 @@ fn widen(call: Widening, size: Size, old: &[u8], added: &[u8], out: &mut [u8], w
     }
 }
 
-pub fn widen_local_by_table(size: Size, old: &[u8], addition: &[u8], out: &mut [u8], work: &mut [u32]) -> u64 {
-    widen(archive::cogarrune_widen_local_by_table, size, old, addition, out, work)
-}
-
-pub fn widen_local_by_document(size: Size, old: &[u8], document: &[u8], out: &mut [u8], work: &mut [u32]) -> u64 {
+pub fn widen_local_by_table(
+    size: Size,
+    classes: &[u8],
+    old: &[u8],
+    addition: &[u8],
+    out: &mut [u8],
+    work: &mut [u32],
+) -> u64 {
     widen(
-        archive::cogarrune_widen_local_by_document,
+        archive::cogarrune_widen_local_by_table,
         size,
-        old,
-        document,
-        out,
-        work,
-    )
-}
-
-pub fn widen_single_type_by_table(size: Size, old: &[u8], addition: &[u8], out: &mut [u8], work: &mut [u32]) -> u64 {
-    widen(
-        archive::cogarrune_widen_single_type_by_table,
-        size,
+        classes,
         old,
         addition,
         out,
@@ -236,10 +282,56 @@ pub fn widen_single_type_by_table(size: Size, old: &[u8], addition: &[u8], out: 
     )
 }
 
-pub fn widen_single_type_by_document(size: Size, old: &[u8], document: &[u8], out: &mut [u8], work: &mut [u32]) -> u64 {
+pub fn widen_local_by_document(
+    size: Size,
+    classes: &[u8],
+    old: &[u8],
+    document: &[u8],
+    out: &mut [u8],
+    work: &mut [u32],
+) -> u64 {
+    widen(
+        archive::cogarrune_widen_local_by_document,
+        size,
+        classes,
+        old,
+        document,
+        out,
+        work,
+    )
+}
+
+pub fn widen_single_type_by_table(
+    size: Size,
+    classes: &[u8],
+    old: &[u8],
+    addition: &[u8],
+    out: &mut [u8],
+    work: &mut [u32],
+) -> u64 {
+    widen(
+        archive::cogarrune_widen_single_type_by_table,
+        size,
+        classes,
+        old,
+        addition,
+        out,
+        work,
+    )
+}
+
+pub fn widen_single_type_by_document(
+    size: Size,
+    classes: &[u8],
+    old: &[u8],
+    document: &[u8],
+    out: &mut [u8],
+    work: &mut [u32],
+) -> u64 {
     widen(
         archive::cogarrune_widen_single_type_by_document,
         size,
+        classes,
         old,
         document,
         out,

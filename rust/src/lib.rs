@@ -1,24 +1,27 @@
 //! Schema tables for card lists: a safe wrapper over the verified library (crate `exports` of this repository).
 //!
-//! A call picks its limits by a [`Size`], takes its inputs as bytes and is lent working memory of as many words as the size needs
-//! ([`Size::words`]), with any content. Afterwards those words are zero, and words beyond them are as they came.
+//! A call picks its limits by a [`Size`], is lent the [`Classes`] of the bytes in names, takes its inputs as bytes and is lent working
+//! memory of as many words as the size needs ([`Size::words`]), with any content. Afterwards those words are zero, and words beyond them
+//! are as they came.
 //!
 //! ```
-//! use cogarrune::{lets_in, new_work, Size, Verdict};
+//! use cogarrune::{lets_in, new_work, Classes, Size, Verdict};
 //!
 //! let table = [0x10, 0, 1, b'a', 0x11, 0, 1, 0, 0x12, 0, 3, 0, 0, 1, 0x1F, 0, 0];
 //! let document = [0x30, 0, 2, 0, b'a', 0x3F, 0, 0];
 //! let mut work = new_work(Size::Standard);
-//! assert_eq!(lets_in(Size::Standard, &table, &document, &mut work), Ok(Verdict::Yes));
+//! assert_eq!(lets_in(Size::Standard, &Classes::ASCII, &table, &document, &mut work), Ok(Verdict::Yes));
 //! ```
 #![deny(unsafe_code)]
 
 mod answer;
+mod classes;
 mod ffi;
 mod size;
 
 use answer::{value_of, verdict_of};
 pub use answer::{Refusal, Verdict};
+pub use classes::Classes;
 pub use size::Size;
 
 /// No input is longer, and no table written: an output of this many bytes is never too short.
@@ -30,83 +33,115 @@ pub fn new_work(size: Size) -> Vec<u32> {
 }
 
 /// Does a table read?
-pub fn table_reads(size: Size, table: &[u8], work: &mut [u32]) -> Result<(), Refusal> {
-    value_of(ffi::table_reads(size, table, work)).map(|_| ())
+pub fn table_reads(size: Size, classes: &Classes, table: &[u8], work: &mut [u32]) -> Result<(), Refusal> {
+    value_of(ffi::table_reads(size, classes.as_bytes(), table, work)).map(|_| ())
 }
 
 /// Does a document read?
-pub fn document_reads(size: Size, document: &[u8], work: &mut [u32]) -> Result<(), Refusal> {
-    value_of(ffi::document_reads(size, document, work)).map(|_| ())
+pub fn document_reads(size: Size, classes: &Classes, document: &[u8], work: &mut [u32]) -> Result<(), Refusal> {
+    value_of(ffi::document_reads(size, classes.as_bytes(), document, work)).map(|_| ())
 }
 
 /// The name of a label, counted from 0, as a part of its table's own bytes.
-pub fn label_name<'a>(size: Size, table: &'a [u8], label: usize, work: &mut [u32]) -> Result<&'a [u8], Refusal> {
-    let place = value_of(ffi::label_name(size, table, label, work))?;
+pub fn label_name<'a>(
+    size: Size,
+    classes: &Classes,
+    table: &'a [u8],
+    label: usize,
+    work: &mut [u32],
+) -> Result<&'a [u8], Refusal> {
+    let place = value_of(ffi::label_name(size, classes.as_bytes(), table, label, work))?;
     let (offset, length) = (place / 65_536, place % 65_536);
     Ok(&table[offset..offset + length])
 }
 
 /// Does the table let in the document? A name that the table does not know means no.
-pub fn lets_in(size: Size, table: &[u8], document: &[u8], work: &mut [u32]) -> Result<Verdict, Refusal> {
-    verdict_of(ffi::lets_in(size, table, document, work))
+pub fn lets_in(
+    size: Size,
+    classes: &Classes,
+    table: &[u8],
+    document: &[u8],
+    work: &mut [u32],
+) -> Result<Verdict, Refusal> {
+    verdict_of(ffi::lets_in(size, classes.as_bytes(), table, document, work))
 }
 
 /// Is the table local: has no label two rules?
-pub fn is_local(size: Size, table: &[u8], work: &mut [u32]) -> Result<Verdict, Refusal> {
-    verdict_of(ffi::is_local(size, table, work))
+pub fn is_local(size: Size, classes: &Classes, table: &[u8], work: &mut [u32]) -> Result<Verdict, Refusal> {
+    verdict_of(ffi::is_local(size, classes.as_bytes(), table, work))
 }
 
 /// Is the table single-type: do no two rules share type and label, and neither among the starts nor within one content two
 /// different types have rules with one label?
-pub fn is_single_type(size: Size, table: &[u8], work: &mut [u32]) -> Result<Verdict, Refusal> {
-    verdict_of(ffi::is_single_type(size, table, work))
+pub fn is_single_type(size: Size, classes: &Classes, table: &[u8], work: &mut [u32]) -> Result<Verdict, Refusal> {
+    verdict_of(ffi::is_single_type(size, classes.as_bytes(), table, work))
 }
 
 /// Writes the sample table of a document, and gives its part of the output.
-pub fn sample<'a>(size: Size, document: &[u8], out: &'a mut [u8], work: &mut [u32]) -> Result<&'a [u8], Refusal> {
-    value_of(ffi::sample(size, document, out, work)).map(|length| &out[..length])
+pub fn sample<'a>(
+    size: Size,
+    classes: &Classes,
+    document: &[u8],
+    out: &'a mut [u8],
+    work: &mut [u32],
+) -> Result<&'a [u8], Refusal> {
+    let answer = ffi::sample(size, classes.as_bytes(), document, out, work);
+    written(answer, out)
 }
 
 /// Writes the least local table that lets in all of the old table and of the addition. Gives its part of the output.
 pub fn widen_local_by_table<'a>(
     size: Size,
+    classes: &Classes,
     old: &[u8],
     addition: &[u8],
     out: &'a mut [u8],
     work: &mut [u32],
 ) -> Result<&'a [u8], Refusal> {
-    value_of(ffi::widen_local_by_table(size, old, addition, out, work)).map(|length| &out[..length])
+    let answer = ffi::widen_local_by_table(size, classes.as_bytes(), old, addition, out, work);
+    written(answer, out)
 }
 
 /// Writes the least local table that lets in all of the old table, and the document. Gives its part of the output.
 pub fn widen_local_by_document<'a>(
     size: Size,
+    classes: &Classes,
     old: &[u8],
     document: &[u8],
     out: &'a mut [u8],
     work: &mut [u32],
 ) -> Result<&'a [u8], Refusal> {
-    value_of(ffi::widen_local_by_document(size, old, document, out, work)).map(|length| &out[..length])
+    let answer = ffi::widen_local_by_document(size, classes.as_bytes(), old, document, out, work);
+    written(answer, out)
 }
 
 /// Writes the least single-type table that lets in all of the old table and of the addition. Gives its part of the output.
 pub fn widen_single_type_by_table<'a>(
     size: Size,
+    classes: &Classes,
     old: &[u8],
     addition: &[u8],
     out: &'a mut [u8],
     work: &mut [u32],
 ) -> Result<&'a [u8], Refusal> {
-    value_of(ffi::widen_single_type_by_table(size, old, addition, out, work)).map(|length| &out[..length])
+    let answer = ffi::widen_single_type_by_table(size, classes.as_bytes(), old, addition, out, work);
+    written(answer, out)
 }
 
 /// Writes the least single-type table that lets in all of the old table, and the document. Gives its part of the output.
 pub fn widen_single_type_by_document<'a>(
     size: Size,
+    classes: &Classes,
     old: &[u8],
     document: &[u8],
     out: &'a mut [u8],
     work: &mut [u32],
 ) -> Result<&'a [u8], Refusal> {
-    value_of(ffi::widen_single_type_by_document(size, old, document, out, work)).map(|length| &out[..length])
+    let answer = ffi::widen_single_type_by_document(size, classes.as_bytes(), old, document, out, work);
+    written(answer, out)
+}
+
+/// The part of the output that a table takes, or the refusal.
+fn written(answer: u64, out: &[u8]) -> Result<&[u8], Refusal> {
+    value_of(answer).map(|length| &out[..length])
 }

@@ -19,7 +19,7 @@ fn work_is_zero_after_a_call_and_kept_beyond() {
     for size in SIZES {
         // as many as the largest size needs, and some more
         let mut work = vec![7; Size::Large.words() + 3];
-        assert_eq!(table_reads(size, &table, &mut work), Ok(()));
+        assert_eq!(table_reads(size, ASCII, &table, &mut work), Ok(()));
         assert!(work[..size.words()].iter().all(|word| *word == 0));
         assert!(work[size.words()..].iter().all(|word| *word == 7));
     }
@@ -31,7 +31,7 @@ fn a_widening_keeps_the_words_beyond() {
     for size in SIZES {
         let mut work = vec![7; Size::Large.words() + 3];
         let mut out = vec![0; MOST_BYTES];
-        let wider = widen_single_type_by_table(size, &table, E, &mut out, &mut work);
+        let wider = widen_single_type_by_table(size, ASCII, &table, E, &mut out, &mut work);
         assert_eq!(wider, Ok(&table[..]));
         assert!(work[..size.words()].iter().all(|word| *word == 0));
         assert!(work[size.words()..].iter().all(|word| *word == 7));
@@ -42,17 +42,19 @@ fn a_widening_keeps_the_words_beyond() {
 fn too_little_work_is_refused_and_unchanged() {
     for size in SIZES {
         let mut work = vec![7; size.words() - 1];
-        assert_eq!(is_local(size, E, &mut work), Err(Refusal::WorkTooShort));
+        assert_eq!(is_local(size, ASCII, E, &mut work), Err(Refusal::WorkTooShort));
         assert!(work.iter().all(|word| *word == 7));
     }
 }
 
 #[test]
 fn refusals_have_their_numbers() {
-    for number in 1..=15 {
+    for number in (1..=15).chain([18]) {
         assert_eq!(u64::from(Refusal::from_number(number).unwrap().number()), number);
     }
-    assert_eq!(Refusal::from_number(0), None);
-    assert_eq!(Refusal::from_number(16), None);
+    for number in [0, 16, 17, 19, 1 << 8 | 18, u64::MAX] {
+        assert_eq!(Refusal::from_number(number), None);
+    }
+    assert_eq!(Refusal::BadClasses.to_string(), "refused 18");
     assert_eq!(Refusal::TooMany.to_string(), "refused 7");
 }

@@ -11,30 +11,39 @@ const P2: [u8; 8] = [0x30, 0, 2, 0, b'a', 0x3F, 0, 0];
 
 #[test]
 fn p1_is_a_table() {
-    assert_eq!(table_reads(STANDARD, &P1, &mut new_work(STANDARD)), Ok(()));
-    assert_eq!(label_name(STANDARD, &P1, 0, &mut new_work(STANDARD)), Ok(&b"a"[..]));
+    assert_eq!(table_reads(STANDARD, ASCII, &P1, &mut new_work(STANDARD)), Ok(()));
     assert_eq!(
-        label_name(STANDARD, &P1, 1, &mut new_work(STANDARD)),
+        label_name(STANDARD, ASCII, &P1, 0, &mut new_work(STANDARD)),
+        Ok(&b"a"[..])
+    );
+    assert_eq!(
+        label_name(STANDARD, ASCII, &P1, 1, &mut new_work(STANDARD)),
         Err(Refusal::OutOfRange)
     );
 }
 
 #[test]
 fn p2_is_let_in() {
-    assert_eq!(document_reads(STANDARD, &P2, &mut new_work(STANDARD)), Ok(()));
-    assert_eq!(lets_in(STANDARD, &P1, &P2, &mut new_work(STANDARD)), Ok(Verdict::Yes));
+    assert_eq!(document_reads(STANDARD, ASCII, &P2, &mut new_work(STANDARD)), Ok(()));
+    assert_eq!(
+        lets_in(STANDARD, ASCII, &P1, &P2, &mut new_work(STANDARD)),
+        Ok(Verdict::Yes)
+    );
     let other = document(node("b", &[]));
-    assert_eq!(lets_in(STANDARD, &P1, &other, &mut new_work(STANDARD)), Ok(Verdict::No));
+    assert_eq!(
+        lets_in(STANDARD, ASCII, &P1, &other, &mut new_work(STANDARD)),
+        Ok(Verdict::No)
+    );
 }
 
 #[test]
 fn p3_no_bytes_are_refused() {
     assert_eq!(
-        table_reads(STANDARD, &[], &mut new_work(STANDARD)),
+        table_reads(STANDARD, ASCII, &[], &mut new_work(STANDARD)),
         Err(Refusal::FieldPastEnd)
     );
     assert_eq!(
-        document_reads(STANDARD, &[], &mut new_work(STANDARD)),
+        document_reads(STANDARD, ASCII, &[], &mut new_work(STANDARD)),
         Err(Refusal::FieldPastEnd)
     );
     assert_eq!(Refusal::FieldPastEnd.number(), 3);
@@ -54,12 +63,19 @@ fn p5_doors_merge_in_local_work_only() {
         &[node("floor", &[door("code")]), node("lift", &[door("time")])],
     ));
     assert_eq!(
-        lets_in(STANDARD, &local(&p5(), E).unwrap(), &crossed, &mut new_work(STANDARD)),
+        lets_in(
+            STANDARD,
+            ASCII,
+            &local(&p5(), E).unwrap(),
+            &crossed,
+            &mut new_work(STANDARD)
+        ),
         Ok(Verdict::Yes)
     );
     assert_eq!(
         lets_in(
             STANDARD,
+            ASCII,
             &single_type(&p5(), E).unwrap(),
             &crossed,
             &mut new_work(STANDARD)
@@ -102,20 +118,20 @@ fn a_widening_by_a_document_lets_it_in() {
     let added = document(node("list", &[node("door", &[]), node("zone", &[])]));
     let mut out = vec![0; MOST_BYTES];
     let mut work = new_work(STANDARD);
-    let wider = widen_local_by_document(STANDARD, &p8(), &added, &mut out, &mut work)
+    let wider = widen_local_by_document(STANDARD, ASCII, &p8(), &added, &mut out, &mut work)
         .unwrap()
         .to_vec();
-    assert_eq!(is_local(STANDARD, &wider, &mut work), Ok(Verdict::Yes));
-    assert_eq!(lets_in(STANDARD, &wider, &added, &mut work), Ok(Verdict::Yes));
-    let wider = widen_single_type_by_document(STANDARD, &p8(), &added, &mut out, &mut work)
+    assert_eq!(is_local(STANDARD, ASCII, &wider, &mut work), Ok(Verdict::Yes));
+    assert_eq!(lets_in(STANDARD, ASCII, &wider, &added, &mut work), Ok(Verdict::Yes));
+    let wider = widen_single_type_by_document(STANDARD, ASCII, &p8(), &added, &mut out, &mut work)
         .unwrap()
         .to_vec();
-    assert_eq!(is_single_type(STANDARD, &wider, &mut work), Ok(Verdict::Yes));
-    assert_eq!(lets_in(STANDARD, &wider, &added, &mut work), Ok(Verdict::Yes));
-    let taken = sample(STANDARD, &added, &mut out, &mut work).unwrap().to_vec();
-    assert_eq!(lets_in(STANDARD, &taken, &added, &mut work), Ok(Verdict::Yes));
+    assert_eq!(is_single_type(STANDARD, ASCII, &wider, &mut work), Ok(Verdict::Yes));
+    assert_eq!(lets_in(STANDARD, ASCII, &wider, &added, &mut work), Ok(Verdict::Yes));
+    let taken = sample(STANDARD, ASCII, &added, &mut out, &mut work).unwrap().to_vec();
+    assert_eq!(lets_in(STANDARD, ASCII, &taken, &added, &mut work), Ok(Verdict::Yes));
     assert_eq!(
-        sample(STANDARD, &added, &mut out[..3], &mut work),
+        sample(STANDARD, ASCII, &added, &mut out[..3], &mut work),
         Err(Refusal::OutputTooShort)
     );
 }
@@ -124,6 +140,7 @@ fn a_widening_by_a_document_lets_it_in() {
 fn local(old: &[u8], addition: &[u8]) -> Result<Vec<u8>, Refusal> {
     widen_local_by_table(
         STANDARD,
+        ASCII,
         old,
         addition,
         &mut vec![0; MOST_BYTES],
@@ -136,6 +153,7 @@ fn local(old: &[u8], addition: &[u8]) -> Result<Vec<u8>, Refusal> {
 fn single_type(old: &[u8], addition: &[u8]) -> Result<Vec<u8>, Refusal> {
     widen_single_type_by_table(
         STANDARD,
+        ASCII,
         old,
         addition,
         &mut vec![0; MOST_BYTES],
@@ -148,8 +166,8 @@ fn single_type(old: &[u8], addition: &[u8]) -> Result<Vec<u8>, Refusal> {
 fn kinds_of_p5_to_p8() {
     let both = |bytes: &[u8]| {
         (
-            is_local(STANDARD, bytes, &mut new_work(STANDARD)).unwrap(),
-            is_single_type(STANDARD, bytes, &mut new_work(STANDARD)).unwrap(),
+            is_local(STANDARD, ASCII, bytes, &mut new_work(STANDARD)).unwrap(),
+            is_single_type(STANDARD, ASCII, bytes, &mut new_work(STANDARD)).unwrap(),
         )
     };
     assert_eq!(both(&p5()), (Verdict::No, Verdict::Yes));

@@ -38,7 +38,7 @@ fn levels(count: usize) -> Vec<u8> {
 #[test]
 fn rules_to_the_limit() {
     for (size, most, _, _) in LIMITS {
-        let reads = |count| table_reads(size, &rules(count), &mut new_work(size));
+        let reads = |count| table_reads(size, ASCII, &rules(count), &mut new_work(size));
         assert_eq!(reads(most), Ok(()));
         assert_eq!(reads(most + 1), Err(Refusal::TooMany));
     }
@@ -49,7 +49,7 @@ fn types_below_the_limit() {
     for (size, most, _, _) in LIMITS {
         let reads = |start, rule, inner| {
             let table = table(&[start], &[(rule, "list", &t(inner))]);
-            table_reads(size, &table, &mut new_work(size))
+            table_reads(size, ASCII, &table, &mut new_work(size))
         };
         let (last, next) = (most - 1, most);
         assert_eq!(reads(last, last, last), Ok(()));
@@ -64,7 +64,7 @@ fn one_start_too_many() {
     for (size, most, _, _) in LIMITS {
         let starts = |last| {
             let starts: Vec<u8> = (0..most).chain([last]).collect();
-            table_reads(size, &table(&starts, &[]), &mut new_work(size))
+            table_reads(size, ASCII, &table(&starts, &[]), &mut new_work(size))
         };
         assert_eq!(starts(0), Err(Refusal::Repeated));
         assert_eq!(starts(most), Err(Refusal::TooMany));
@@ -75,7 +75,7 @@ fn one_start_too_many() {
 #[test]
 fn nodes_and_levels_to_the_limit() {
     for (size, _, most_nodes, most_levels) in LIMITS {
-        let reads = |document: Vec<u8>| document_reads(size, &document, &mut new_work(size));
+        let reads = |document: Vec<u8>| document_reads(size, ASCII, &document, &mut new_work(size));
         assert_eq!(reads(nodes(most_nodes)), Ok(()));
         assert_eq!(reads(nodes(most_nodes + 1)), Err(Refusal::BadTree));
         assert_eq!(reads(levels(most_levels)), Ok(()));
@@ -89,10 +89,10 @@ fn a_sample_has_as_many_types_as_its_size_allows() {
         let taken = |children| {
             let children: Vec<Vec<u8>> = (0..children).map(|i| node(&format!("c{i}"), &[])).collect();
             let document = document(node("list", &children));
-            sample(size, &document, &mut vec![0; MOST_BYTES], &mut new_work(size)).map(<[u8]>::to_vec)
+            sample(size, ASCII, &document, &mut vec![0; MOST_BYTES], &mut new_work(size)).map(<[u8]>::to_vec)
         };
         let table = taken(most - 1).unwrap();
-        assert_eq!(table_reads(size, &table, &mut new_work(size)), Ok(()));
+        assert_eq!(table_reads(size, ASCII, &table, &mut new_work(size)), Ok(()));
         assert_eq!(taken(most), Err(Refusal::ResultTooLarge));
     }
 }

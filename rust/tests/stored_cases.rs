@@ -21,15 +21,29 @@ impl Cases {
     }
 
     fn slice(&mut self) -> Vec<u8> {
-        let length = self.number() as usize;
-        self.at += length;
-        self.bytes[self.at - length..self.at].to_vec()
+        let length = self.number();
+        self.bytes_of(length)
+    }
+
+    /// Lent classes; one number stands for the usual ones.
+    fn classes(&mut self) -> Vec<u8> {
+        match self.number() {
+            0xFFFF_FFFF => Classes::ASCII.as_bytes().to_vec(),
+            length => self.bytes_of(length),
+        }
+    }
+
+    fn bytes_of(&mut self, length: u32) -> Vec<u8> {
+        let from = self.at;
+        self.at += length as usize;
+        self.bytes[from..self.at].to_vec()
     }
 }
 
 struct Case {
     call: u8,
     size: Size,
+    classes: Vec<u8>,
     label: usize,
     first: Vec<u8>,
     second: Vec<u8>,
@@ -52,12 +66,14 @@ fn next_case(cases: &mut Cases) -> Option<Case> {
         return None;
     }
     let size = size_of(cases.number());
+    let classes = cases.classes();
     let (words, fill, out_length, label) = (cases.number(), cases.number(), cases.number(), cases.number());
     let out = (0..out_length).map(|i| ((165 + 7 * i) % 256) as u8).collect();
     let work = vec![fill; words as usize];
     Some(Case {
         call,
         size,
+        classes,
         label: label as usize,
         first: cases.slice(),
         second: cases.slice(),
@@ -75,38 +91,46 @@ fn of_verdict(answer: Result<Verdict, Refusal>) -> Result<usize, Refusal> {
 }
 
 /// The value and the checksum of what was written, or of the part that came back.
-fn answered(case: &mut Case) -> (Result<usize, Refusal>, u32) {
+fn answered(case: &mut Case, classes: &Classes) -> (Result<usize, Refusal>, u32) {
     let (size, first, second, out, work) = (case.size, &case.first, &case.second, &mut case.out, &mut case.work);
     let value = match case.call {
-        1 => table_reads(size, first, work).map(|()| 1),
-        2 => document_reads(size, first, work).map(|()| 1),
+        1 => table_reads(size, classes, first, work).map(|()| 1),
+        2 => document_reads(size, classes, first, work).map(|()| 1),
         3 => {
-            let name = label_name(size, first, case.label, work);
+            let name = label_name(size, classes, first, case.label, work);
             let sum = checksum(name.unwrap_or(&[]).iter().map(|byte| u32::from(*byte)));
             let place = |name: &[u8]| (name.as_ptr() as usize - first.as_ptr() as usize) * 65_536 + name.len();
             return (name.map(place), sum);
         }
-        4 => of_verdict(lets_in(size, first, second, work)),
-        5 => of_verdict(is_local(size, first, work)),
-        6 => of_verdict(is_single_type(size, first, work)),
-        7 => sample(size, first, out, work).map(<[u8]>::len),
-        8 => widen_local_by_table(size, first, second, out, work).map(<[u8]>::len),
-        9 => widen_local_by_document(size, first, second, out, work).map(<[u8]>::len),
-        10 => widen_single_type_by_table(size, first, second, out, work).map(<[u8]>::len),
-        11 => widen_single_type_by_document(size, first, second, out, work).map(<[u8]>::len),
+        4 => of_verdict(lets_in(size, classes, first, second, work)),
+        5 => of_verdict(is_local(size, classes, first, work)),
+        6 => of_verdict(is_single_type(size, classes, first, work)),
+        7 => sample(size, classes, first, out, work).map(<[u8]>::len),
+        8 => widen_local_by_table(size, classes, first, second, out, work).map(<[u8]>::len),
+        9 => widen_local_by_document(size, classes, first, second, out, work).map(<[u8]>::len),
+        10 => widen_single_type_by_table(size, classes, first, second, out, work).map(<[u8]>::len),
+        11 => widen_single_type_by_document(size, classes, first, second, out, work).map(<[u8]>::len),
         other => panic!("no call {other}"),
     };
     (value, checksum(out.iter().map(|byte| u32::from(*byte))))
 }
 
-fn line(case: &mut Case) -> String {
-    let (value, outsum) = answered(case);
+fn line(case: &mut Case, classes: &Classes) -> String {
+    let (value, outsum) = answered(case, classes);
     let worksum = checksum(case.work.iter().copied());
     let (refusal, value) = match value {
         Ok(value) => (0, value),
         Err(refusal) => (refusal.number(), 0),
     };
     format!("{} {} {} {} {}", case.call, refusal, value, outsum, worksum)
+}
+
+/// Call, refusal and value, where the classes do not load. No call can be lent them, so no slice can be looked at; the working memory
+/// is tried before them.
+fn unloaded(case: &Case, refusal: Refusal) -> String {
+    let short = case.work.len() < case.size.words();
+    let refusal = if short { Refusal::WorkTooShort } else { refusal };
+    format!("{} {} 0 ", case.call, refusal.number())
 }
 
 #[test]
@@ -118,11 +142,18 @@ fn every_stored_case_has_its_line() {
     };
     let expected = fs::read_to_string(vectors.join("stdout")).unwrap();
     let mut lines = expected.lines();
-    let mut count = 0;
+    let (mut count, mut unlent) = (0, 0);
     while let Some(mut case) = next_case(&mut cases) {
-        assert_eq!(line(&mut case), lines.next().unwrap(), "case {count}");
+        let wanted = lines.next().unwrap();
+        match Classes::load(&case.classes) {
+            Ok(classes) => assert_eq!(line(&mut case, &classes), wanted, "case {count}"),
+            Err(refusal) => {
+                assert!(wanted.starts_with(&unloaded(&case, refusal)), "case {count}: {wanted}");
+                unlent += 1;
+            }
+        }
         count += 1;
     }
     assert_eq!(lines.next(), None);
-    println!("{count} cases");
+    println!("{count} cases, {unlent} of them with classes that do not load");
 }

@@ -1,4 +1,5 @@
-"""Cases for the calls of document 01, at the three sizes of Card 13, with the answers of reference.py.
+"""Cases for the calls of document 01, at the three sizes of Card 13 and under the classes of Card 4, with
+the answers of reference.py.
 
     python3 generate.py --write DIR [--seed N] [--count M]    writes DIR/cases.bin, DIR/expected.txt
     python3 generate.py --check DIR [--seed N] [--count M]    recomputes both and compares
@@ -17,6 +18,8 @@ cases.bin, front to back; all numbers unsigned, high byte first:
     repeated for each case
         1 byte   call, 1 to 11 (below)
         4 bytes  size: 0 small, 1 standard, 2 large; any other number counts as 1
+        4 bytes  C, the number of classes lent, then so many bytes; C = FFFFFFFF stands for the 256
+                 classes of document 01 (reference.ASCII), and no bytes follow
         4 bytes  W, the length of the working slice in words
         4 bytes  F, the word that fills the working slice before the call
         4 bytes  O, the length of the output slice in bytes (0 for calls without one)
@@ -46,7 +49,7 @@ of the part that came back.  worksum is the checksum of the whole working slice 
 Checksum: h = 17; for each byte or word x in order, h = (h * 31 + x) mod 2^32.
 
 No input is longer than MOST_INPUT bytes, no output than MOST_OUTPUT, no working slice than
-MOST_WORK words.
+MOST_WORK words, and no more than MOST_CLASSES classes are lent.
 """
 
 import argparse
@@ -59,7 +62,7 @@ sys.dont_write_bytecode = True
 sys.path.insert(0, os.path.dirname(os.path.abspath(__file__)))
 import reference as ref  # noqa: E402
 
-MOST_INPUT, MOST_OUTPUT, MOST_WORK = 65600, 33000, 32900
+MOST_INPUT, MOST_OUTPUT, MOST_WORK, MOST_CLASSES = 65600, 33000, 32900, 300
 DEFAULT_SEED, DEFAULT_COUNT = 1, 1800
 
 SMALL, STANDARD, LARGE = SIZES = range(3)
@@ -72,8 +75,10 @@ CALL_NAMES = {1: 'table_reads', 2: 'document_reads', 3: 'label_name', 4: 'lets_i
 WRITING = (SAMPLE, LOCAL_BY_TABLE, LOCAL_BY_DOCUMENT, SINGLE_BY_TABLE, SINGLE_BY_DOCUMENT)
 BY_TABLE = (LOCAL_BY_TABLE, SINGLE_BY_TABLE)
 BY_DOCUMENT = (LOCAL_BY_DOCUMENT, SINGLE_BY_DOCUMENT)
+REFUSALS = (*range(16), 18)     # 0 for none
 
-Case = namedtuple('Case', 'call size work_len work_fill out_len label first second')
+Case = namedtuple('Case', 'call size classes work_len work_fill out_len label first second')
+ASCII_CLASSES = 2**32 - 1       # in place of a number of classes
 
 
 # ---------------------------------------------------------------- answers
@@ -88,16 +93,16 @@ def answer_of(case):
 
 def answer_under(limits, case):
     """The answer under any set of limits, whatever the case's size."""
-    w, o, a, b = case.work_len, case.out_len, case.first, case.second
+    c, w, o, a, b = case.classes, case.work_len, case.out_len, case.first, case.second
     if case.call == LABEL_NAME:
-        return ref.label_name(limits, a, case.label, w)
+        return ref.label_name(limits, c, a, case.label, w)
     if case.call == LETS_IN:
-        return ref.lets_in(limits, a, b, w)
+        return ref.lets_in(limits, c, a, b, w)
     if case.call == SAMPLE:
-        return ref.sample(limits, a, o, w)
+        return ref.sample(limits, c, a, o, w)
     if case.call in WRITING:
-        return getattr(ref, CALL_NAMES[case.call])(limits, a, b, o, w)
-    return getattr(ref, CALL_NAMES[case.call])(limits, a, w)
+        return getattr(ref, CALL_NAMES[case.call])(limits, c, a, b, o, w)
+    return getattr(ref, CALL_NAMES[case.call])(limits, c, a, w)
 
 
 def checksum(items, h=17):
@@ -137,9 +142,13 @@ def expected_line(case):
 def case_bytes(case):
     def number(value):
         return value.to_bytes(4, 'big')
-    return (bytes([case.call]) + number(case.size) + number(case.work_len) + number(case.work_fill)
-            + number(case.out_len) + number(case.label) + number(len(case.first)) + case.first
-            + number(len(case.second)) + case.second)
+
+    def slice_(data):
+        return number(len(data)) + data
+
+    classes = number(ASCII_CLASSES) if case.classes == ref.ASCII else slice_(case.classes)
+    return (bytes([case.call]) + number(case.size) + classes + number(case.work_len) + number(case.work_fill)
+            + number(case.out_len) + number(case.label) + slice_(case.first) + slice_(case.second))
 
 
 def cases_in(data):
@@ -151,9 +160,8 @@ def cases_in(data):
         at += count
         return int.from_bytes(data[at - count:at], 'big')
 
-    def slice_():
+    def part(length):
         nonlocal at
-        length = number()
         at += length
         return data[at - length:at]
 
@@ -162,8 +170,10 @@ def cases_in(data):
         if call == 0:
             assert at == len(data)
             return
-        size, work_len, work_fill, out_len, label_ = (number() for _ in range(5))
-        yield Case(call, size, work_len, work_fill, out_len, label_, slice_(), slice_())
+        size, count = number(), number()
+        classes = ref.ASCII if count == ASCII_CLASSES else part(count)
+        work_len, work_fill, out_len, label_ = (number() for _ in range(4))
+        yield Case(call, size, classes, work_len, work_fill, out_len, label_, part(number()), part(number()))
 
 
 # ---------------------------------------------------------------- a generator of numbers
@@ -300,7 +310,7 @@ class Cases:
     def __init__(self):
         self.all = []
 
-    def add(self, call, first, second=b'', label=0, out=None, work=None, fill=None, size=STANDARD):
+    def add(self, call, first, second=b'', label=0, out=None, work=None, fill=None, size=STANDARD, classes=ref.ASCII):
         """`out`: None for a few bytes more than the result, 'exact', 'short' by one, or a length;
         only calls that write have an output."""
         turn = len(self.all)
@@ -309,7 +319,7 @@ class Cases:
             work = ref.limits_of(size).words + beyond[turn % len(beyond)]
         if fill is None:
             fill = FILLS[turn % len(FILLS)]
-        case = Case(call, size, work, fill, MOST_OUTPUT, label, first, second)
+        case = Case(call, size, classes, work, fill, MOST_OUTPUT, label, first, second)
         if call not in WRITING:
             case = case._replace(out_len=0)
         elif isinstance(out, int):
@@ -1012,7 +1022,7 @@ def meaning_cases(cases):
         cases.add(SAMPLE, document(a_tree), out='exact')
         cases.widen_doc(E, document(a_tree))
         cases.widen_doc(P5, document(a_tree))
-        sampled = ref.sample(ref.STANDARD, document(a_tree), MOST_OUTPUT, ref.STANDARD.words)
+        sampled = ref.sample(ref.STANDARD, ref.ASCII, document(a_tree), MOST_OUTPUT, ref.STANDARD.words)
         cases.add(LETS_IN, sampled.written, document(a_tree))
 
 
@@ -1480,6 +1490,249 @@ def size_cases(cases):
     full_tables_of_sizes(cases)
 
 
+# ---------------------------------------------------------------- the classes
+
+# An edge of the classes is the refusal, numbered by hand, 0 for none, then the call, its two inputs,
+# and what else `Cases.add` is told; selftest.py holds the second validator to the numbers.
+
+# Bytes 00 to 20, and ( ) | , * + ? ! < > / =, must be of class 0.
+IN_NO_NAME = (*range(0x21), 0x28, 0x29, 0x7C, 0x2C, 0x2A, 0x2B, 0x3F, 0x21, 0x3C, 0x3E, 0x2F, 0x3D)
+MAY_BE_IN_NAMES = tuple(byte for byte in range(256) if byte not in IN_NO_NAME)
+
+
+def with_class(class_, some, classes=ref.ASCII):
+    """The classes with some bytes in another class."""
+    made = bytearray(classes)
+    for byte in some:
+        made[byte] = class_
+    return bytes(made)
+
+
+# # " & and 7F to FF are letters too; names of all these bytes.
+OWN = with_class(2, b'#"&' + bytes(range(0x7F, 0x100)))
+OWN_NAMES = [bytes(range(0x7F, 0xBE)).decode('latin-1'), bytes(range(0xBE, 0xFD)).decode('latin-1'), '\xff\xfe\xfd#"&']
+ALL_LETTERS = with_class(2, MAY_BE_IN_NAMES)
+
+
+def one_letter(letter, later=b''):
+    """One letter alone, and some bytes that may come later."""
+    return with_class(2, [letter], with_class(1, later, bytes(256)))
+
+
+# None of these load.
+BAD_CLASSES = [
+    b'', b'\x02', ref.ASCII[:128], ref.ASCII[:255], ref.ASCII[1:], OWN[:255], ref.ASCII + b'\x00', ref.ASCII + b'\x02',
+    OWN + b'\x01', ref.ASCII + ref.ASCII[:44],                                              # another length
+    with_class(3, b'a'), with_class(3, [0x00]), with_class(3, [0xFF]), with_class(3, b'#', OWN), with_class(4, b'b'),
+    with_class(0x12, b'c'), with_class(0x82, [0x80]), with_class(255, b'a'), with_class(255, [0x20]),
+    with_class(255, [0xFF]), bytes([255] * 256),                                            # another class
+    bytes(256), with_class(1, range(0x41, 0x7B)), with_class(1, MAY_BE_IN_NAMES),           # no class 2
+]
+
+# These do.
+LOADED = [OWN, ALL_LETTERS, one_letter(0x22), one_letter(0x23), one_letter(0x7F), one_letter(0xFF), one_letter(0x5F, b'-'),
+          one_letter(0x80, MAY_BE_IN_NAMES)]
+
+
+def named_inputs(call, name):
+    """Inputs of a call with this one name in each."""
+    a_table, a_document = table([0], [(0, name, any_of(t(0)))]), doc(name, tree(name))
+    first = a_document if call in (DOCUMENT_READS, SAMPLE) else a_table
+    return first, a_document if call in (LETS_IN,) + BY_DOCUMENT else a_table if call in BY_TABLE else b''
+
+
+def in_turn(number):
+    """Some call, each in its turn."""
+    return 1 + number % len(CALL_NAMES)
+
+
+def loading_edges():
+    """Each rule of the classes."""
+    for call in CALL_NAMES:
+        for classes in BAD_CLASSES:
+            yield 18, call, *good_inputs(call), dict(classes=classes)
+        for classes in (ref.ASCII, OWN, ALL_LETTERS):
+            yield 0, call, *good_inputs(call), dict(classes=classes)
+        for classes in LOADED:
+            letter = bytes([classes.index(2)])
+            yield 0, call, *named_inputs(call, letter), dict(classes=classes)
+    for number, byte in enumerate(IN_NO_NAME):
+        for class_ in (1, 2):
+            call = in_turn(number + class_)
+            yield 18, call, *good_inputs(call), dict(classes=with_class(class_, [byte], (ref.ASCII, OWN)[number % 2]))
+    yield 18, TABLE_READS, GOOD_TABLE, b'', dict(classes=with_class(2, range(256)))
+    yield 18, TABLE_READS, GOOD_TABLE, b'', dict(classes=with_class(1, IN_NO_NAME, OWN))
+
+
+def byte_class_edges():
+    """Every byte that may be in names as a letter, as one that is not first, and as one that is in no name."""
+    for number, byte in enumerate(MAY_BE_IN_NAMES):
+        before = b'y' if byte == 0x7A else b'z'
+        for turn, (class_, name, refusal) in enumerate((
+                (2, bytes([byte]), 0), (1, before + bytes([byte]), 0), (1, bytes([byte]), 5), (0, before + bytes([byte]), 5))):
+            call = in_turn(number + 4 * turn)
+            yield refusal, call, *named_inputs(call, name), dict(classes=with_class(class_, [byte]))
+
+
+def lent_edges():
+    """18 comes after 1 and before everything else, at every size; the words are cleared, the output is not touched."""
+    over = bytes(ref.INPUT_BYTES + 1)
+    for call in CALL_NAMES:
+        good, bad = good_inputs(call), BAD_CLASSES[2 * call % len(BAD_CLASSES)]
+        for size, words in ((SMALL, 12288), (STANDARD, 16384), (LARGE, 32768), (3, 16384)):
+            for classes in (bad, BAD_CLASSES[call]):
+                yield 1, call, *good, dict(classes=classes, size=size, work=words - 1, fill=0xFFFFFFFF, out=200)
+                yield 18, call, *good, dict(classes=classes, size=size, work=words, fill=0xFFFFFFFF, out=200)
+            yield 18, call, *good, dict(classes=bad, size=size, work=words + 132, fill=0xDEADBEEF, out=0)
+        yield 1, call, *good, dict(classes=bad, work=0, out=10)
+        yield 18, call, *good, dict(classes=bad, work=MOST_WORK, size=SMALL, fill=7, out=MOST_OUTPUT)
+        yield 18, call, over, good[1], dict(classes=bad, out=9)                         # 2
+        if call in (LETS_IN, LOCAL_BY_TABLE, SINGLE_BY_DOCUMENT):
+            yield 18, call, good[0], over, dict(classes=bad, out=9)
+            yield 18, call, good[0], b'', dict(classes=bad)
+        for faulty in (b'', b'\x99\x00\x00', label('?') + END, END + b'\x00', doc('?'), GOOD_DOC + b'\x00'):
+            yield 18, call, faulty, good[1], dict(classes=bad)                          # 3, 4, 5, 12
+        yield 18, call, *named_inputs(call, '\xe9'), dict(classes=bad)
+    yield 1, TABLE_READS, over, b'', dict(classes=BAD_CLASSES[0], work=16383)
+    yield 18, LABEL_NAME, GOOD_TABLE, b'', dict(classes=BAD_CLASSES[3], label=2)           # 8
+    yield 8, LABEL_NAME, GOOD_TABLE, b'', dict(classes=OWN, label=2)
+    yield 18, TABLE_READS, one_rule(deep(33)), b'', dict(classes=BAD_CLASSES[6])           # 10
+    yield 18, DOCUMENT_READS, DOC_END, b'', dict(classes=BAD_CLASSES[0])                   # 11
+    for call in BY_TABLE:
+        yield 18, call, E, E, dict(classes=BAD_CLASSES[4])                                 # 13
+        yield 13, call, E, E, dict(classes=OWN)
+        yield 18, call, star(63), EXTRA, dict(classes=BAD_CLASSES[10], out=0)              # 14
+        yield 14, call, star(63), EXTRA, dict(classes=OWN, out=0)
+    for call in WRITING:
+        yield 18, call, *good_inputs(call), dict(classes=BAD_CLASSES[20], out=0)           # 15
+        yield 15, call, *good_inputs(call), dict(classes=OWN, out=0)
+
+
+OWN_TABLE = table([0], [(0, OWN_NAMES[0], any_of(choice(t(1), t(2)))), (1, OWN_NAMES[1], EMPTY), (2, OWN_NAMES[2], optional(t(1)))])
+OWN_DOC = doc(OWN_NAMES[0], tree(OWN_NAMES[2], tree(OWN_NAMES[1])), tree(OWN_NAMES[1]))
+OWN_OTHER = table([5], [(5, OWN_NAMES[2], any_of(t(6))), (6, '\xe9#', EMPTY)])
+
+
+def own_name_edges():
+    """Names of other letters than ASCII's through every call; under ASCII's classes they are no names."""
+    inputs = [(TABLE_READS, OWN_TABLE, b''), (DOCUMENT_READS, OWN_DOC, b''), (IS_LOCAL, OWN_TABLE, b''),
+              (IS_SINGLE_TYPE, OWN_TABLE, b''), (SAMPLE, OWN_DOC, b''), (LETS_IN, OWN_TABLE, OWN_DOC)]
+    inputs += [(call, *pair) for call in BY_TABLE for pair in ((OWN_TABLE, E), (E, OWN_TABLE), (OWN_TABLE, OWN_OTHER),
+                                                               (OWN_OTHER, OWN_TABLE), (GOOD_TABLE, OWN_OTHER))]
+    inputs += [(call, a_table, OWN_DOC) for call in BY_DOCUMENT for a_table in (OWN_TABLE, OWN_OTHER, E, P5)]
+    for number, (call, first, second) in enumerate(inputs):
+        for refusal, classes in ((0, OWN), (0, ALL_LETTERS), (5, ref.ASCII), (5, with_class(1, [0x7F, 0xFF], OWN)),
+                                 (5, with_class(0, [0xFD], OWN))):
+            yield refusal, call, first, second, dict(classes=classes, size=SIZES[number % 3], out='exact')
+    for number, refusal in ((0, 0), (1, 0), (2, 0), (3, 8), (255, 8)):
+        yield refusal, LABEL_NAME, OWN_TABLE, b'', dict(classes=OWN, label=number)
+        yield 5, LABEL_NAME, OWN_TABLE, b'', dict(label=number)
+    # Each of these bytes is a name, 66 labels to a table.
+    letters = [chr(byte) for byte in b'#"&' + bytes(range(0x7F, 0x100))]
+    for part in (letters[:66], letters[66:]):
+        a_table = table([0], [(0, part[0], any_of(choice(*[t(i) for i in range(1, 66)])))]
+                        + [(i, part[i], EMPTY) for i in range(1, 66)])
+        a_document = doc(part[0], *[tree(name) for name in part[:0:-1]])
+        for refusal, classes in ((0, OWN), (5, ref.ASCII)):
+            lent = dict(classes=classes, size=LARGE)
+            yield refusal, TABLE_READS, a_table, b'', lent
+            yield refusal, LETS_IN, a_table, a_document, lent
+            yield refusal, SAMPLE, a_document, b'', lent
+            yield refusal, LOCAL_BY_TABLE, a_table, E, lent
+            yield refusal, SINGLE_BY_DOCUMENT, E, a_document, lent
+        for number in range(66):
+            yield 0, LABEL_NAME, a_table, b'', dict(classes=OWN, size=LARGE, label=number)
+    # All eight bits of a byte tell names apart, and so does the last byte of 63.
+    for one, other in (('a', '\xe1'), ('A', '\xc1'), ('\xe9', '\xc9'), ('#', '\xa3'), ('\x7f', '\xff'), ('_', '\xdf'),
+                       ('x' + '\x80' * 62, 'x' + '\x80' * 61 + '\x81'), ('\xff' * 63, '\xff' * 62)):
+        two = table([0], [(0, one, optional(t(1))), (1, other, EMPTY)])
+        lent = dict(classes=OWN)
+        yield 0, TABLE_READS, two, b'', lent
+        yield 6, TABLE_READS, label(one) + label(other) + label(one) + END, b'', lent
+        yield 0, LABEL_NAME, two, b'', dict(classes=OWN, label=1)
+        for a_tree in (tree(one, tree(other)), tree(one), tree(one, tree(one)), tree(other), tree(other, tree(one))):
+            yield 0, LETS_IN, two, document(a_tree), lent
+            yield 0, SAMPLE, document(a_tree), b'', lent
+        yield 0, IS_LOCAL, two, b'', lent
+        yield 0, IS_SINGLE_TYPE, two, b'', lent
+        for call in BY_TABLE:
+            yield 0, call, two, table([0], [(0, other, any_of(t(0)))]), lent
+        for call in BY_DOCUMENT:
+            yield 0, call, two, doc(other, tree(one, tree(other))), lent
+
+
+def name_rule_edges():
+    """The name rule reads the lent classes, in both inputs, and in its place among the refusals."""
+    no_a, late_a, digits = with_class(0, b'a'), with_class(1, b'a'), with_class(2, b'0123456789-.')
+    late = with_class(1, range(0x80, 0x100))
+    names = [
+        (no_a, 'list', 0), (no_a, 'card', 5), (no_a, 'a', 5), (no_a, 'A', 0), (late_a, 'card', 0), (late_a, 'a', 5),
+        (late_a, 'ab', 5), (late_a, 'ba', 0), (late_a, 'aa', 5), (late_a, 'Aa', 0),
+        (digits, '1', 0), (digits, '1a', 0), (digits, '-', 0), (digits, '.9', 0), (ref.ASCII, '1', 5), (ref.ASCII, '1a', 5),
+        (late, '\x80', 5), (late, '\xff\xfe', 5), (late, 'a\x80', 0), (late, 'a' + '\xff' * 62, 0), (late, '1\x80', 5),
+        (late, '\x80a', 5), (late, 'a\x7f', 5), (one_letter(0xFF), '\xff' * 63, 0), (one_letter(0xFF), '\xff\xfe', 5),
+        (one_letter(0xFF), 'a', 5), (one_letter(0x61, b'\xff'), 'a\xff', 0), (one_letter(0x61, b'\xff'), '\xffa', 5),
+        (one_letter(0x61, b'\xff'), 'ab', 5), (OWN, 'a b', 5), (OWN, 'a\x00', 5), (OWN, 'a\x1f', 5), (OWN, 'a=', 5),
+        (ALL_LETTERS, '1-.:;@[]{}~^', 0), (ALL_LETTERS, 'a b', 5), (ALL_LETTERS, ' ', 5), (ALL_LETTERS, '<a>', 5),
+        (ALL_LETTERS, 'a/', 5), (ALL_LETTERS, 'a!', 5), (ALL_LETTERS, 'a,b', 5),
+    ]
+    for number, (classes, name, refusal) in enumerate(names):
+        for call in (TABLE_READS, DOCUMENT_READS, in_turn(number + 2), in_turn(number + 7)):
+            yield refusal, call, *named_inputs(call, name), dict(classes=classes)
+    # In one input or in both, and beside another fault; the first input comes first.
+    for call in (LETS_IN,) + BY_TABLE + BY_DOCUMENT:
+        (good, good_too), (bad, bad_too) = named_inputs(call, 'list'), named_inputs(call, 'card')
+        for refusal, first, second in (
+                (0, good, good_too), (5, bad, good_too), (5, good, bad_too), (5, bad, bad_too), (5, bad, b''), (3, good, b''),
+                (3, good[:-1], bad_too), (12, good + b'\x00', bad_too), (5, good, bad_too + b'\x00')):
+            yield refusal, call, first, second, dict(classes=no_a)
+    # 4 before 5, 5 before 6, 7 and 11, under lent classes.
+    labels64 = b''.join(label(name) for name in names_of(64, 3))
+    for refusal, classes, data in (
+            (4, OWN, label('\xe9' * 64) + END), (5, ref.ASCII, label('\xe9' * 63) + END), (0, OWN, label('\xe9' * 63) + END),
+            (6, OWN, label('\xe9') + label('\xe9') + END), (5, with_class(1, [0xE9]), label('\xe9') + label('\xe9') + END),
+            (5, ref.ASCII, labels64 + label('9') + END), (7, digits, labels64 + label('9') + END),
+            (5, with_class(0, b'n'), labels64 + label('9') + END), (6, digits, labels64 + label('n63') + END),
+            (5, with_class(0, b'6'), labels64 + label('9') + END)):
+        yield refusal, TABLE_READS, data, b'', dict(classes=classes)
+        yield refusal, IS_LOCAL, data, b'', dict(classes=classes)
+        yield refusal or 13, SINGLE_BY_TABLE, E, data, dict(classes=classes)               # there is no start
+    for refusal, classes, data in (
+            (5, ref.ASCII, node_field(201, '\xe9') + DOC_END), (11, OWN, node_field(201, '\xe9') + DOC_END),
+            (4, OWN, doc('\xe9' * 64)), (5, OWN, node_field(0, '\xe9') + node_field(0, '?') + DOC_END),
+            (11, OWN, node_field(0, '\xe9') + node_field(0, '#') + DOC_END),
+            (5, with_class(1, [0xE9]), node_field(1, 'a') + node_field(0, '\xe9') + DOC_END)):
+        for call in (DOCUMENT_READS, SAMPLE):
+            yield refusal, call, data, b'', dict(classes=classes)
+        for call in (LETS_IN,) + BY_DOCUMENT:
+            yield refusal, call, GOOD_TABLE, data, dict(classes=classes)
+
+
+def class_edges():
+    yield from loading_edges()
+    yield from byte_class_edges()
+    yield from lent_edges()
+    yield from own_name_edges()
+    yield from name_rule_edges()
+
+
+def class_cases(cases):
+    for _, call, first, second, options in class_edges():
+        cases.add(call, first, second, **options)
+    # Results of a widening under other classes, asked under these.
+    for call, second in ((LOCAL_BY_TABLE, OWN_OTHER), (SINGLE_BY_TABLE, OWN_OTHER), (LOCAL_BY_DOCUMENT, OWN_DOC),
+                         (SINGLE_BY_DOCUMENT, OWN_DOC)):
+        for old in (OWN_TABLE, OWN_OTHER, P5):
+            cases.add(call, old, second, classes=OWN, out='exact')
+            result = answer_of(cases.all[-1]).written
+            cases.kinds(result, classes=OWN)
+            cases.widen(result, E, classes=OWN)
+            for a_document in (OWN_DOC, doc(OWN_NAMES[2], tree('\xe9#')), doc(OWN_NAMES[2]), P5_STRAIGHT, P5_CROSSED):
+                cases.add(LETS_IN, result, a_document, classes=OWN)
+            for number in range(4):
+                cases.add(LABEL_NAME, result, label=number, classes=OWN)
+
+
 # ---------------------------------------------------------------- random cases
 
 POOL = ['a', 'b', 'c', 'd', 'list', 'card', 'x-1', 'A']
@@ -1652,11 +1905,14 @@ def usable(a_tree):
     return a_tree is not None and node_count(a_tree) <= 150
 
 
+ANY_BYTES = bytes([2] * 256)       # no classes to lend; under them a table reads whatever its names are
+
+
 def random_document(numbers, a_table_bytes, pool=POOL):
     """Derived from the table, or derived and changed, or free."""
     a_tree = None
     if not numbers.chance(15):
-        a_tree = derived_tree(numbers, ref.read_table(ref.LARGE, a_table_bytes))
+        a_tree = derived_tree(numbers, ref.read_table(ref.LARGE, ANY_BYTES, a_table_bytes))
     if not usable(a_tree):
         return document(random_tree(numbers, pool))
     if numbers.chance(45):
@@ -1721,59 +1977,117 @@ def random_limits(numbers, size):
     return ref.limits_of(size if numbers.chance(92) else min(size + 1, LARGE))
 
 
-def some_table(numbers, size, limits):
+def some_table(numbers, size, limits, pool=POOL):
     """A random table of either sort; at times a large one."""
     if numbers.chance(45):
-        return rich_table(numbers, largest=SELDOM[size] if numbers.chance(10) else 9, limits=limits)
-    return random_table(numbers, largest=SELDOM[size] if numbers.chance(10) else 8, limits=limits)
+        return rich_table(numbers, pool, SELDOM[size] if numbers.chance(10) else 9, limits)
+    return random_table(numbers, pool, SELDOM[size] if numbers.chance(10) else 8, limits)
+
+
+# How many of the bytes that may be in names are letters, and how many stand later only, in percent.
+SHARES = ((1, 0), (2, 2), (5, 50), (10, 10), (30, 30), (60, 0), (100, 0))
+
+
+def random_classes(numbers):
+    """Classes that load."""
+    letters, later = numbers.of(SHARES)
+    classes = bytearray(256)
+    for byte in MAY_BE_IN_NAMES:
+        roll = numbers.below(100)
+        classes[byte] = 2 if roll < letters else 1 if roll < letters + later else 0
+    classes[numbers.of(MAY_BE_IN_NAMES)] = 2
+    return bytes(classes)
+
+
+def random_pool(numbers, classes):
+    """As many names under the classes as POOL has; some differ from another in one byte."""
+    first = [byte for byte in range(256) if classes[byte] == 2]
+    later = [byte for byte in range(256) if classes[byte] != 0]
+    pool = []
+    while len(pool) < len(POOL):
+        length = numbers.between(1, 3 if numbers.chance(85) else 63)
+        name = [numbers.of(first)] + [numbers.of(later) for _ in range(length - 1)]
+        if pool and numbers.chance(30):
+            at, name = numbers.below(2), [ord(letter) for letter in numbers.of(pool)]
+            name[-at] = numbers.of(later if at and len(name) > 1 else first)
+        name = bytes(name).decode('latin-1')
+        if name not in pool:
+            pool.append(name)
+    return pool
+
+
+def unloadable(numbers, classes):
+    """The classes with a fault."""
+    action = numbers.below(6)
+    if action == 0:
+        return classes[:numbers.below(256)]
+    if action == 1:
+        return classes + bytes(numbers.below(3) for _ in range(numbers.between(1, MOST_CLASSES - 256)))
+    if action == 2:
+        return with_class(numbers.between(3, 255), [numbers.below(256)], classes)
+    if action == 3:
+        return bytes(min(class_, 1) for class_ in classes)
+    return with_class(numbers.between(1, 2), [numbers.of(IN_NO_NAME)], classes)
+
+
+def random_lent(numbers):
+    """Classes to lend, and names: in half of the cases document 01's, at times classes that do not load."""
+    classes, pool = ref.ASCII, POOL
+    if numbers.chance(50):
+        classes = random_classes(numbers)
+        pool = random_pool(numbers, classes)
+        if numbers.chance(12):      # a byte of a name is no letter now, or in no name
+            classes = with_class(numbers.below(2), [ord(numbers.of(numbers.of(pool)))], classes)
+    return unloadable(numbers, classes) if numbers.chance(4) else classes, pool
 
 
 def random_case(cases, numbers):
-    """One random case, or a few that belong together, at a random size."""
+    """One random case, or a few that belong together, at a random size and under random classes."""
     size = random_size(numbers)
     limits = random_limits(numbers, size)
-    first = some_table(numbers, size, limits)
-    add = partial(cases.add, size=size)
+    classes, pool = random_lent(numbers)
+    first = some_table(numbers, size, limits, pool)
+    add = partial(cases.add, size=size, classes=classes)
     roll = numbers.below(100)
     if roll < 8:
         add(numbers.of((TABLE_READS, LABEL_NAME, IS_LOCAL, IS_SINGLE_TYPE)), damaged(numbers, first),
             label=numbers.below(4))
     elif roll < 14:
-        a_document = damaged(numbers, random_document(numbers, first))
+        a_document = damaged(numbers, random_document(numbers, first, pool))
         call = numbers.of((DOCUMENT_READS, SAMPLE, LETS_IN, LOCAL_BY_DOCUMENT, SINGLE_BY_DOCUMENT))
         if call in (DOCUMENT_READS, SAMPLE):
             add(call, a_document)
         else:
             add(call, first, a_document)
     elif roll < 19:
-        second = random_table(numbers, limits=limits)
+        second = random_table(numbers, pool, limits=limits)
         pair = (damaged(numbers, first), second) if numbers.chance(40) else (first, damaged(numbers, second))
         add(numbers.of(BY_TABLE), *pair)
     elif roll < 45:
-        add(LETS_IN, first, random_document(numbers, first))
+        add(LETS_IN, first, random_document(numbers, first, pool))
     elif roll < 50:
-        a_document = document(random_tree(numbers, POOL[:3], numbers.between(1, 60)))
+        a_document = document(random_tree(numbers, pool[:3], numbers.between(1, 60)))
         add(SAMPLE, a_document, out=numbers.of((None, None, 'exact', 'short')))
     elif roll < 55:
         add(numbers.of((TABLE_READS, IS_LOCAL, IS_SINGLE_TYPE)), first)
     elif roll < 57:
         add(LABEL_NAME, first, label=numbers.below(5))
     else:
-        random_widening(add, numbers, roll < 82, first, limits)
-        random_question(add, numbers, answer_of(cases.all[-1]).written, first, limits)
+        random_widening(add, numbers, roll < 82, first, limits, pool)
+        random_question(add, numbers, answer_of(cases.all[-1]).written, first, limits, pool)
 
 
-def random_widening(add, numbers, by_table, first, limits):
+def random_widening(add, numbers, by_table, first, limits, pool):
     out = numbers.of((None,) * 12 + ('exact', 'exact', 'short', 0))
     to_kind = numbers.below(2)
     if by_table:
         make = rich_table if numbers.chance(45) else random_table if numbers.chance(80) else None
-        add(BY_TABLE[to_kind], first, make(numbers, limits=limits) if make else E, out=out)
+        add(BY_TABLE[to_kind], first, make(numbers, pool, limits=limits) if make else E, out=out)
     else:
-        add(BY_DOCUMENT[to_kind], first, random_document(numbers, first), out=out)
+        add(BY_DOCUMENT[to_kind], first, random_document(numbers, first, pool), out=out)
 
 
-def random_question(add, numbers, result, first, limits):
+def random_question(add, numbers, result, first, limits, pool):
     """At times a question to the result of a widening."""
     if not result or len(result) >= 1500 or not numbers.chance(60):
         return
@@ -1781,13 +2095,13 @@ def random_question(add, numbers, result, first, limits):
     if follow == 0:
         add(numbers.of((IS_LOCAL, IS_SINGLE_TYPE)), result)
     elif follow == 1:
-        add(LETS_IN, result, random_document(numbers, result))
+        add(LETS_IN, result, random_document(numbers, result, pool))
     elif follow == 2:
-        add(LETS_IN, result, random_document(numbers, first))
+        add(LETS_IN, result, random_document(numbers, first, pool))
     elif follow == 3:
-        add(BY_TABLE[numbers.below(2)], result, random_table(numbers, limits=limits))
+        add(BY_TABLE[numbers.below(2)], result, random_table(numbers, pool, limits=limits))
     else:
-        add(BY_DOCUMENT[numbers.below(2)], result, random_document(numbers, first))
+        add(BY_DOCUMENT[numbers.below(2)], result, random_document(numbers, first, pool))
 
 
 def made_cases(cases):
@@ -1799,6 +2113,7 @@ def made_cases(cases):
     meaning_cases(cases)
     wide_cases(cases)
     size_cases(cases)
+    class_cases(cases)
 
 
 def all_cases(seed, count):
@@ -1817,7 +2132,7 @@ def files(seed, count, calls):
     cases = [case for case in all_cases(seed, count) if case.call in calls]
     for case in cases:
         assert max(len(case.first), len(case.second)) <= MOST_INPUT
-        assert case.out_len <= MOST_OUTPUT and case.work_len <= MOST_WORK
+        assert case.out_len <= MOST_OUTPUT and case.work_len <= MOST_WORK and len(case.classes) <= MOST_CLASSES
     binary = b''.join(case_bytes(case) for case in cases) + b'\x00'
     expected = ''.join(expected_line(case) for case in cases).encode('ascii')
     return binary, expected, cases
@@ -1865,10 +2180,10 @@ def print_counts(cases, expected):
         both[call, refusal] += 1
     print('cases %d' % len(cases))
     print('per refusal: ' + '  '.join('%d: %d' % pair for pair in sorted(per_refusal.items())))
-    print('%-30s %5s   ' % ('call', 'all') + ' '.join('%4d' % refusal for refusal in range(16)))
+    print('%-30s %5s   ' % ('call', 'all') + ' '.join('%4d' % refusal for refusal in REFUSALS))
     for call in CALL_NAMES:
         print('%2d %-27s %5d   ' % (call, CALL_NAMES[call], per_call[call])
-              + ' '.join('%4s' % (both[call, refusal] or '.') for refusal in range(16)))
+              + ' '.join('%4s' % (both[call, refusal] or '.') for refusal in REFUSALS))
 
 
 def first_difference(data, stored):

@@ -1,8 +1,9 @@
-"""The second validator: every public call, written from document 01 and Card 13 alone.
+"""The second validator: every public call, written from document 01 and Cards 4 and 13 alone.
 
 Plain search, for reading next to the papers: derivations are tried directly, every step of a
 widening is made as a table, and refusals come in the paper's order.  Sentences of the papers
-stand in quotes; where document 01 has a number of the second set, the chosen set's own is read.
+stand in quotes; where document 01 has a number of the second set, the chosen set's own is read,
+and where it has the fixed classes of bytes, those lent with the call.
 Python 3, standard library only.
 
     python3 reference.py list DIR      the text that the lister prints in DIR (old.tbl, new.doc)
@@ -72,17 +73,37 @@ class Node:
         self.children = list(children)
 
 
-# ---------------------------------------------------------------- reading
+# ---------------------------------------------------------------- classes of bytes
 
+# "A table of 256 byte classes holds this rule (0 never, 1 not first, 2 anywhere)."
+NEVER, NOT_FIRST, ANYWHERE = range(3)
+
+# The old classes: "ASCII letters and digits, hyphen, period, underscore; the first is a letter or
+# underscore."
 LETTERS = b'ABCDEFGHIJKLMNOPQRSTUVWXYZabcdefghijklmnopqrstuvwxyz'
 DIGITS = b'0123456789'
-FIRST = frozenset(LETTERS + b'_')
-LATER = frozenset(LETTERS + DIGITS + b'-._')
+ASCII = bytes(ANYWHERE if byte in LETTERS + b'_' else NOT_FIRST if byte in DIGITS + b'-.' else NEVER
+              for byte in range(256))
+
+# "Bytes 00 to 20 (hexadecimal), and ( ) | , * + ? ! < > / =, must be 0."
+FORBIDDEN = bytes(range(0x00, 0x20 + 1)) + b'()|,*+?!<>/='
 
 
-def is_name(value):
-    """"ASCII letters and digits, hyphen, period, underscore; the first is a letter or underscore." """
-    return value[0] in FIRST and all(byte in LATER for byte in value)
+def loads(classes):
+    """18 where not: "a class table of another length or breaking a rule above".  The rules: "Each
+    class must be 0, 1 or 2. At least one is 2.", and the bytes that must be 0."""
+    return (len(classes) == 256
+            and all(class_ in (NEVER, NOT_FIRST, ANYWHERE) for class_ in classes)
+            and any(class_ == ANYWHERE for class_ in classes)
+            and all(classes[byte] == NEVER for byte in FORBIDDEN))
+
+
+def is_name(classes, value):
+    """The first byte may stand anywhere, and no byte is one that never may."""
+    return classes[value[0]] == ANYWHERE and all(classes[byte] != NEVER for byte in value)
+
+
+# ---------------------------------------------------------------- reading
 
 
 def field_at(data, at):
@@ -151,7 +172,7 @@ def nesting(content):
     return 1 + deepest
 
 
-def read_table(limits, data):
+def read_table(limits, classes, data):
     """A table from its bytes, or Refused."""
     if len(data) > INPUT_BYTES:                 # "2 opens each input"
         raise Refused(2)
@@ -169,7 +190,7 @@ def read_table(limits, data):
             raise Refused(4)
         last_tag = tag
         if tag == LABEL:
-            if not is_name(value):              # 5: "A name breaks the name rule."
+            if not is_name(classes, value):     # 5: "A name breaks the name rule."
                 raise Refused(5)
             if value in labels:                 # 6: "A label name ... repeats an earlier one"
                 raise Refused(6)
@@ -202,7 +223,7 @@ def read_table(limits, data):
         at = after
 
 
-def read_document(limits, data):
+def read_document(limits, classes, data):
     """A document's root from its bytes, or Refused."""
     if len(data) > INPUT_BYTES:                 # "2 opens each input"
         raise Refused(2)
@@ -223,7 +244,7 @@ def read_document(limits, data):
                 raise Refused(12)
             return root
         children, name = value[0], value[1:]
-        if not is_name(name):                   # 5
+        if not is_name(classes, name):          # 5
             raise Refused(5)
         # 11: "A node is the 1,025th, has over 200 children, lies below level 64
         # or follows a complete tree"
@@ -681,22 +702,28 @@ def table_bytes(table):
 Answer = namedtuple('Answer', 'refusal value written')
 
 
-def answered(limits, work_len, question):
+def try_lent(limits, classes, work_len):
+    """What is tried before any input."""
+    if work_len < limits.words:        # 1: "The working slice has fewer than 16,384 words."
+        raise Refused(1)
+    if not loads(classes):             # 18, "after 1"
+        raise Refused(18)
+
+
+def answered(limits, classes, work_len, question):
     """The answer of a call that writes nothing."""
     try:
-        if work_len < limits.words:    # 1: "The working slice has fewer than 16,384 words."
-            raise Refused(1)
+        try_lent(limits, classes, work_len)
         return Answer(0, int(question()), b'')
     except Refused as refusal:
         return Answer(refusal.number, 0, b'')
 
 
-def answered_in_bytes(limits, work_len, out_len, made):
+def answered_in_bytes(limits, classes, work_len, out_len, made):
     """The answer of a call that writes a table.  "The number comes with length 0 and an untouched
     output." """
     try:
-        if work_len < limits.words:
-            raise Refused(1)
+        try_lent(limits, classes, work_len)
         written = made()
         if out_len < len(written):     # 15: "The lent output is shorter than the result."
             raise Refused(15)
@@ -705,38 +732,38 @@ def answered_in_bytes(limits, work_len, out_len, made):
         return Answer(refusal.number, 0, b'')
 
 
-def table_reads(limits, table, work_len):
-    return answered(limits, work_len, lambda: read_table(limits, table) is not None)
+def table_reads(limits, classes, table, work_len):
+    return answered(limits, classes, work_len, lambda: read_table(limits, classes, table) is not None)
 
 
-def document_reads(limits, document, work_len):
-    return answered(limits, work_len, lambda: read_document(limits, document) is not None)
+def document_reads(limits, classes, document, work_len):
+    return answered(limits, classes, work_len, lambda: read_document(limits, classes, document) is not None)
 
 
-def label_name(limits, table, label, work_len):
+def label_name(limits, classes, table, label, work_len):
     """"A name asked for by its label number comes back as that part of the table's own bytes" """
     def question():
-        read = read_table(limits, table)
+        read = read_table(limits, classes, table)
         if label >= len(read.labels):  # "A caller's label number is tried after its table."
             raise Refused(8)
         return read.places[label] * 65536 + len(read.labels[label])
-    return answered(limits, work_len, question)
+    return answered(limits, classes, work_len, question)
 
 
-def lets_in(limits, table, document, work_len):
+def lets_in(limits, classes, table, document, work_len):
     def question():
-        read = read_table(limits, table)
-        root = read_document(limits, document)
+        read = read_table(limits, classes, table)
+        root = read_document(limits, classes, document)
         return table_lets_in(read, root)
-    return answered(limits, work_len, question)
+    return answered(limits, classes, work_len, question)
 
 
-def is_local(limits, table, work_len):
-    return answered(limits, work_len, lambda: table_is_local(read_table(limits, table)))
+def is_local(limits, classes, table, work_len):
+    return answered(limits, classes, work_len, lambda: table_is_local(read_table(limits, classes, table)))
 
 
-def is_single_type(limits, table, work_len):
-    return answered(limits, work_len, lambda: table_is_single_type(read_table(limits, table)))
+def is_single_type(limits, classes, table, work_len):
+    return answered(limits, classes, work_len, lambda: table_is_single_type(read_table(limits, classes, table)))
 
 
 def sample_within_limits(limits, root):
@@ -746,10 +773,10 @@ def sample_within_limits(limits, root):
     return made
 
 
-def sample(limits, document, out_len, work_len):
+def sample(limits, classes, document, out_len, work_len):
     def made():
-        return table_bytes(sample_within_limits(limits, read_document(limits, document)))
-    return answered_in_bytes(limits, work_len, out_len, made)
+        return table_bytes(sample_within_limits(limits, read_document(limits, classes, document)))
+    return answered_in_bytes(limits, classes, work_len, out_len, made)
 
 
 def widened(limits, old, addition, form):
@@ -763,38 +790,38 @@ def widened(limits, old, addition, form):
     return result
 
 
-def widen_by_table(limits, old, addition, form, out_len, work_len):
+def widen_by_table(limits, classes, old, addition, form, out_len, work_len):
     def made():
         # "Inputs are read one after the other, the old table first"
-        first = read_table(limits, old)
-        second = read_table(limits, addition)
+        first = read_table(limits, classes, old)
+        second = read_table(limits, classes, addition)
         return table_bytes(widened(limits, first, second, form))
-    return answered_in_bytes(limits, work_len, out_len, made)
+    return answered_in_bytes(limits, classes, work_len, out_len, made)
 
 
-def widen_by_document(limits, old, document, form, out_len, work_len):
+def widen_by_document(limits, classes, old, document, form, out_len, work_len):
     """"A document is added through its sample." """
     def made():
-        first = read_table(limits, old)
-        root = read_document(limits, document)
+        first = read_table(limits, classes, old)
+        root = read_document(limits, classes, document)
         return table_bytes(widened(limits, first, sample_within_limits(limits, root), form))
-    return answered_in_bytes(limits, work_len, out_len, made)
+    return answered_in_bytes(limits, classes, work_len, out_len, made)
 
 
-def widen_local_by_table(limits, old, addition, out_len, work_len):
-    return widen_by_table(limits, old, addition, to_local, out_len, work_len)
+def widen_local_by_table(limits, classes, old, addition, out_len, work_len):
+    return widen_by_table(limits, classes, old, addition, to_local, out_len, work_len)
 
 
-def widen_local_by_document(limits, old, document, out_len, work_len):
-    return widen_by_document(limits, old, document, to_local, out_len, work_len)
+def widen_local_by_document(limits, classes, old, document, out_len, work_len):
+    return widen_by_document(limits, classes, old, document, to_local, out_len, work_len)
 
 
-def widen_single_type_by_table(limits, old, addition, out_len, work_len):
-    return widen_by_table(limits, old, addition, partial(to_single_type, limits), out_len, work_len)
+def widen_single_type_by_table(limits, classes, old, addition, out_len, work_len):
+    return widen_by_table(limits, classes, old, addition, partial(to_single_type, limits), out_len, work_len)
 
 
-def widen_single_type_by_document(limits, old, document, out_len, work_len):
-    return widen_by_document(limits, old, document, partial(to_single_type, limits), out_len, work_len)
+def widen_single_type_by_document(limits, classes, old, document, out_len, work_len):
+    return widen_by_document(limits, classes, old, document, partial(to_single_type, limits), out_len, work_len)
 
 
 # ---------------------------------------------------------------- the lent slices afterwards
@@ -830,11 +857,12 @@ def content_text(content):
 
 
 def listing(old, document):
-    """The lister's text for the bytes of old.tbl and new.doc; it keeps the second set."""
-    answer = widen_local_by_document(STANDARD, old, document, INPUT_BYTES, STANDARD.words)
+    """The lister's text for the bytes of old.tbl and new.doc; it keeps the second set and "the old
+    classes, which the lister uses"."""
+    answer = widen_local_by_document(STANDARD, ASCII, old, document, INPUT_BYTES, STANDARD.words)
     if answer.refusal:
         return b'refused %d\n' % answer.refusal
-    table = read_table(STANDARD, answer.written)
+    table = read_table(STANDARD, ASCII, answer.written)
     lines = ['local']
     for start in table.starts:
         lines.append('start t%d' % start)

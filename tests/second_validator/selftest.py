@@ -2,10 +2,12 @@
 
     python3 selftest.py [--rounds N]
 
-The paper's P1 to P8, its edges and the lister's example; the edges of the three sizes, numbered by
-hand; that a larger set gives the same answer wherever a smaller one gives one; reading against bytes
-written; letting in against a listing of all derived documents; and widening against brute force on
-small tables: the result is of its kind, lets in what it must, and is least.
+The paper's P1 to P8, its edges and the lister's example; the edges of the three sizes and those of the
+classes, numbered by hand; that a larger set gives the same answer wherever a smaller one gives one, and
+so do classes with more letters; that names of other letters, under classes that say so, give the answers
+of the names that they stand for; reading against bytes written; letting in against a listing of all
+derived documents; and widening against brute force on small tables: the result is of its kind, lets in
+what it must, and is least.
 """
 
 import argparse
@@ -20,6 +22,7 @@ import reference as ref  # noqa: E402
 from generate import EMPTY, E, Numbers, any_of, choice, doc, seq, t, table, tree  # noqa: E402
 
 L = ref.STANDARD        # "document 01's cases keep the second"
+C = ref.ASCII           # and "the old classes"
 W = L.words
 FORMS = {'local': (ref.widen_local_by_table, ref.widen_local_by_document, ref.is_local),
          'single-type': (ref.widen_single_type_by_table, ref.widen_single_type_by_document,
@@ -37,25 +40,25 @@ def check(fact, *about):
 
 def paper():
     p1, p2 = gen.P1, gen.P2
-    check(len(p1) == 17 and ref.table_reads(L, p1, W) == (0, 1, b''), 'P1')
-    check(ref.lets_in(L, p1, p2, W) == (0, 1, b''), 'P2')
-    check(ref.table_reads(L, b'', W) == (3, 0, b''), 'P3')
-    check(ref.document_reads(L, b'', W) == (3, 0, b''), 'P3')
-    check(ref.table_reads(L, E, W) == (0, 1, b''), 'a table of the end field alone is valid')
+    check(len(p1) == 17 and ref.table_reads(L, C, p1, W) == (0, 1, b''), 'P1')
+    check(ref.lets_in(L, C, p1, p2, W) == (0, 1, b''), 'P2')
+    check(ref.table_reads(L, C, b'', W) == (3, 0, b''), 'P3')
+    check(ref.document_reads(L, C, b'', W) == (3, 0, b''), 'P3')
+    check(ref.table_reads(L, C, E, W) == (0, 1, b''), 'a table of the end field alone is valid')
     for by_table, _, _ in FORMS.values():
-        check(by_table(L, E, E, 100, W) == (13, 0, b''), 'P4')
-    local = ref.widen_local_by_table(L, gen.P5, E, 500, W).written
-    single = ref.widen_single_type_by_table(L, gen.P5, E, 500, W).written
-    check(ref.lets_in(L, local, gen.P5_CROSSED, W).value == 1, 'P5 local')
-    check(ref.lets_in(L, single, gen.P5_CROSSED, W) == (0, 0, b''), 'P5 single-type')
-    check(ref.lets_in(L, single, gen.P5_STRAIGHT, W).value == 1, 'P5 single-type')
+        check(by_table(L, C, E, E, 100, W) == (13, 0, b''), 'P4')
+    local = ref.widen_local_by_table(L, C, gen.P5, E, 500, W).written
+    single = ref.widen_single_type_by_table(L, C, gen.P5, E, 500, W).written
+    check(ref.lets_in(L, C, local, gen.P5_CROSSED, W).value == 1, 'P5 local')
+    check(ref.lets_in(L, C, single, gen.P5_CROSSED, W) == (0, 0, b''), 'P5 single-type')
+    check(ref.lets_in(L, C, single, gen.P5_STRAIGHT, W).value == 1, 'P5 single-type')
     p6 = table([0], [(0, 'group', choice(seq(t(0), t(0)), t(1))), (1, 'card', EMPTY)])
-    check(ref.widen_local_by_table(L, gen.P6, E, 500, W) == (0, len(p6), p6), 'P6')
+    check(ref.widen_local_by_table(L, C, gen.P6, E, 500, W) == (0, len(p6), p6), 'P6')
     p7 = table([0], [(0, 'list', t(1)), (1, 'door', t(2)), (2, 'code', EMPTY)])
     p8 = table([0], [(0, 'list', choice(t(1), t(2))), (1, 'door', EMPTY), (2, 'lift', EMPTY)])
     for by_table, _, _ in FORMS.values():
-        check(by_table(L, gen.P7, E, 500, W) == (0, len(p7), p7), 'P7')
-        check(by_table(L, gen.P8, E, 500, W) == (0, len(p8), p8), 'P8')
+        check(by_table(L, C, gen.P7, E, 500, W) == (0, len(p7), p7), 'P7')
+        check(by_table(L, C, gen.P8, E, 500, W) == (0, len(p8), p8), 'P8')
     text = (b'local\nstart t0\nt0 list (t1*|t1)\nt1 card ((t2,t3?)|(t2,t4))\n'
             b't2 name ()\nt3 door ()\nt4 zone ()\n')
     check(ref.listing(gen.LISTER_TABLE, gen.LISTER_DOC) == text, 'lister')
@@ -65,20 +68,20 @@ def paper():
     # children pass, 201 give 11."
     rules = [gen.rule(0, 0, EMPTY)] * 65
     for count, refusal in ((64, 0), (65, 7)):
-        check(ref.table_reads(L, gen.label('a') + b''.join(rules[:count]) + E, W).refusal == refusal)
+        check(ref.table_reads(L, C, gen.label('a') + b''.join(rules[:count]) + E, W).refusal == refusal)
     for length, refusal in ((63, 0), (64, 4)):
-        check(ref.table_reads(L, gen.label('a' * length) + E, W).refusal == refusal)
-        check(ref.document_reads(L, doc('a' * length), W).refusal == refusal)
+        check(ref.table_reads(L, C, gen.label('a' * length) + E, W).refusal == refusal)
+        check(ref.document_reads(L, C, doc('a' * length), W).refusal == refusal)
     for depth, refusal in ((32, 0), (33, 10)):
-        check(ref.table_reads(L, gen.one_rule(gen.deep(depth)), W).refusal == refusal)
+        check(ref.table_reads(L, C, gen.one_rule(gen.deep(depth)), W).refusal == refusal)
     for children, refusal in ((200, 0), (201, 11)):
-        check(ref.document_reads(L, gen.document(gen.wide_doc(children)), W).refusal == refusal)
+        check(ref.document_reads(L, C, gen.document(gen.wide_doc(children)), W).refusal == refusal)
     for numbered, read in ((gen.refused_tables(), ref.table_reads),
                            (gen.refused_documents(), ref.document_reads)):
         for refusal, inputs in numbered.items():
             for data in inputs:
-                check(read(L, data, W).refusal == refusal, refusal, data)
-                check(read(L, data, W - 1).refusal == 1)
+                check(read(L, C, data, W).refusal == refusal, refusal, data)
+                check(read(L, C, data, W - 1).refusal == 1)
 
 
 # ---------------------------------------------------------------- all derived documents, listed
@@ -174,7 +177,7 @@ def membership(rounds):
         make = gen.rich_table if number % 2 else gen.random_table
         names = ('a', 'b', 'c')[:2 + number % 2]
         limits = ref.SETS[number % 3]
-        read = ref.read_table(limits, make(numbers, list(names), 5, limits))
+        read = ref.read_table(limits, C, make(numbers, list(names), 5, limits))
         most = 6 if len(names) == 2 else 4
         listed = derived_documents(read, most)
         for a_tree in trees_up_to(names, most):
@@ -184,7 +187,7 @@ def membership(rounds):
     for number in range(rounds * 4):
         numbers = Numbers(80000 + number)
         content = gen.random_content(numbers, [1, 2, 3], 3)
-        read = ref.read_table(L, table([0], [(0, 'r', content), (1, 'a', EMPTY), (2, 'b', EMPTY)]))
+        read = ref.read_table(L, C, table([0], [(0, 'r', content), (1, 'a', EMPTY), (2, 'b', EMPTY)]))
         listed = derived_documents(read, 6)
         for word in words:
             a_tree = ('r', tuple((name, ()) for name in word))
@@ -234,12 +237,12 @@ def rival_tables(kind):
         while len(made) < 700:          # types 0 and 2 have name a, types 1 and 3 name b
             rules = [(k, 'ab'[k % 2], numbers.of(contents)) for k in range(4)]
             one = table(numbers.of(([0], [1], [0, 1], [0, 3])), rules, ['a', 'b'])
-            if ref.is_single_type(L, one, W).value:
+            if ref.is_single_type(L, C, one, W).value:
                 made.append(one)
         # Every local table with distinct types is single-type too.
         made += rival_tables('local')[::7]
     for one in made:
-        check(FORMS[kind][2](L, one, W) == (0, 1, b''), kind, one)
+        check(FORMS[kind][2](L, C, one, W) == (0, 1, b''), kind, one)
     return made
 
 
@@ -247,7 +250,7 @@ def leastness(rounds):
     names = ('a', 'b')
     most = 5
     small = [one for one in trees_up_to(names, 4)]
-    rivals = {kind: [(one, derived_documents(ref.read_table(L, one), most))
+    rivals = {kind: [(one, derived_documents(ref.read_table(L, C, one), most))
                      for one in rival_tables(kind)] for kind in FORMS}
     counts = {'widenings': 0, 'whole': 0, 'rivals compared': 0}
     for number in range(rounds):
@@ -255,22 +258,22 @@ def leastness(rounds):
         make = (gen.random_table, gen.rich_table)
         limits = ref.SETS[number // 6 % 3]
         old = make[number % 2](numbers, list(names), 4, limits)
-        old_trees = derived_documents(ref.read_table(limits, old), most + 1)
+        old_trees = derived_documents(ref.read_table(limits, C, old), most + 1)
         if number % 3:
             addition = make[number // 2 % 2](numbers, list(names), 4, limits)
-            added = derived_documents(ref.read_table(limits, addition), most + 1)
+            added = derived_documents(ref.read_table(limits, C, addition), most + 1)
         else:
             one = numbers.of(small)
             addition, added = gen.document(one), {one}
         for kind, (by_table, by_document, is_kind) in FORMS.items():
-            answer = (by_table if number % 3 else by_document)(limits, old, addition, 33000, limits.words)
+            answer = (by_table if number % 3 else by_document)(limits, C, old, addition, 33000, limits.words)
             if answer.refusal:
                 check(answer.refusal == 13 and not old_trees and not added, kind, old, addition)
                 continue
             counts['widenings'] += 1
-            result = ref.read_table(limits, answer.written)
+            result = ref.read_table(limits, C, answer.written)
             # "Being of the kind, letting in the old and the added, and being least are one claim"
-            check(is_kind(limits, answer.written, limits.words) == (0, 1, b''), kind, old, addition)
+            check(is_kind(limits, C, answer.written, limits.words) == (0, 1, b''), kind, old, addition)
             let_in = derived_documents(result, most + 1)
             must = old_trees | added
             check(must <= let_in, kind, old, addition)
@@ -283,8 +286,8 @@ def leastness(rounds):
                 counts['whole'] += 1
             else:
                 # The documents that show a piece may be larger; try again with more nodes.
-                wider = derived_documents(ref.read_table(limits, old), 9)
-                wider |= (derived_documents(ref.read_table(limits, addition), 9) if number % 3 else added)
+                wider = derived_documents(ref.read_table(limits, C, old), 9)
+                wider |= (derived_documents(ref.read_table(limits, C, addition), 9) if number % 3 else added)
                 found = seen_pieces(wider, kind)
                 check(all(made_of(one, found, kind) for one in narrow), kind, old, addition)
                 continue
@@ -314,28 +317,110 @@ GROWING = (ref.Limits(0, 0, 0, 32768), ref.Limits(1, 1, 1, 32768), ref.SMALL, re
 def sizes_by_hand():
     for call, first, second, label, refusals in gen.edges():
         for size in gen.SIZES:
-            case = gen.Case(call, size, gen.MOST_WORK, 0, gen.MOST_OUTPUT, label, first, second)
+            case = gen.Case(call, size, C, gen.MOST_WORK, 0, gen.MOST_OUTPUT, label, first, second)
             check(gen.answer_of(case).refusal == refusals[size], call, size, first.hex(), second.hex())
     for call in gen.CALL_NAMES:
         for size, work, refusal in gen.WORD_EDGES:
-            case = gen.Case(call, size, work, 7, 400, 0, *gen.good_inputs(call))
+            case = gen.Case(call, size, C, work, 7, 400, 0, *gen.good_inputs(call))
             check(gen.answer_of(case).refusal == refusal, call, size, work)
     for size in gen.NO_SIZES:
         for call, first, refusal in gen.NO_SIZE_EDGES:
-            case = gen.Case(call, size, W, 7, gen.MOST_OUTPUT, 0, first, b'')
+            case = gen.Case(call, size, C, W, 7, gen.MOST_OUTPUT, 0, first, b'')
             check(gen.answer_of(case).refusal == refusal, call, size, first.hex())
 
 
 def larger_sets_agree():
-    """Wherever a set gives an answer that is no refusal by a limit, a larger one gives it too."""
+    """Wherever a set gives an answer that is no refusal by a limit, a larger one gives it too; and where the classes read an
+    input's names, classes with more letters give the same answer."""
     made = gen.Cases()
     gen.made_cases(made)
-    questions = {(case.call, case.label, case.first, case.second): case for case in made.all}
+    questions = {(case.call, case.label, case.classes, case.first, case.second): case for case in made.all}
     for case in questions.values():
         room = gen.MOST_OUTPUT if case.call in gen.WRITING else 0
         answers = [gen.answer_under(limits, case._replace(work_len=limits.words, out_len=room)) for limits in GROWING]
         for smaller, larger in zip(answers, answers[1:]):
             check(smaller.refusal in BY_A_LIMIT or smaller == larger, case)
+        if answers[-1].refusal not in (5, 18):
+            case = case._replace(size=gen.LARGE, classes=gen.ALL_LETTERS, work_len=ref.LARGE.words, out_len=room)
+            check(gen.answer_of(case) == answers[-1], case)
+
+
+# ---------------------------------------------------------------- the classes
+
+def classes_by_hand():
+    letters = b'ABCDEFGHIJKLMNOPQRSTUVWXYZ_abcdefghijklmnopqrstuvwxyz'
+    check([byte for byte in range(256) if C[byte] == 2] == list(letters))
+    check([byte for byte in range(256) if C[byte] == 1] == list(b'-.0123456789'))
+    check(ref.loads(C) and len(gen.IN_NO_NAME) == 45 and len(gen.MAY_BE_IN_NAMES) == 211)
+    check(not any(ref.loads(classes) for classes in gen.BAD_CLASSES))
+    check(all(ref.loads(classes) for classes in gen.LOADED))
+    made = gen.Cases()
+    for refusal, call, first, second, options in gen.class_edges():
+        made.add(call, first, second, **options)
+        case = made.all[-1]
+        answer = gen.answer_of(case)
+        check(answer.refusal == refusal, refusal, answer.refusal, call, first.hex(), second.hex(), options)
+        if refusal == 18:       # no value, the output untouched, as many words zero as the size needs
+            words = {gen.SMALL: 12288, gen.LARGE: 32768}.get(case.size, 16384)
+            output, work = gen.OUTPUT_FILL[:case.out_len], [case.work_fill] * case.work_len
+            check(answer.value == 0 and ref.output_after(answer, output) == output)
+            check(ref.work_after(gen.limits_of(case), answer, work) == [0] * words + work[words:])
+    for call in gen.CALL_NAMES:
+        check({18, 1, 0, 5} <= {gen.answer_of(case).refusal for case in made.all if case.call == call})
+
+
+def own_names_by_hand():
+    own, (one, two, three) = gen.OWN, gen.OWN_NAMES
+    for number, name in enumerate((one, two, three)):
+        offset, length = divmod(ref.label_name(L, own, gen.OWN_TABLE, number, W).value, 65536)
+        check(gen.OWN_TABLE[offset:offset + length] == name.encode('latin-1'))
+    check(ref.lets_in(L, own, gen.OWN_TABLE, gen.OWN_DOC, W) == (0, 1, b''))
+    for a_tree, value in ((tree(one), 1), (tree(one, tree(three)), 1), (tree(one, tree(three, tree(two)), tree(two)), 1),
+                          (tree(two), 0), (tree(one, tree(three, tree(three))), 0), (tree(one, tree(three[::-1])), 0),
+                          (tree(one[:-1]), 0), (tree('a'), 0)):
+        check(ref.lets_in(L, own, gen.OWN_TABLE, gen.document(a_tree), W) == (0, value, b''), a_tree)
+    sampled = table([0], [(0, one, seq(t(1), t(3))), (1, three, t(2)), (2, two, EMPTY), (3, two, EMPTY)])
+    check(ref.sample(L, own, gen.OWN_DOC, 500, W) == (0, len(sampled), sampled))
+    wider = table([0, 2], [(0, one, any_of(choice(t(1), t(2)))), (1, two, EMPTY),
+                           (2, three, choice(gen.optional(t(1)), any_of(t(3)))), (3, '\xe9#', EMPTY)])
+    check(ref.widen_local_by_table(L, own, gen.OWN_TABLE, gen.OWN_OTHER, 500, W) == (0, len(wider), wider))
+    # Names are equal when all eight bits of their bytes are.
+    check(ref.lets_in(L, own, gen.P1, doc('\xe1'), W) == (0, 0, b''))
+    wider = table([0, 1], [(0, 'a', EMPTY), (1, '\xe1', EMPTY)])
+    for _, by_document, _ in FORMS.values():
+        check(by_document(L, own, gen.P1, doc('\xe1'), 500, W) == (0, len(wider), wider))
+
+
+def renamed_alike(rounds):
+    """ASCII's names spelled in other bytes, of the classes that theirs have, give the same answers in that spelling."""
+    for number in range(rounds):
+        numbers = Numbers(47000 + number)
+        left = list(gen.MAY_BE_IN_NAMES)
+        spelled = {chr(byte): chr(left.pop(numbers.below(len(left)))) for byte in range(256) if C[byte]}
+        classes = bytearray(256)
+        for byte, other in spelled.items():
+            classes[ord(other)] = C[ord(byte)]
+
+        def respelled(name):
+            return ''.join(spelled[byte] for byte in name.decode('latin-1')).encode('latin-1')
+
+        pool = [respelled(name.encode('latin-1')).decode('latin-1') for name in gen.POOL]
+        answers = []
+        for lent, names in ((C, gen.POOL), (bytes(classes), pool)):
+            same = Numbers(48000 + number)
+            old, addition = gen.random_table(same, names), gen.rich_table(same, names)
+            a_document = gen.random_document(same, old, names)
+            answers.append([ref.lets_in(L, lent, old, a_document, W), ref.label_name(L, lent, old, 1, W),
+                            ref.is_local(L, lent, old, W), ref.is_single_type(L, lent, old, W),
+                            ref.sample(L, lent, a_document, 33000, W)]
+                           + [by_table(L, lent, old, addition, 33000, W) for by_table, _, _ in FORMS.values()]
+                           + [by_document(L, lent, old, a_document, 33000, W) for _, by_document, _ in FORMS.values()])
+        for ours, theirs in zip(*answers):
+            check(ours[:2] == theirs[:2], number)
+            if ours.written:
+                read = ref.read_table(L, C, ours.written)
+                read = read._replace(labels=[respelled(name) for name in read.labels])
+                check(ref.table_bytes(read) == theirs.written, number)
 
 
 # ---------------------------------------------------------------- other facts
@@ -347,25 +432,25 @@ def other_facts(rounds):
         words = limits.words
         old = (gen.rich_table if number % 2 else gen.random_table)(numbers, limits=limits)
         addition = (gen.random_table if number % 2 else gen.rich_table)(numbers, limits=limits)
-        check(ref.table_bytes(ref.read_table(limits, old)) == old)
+        check(ref.table_bytes(ref.read_table(limits, C, old)) == old)
         for by_table, by_document, is_kind in FORMS.values():
-            answer = by_table(limits, old, addition, 33000, words)
+            answer = by_table(limits, C, old, addition, 33000, words)
             if answer.refusal:
                 continue
-            check(is_kind(limits, answer.written, words).value == 1)
+            check(is_kind(limits, C, answer.written, words).value == 1)
             # Widening a result by E changes no document; here it even changes no byte, since the
             # numbering of a result is the one a second widening gives.
-            again = by_table(limits, answer.written, E, 33000, words)
+            again = by_table(limits, C, answer.written, E, 33000, words)
             check(again.written == answer.written, old, addition)
             a_document = gen.random_document(numbers, old)
-            answer = by_document(limits, old, a_document, 33000, words)
-            check(answer.refusal in (11, 14) or ref.lets_in(limits, answer.written, a_document, words).value == 1)
-            a_sample = ref.sample(limits, a_document, 33000, words)
+            answer = by_document(limits, C, old, a_document, 33000, words)
+            check(answer.refusal in (11, 14) or ref.lets_in(limits, C, answer.written, a_document, words).value == 1)
+            a_sample = ref.sample(limits, C, a_document, 33000, words)
             if not a_sample.refusal:
-                check(ref.lets_in(limits, a_sample.written, a_document, words).value == 1)
-                check(ref.is_single_type(limits, a_sample.written, words).value == 1)
-                check(by_table(limits, old, a_sample.written, 33000, words) == answer)
-                check(ref.widen_single_type_by_table(limits, a_sample.written, E, 33000, words).refusal == 0)
+                check(ref.lets_in(limits, C, a_sample.written, a_document, words).value == 1)
+                check(ref.is_single_type(limits, C, a_sample.written, words).value == 1)
+                check(by_table(limits, C, old, a_sample.written, 33000, words) == answer)
+                check(ref.widen_single_type_by_table(limits, C, a_sample.written, E, 33000, words).refusal == 0)
     # The case file reads back.
     cases = gen.all_cases(3, 30)
     data = b''.join(gen.case_bytes(case) for case in cases) + b'\x00'
@@ -384,10 +469,13 @@ def main():
     rounds = parser.parse_args().rounds
     paper()
     sizes_by_hand()
+    classes_by_hand()
+    own_names_by_hand()
     larger_sets_agree()
     membership(max(1, rounds // 5))
     counts = leastness(rounds)
     other_facts(rounds)
+    renamed_alike(rounds)
     print('%d facts hold; %s' % (done[0], ', '.join('%s %d' % pair for pair in counts.items())))
 
 

@@ -26,7 +26,7 @@ __extension__ typedef unsigned __int128 type_set;
 
 enum { SET_WORDS = sizeof(type_set) / sizeof(uint32_t) };
 enum { MOST_LABELS = TYPES, MOST_STARTS = TYPES, MOST_RULES = TYPES };
-enum { NAME_BYTES = 63, CONTENT_BYTES = 1024, NESTING = 32, MOST_CHILDREN = 200 };
+enum { CLASSES = 256, NAME_BYTES = 63, CONTENT_BYTES = 1024, NESTING = 32, MOST_CHILDREN = 200 };
 enum { LABEL_TAG = 0x10, START_TAG = 0x11, RULE_TAG = 0x12, TABLE_END = 0x1F, NODE_TAG = 0x30, DOCUMENT_END = 0x3F };
 enum { NONE, EMPTY, TYPE, SEQUENCE, CHOICE, ANY_NUMBER, ONE_OR_MORE, OPTIONAL };
 
@@ -77,18 +77,22 @@ struct document {
     uint8_t coming[MOST_LEVELS + 1];
 };
 
-/* The class of each byte: 0 never in a name, 1 not first, 2 anywhere. */
-static const uint8_t classes[256] = {
-    ['-'] = 1, ['.'] = 1, ['0'] = 1, ['1'] = 1, ['2'] = 1, ['3'] = 1, ['4'] = 1, ['5'] = 1, ['6'] = 1, ['7'] = 1, ['8'] = 1,
-    ['9'] = 1, ['A'] = 2, ['B'] = 2, ['C'] = 2, ['D'] = 2, ['E'] = 2, ['F'] = 2, ['G'] = 2, ['H'] = 2, ['I'] = 2, ['J'] = 2,
-    ['K'] = 2, ['L'] = 2, ['M'] = 2, ['N'] = 2, ['O'] = 2, ['P'] = 2, ['Q'] = 2, ['R'] = 2, ['S'] = 2, ['T'] = 2, ['U'] = 2,
-    ['V'] = 2, ['W'] = 2, ['X'] = 2, ['Y'] = 2, ['Z'] = 2, ['_'] = 2, ['a'] = 2, ['b'] = 2, ['c'] = 2, ['d'] = 2, ['e'] = 2,
-    ['f'] = 2, ['g'] = 2, ['h'] = 2, ['i'] = 2, ['j'] = 2, ['k'] = 2, ['l'] = 2, ['m'] = 2, ['n'] = 2, ['o'] = 2, ['p'] = 2,
-    ['q'] = 2, ['r'] = 2, ['s'] = 2, ['t'] = 2, ['u'] = 2, ['v'] = 2, ['w'] = 2, ['x'] = 2, ['y'] = 2, ['z'] = 2,
-};
+/* Whether classes load: 256 of them, each 0, 1 or 2, some of them 2, and 0 for the bytes that are in no name. */
+static int loads(const uint8_t *classes, size_t length) {
+    static const uint8_t signs[] = {'(', ')', '|', ',', '*', '+', '?', '!', '<', '>', '/', '='};
+    uint8_t above = 0, letters = 0, never = 0;
+    if (length != CLASSES) return 0;
+    for (size_t i = 0; i < CLASSES; i++) {
+        above |= classes[i] > 2;
+        letters |= classes[i] == 2;
+    }
+    for (size_t i = 0; i <= ' '; i++) never |= classes[i];
+    for (size_t i = 0; i < sizeof signs; i++) never |= classes[signs[i]];
+    return !above && letters && !never;
+}
 
-/* Whether bytes, one at least, are a name. */
-static int is_name(const uint8_t *name, size_t size) {
+/* Whether bytes, one at least, are a name under classes that load. */
+static int is_name(const uint8_t *classes, const uint8_t *name, size_t size) {
     if (classes[name[0]] != 2) return 0;
     for (size_t i = 1; i < size; i++)
         if (classes[name[i]] == 0) return 0;
@@ -124,11 +128,11 @@ static int next_field(struct field *field, const uint8_t **at, const uint8_t *en
     return 1;
 }
 
-static unsigned read_label(struct table *table, const struct field *field) {
+static unsigned read_label(struct table *table, const uint8_t *classes, const struct field *field) {
     const uint8_t *name = field->value;
     size_t size = field->size;
     if (table->starts != 0 || table->rules != 0 || size < 1 || size > NAME_BYTES) return COGARRUNE_BAD_FIELD;
-    if (!is_name(name, size)) return COGARRUNE_BAD_NAME;
+    if (!is_name(classes, name, size)) return COGARRUNE_BAD_NAME;
     if (label_of(table, name, size) != NO_MORE) return COGARRUNE_REPEATED;
     if (table->labels == MOST_LABELS) return COGARRUNE_TOO_MANY;
     unsigned key = key_of(name, size);
@@ -212,17 +216,17 @@ static unsigned read_rule(struct table *table, const struct field *field) {
     return 0;
 }
 
-static unsigned read_table_field(struct table *table, const struct field *field) {
+static unsigned read_table_field(struct table *table, const uint8_t *classes, const struct field *field) {
     switch (field->tag) {
-    case LABEL_TAG: return read_label(table, field);
+    case LABEL_TAG: return read_label(table, classes, field);
     case START_TAG: return read_start(table, field);
     case RULE_TAG: return read_rule(table, field);
     default: return COGARRUNE_BAD_FIELD;
     }
 }
 
-/* Reads a table: 0, or why it is turned back. */
-static unsigned read_table(struct table *table, const uint8_t *bytes, size_t length) {
+/* Reads a table under classes that load: 0, or why it is turned back. */
+static unsigned read_table(struct table *table, const uint8_t *classes, const uint8_t *bytes, size_t length) {
     const uint8_t *at = bytes, *end = bytes + length;
     struct field field;
     if (length > COGARRUNE_MOST_BYTES) return COGARRUNE_INPUT_TOO_LONG;
@@ -233,19 +237,19 @@ static unsigned read_table(struct table *table, const uint8_t *bytes, size_t len
     for (;;) {
         if (!next_field(&field, &at, end)) return COGARRUNE_FIELD_PAST_END;
         if (field.tag == TABLE_END) break;
-        unsigned refusal = read_table_field(table, &field);
+        unsigned refusal = read_table_field(table, classes, &field);
         if (refusal != 0) return refusal;
     }
     if (field.size != 0) return COGARRUNE_BAD_FIELD;
     return at == end ? 0 : COGARRUNE_BYTES_AFTER_END;
 }
 
-static unsigned read_node(struct document *document, const struct field *field, const struct table *table) {
+static unsigned read_node(struct document *document, const uint8_t *classes, const struct field *field, const struct table *table) {
     if (field->tag != NODE_TAG || field->size < 2 || field->size > NAME_BYTES + 1) return COGARRUNE_BAD_FIELD;
     unsigned children = field->value[0];
     const uint8_t *name = field->value + 1;
     size_t size = field->size - 1, levels = document->levels;
-    if (!is_name(name, size)) return COGARRUNE_BAD_NAME;
+    if (!is_name(classes, name, size)) return COGARRUNE_BAD_NAME;
     if (document->nodes == MOST_NODES || children > MOST_CHILDREN || levels > MOST_LEVELS || levels == 0) return COGARRUNE_BAD_TREE;
     document->node[document->nodes++] = (struct node){(uint8_t)label_of(table, name, size), (uint8_t)children};
     document->coming[levels - 1]--;
@@ -257,8 +261,9 @@ static unsigned read_node(struct document *document, const struct field *field, 
     return 0;
 }
 
-/* Reads a document, with the labels that a table has for its names: 0, or why it is turned back. */
-static unsigned read_document(struct document *document, const uint8_t *bytes, size_t length, const struct table *table) {
+/* Reads a document under classes that load, with the labels that a table has for its names: 0, or why it is turned back. */
+static unsigned read_document(struct document *document, const uint8_t *classes, const uint8_t *bytes, size_t length,
+                              const struct table *table) {
     const uint8_t *at = bytes, *end = bytes + length;
     struct field field;
     if (length > COGARRUNE_MOST_BYTES) return COGARRUNE_INPUT_TOO_LONG;
@@ -268,7 +273,7 @@ static unsigned read_document(struct document *document, const uint8_t *bytes, s
     for (;;) {
         if (!next_field(&field, &at, end)) return COGARRUNE_FIELD_PAST_END;
         if (field.tag == DOCUMENT_END) break;
-        unsigned refusal = read_node(document, &field, table);
+        unsigned refusal = read_node(document, classes, &field, table);
         if (refusal != 0) return refusal;
     }
     if (field.size != 0) return COGARRUNE_BAD_FIELD;
@@ -389,28 +394,31 @@ static unsigned decide(const struct table *table, const struct document *documen
     return (set_at(top) & table->start_types) != 0;
 }
 
-static uint64_t read_and_decide(const uint8_t *table_bytes, size_t table_length, const uint8_t *document_bytes, size_t document_length,
-                                uint32_t *work) {
+static uint64_t read_and_decide(const uint8_t *classes, size_t classes_length, const uint8_t *table_bytes, size_t table_length,
+                                const uint8_t *document_bytes, size_t document_length, uint32_t *work) {
     struct table table;
     struct document document;
-    uint64_t refusal = read_table(&table, table_bytes, table_length);
-    if (refusal == 0) refusal = read_document(&document, document_bytes, document_length, &table);
+    uint64_t refusal = loads(classes, classes_length) ? 0 : COGARRUNE_BAD_CLASSES;
+    if (refusal == 0) refusal = read_table(&table, classes, table_bytes, table_length);
+    if (refusal == 0) refusal = read_document(&document, classes, document_bytes, document_length, &table);
     return refusal != 0 ? refusal << 32 : decide(&table, &document, work);
 }
 
-uint64_t LETS_IN_OF_SIZE(const uint8_t *table, size_t table_length, const uint8_t *document, size_t document_length, uint32_t *work,
-                         size_t work_length) {
+uint64_t LETS_IN_OF_SIZE(const uint8_t *classes, size_t classes_length, const uint8_t *table, size_t table_length,
+                         const uint8_t *document, size_t document_length, uint32_t *work, size_t work_length) {
     if (work_length < WORDS) return (uint64_t)COGARRUNE_WORK_TOO_SHORT << 32;
-    uint64_t answer = read_and_decide(table, table_length, document, document_length, work);
+    uint64_t answer = read_and_decide(classes, classes_length, table, table_length, document, document_length, work);
     memset(work, 0, WORDS * sizeof *work);
     return answer;
 }
 
 #if FLOOR_SIZE == 1
-uint64_t floor_lets_in(uint32_t size, const uint8_t *table, size_t table_length, const uint8_t *document, size_t document_length,
-                       uint32_t *work, size_t work_length) {
-    if (size == COGARRUNE_SMALL) return floor_lets_in_small(table, table_length, document, document_length, work, work_length);
-    if (size == COGARRUNE_LARGE) return floor_lets_in_large(table, table_length, document, document_length, work, work_length);
-    return floor_lets_in_standard(table, table_length, document, document_length, work, work_length);
+uint64_t floor_lets_in(uint32_t size, const uint8_t *classes, size_t classes_length, const uint8_t *table, size_t table_length,
+                       const uint8_t *document, size_t document_length, uint32_t *work, size_t work_length) {
+    if (size == COGARRUNE_SMALL)
+        return floor_lets_in_small(classes, classes_length, table, table_length, document, document_length, work, work_length);
+    if (size == COGARRUNE_LARGE)
+        return floor_lets_in_large(classes, classes_length, table, table_length, document, document_length, work, work_length);
+    return floor_lets_in_standard(classes, classes_length, table, table_length, document, document_length, work, work_length);
 }
 #endif

@@ -6,15 +6,15 @@
 #include <stdint.h>
 
 /* As cogarrune_lets_in of include/cogarrune.h, in its answers and in what it leaves in the working words. */
-uint64_t floor_lets_in(uint32_t size, const uint8_t *table, size_t table_length, const uint8_t *document, size_t document_length,
-                       uint32_t *work, size_t work_length);
+uint64_t floor_lets_in(uint32_t size, const uint8_t *classes, size_t classes_length, const uint8_t *table, size_t table_length,
+                       const uint8_t *document, size_t document_length, uint32_t *work, size_t work_length);
 
 /* The same at each size. */
-uint64_t floor_lets_in_small(const uint8_t *table, size_t table_length, const uint8_t *document, size_t document_length, uint32_t *work,
-                             size_t work_length);
-uint64_t floor_lets_in_standard(const uint8_t *table, size_t table_length, const uint8_t *document, size_t document_length,
-                                uint32_t *work, size_t work_length);
-uint64_t floor_lets_in_large(const uint8_t *table, size_t table_length, const uint8_t *document, size_t document_length, uint32_t *work,
-                             size_t work_length);
+uint64_t floor_lets_in_small(const uint8_t *classes, size_t classes_length, const uint8_t *table, size_t table_length,
+                             const uint8_t *document, size_t document_length, uint32_t *work, size_t work_length);
+uint64_t floor_lets_in_standard(const uint8_t *classes, size_t classes_length, const uint8_t *table, size_t table_length,
+                                const uint8_t *document, size_t document_length, uint32_t *work, size_t work_length);
+uint64_t floor_lets_in_large(const uint8_t *classes, size_t classes_length, const uint8_t *table, size_t table_length,
+                             const uint8_t *document, size_t document_length, uint32_t *work, size_t work_length);
 
 #endif

@@ -1,13 +1,13 @@
-/* Times of membership, side by side: the static library's lets_in, the same call in plain C (floor.c), and libxml2's validation of the same
- * table as a RELAX NG schema and the same document as XML.
+/* Times of membership, side by side: the static library's lets_in, the same call in plain C (floor.c), and libxml2's validation of the
+ * same table as a RELAX NG schema and the same document as XML.
  *
  *     speed SECONDS FILE..
  *
- * Each FILE holds the size in decimal and a line feed, then four parts, each a number of bytes in decimal, a line feed and the bytes: table,
- * document, schema, XML. For each one line of numbers goes to standard output: the answers of lets_in, of the floor and of libxml2 (1 yes,
- * 0 no), and seconds a call of
- *     lets_in whole; reading the table; reading the document; the least call (the three bytes of an empty table), which clears the
- *     working words and does next to nothing else; the floor whole; libxml2's validation alone.
+ * Each FILE holds the size in decimal and a line feed, then four parts, each a number of bytes in decimal, a line feed and the bytes:
+ * table, document, schema, XML; the classes are the ASCII ones. For each one line of numbers goes to standard output: the answers of
+ * lets_in, of the floor and of libxml2 (1 yes, 0 no), and seconds a call of
+ *     lets_in whole; reading the table; reading the document; the least call (the three bytes of an empty table), which tries the
+ *     classes, clears the working words and does next to nothing else; the floor whole; libxml2's validation alone.
  * The six are measured in turn in short rounds, for so many seconds in all; of all rounds of a measure the one counts that a tenth of
  * them undercut, so that load on the machine and errors of its clock tell little. */
 #include <inttypes.h>
@@ -33,6 +33,7 @@ static uint32_t size;
 static size_t words;
 static struct part parts[PARTS];
 static uint32_t work[COGARRUNE_WORDS_LARGE];
+static const uint8_t classes[256] = COGARRUNE_ASCII_CLASSES;
 static const uint8_t empty_table[] = {0x1F, 0, 0};
 static xmlRelaxNGPtr schema;
 static xmlRelaxNGValidCtxtPtr context;
@@ -70,21 +71,22 @@ static xmlDocPtr parse_document(void) {
 
 static void once(int measure) {
     const struct part table = parts[TABLE], listed = parts[DOCUMENT];
+    const size_t given = sizeof classes;
     switch (measure) {
     case WHOLE:
-        sink = cogarrune_lets_in(size, table.bytes, table.length, listed.bytes, listed.length, work, words);
+        sink = cogarrune_lets_in(size, classes, given, table.bytes, table.length, listed.bytes, listed.length, work, words);
         break;
     case READ_TABLE:
-        sink = cogarrune_table_reads(size, table.bytes, table.length, work, words);
+        sink = cogarrune_table_reads(size, classes, given, table.bytes, table.length, work, words);
         break;
     case READ_DOCUMENT:
-        sink = cogarrune_document_reads(size, listed.bytes, listed.length, work, words);
+        sink = cogarrune_document_reads(size, classes, given, listed.bytes, listed.length, work, words);
         break;
     case LEAST:
-        sink = cogarrune_table_reads(size, empty_table, sizeof empty_table, work, words);
+        sink = cogarrune_table_reads(size, classes, given, empty_table, sizeof empty_table, work, words);
         break;
     case FLOOR:
-        sink = floor_lets_in(size, table.bytes, table.length, listed.bytes, listed.length, work, words);
+        sink = floor_lets_in(size, classes, given, table.bytes, table.length, listed.bytes, listed.length, work, words);
         break;
     case VALIDATE:
         sink = (uint64_t)xmlRelaxNGValidateDoc(context, document);

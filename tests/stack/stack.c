@@ -13,14 +13,14 @@
 struct call {
     uint32_t size;
     int number; /* as in tests/second_validator; 0 does nothing */
-    const uint8_t *first, *second;
-    size_t first_length, second_length, label;
+    const uint8_t *classes, *first, *second;
+    size_t classes_length, first_length, second_length, label;
 };
 
 static uint8_t out[COGARRUNE_MOST_BYTES];
 static uint32_t work[COGARRUNE_WORDS_LARGE];
 
-#define FIRST c->size, c->first, c->first_length
+#define FIRST c->size, c->classes, c->classes_length, c->first, c->first_length
 #define BOTH FIRST, c->second, c->second_length
 #define OUT out, sizeof out
 #define WORK work, cogarrune_words_of(c->size)
@@ -45,10 +45,10 @@ static void *run(void *given)
 }
 
 /* Bytes of stack, with those that the thread itself takes; 0 if no thread could be made. */
-size_t stack_of(uint32_t size, int number, const uint8_t *first, size_t first_length, const uint8_t *second, size_t second_length,
-                size_t label)
+size_t stack_of(uint32_t size, int number, const uint8_t *classes, size_t classes_length, const uint8_t *first, size_t first_length,
+                const uint8_t *second, size_t second_length, size_t label)
 {
-    struct call call = { size, number, first, second, first_length, second_length, label };
+    struct call call = { size, number, classes, first, second, classes_length, first_length, second_length, label };
     uint8_t *stack = mmap(NULL, ROOM, PROT_READ | PROT_WRITE, MAP_PRIVATE | MAP_ANONYMOUS, -1, 0);
     pthread_attr_t attributes;
     pthread_t thread;

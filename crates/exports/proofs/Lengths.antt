@@ -11,7 +11,7 @@ use Rattle.grammar.specs.Limits.{Limits, inputLimit, small, standard, large}
 use Rattle.grammar.specs.LimitSets.{sizeLimits}
 use Rattle.grammar.specs.declared.Size.{Size}
 use Rattle.grammar.specs.declared.Size.the-variants.{Small, Standard, Large}
-use Rattle.grammar.specs.Names.{asciiClasses}
+use Rattle.grammar.specs.Names.{Classes}
 use Rattle.grammar.specs.Tree.{Tree}
 use Rattle.grammar.specs.Table.{Table}
 use Rattle.grammar.specs.Kinds.{Kind}
@@ -71,20 +71,20 @@ module _ (lim : Limits) (same-input : lim .input ≡ inputLimit) where
       let (a, _, p) = was-given (sampleTable lim d) (λ a. widenByTable lim kind old a) result e in
       result-size kind old a result p
 
-  sample-below : (document out work : List ℕ)
-      → numbersOf length (documentSample lim asciiClasses document out work) .value < 4294967296
+  sample-below : (classes : Classes) (document out work : List ℕ)
+      → numbersOf length (documentSample lim classes document out work) .value < 4294967296
   unfolding documentSample
-  sample-below document out work =
-      then-below (documentReads lim asciiClasses document work) _
+  sample-below classes document out work =
+      then-below (documentReads lim classes document work) _
       (λ d _. then-below (sampleTable lim d) _ (λ g e. table-below out g (sample-size d g e)))
 
-  widening-below : (kind : Kind) (source : Source) (old addition out work : List ℕ)
-      → numbersOf length (widened lim asciiClasses kind source old addition out work) .value < 4294967296
+  widening-below : (classes : Classes) (kind : Kind) (source : Source) (old addition out work : List ℕ)
+      → numbersOf length (widened lim classes kind source old addition out work) .value < 4294967296
   unfolding widened
-  widening-below kind source old addition out work =
-      then-below (tableReads lim asciiClasses old work) _
+  widening-below classes kind source old addition out work =
+      then-below (tableReads lim classes old work) _
       (λ g _.
-      then-below (readAddition lim asciiClasses source addition) _
+      then-below (readAddition lim classes source addition) _
       (λ a _. then-below (widen lim kind g a) _ (λ r e. table-below out r (widen-size kind g a r e))))
 
 -- all sizes have inputs of one length
@@ -95,18 +95,18 @@ size-input Standard = refl
 size-input Large = refl
 
 -- so is the value of what a call promised
-pub sampled-value : (size : Size) (document out work left kept : List ℕ) (n : Numbers) → Sampling (sizeLimits size) asciiClasses document out work (after n left kept)
+pub sampled-value : (size : Size) (classes : Classes) (document out work left kept : List ℕ) (n : Numbers) → Sampling (sizeLimits size) classes document out work (after n left kept)
     → n .value < 4294967296
 unfolding wrote
-sampled-value size document out work left kept n s =
+sampled-value size classes document out work left kept n s =
     let same = ap (λ (a : After Numbers). a .answer .value) (s .settled) in
-    let below = sample-below (sizeLimits size) (size-input size) document out work in
+    let below = sample-below (sizeLimits size) (size-input size) classes document out work in
     omega arith
 
-pub widened-value : (size : Size) (kind : Kind) (source : Source) (old addition out work left kept : List ℕ) (n : Numbers)
-    → Widening (sizeLimits size) asciiClasses kind source old addition out work (after n left kept) → n .value < 4294967296
+pub widened-value : (size : Size) (classes : Classes) (kind : Kind) (source : Source) (old addition out work left kept : List ℕ) (n : Numbers)
+    → Widening (sizeLimits size) classes kind source old addition out work (after n left kept) → n .value < 4294967296
 unfolding wrote
-widened-value size kind source old addition out work left kept n s =
+widened-value size classes kind source old addition out work left kept n s =
     let same = ap (λ (a : After Numbers). a .answer .value) (s .settled) in
-    let below = widening-below (sizeLimits size) (size-input size) kind source old addition out work in
+    let below = widening-below (sizeLimits size) (size-input size) classes kind source old addition out work in
     omega arith

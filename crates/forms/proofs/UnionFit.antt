@@ -8,14 +8,14 @@ use mathlib.Core.Logic.{⊎-elim}
 use mathlib.Core.Path.{subst}
 use lib.ListN.{length, length-append, length-map}
 use Rattle.grammar.specs.Limits.{Limits, NoneAbove, large}
-use Rattle.grammar.specs.Names.{Name, asciiClasses}
+use Rattle.grammar.specs.Names.{Name}
 use Rattle.grammar.specs.Table.{Table}
 use Rattle.grammar.specs.WithinLimits.{NameWithin, TableWithin}
 use Rattle.grammar.specs.Unite.{added, unite}
 use Rattle.grammar.specs.Normalise.{normalise}
 use Rattle.grammar.specs.Reduce.{reduce}
 use Rattle.grammar.specs.Widen.{reducedUnion}
-use Rattle.theory.specs.Conditions.{Labelled}
+use Rattle.theory.specs.Conditions.{Labelled, allLetters}
 use Rattle.theory.proofs.tables.TableConditions.{within-labelled, within-below}
 use Rattle.theory.proofs.tables.RoomierLimits.{table-roomier}
 use Rattle.theory.proofs.steps.UniteDocuments.{unite-labelled}
@@ -30,10 +30,10 @@ pub record UnionFit (lim : Limits) (u : Table) : Type 0 where
   pub few : length (u .rules) ≤ 256
   pub reduced : ReducedTable (reduce (normalise u))
   pub counted : RulesCounted lim (reduce (normalise u) .rules)
-  pub named : (n : Name) → List·Memᴰ n (reduce (normalise u) .labels) → NameWithin lim asciiClasses n
+  pub named : (n : Name) → List·Memᴰ n (reduce (normalise u) .labels) → NameWithin lim allLetters n
 
-module _ (lim : Limits) (room : NoneAbove lim large) (g h : Table) (old : TableWithin lim asciiClasses g)
-    (addition : TableWithin lim asciiClasses h) where
+module _ (lim : Limits) (room : NoneAbove lim large) (g h : Table) (old : TableWithin lim allLetters g)
+    (addition : TableWithin lim allLetters h) where
   few-rules : length (unite large g h .rules) ≤ 256
   unfolding unite large
   few-rules =
@@ -46,8 +46,8 @@ module _ (lim : Limits) (room : NoneAbove lim large) (g h : Table) (old : TableW
   counted-rules : RulesCounted lim (reducedUnion large g h .rules)
   counted-rules =
       subst (λ (t : Table). RulesCounted lim (t .rules))
-      (same-reduced-union lim large g h (room .types) (within-below lim asciiClasses g old))
-      (union-counted lim g h (within-counted lim asciiClasses g old) (within-counted lim asciiClasses h addition))
+      (same-reduced-union lim large g h (room .types) (within-below lim allLetters g old))
+      (union-counted lim g h (within-counted lim allLetters g old) (within-counted lim allLetters h addition))
 
   pub union-fit : UnionFit lim (unite large g h)
   unfolding reducedUnion
@@ -55,10 +55,10 @@ module _ (lim : Limits) (room : NoneAbove lim large) (g h : Table) (old : TableW
       record {
         room = room;
         labelled =
-            unite-labelled large g h (within-labelled lim asciiClasses g old)
-            (within-labelled lim asciiClasses h addition);
+            unite-labelled large g h (within-labelled lim allLetters g old)
+            (within-labelled lim allLetters h addition);
         few = few-rules;
-        reduced = reduced-union large asciiClasses g h (table-roomier room old) (table-roomier room addition);
+        reduced = reduced-union large allLetters g h (table-roomier room old) (table-roomier room addition);
         counted = counted-rules;
         named = λ n m. ⊎-elim (old .names n) (addition .names n) (union-name large g h n m);
       }

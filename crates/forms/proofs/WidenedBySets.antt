@@ -14,7 +14,6 @@ use lib.Dec.{ltb}
 use borrow.Author.Tests.{lt-ltb}
 use Rattle.grammar.specs.Lists.{anyPass, numbersBelow}
 use Rattle.grammar.specs.Limits.{Limits, large}
-use Rattle.grammar.specs.Names.{asciiClasses}
 use Rattle.grammar.specs.Table.{Rule, Table}
 use Rattle.grammar.specs.WriteTable.{tableBytes}
 use Rattle.grammar.specs.Size.{contentTooLarge, tooLarge}
@@ -25,7 +24,7 @@ use Rattle.grammar.specs.Reduce.{reduce}
 use Rattle.grammar.specs.SingleTypeForm.{TypeSet}
 use Rattle.grammar.specs.Tidy.{tidyTable}
 use Rattle.grammar.specs.Widen.{form}
-use Rattle.theory.specs.Conditions.{Regular}
+use Rattle.theory.specs.Conditions.{Regular, allLetters}
 use Rattle.theory.proofs.lists.BoolLaws.{or-left}
 use Rattle.theory.proofs.lists.ListLaws.{numbers-below, numbers-length}
 use Rattle.theory.proofs.bytes.NumberedTable.{Numbered, finished-numbered}
@@ -71,12 +70,12 @@ module _ {lim : Limits} (u : Table) (fit : UnionFit lim u) where
   rules-of-kind local = refl
   rules-of-kind singleType = refl
 
-  table-numbered : (kind : Kind) → length (setsOf lim kind u) ≤ lim .types → Numbered lim asciiClasses (tableOf lim kind u)
+  table-numbered : (kind : Kind) → length (setsOf lim kind u) ≤ lim .types → Numbered lim allLetters (tableOf lim kind u)
   table-numbered kind few =
       let n = form-of-kind kind .count in
-      subst (Numbered lim asciiClasses) (table-of-kind kind)
-      (finished-numbered lim asciiClasses (form lim kind (reduce (normalise u)))
-      (form-numbered (reduce (normalise u)) (fit .reduced) lim asciiClasses (fit .named) (fit .counted) kind
+      subst (Numbered lim allLetters) (table-of-kind kind)
+      (finished-numbered lim allLetters (form lim kind (reduce (normalise u)))
+      (form-numbered (reduce (normalise u)) (fit .reduced) lim allLetters (fit .named) (fit .counted) kind
       (omega arith)))
 
   -- as many as there are sets

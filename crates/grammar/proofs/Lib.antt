@@ -4,6 +4,7 @@ pub mod PaperCases
 pub mod ListerExample
 pub mod Edges
 pub mod RefusalOrder
+pub mod ClassRules
 pub mod Mistakes
 pub mod WideningExamples
 pub mod SampleExamples

@@ -23,6 +23,7 @@ use Rattle.grammar.specs.declared.Refusal.the-variants.{
   NoDocument,
   ResultTooLarge,
   OutputTooShort,
+  BadClasses,
 }
 
 -- in the order of the paper's list
@@ -43,9 +44,10 @@ inOrder =
     ∷ NoDocument
     ∷ ResultTooLarge
     ∷ OutputTooShort
+    ∷ BadClasses
     ∷ []
 
-numbers : map number inOrder ≡ 1 ∷ 2 ∷ 3 ∷ 4 ∷ 5 ∷ 6 ∷ 7 ∷ 8 ∷ 9 ∷ 10 ∷ 11 ∷ 12 ∷ 13 ∷ 14 ∷ 15 ∷ []
+numbers : map number inOrder ≡ 1 ∷ 2 ∷ 3 ∷ 4 ∷ 5 ∷ 6 ∷ 7 ∷ 8 ∷ 9 ∷ 10 ∷ 11 ∷ 12 ∷ 13 ∷ 14 ∷ 15 ∷ 18 ∷ []
 unfolding number inOrder
 numbers = refl
 

@@ -6,14 +6,14 @@ use lib.ListN.{replicate}
 use Rattle.grammar.specs.Ascii.{ascii}
 use Rattle.grammar.specs.Lists.{joinedOf, numbersBelow}
 use Rattle.grammar.specs.Limits.{standard}
-use Rattle.grammar.specs.Names.{asciiClasses}
+use Rattle.grammar.specs.Names.{asciiClasses, loads}
 use Rattle.grammar.specs.Table.{Table}
 use Rattle.grammar.specs.Kinds.{local}
 use Rattle.grammar.specs.Outcome.{Outcome, given, refused}
 use Rattle.grammar.specs.Fields.{fieldBytes}
 use Rattle.grammar.specs.ReadTable.{readTable, labelTag, startTag, ruleTag}
 use Rattle.grammar.specs.ReadDocument.{nodeTag, readNodes}
-use Rattle.grammar.specs.Calls.{tableReads, labelName, widened}
+use Rattle.grammar.specs.Calls.{tableReads, documentReads, labelName, widened}
 use Rattle.grammar.specs.Listing.{typeText}
 use Rattle.grammar.specs.declared.Source.the-variants.{Table as aTable, Document as aDocument}
 use Rattle.grammar.specs.declared.Refusal.the-variants.{
@@ -32,6 +32,7 @@ use Rattle.grammar.specs.declared.Refusal.the-variants.{
   NoDocument,
   ResultTooLarge,
   OutputTooShort,
+  BadClasses,
 }
 use Rattle.grammar.proofs.Builders.{nodeField, endOfDocument}
 use Rattle.grammar.proofs.PaperTables.{p1Bytes, eBytes}
@@ -55,9 +56,23 @@ ruleField k l content = fieldBytes ruleTag (k ∷ l ∷ content)
 enough : List ℕ
 enough = replicate 16384 0
 
+-- 1 before 18
+work-before-classes : tableReads standard [] [] [] ≡ refused WorkTooShort
+unfolding tableReads standard asciiClasses
+work-before-classes = refl
+
+-- 18 before 2, of a table and of a document
+classes-before-length : tableReads standard [] (replicate 32769 0) enough ≡ refused BadClasses
+unfolding tableReads standard asciiClasses loads enough
+classes-before-length = refl
+
+classes-before-document : documentReads standard [] (replicate 32769 0) enough ≡ refused BadClasses
+unfolding documentReads standard asciiClasses loads enough
+classes-before-document = refl
+
 -- 1 before 2
 work-before-length : tableReads standard asciiClasses (replicate 32769 0) [] ≡ refused WorkTooShort
-unfolding tableReads standard
+unfolding tableReads standard asciiClasses
 work-before-length = refl
 
 -- 2 before 3
@@ -141,20 +156,20 @@ after-the-tree = refl
 
 -- the old table before the addition, to its end: its 12 before the addition's 3, and before the addition's 2
 old-before-addition : widened standard asciiClasses local aTable (eBytes ++ 0 ∷ []) [] [] enough ≡ refused BytesAfterEnd
-unfolding widened standard eBytes enough
+unfolding widened standard asciiClasses eBytes enough
 old-before-addition = refl
 
 old-before-length : widened standard asciiClasses local aTable [] (replicate 32769 0) [] enough ≡ refused FieldPastEnd
-unfolding widened standard enough
+unfolding widened standard asciiClasses enough
 old-before-length = refl
 
 -- reading before 13, and 13 before 15
 reading-before-widening : widened standard asciiClasses local aTable eBytes (eBytes ++ 0 ∷ []) [] enough ≡ refused BytesAfterEnd
-unfolding widened standard eBytes enough
+unfolding widened standard asciiClasses eBytes enough
 reading-before-widening = refl
 
 document-before-output : widened standard asciiClasses local aTable eBytes eBytes [] enough ≡ refused NoDocument
-unfolding widened standard eBytes enough
+unfolding widened standard asciiClasses eBytes enough
 document-before-output = refl
 
 -- a root with 64 children of different names: its sample has 65 types

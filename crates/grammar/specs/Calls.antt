@@ -1,12 +1,12 @@
 -- The whole outcome of every public call, and what it leaves in each lent slice.
 use Prim.Native.Nat.{ℕ, _+_}
-use mathlib.Core.Bool.{Bool, true, false}
+use mathlib.Core.Bool.{Bool, true, false, not}
 use mathlib.Core.List.{List, [], _++_}
 use lib.ListN.{length, take, drop, replicate, getD}
 use lib.Dec.{leb, ltb}
 use Rattle.grammar.specs.Lists.{joinedOf}
 use Rattle.grammar.specs.Limits.{Limits}
-use Rattle.grammar.specs.Names.{Name, Classes}
+use Rattle.grammar.specs.Names.{Name, Classes, loads}
 use Rattle.grammar.specs.Tree.{Tree}
 use Rattle.grammar.specs.Table.{Table}
 use Rattle.grammar.specs.Kinds.{Kind}
@@ -22,7 +22,7 @@ use Rattle.grammar.specs.Widen.{widen, sampleTable}
 use Rattle.grammar.specs.Answers.{Numbers, numbersOf, numberAfter}
 use Rattle.grammar.specs.declared.Source.{Source}
 use Rattle.grammar.specs.declared.Source.the-variants.{Table as aTable, Document as aDocument}
-use Rattle.grammar.specs.declared.Refusal.the-variants.{WorkTooShort, OutOfRange, OutputTooShort}
+use Rattle.grammar.specs.declared.Refusal.the-variants.{WorkTooShort, BadClasses, OutOfRange, OutputTooShort}
 
 -- Working memory is lent to every call.
 unfoldable pub workTooShort : Limits → List ℕ → Bool
@@ -67,16 +67,19 @@ partOfLabel labels label =
     record { from = length (joinedOf (fieldBytes labelTag) (take label labels)) + 3; size = length (getD labels label []) }
 
 module _ (lim : Limits) (classes : Classes) where
+  -- The working memory is tried first, then the classes, then an input.
   unfoldable pub tableReads : List ℕ → List ℕ → Outcome Table
-  unfolding workTooShort readTable
+  unfolding workTooShort loads readTable
   tableReads table work = do
     turnBack (workTooShort lim work) WorkTooShort
+    turnBack (not (loads classes)) BadClasses
     readTable lim classes table
 
   unfoldable pub documentReads : List ℕ → List ℕ → Outcome Tree
-  unfolding workTooShort readDocument
+  unfolding workTooShort loads readDocument
   documentReads document work = do
     turnBack (workTooShort lim work) WorkTooShort
+    turnBack (not (loads classes)) BadClasses
     readDocument lim classes document
 
   -- A caller's label number is tried after its table.

@@ -18,6 +18,7 @@ use Rattle.grammar.specs.declared.Refusal.the-variants.{
   NoDocument,
   ResultTooLarge,
   OutputTooShort,
+  BadClasses,
 }
 
 unfoldable pub number : Refusal → ℕ
@@ -51,6 +52,8 @@ number NoDocument = 13
 number ResultTooLarge = 14
 -- The lent output is shorter than the result.
 number OutputTooShort = 15
+-- The classes do not load.
+number BadClasses = 18
 
 pub data Outcome (A : Type 0) : Type 0 where
   refused : Refusal → Outcome A

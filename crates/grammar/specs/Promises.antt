@@ -6,7 +6,7 @@ use mathlib.Core.Logic.{_↔_, _⊎_}
 use mathlib.Core.Path.{_≡_}
 use lib.ListN.{length, take}
 use Rattle.grammar.specs.Limits.{Limits}
-use Rattle.grammar.specs.Names.{Classes}
+use Rattle.grammar.specs.Names.{Classes, Loads}
 use Rattle.grammar.specs.Tree.{Tree}
 use Rattle.grammar.specs.Table.{Table}
 use Rattle.grammar.specs.Derivation.{LetsIn}
@@ -73,12 +73,13 @@ module _ (lim : Limits) (classes : Classes) where
   pub record Membership (table document work : List ℕ) (left : After Numbers) : Type 0 where
     pub settled : left ≡ answered lim bit (tableLetsIn lim classes table document work) work
     pub decides : (g : Table) (d : Tree) → readTable lim classes table ≡ given g → readDocument lim classes document ≡ given d
-        → lim .words ≤ length work → Decides (left .answer) (LetsIn g d)
+        → lim .words ≤ length work → Loads classes → Decides (left .answer) (LetsIn g d)
 
   -- `is_local`, `is_single_type`. Demand 2: exactly by definition.
   pub record KindTest (kind : Kind) (table work : List ℕ) (left : After Numbers) : Type 0 where
     pub settled : left ≡ answered lim bit (tableIsOfKind lim classes kind table work) work
-    pub decides : (g : Table) → readTable lim classes table ≡ given g → lim .words ≤ length work → Decides (left .answer) (OfKind kind g)
+    pub decides : (g : Table) → readTable lim classes table ≡ given g → lim .words ≤ length work → Loads classes
+        → Decides (left .answer) (OfKind kind g)
 
   -- `sample`: the bytes written read as the sample.
   pub record Sampling (document out work : List ℕ) (left : After Numbers) : Type 0 where
@@ -94,5 +95,5 @@ module _ (lim : Limits) (classes : Classes) where
         → readAddition lim classes source addition ≡ given a
         → WritesLeast lim classes kind g a (take (left .answer .value) (left .out))
     pub no-document : (g : Table) (a : Addition) → readTable lim classes old ≡ given g
-        → readAddition lim classes source addition ≡ given a → lim .words ≤ length work
+        → readAddition lim classes source addition ≡ given a → lim .words ≤ length work → Loads classes
         → (left .answer ≡ refusedBy NoDocument) ↔ ((d : Tree) → LetsIn g d ⊎ Added a d → ⊥)

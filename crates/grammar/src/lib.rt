@@ -1,7 +1,7 @@
 // The answers of the public calls, whose cases crates/grammar/specs gives numbers and values, the sorts of addition, and the sizes that
 // a call can be asked for.
 
-// Why a call turned its input back, in the order in which the reasons are tried.
+// Why a call turned its input back. The reasons are tried in this order, but the last of them after the first.
 pub enum Refusal {
     WorkTooShort,
     InputTooLong,
@@ -18,6 +18,7 @@ pub enum Refusal {
     NoDocument,
     ResultTooLarge,
     OutputTooShort,
+    BadClasses,
 }
 
 // Does an input read?

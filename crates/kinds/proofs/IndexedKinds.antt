@@ -17,7 +17,6 @@ use lib.Dec.{eqb, ltb}
 use lib.ListN.{length, getElem?}
 use borrow.Author.Tests.{eqb-true, eqb-false, eq-eqb, ne-eqb, ltb-true, ltb-false, not-true}
 use Rattle.grammar.specs.Limits.{large}
-use Rattle.grammar.specs.Names.{asciiClasses}
 use Rattle.grammar.specs.Lists.{allPass, allDistinct, isIn}
 use Rattle.grammar.specs.Content.{typesIn}
 use Rattle.grammar.specs.Table.{Rule, Table}
@@ -34,7 +33,7 @@ use Rattle.reader.proofs.TableFoundLaws.{start-small, rule-found-at}
 use Rattle.kinds.specs.RulesAt.{anyBelow, sameLabelAt, samePairAt, rivalsAt, Holds, TypesBelow}
 use Rattle.kinds.proofs.BelowLaws.{one-below, below-found}
 
-pub types-below : {s index : List ℕ} → SomeHeld large asciiClasses s index → TypesBelow index
+pub types-below : {s index : List ℕ} → SomeHeld large s index → TypesBelow index
 types-below f =
     let x = f .held .indexes in
     record {

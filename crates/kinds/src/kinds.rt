@@ -28,7 +28,6 @@ ghost use Rattle.grammar.specs.Table.{Rule, Table};
 ghost use Rattle.grammar.specs.Lists.{allPass, allDistinct};
 ghost use Rattle.grammar.specs.KindTests.{samePair, noneCompete, isLocal, isSingleType};
 ghost use Rattle.grammar.specs.Limits.{large};
-ghost use Rattle.grammar.specs.Names.{asciiClasses};
 ghost use Rattle.reader.specs.TableIndex.{ruleCount, Indexes};
 ghost use Rattle.reader.specs.Held.{SomeHeld};
 ghost use Rattle.kinds.specs.RulesAt.{anyBelow, sameLabelAt, samePairAt, rivals, rivalsAt, Holds, IsContent, TypesBelow};
@@ -202,7 +201,7 @@ fn none_compete(index: &[u16; 899], words: &[u32]) -> bool
 
 // No two different types that stand in the content of this rule have rules with one label.
 fn none_compete_in(table: &[u8], index: &[u16; 899], i: usize, words: &mut [u32]) -> bool
-    requires { ⌜ (SomeHeld large asciiClasses (now table) (now index)) × (i < ruleCount (now index))
+    requires { ⌜ (SomeHeld large (now table) (now index)) × (i < ruleCount (now index))
         × (8 ≤ length (now words)) ⌝ }
     ensures { λ r. ⌜ ((g : Table) (rule : Rule) → Indexes (now (table .entry)) (now (index .entry)) g → getElem? (g .rules) i ≡ some rule
         → r ≡ noneCompete g (typesIn (rule .content))) ⌝ }
@@ -215,7 +214,7 @@ fn none_compete_in(table: &[u8], index: &[u16; 899], i: usize, words: &mut [u32]
 
 // The same of every content.
 fn none_compete_in_any(table: &[u8], index: &[u16; 899], words: &mut [u32]) -> bool
-    requires { ⌜ (SomeHeld large asciiClasses (now table) (now index)) × (8 ≤ length (now words)) ⌝ }
+    requires { ⌜ (SomeHeld large (now table) (now index)) × (8 ≤ length (now words)) ⌝ }
     ensures { λ r. ⌜ ((g : Table) → Indexes (now (table .entry)) (now (index .entry)) g
         → r ≡ allPass (λ (rule : Rule). noneCompete g (typesIn (rule .content))) (g .rules)) ⌝ }
 {
@@ -233,7 +232,7 @@ fn none_compete_in_any(table: &[u8], index: &[u16; 899], words: &mut [u32]) -> b
 
 // No two rules have one type and label, and no two different types compete among the starts or in a content.
 pub fn single_type_table(table: &[u8], index: &[u16; 899], words: &mut [u32]) -> bool
-    requires { ⌜ (SomeHeld large asciiClasses (now table) (now index)) × (8 ≤ length (now words)) ⌝ }
+    requires { ⌜ (SomeHeld large (now table) (now index)) × (8 ≤ length (now words)) ⌝ }
     ensures { λ r. ⌜ ((g : Table) → Indexes (now (table .entry)) (now (index .entry)) g → r ≡ isSingleType g) ⌝ }
 {
     if distinct_pairs(index) {

@@ -5,6 +5,7 @@ use libc::STDOUT_FILENO;
 use lister_lines::limits::TEXT;
 use lister_lines::lines::list_bytes;
 use lister_lines::lines::refusal_line;
+use reader::ascii::ASCII;
 use reader::limits::INPUT;
 use widening::calls::widen_local_by_document;
 ghost use Prim.Native.Nat.{_≤_};
@@ -20,15 +21,16 @@ const FILE: usize = INPUT + 1;
 // Working words that a call of the standard size needs.
 const WORDS: usize = 16384;
 
-// The text for the bytes of an old table and a document: of the local widening, or of the refusal.
+// The text for the bytes of an old table and a document: of the local widening under the classes of the base, or of the refusal.
 pub fn list(old: &[u8], document: &[u8], out: &mut [u8], work: &mut [u32], text: &mut [u8]) -> usize
     requires { ⌜ (inputLimit ≤ length (now out)) × (16384 ≤ length (now work)) × (404000 ≤ length (now text)) ⌝ }
     ensures { λ r. ⌜ Put (now (text .entry)) 0 (listing standard asciiClasses (now (old .entry)) (now (document .entry)))
         (now (text .exit)) r ⌝ }
 {
-    match widen_local_by_document(Size::Standard, old, document, out, work) {
+    let classes = ASCII;
+    match widen_local_by_document(Size::Standard, &classes, old, document, out, work) {
         Written::Refused(refusal) => refusal_line(refusal, text),
-        Written::Length(n) => list_bytes(&out[0..n], text),
+        Written::Length(n) => list_bytes(&classes, &out[0..n], text),
     }
 }
 

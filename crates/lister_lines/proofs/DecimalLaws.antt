@@ -28,6 +28,7 @@ use Rattle.grammar.specs.declared.Refusal.the-variants.{
   NoDocument,
   ResultTooLarge,
   OutputTooShort,
+  BadClasses,
 }
 use Rattle.grammar.specs.Listing.{digitsWithin, decimal, typeText}
 use Rattle.theory.proofs.lists.BoolLaws.{passes-or-fails}
@@ -91,7 +92,7 @@ type-is k = refl
 pub type-size : (k : ℕ) → k < 128 → length (typeText k) ≤ 4
 type-size k h = omega (arith, decimal-size k (omega arith), ap length (type-is k))
 
-pub number-small : (r : Refusal) → number r < 16
+pub number-small : (r : Refusal) → number r < 19
 unfolding number
 number-small WorkTooShort = omega arith
 number-small InputTooLong = omega arith
@@ -108,3 +109,4 @@ number-small BytesAfterEnd = omega arith
 number-small NoDocument = omega arith
 number-small ResultTooLarge = omega arith
 number-small OutputTooShort = omega arith
+number-small BadClasses = omega arith

@@ -11,7 +11,6 @@ use lib.ListN.{length, getD, take, length-append}
 use lib.Seq.{take-suc}
 use Rattle.grammar.specs.Lists.{joinedOf}
 use Rattle.grammar.specs.Limits.{large}
-use Rattle.grammar.specs.Names.{asciiClasses}
 use Rattle.grammar.specs.Content.{none}
 use Rattle.grammar.specs.Table.{Rule, Table}
 use Rattle.grammar.specs.ReadContent.{contentBytes}
@@ -49,7 +48,7 @@ joined-place : {A : Type 0} (f : A → Text) (xs : List A) (i : ℕ) (d : A) →
 joined-place f xs i d h =
     sym (ap (λ (n : ℕ). joinedOf f (take n xs)) (add-one i) ∙ ap (joinedOf f) (take-suc xs i d h) ∙ joined-end f (take i xs) (getD xs i d))
 
-module _ {s index : List ℕ} (f : SomeHeld large asciiClasses s index) where
+module _ {s index : List ℕ} (f : SomeHeld large s index) where
   abbrev g : Table
   g = f .table
 

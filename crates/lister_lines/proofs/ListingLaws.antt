@@ -1,5 +1,5 @@
--- What the lister prints, by what the widening call gives, where the call is lent enough: a refusal is the lister's own, and bytes read as
--- the table that the lister prints.
+-- What the lister prints, by what the widening call gives, where the call is lent enough and the classes load: a refusal is the lister's
+-- own, and bytes read as the table that the lister prints.
 --   standard-size, standard-read : the limits that it reads with
 --   listing-refused, listing-written : by the call's outcome ; list-refused, list-inside, list-written : by its answer and the output
 use Prim.Native.Nat.{ℕ, _-_, _≤_}
@@ -12,7 +12,7 @@ use lib.Dec.{ltb}
 use borrow.Author.Tests.{le-ltb}
 use Rattle.grammar.specs.Limits.{Limits, standard, inputLimit, LimitsAgree}
 use Rattle.grammar.specs.LimitSets.{sizeLimits, limitsOf}
-use Rattle.grammar.specs.Names.{asciiClasses}
+use Rattle.grammar.specs.Names.{Classes, Loads}
 use Rattle.grammar.specs.Tree.{Tree}
 use Rattle.grammar.specs.Table.{Table}
 use Rattle.grammar.specs.Kinds.{local}
@@ -39,7 +39,7 @@ use Rattle.theory.proofs.bytes.ReadWithin.{read-within}
 use Rattle.theory.proofs.bytes.DocumentWithin.{document-within}
 use Rattle.theory.proofs.theorems.ResultWithin.{document-result-within, document-result-read-back}
 use Rattle.theory.proofs.theorems.AnswerNumbers.{was-written, was-unwritten}
-use Rattle.theory.proofs.theorems.CallPromises.{lent-enough}
+use Rattle.theory.proofs.theorems.CallPromises.{lent-loaded}
 use Rattle.reader.proofs.AnswerLaws.{never-given}
 use Rattle.writer.specs.Writing.{Put}
 use Rattle.lister_lines.proofs.PrintSteps.{put-as}
@@ -53,21 +53,22 @@ pub standard-size : sizeLimits Standard ≡ standard
 unfolding sizeLimits
 standard-size = refl
 
-pub standard-read : (l : SizeLimits) → limitsOf l ≡ sizeLimits Standard → (s : List ℕ)
-    → readTable (limitsOf l) asciiClasses s ≡ readTable standard asciiClasses s
-standard-read l same s = ap (λ (lim : Limits). readTable lim asciiClasses s) (same ∙ standard-size)
+pub standard-read : (l : SizeLimits) → limitsOf l ≡ sizeLimits Standard → (classes : Classes) (s : List ℕ)
+    → readTable (limitsOf l) classes s ≡ readTable standard classes s
+standard-read l same classes s = ap (λ (lim : Limits). readTable lim classes s) (same ∙ standard-size)
 
 refused-eq : {A : Type 0} {q r : Refusal} → _≡_ {A = Outcome A} (refused q) (refused r) → q ≡ r
 refused-eq e = cc
 
-module _ (old document out work : List ℕ) (words : 16384 ≤ length work) (room : inputLimit ≤ length out) where
+module _ (classes : Classes) (load : Loads classes) (old document out work : List ℕ) (words : 16384 ≤ length work)
+    (room : inputLimit ≤ length out) where
   abbrev result : Outcome Table
   result =
-      readTable standard asciiClasses old
-      >>= λ g. readDocument standard asciiClasses document >>= λ d. widen standard local g (byDocument d)
+      readTable standard classes old
+      >>= λ g. readDocument standard classes document >>= λ d. widen standard local g (byDocument d)
 
   abbrev called : Outcome (List ℕ)
-  called = widened standard asciiClasses local aDocument old document out work
+  called = widened standard classes local aDocument old document out work
 
   enough : standard .words ≤ length work
   unfolding standard
@@ -79,10 +80,10 @@ module _ (old document out work : List ℕ) (words : 16384 ≤ length work) (roo
       ap
       (λ (o : Outcome Table).
       o
-      >>= λ g. ((readDocument standard asciiClasses document >>= λ d. given (byDocument d))
+      >>= λ g. ((readDocument standard classes document >>= λ d. given (byDocument d))
       >>= λ a. (widen standard local g a >>= λ r. writtenTo out r)))
-      (lent-enough standard work (readTable standard asciiClasses old) enough)
-      ∙ through (readTable standard asciiClasses old) (readDocument standard asciiClasses document)
+      (lent-loaded standard classes work (readTable standard classes old) enough load)
+      ∙ through (readTable standard classes old) (readDocument standard classes document)
     where
       through : (x : Outcome Table) (y : Outcome Tree)
           → (x >>= λ g. ((y >>= λ d. given (byDocument d)) >>= λ a. (widen standard local g a >>= λ r. writtenTo out r)))
@@ -93,26 +94,26 @@ module _ (old document out work : List ℕ) (words : 16384 ≤ length work) (roo
 
   module _ (g : Table) (e : result ≡ given g) where
     -- what was read and widened
-    steps : (h : Table) × (d : Tree) × (readTable standard asciiClasses old ≡ given h)
-        × (readDocument standard asciiClasses document ≡ given d) × (widen standard local h (byDocument d) ≡ given g)
+    steps : (h : Table) × (d : Tree) × (readTable standard classes old ≡ given h)
+        × (readDocument standard classes document ≡ given d) × (widen standard local h (byDocument d) ≡ given g)
     steps =
         let (h, p, q) =
-        was-given (readTable standard asciiClasses old)
-        (λ h. readDocument standard asciiClasses document >>= λ d. widen standard local h (byDocument d)) g e in
-        let (d, r, w) = was-given (readDocument standard asciiClasses document) (λ d. widen standard local h (byDocument d)) g q in
+        was-given (readTable standard classes old)
+        (λ h. readDocument standard classes document >>= λ d. widen standard local h (byDocument d)) g e in
+        let (d, r, w) = was-given (readDocument standard classes document) (λ d. widen standard local h (byDocument d)) g q in
         (h, d, p, r, w)
 
-    result-within : TableWithin standard asciiClasses g
+    result-within : TableWithin standard classes g
     result-within =
         let (h, d, p, r, w) = steps in
-        document-result-within standard asciiClasses standard-agree d (document-within standard asciiClasses document d r) local h
-        (read-within standard asciiClasses old h p) g w
+        document-result-within standard classes standard-agree d (document-within standard classes document d r) local h
+        (read-within standard classes old h p) g w
 
-    result-read-back : readTable standard asciiClasses (tableBytes g) ≡ given g
+    result-read-back : readTable standard classes (tableBytes g) ≡ given g
     result-read-back =
         let (h, d, p, r, w) = steps in
-        document-result-read-back standard asciiClasses standard-agree d (document-within standard asciiClasses document d r) local h
-        (read-within standard asciiClasses old h p) g w
+        document-result-read-back standard classes standard-agree d (document-within standard classes document d r) local h
+        (read-within standard classes old h p) g w
 
     called-given : called ≡ given (tableBytes g)
     unfolding writtenTo standard
@@ -123,30 +124,30 @@ module _ (old document out work : List ℕ) (words : 16384 ≤ length work) (roo
         ∙ no-fault (ltb (length out) (length (tableBytes g))) OutputTooShort (given (tableBytes g))
         (le-ltb (length out) (length (tableBytes g)) (omega arith))
 
-  listing-is : listing standard asciiClasses old document ≡ outcomeText result
+  listing-is : listing standard classes old document ≡ outcomeText result
   unfolding listing
   listing-is = refl
 
-  pub listing-refused : (r : Refusal) → called ≡ refused r → listing standard asciiClasses old document ≡ outcomeText (refused r)
+  pub listing-refused : (r : Refusal) → called ≡ refused r → listing standard classes old document ≡ outcomeText (refused r)
   listing-refused r e = go result refl
     where
-      go : (o : Outcome Table) → result ≡ o → listing standard asciiClasses old document ≡ outcomeText (refused r)
+      go : (o : Outcome Table) → result ≡ o → listing standard classes old document ≡ outcomeText (refused r)
       go (given g) p = absurd (never-given called r (tableBytes g) e (called-given g p))
       go (refused q) p =
           let same = refused-eq (sym (called-is ∙ ap (λ (o : Outcome Table). o >>= writtenTo out) p) ∙ e) in
           listing-is ∙ ap outcomeText p ∙ ap (λ (s : Refusal). outcomeText (refused s)) same
 
   pub listing-written : (bytes : List ℕ) → called ≡ given bytes
-      → listing standard asciiClasses old document ≡ outcomeText (readTable standard asciiClasses bytes)
+      → listing standard classes old document ≡ outcomeText (readTable standard classes bytes)
   listing-written bytes e = go result refl
     where
-      go : (o : Outcome Table) → result ≡ o → listing standard asciiClasses old document ≡ outcomeText (readTable standard asciiClasses bytes)
+      go : (o : Outcome Table) → result ≡ o → listing standard classes old document ≡ outcomeText (readTable standard classes bytes)
       go (refused q) p = absurd (never-given called q bytes (called-is ∙ ap (λ (o : Outcome Table). o >>= writtenTo out) p) e)
       go (given g) p =
           let same = given-eq (sym (called-given g p) ∙ e) in
           listing-is
           ∙ ap outcomeText (p ∙ sym (result-read-back g p))
-          ∙ ap (λ (b : List ℕ). outcomeText (readTable standard asciiClasses b)) same
+          ∙ ap (λ (b : List ℕ). outcomeText (readTable standard classes b)) same
 
   -- by what the call leaves
   module _ (answer : Written) (left workLeft : List ℕ) (kept : after (writtenNumbers answer) left workLeft ≡ wrote standard called out work) where
@@ -159,7 +160,7 @@ module _ (old document out work : List ℕ) (words : 16384 ≤ length work) (roo
     out-left = ap (λ (a : After Numbers). a .out) kept
 
     pub list-refused : {text more : List ℕ} {end : ℕ} (r : Refusal) → answer ≡ Unwritten r → Put text 0 (outcomeText (refused r)) more end
-        → Put text 0 (listing standard asciiClasses old document) more end
+        → Put text 0 (listing standard classes old document) more end
     list-refused r e p = put-as (sym (listing-refused r (was-unwritten called r (ap writtenNumbers (sym e) ∙ so)))) p
 
     module _ (n : ℕ) (e : answer ≡ Length n) where
@@ -188,9 +189,9 @@ module _ (old document out work : List ℕ) (words : 16384 ≤ length work) (roo
           ap (λ (k : ℕ). take k left) z ∙ ap (take (length bytes)) left-is ∙ take-append-seam bytes (drop (length bytes) out)
 
       pub list-written : {text more : List ℕ} {end : ℕ}
-          → Put text 0 (outcomeText (readTable standard asciiClasses (take (n - 0) (drop 0 left)))) more end
-          → Put text 0 (listing standard asciiClasses old document) more end
+          → Put text 0 (outcomeText (readTable standard classes (take (n - 0) (drop 0 left)))) more end
+          → Put text 0 (listing standard classes old document) more end
       list-written p =
           put-as
-          (ap (λ (b : List ℕ). outcomeText (readTable standard asciiClasses b)) front-is ∙ sym (listing-written bytes called-bytes))
+          (ap (λ (b : List ℕ). outcomeText (readTable standard classes b)) front-is ∙ sym (listing-written bytes called-bytes))
           p

@@ -4,7 +4,6 @@ use mathlib.Core.List.{List, [], _∷_, _++_}
 use mathlib.Core.Path.{_≡_}
 use lib.ListN.{length, getD}
 use Rattle.grammar.specs.Limits.{large}
-use Rattle.grammar.specs.Names.{asciiClasses}
 use Rattle.grammar.specs.Content.{Contents, []ᶜ, _∷ᶜ_}
 use Rattle.grammar.specs.Table.{Table}
 use Rattle.grammar.specs.Listing.{Text, contentText, continued}
@@ -41,5 +40,5 @@ pub record Printed (before : List ℕ) (at : ℕ) (bytes : Text) (next : ℕ) (a
 -- This text of the table that was read is written, and it is no longer than so much.
 pub record TextPut (s index : List ℕ) (words : Table → Text) (most : ℕ) (before : List ℕ) (at : ℕ) (after : List ℕ)
     (r : ℕ) : Type 0 where
-  pub put : (f : SomeHeld large asciiClasses s index) → Put before at (words (f .table)) after r
+  pub put : (f : SomeHeld large s index) → Put before at (words (f .table)) after r
   pub short : r ≤ at + most

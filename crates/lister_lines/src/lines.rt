@@ -25,7 +25,7 @@ ghost use mathlib.Core.List.{[]};
 ghost use lib.ListN.{length, getD};
 ghost use Rattle.grammar.specs.Lists.{joinedOf};
 ghost use Rattle.grammar.specs.Limits.{standard, large, nameLimit};
-ghost use Rattle.grammar.specs.Names.{asciiClasses};
+ghost use Rattle.grammar.specs.Names.{Loads};
 ghost use Rattle.grammar.specs.Outcome.{refused};
 ghost use Rattle.grammar.specs.ReadTable.{readTable};
 ghost use Rattle.grammar.specs.Listing.{contentText, startLine, ruleLine, localText, outcomeText};
@@ -37,7 +37,7 @@ ghost use Rattle.lister_lines.specs.Printing.{TextPut};
 
 // A label's name.
 fn put_name(table: &[u8], index: &[u16; 899], label: usize, text: &mut [u8], at: usize) -> usize
-    requires { ⌜ SomeHeld large asciiClasses (now table) (now index) × (label < labelCount (now index))
+    requires { ⌜ SomeHeld large (now table) (now index) × (label < labelCount (now index))
         × (at + nameLimit ≤ length (now text)) ⌝ }
     ensures { λ r. ⌜ TextPut (now (table .entry)) (now (index .entry)) (λ g. getD (g .labels) label []) nameLimit (now (text .entry)) at
         (now (text .exit)) r ⌝ }
@@ -49,7 +49,7 @@ fn put_name(table: &[u8], index: &[u16; 899], label: usize, text: &mut [u8], at:
 
 // The content of a rule.
 fn put_rule_content(table: &[u8], index: &[u16; 899], i: usize, text: &mut [u8], at: usize) -> usize
-    requires { ⌜ SomeHeld large asciiClasses (now table) (now index) × (i < ruleCount (now index)) × (at + 3071 ≤ length (now text)) ⌝ }
+    requires { ⌜ SomeHeld large (now table) (now index) × (i < ruleCount (now index)) × (at + 3071 ≤ length (now text)) ⌝ }
     ensures { λ r. ⌜ TextPut (now (table .entry)) (now (index .entry)) (λ g. contentText (ruleNumbered g i .content)) 3071
         (now (text .entry)) at (now (text .exit)) r ⌝ }
 {
@@ -61,7 +61,7 @@ fn put_rule_content(table: &[u8], index: &[u16; 899], i: usize, text: &mut [u8],
 
 // The line of a rule: type, name and content.
 fn put_rule_line(table: &[u8], index: &[u16; 899], i: usize, text: &mut [u8], at: usize) -> usize
-    requires { ⌜ SomeHeld large asciiClasses (now table) (now index) × (i < ruleCount (now index)) × (at + 3141 ≤ length (now text)) ⌝ }
+    requires { ⌜ SomeHeld large (now table) (now index) × (i < ruleCount (now index)) × (at + 3141 ≤ length (now text)) ⌝ }
     ensures { λ r. ⌜ TextPut (now (table .entry)) (now (index .entry)) (λ g. ruleLine g (ruleNumbered g i)) 3141 (now (text .entry)) at
         (now (text .exit)) r ⌝ }
 {
@@ -85,7 +85,7 @@ fn put_start_line(text: &mut [u8], at: usize, k: usize) -> usize
 
 // The lines of the starts.
 fn put_starts(table: &[u8], index: &[u16; 899], text: &mut [u8], at: usize) -> usize
-    requires { ⌜ SomeHeld large asciiClasses (now table) (now index) × (at + 1408 ≤ length (now text)) ⌝ }
+    requires { ⌜ SomeHeld large (now table) (now index) × (at + 1408 ≤ length (now text)) ⌝ }
     ensures { λ r. ⌜ TextPut (now (table .entry)) (now (index .entry)) (λ g. joinedOf startLine (g .starts)) 1408
         (now (text .entry)) at (now (text .exit)) r ⌝ }
 {
@@ -101,7 +101,7 @@ fn put_starts(table: &[u8], index: &[u16; 899], text: &mut [u8], at: usize) -> u
 
 // The lines of the rules.
 fn put_rules(table: &[u8], index: &[u16; 899], text: &mut [u8], at: usize) -> usize
-    requires { ⌜ SomeHeld large asciiClasses (now table) (now index) × (at + 402048 ≤ length (now text)) ⌝ }
+    requires { ⌜ SomeHeld large (now table) (now index) × (at + 402048 ≤ length (now text)) ⌝ }
     ensures { λ r. ⌜ TextPut (now (table .entry)) (now (index .entry)) (λ g. joinedOf (ruleLine g) (g .rules)) 402048
         (now (text .entry)) at (now (text .exit)) r ⌝ }
 {
@@ -117,7 +117,7 @@ fn put_rules(table: &[u8], index: &[u16; 899], text: &mut [u8], at: usize) -> us
 
 // The text of a table that was read: a first line `local`, the starts, the rules.
 fn list_table(table: &[u8], index: &[u16; 899], text: &mut [u8]) -> usize
-    requires { ⌜ SomeHeld large asciiClasses (now table) (now index) × (404000 ≤ length (now text)) ⌝ }
+    requires { ⌜ SomeHeld large (now table) (now index) × (404000 ≤ length (now text)) ⌝ }
     ensures { λ r. ⌜ TextPut (now (table .entry)) (now (index .entry)) localText 404000 (now (text .entry)) 0 (now (text .exit)) r ⌝ }
 {
     let starts = put_bytes(text, 0, b"local\n");
@@ -136,14 +136,15 @@ pub fn refusal_line(refusal: Refusal, text: &mut [u8]) -> usize
 }
 
 // What some bytes read as: the text of the table, or the line of the refusal.
-pub fn list_bytes(table: &[u8], text: &mut [u8]) -> usize
+pub fn list_bytes(classes: &[u8], table: &[u8], text: &mut [u8]) -> usize
+    requires { ⌜ Loads (now classes) ⌝ }
     requires { ⌜ 404000 ≤ length (now text) ⌝ }
-    ensures { λ r. ⌜ Put (now (text .entry)) 0 (outcomeText (readTable standard asciiClasses (now (table .entry))))
+    ensures { λ r. ⌜ Put (now (text .entry)) 0 (outcomeText (readTable standard (now (classes .entry)) (now (table .entry))))
         (now (text .exit)) r ⌝ }
 {
     let limits = limits_of(Size::Standard);
     let mut index = [0u16; INDEX];
-    match read_table(limits, table, &mut index) {
+    match read_table(limits, classes, table, &mut index) {
         Reading::Refused(refusal) => refusal_line(refusal, text),
         Reading::Readable => list_table(table, &index, text),
     }

@@ -1,12 +1,14 @@
 -- The public calls of the reader, case by case.
 use Prim.Native.Nat.{ℕ, _+_, _-_, _≤_, _<_}
 use native.Mathlib.Omega.{arith}
+use mathlib.Core.Bool.{false}
 use mathlib.Core.List.{List, []}
-use mathlib.Core.Path.{_≡_, sym, _∙_, ap, subst, ap₂}
+use mathlib.Core.Path.{_≡_, refl, sym, _∙_, ap, subst, ap₂}
 use lib.Dec.{leb}
 use lib.ListN.{length, getD}
 use Rattle.grammar.specs.Limits.{Limits, NoneAbove, large}
-use Rattle.grammar.specs.Names.{asciiClasses}
+use Rattle.grammar.specs.Names.{Classes, loads, Loads}
+use Rattle.grammar.specs.Tree.{Tree}
 use Rattle.grammar.specs.Table.{Table}
 use Rattle.grammar.specs.Outcome.{Outcome, given, refused, _>>=_, _>>_, turnBack, number}
 use Rattle.grammar.specs.Answers.{Numbers, refusedBy, readingNumbers, numbersOf, reading, numberAfter}
@@ -27,11 +29,11 @@ use Rattle.grammar.specs.Calls.{
 }
 use Rattle.grammar.specs.Promises.{TableReading, DocumentReading, Naming, PartOf}
 use Rattle.grammar.specs.declared.Refusal.{Refusal}
-use Rattle.grammar.specs.declared.Refusal.the-variants.{WorkTooShort, OutOfRange}
+use Rattle.grammar.specs.declared.Refusal.the-variants.{WorkTooShort, BadClasses, OutOfRange}
 use Rattle.grammar.specs.declared.Reading.{Reading}
 use Rattle.grammar.specs.declared.Reading.the-variants.{Readable, Refused as Unreadable}
 use Rattle.theory.proofs.theorems.AnswerNumbers.{reading-numbers}
-use Rattle.theory.proofs.theorems.CallPromises.{lent-short, lent-enough}
+use Rattle.theory.proofs.theorems.CallPromises.{lent-short, lent-enough, loaded, loaded-is, loaded-then, unloaded-is}
 use Rattle.reader.specs.declared.label_places.LabelFound.{LabelFound}
 use Rattle.reader.specs.declared.label_places.LabelFound.the-variants.{At, Refused as Unfound}
 use Rattle.reader.specs.declared.documents.DocumentRead.{DocumentRead}
@@ -41,7 +43,7 @@ use Rattle.reader.specs.Held.{SomeHeld}
 use Rattle.reader.specs.LabelPlaces.{LabelSought, labelPart, nameBegins}
 use Rattle.reader.proofs.AnswerLaws.{was-unreadable}
 use Rattle.reader.proofs.DocumentAnswers.{document-answer}
-use Rattle.reader.proofs.LabelParts.{are-bytes, label-unread, label-past}
+use Rattle.reader.proofs.LabelParts.{are-bytes, label-unloaded, label-unread, label-past}
 use Rattle.reader.proofs.LabelPlaceLaws.{place-found}
 use Rattle.reader.proofs.WorkLaws.{work-kept}
 use Rattle.reader.proofs.TableFoundLaws.{table-found, some-roomier}
@@ -58,46 +60,66 @@ module _ {A : Type 0} (lim : Limits) (value : A → ℕ) (o : Outcome A) (work :
   unfolding numbersOf
   left-short h e = left-as (refusedBy WorkTooShort) work (sym (ap (numbersOf value) e)) (work-kept lim work h)
 
-module _ (lim : Limits) (table work : List ℕ) where
+module _ (lim : Limits) (classes : Classes) (table work : List ℕ) where
   pub table-unanswered : length work < lim .words
-      → TableReading lim asciiClasses table work (after (readingNumbers (Unreadable WorkTooShort)) [] work)
+      → TableReading lim classes table work (after (readingNumbers (Unreadable WorkTooShort)) [] work)
   unfolding tableReads readingNumbers
   table-unanswered h =
-      record { settled = left-short lim (λ g. 1) _ work h (lent-short lim work (readTable lim asciiClasses table) h) }
+      record { settled = left-short lim (λ g. 1) _ work h (lent-short lim work (loaded classes (readTable lim classes table)) h) }
 
-  pub table-answered : lim .words ≤ length work → (left : List ℕ) → left ≡ workAfter lim work → (answer : Reading)
-      → answer ≡ reading (readTable lim asciiClasses table)
-      → TableReading lim asciiClasses table work (after (readingNumbers answer) [] left)
-  unfolding tableReads
-  table-answered h left w answer a =
-      let o = readTable lim asciiClasses table in
-      record {
-        settled =
-            left-as lim (λ g. 1) _ work (readingNumbers answer) left
-            (ap readingNumbers a ∙ reading-numbers o ∙ ap (numbersOf (λ g. 1)) (sym (lent-enough lim work o h)))
-            w;
-      }
+  module _ (h : lim .words ≤ length work) (left : List ℕ) (w : left ≡ workAfter lim work) where
+    table-told : (o : Outcome Table) → loaded classes (readTable lim classes table) ≡ o → (answer : Reading) → answer ≡ reading o
+        → TableReading lim classes table work (after (readingNumbers answer) [] left)
+    unfolding tableReads
+    table-told o e answer a =
+        record {
+          settled =
+              left-as lim (λ g. 1) _ work (readingNumbers answer) left
+              (ap readingNumbers a
+              ∙ reading-numbers o
+              ∙ ap (numbersOf (λ g. 1)) (sym (lent-enough lim work (loaded classes (readTable lim classes table)) h ∙ e)))
+              w;
+        }
 
-module _ (lim : Limits) (document work : List ℕ) where
+    pub table-unloaded : loads classes ≡ false
+        → TableReading lim classes table work (after (readingNumbers (Unreadable BadClasses)) [] left)
+    unfolding reading
+    table-unloaded e = table-told (refused BadClasses) (unloaded-is classes _ e) (Unreadable BadClasses) refl
+
+    pub table-answered : Loads classes → (answer : Reading) → answer ≡ reading (readTable lim classes table)
+        → TableReading lim classes table work (after (readingNumbers answer) [] left)
+    table-answered load = table-told (readTable lim classes table) (loaded-is classes _ load)
+
+module _ (lim : Limits) (classes : Classes) (document work : List ℕ) where
   pub document-unanswered : length work < lim .words
-      → DocumentReading lim asciiClasses document work (after (readingNumbers (Unreadable WorkTooShort)) [] work)
+      → DocumentReading lim classes document work (after (readingNumbers (Unreadable WorkTooShort)) [] work)
   unfolding documentReads readingNumbers
   document-unanswered h =
-      record { settled = left-short lim (λ d. 1) _ work h (lent-short lim work (readDocument lim asciiClasses document) h) }
+      record { settled = left-short lim (λ d. 1) _ work h (lent-short lim work (loaded classes (readDocument lim classes document)) h) }
 
-  pub document-answered : lim .words ≤ length work → (left : List ℕ) → left ≡ workAfter lim work → (r : DocumentRead)
-      → DocumentReads lim document r → DocumentReading lim asciiClasses document work (after (readingNumbers (r .answer)) [] left)
-  unfolding documentReads
-  document-answered h left w r d =
-      let o = readDocument lim asciiClasses document in
-      record {
-        settled =
-            left-as lim (λ t. 1) _ work (readingNumbers (r .answer)) left
-            (ap readingNumbers (sym (document-answer lim document r d))
-            ∙ reading-numbers o
-            ∙ ap (numbersOf (λ t. 1)) (sym (lent-enough lim work o h)))
-            w;
-      }
+  module _ (h : lim .words ≤ length work) (left : List ℕ) (w : left ≡ workAfter lim work) where
+    document-told : (o : Outcome Tree) → loaded classes (readDocument lim classes document) ≡ o → (answer : Reading) → answer ≡ reading o
+        → DocumentReading lim classes document work (after (readingNumbers answer) [] left)
+    unfolding documentReads
+    document-told o e answer a =
+        record {
+          settled =
+              left-as lim (λ d. 1) _ work (readingNumbers answer) left
+              (ap readingNumbers a
+              ∙ reading-numbers o
+              ∙ ap (numbersOf (λ d. 1)) (sym (lent-enough lim work (loaded classes (readDocument lim classes document)) h ∙ e)))
+              w;
+        }
+
+    pub document-unloaded : loads classes ≡ false
+        → DocumentReading lim classes document work (after (readingNumbers (Unreadable BadClasses)) [] left)
+    unfolding reading
+    document-unloaded e = document-told (refused BadClasses) (unloaded-is classes _ e) (Unreadable BadClasses) refl
+
+    pub document-answered : Loads classes → (r : DocumentRead) → DocumentReads lim classes document r
+        → DocumentReading lim classes document work (after (readingNumbers (r .answer)) [] left)
+    document-answered load r d =
+        document-told (readDocument lim classes document) (loaded-is classes _ load) (r .answer) (sym (document-answer lim classes document r d))
 
 -- looking for a label
 module _ (s : List ℕ) (o : Outcome Part) where
@@ -126,59 +148,65 @@ module _ (s : List ℕ) (o : Outcome Part) where
       second : {f t : ℕ} → At from to ≡ At f t → to ≡ t
       second q = cc
 
-module _ {lim : Limits} (none-above : NoneAbove lim large) (s : List ℕ) (label : ℕ) (r : Reading) (index : List ℕ)
-    (so : Reads s (readTable lim asciiClasses s) r index) where
-  pub find-unread : (q : Refusal) → r ≡ Unreadable q → LabelSought s (labelPart lim s label) (Unfound q)
+-- under classes that do not load
+pub find-unloaded : (lim : Limits) (classes : Classes) (s : List ℕ) (label : ℕ) → loads classes ≡ false
+    → LabelSought s (labelPart lim classes s label) (Unfound BadClasses)
+find-unloaded lim classes s label e = sought-none s (labelPart lim classes s label) BadClasses (label-unloaded lim classes s label e)
+
+module _ {lim : Limits} (none-above : NoneAbove lim large) (classes : Classes) (load : Loads classes) (s : List ℕ) (label : ℕ)
+    (r : Reading) (index : List ℕ) (so : Reads s (readTable lim classes s) r index) where
+  pub find-unread : (q : Refusal) → r ≡ Unreadable q → LabelSought s (labelPart lim classes s label) (Unfound q)
   find-unread q e =
-      let unread = was-unreadable (readTable lim asciiClasses s) q (sym (so .answer) ∙ e) in
-      sought-none s (labelPart lim s label) q (label-unread lim s label q unread)
+      let unread = was-unreadable (readTable lim classes s) q (sym (so .answer) ∙ e) in
+      sought-none s (labelPart lim classes s label) q (label-unread lim classes s label load q unread)
 
   module _ (e : r ≡ Readable) where
-    pub table-there : SomeHeld large asciiClasses s index
-    table-there = some-roomier none-above (table-found lim s r index so e .some)
+    pub table-there : SomeHeld large s index
+    table-there = some-roomier none-above (table-found lim classes s r index so load e .some)
 
-    pub find-past : labelCount index ≤ label → LabelSought s (labelPart lim s label) (Unfound OutOfRange)
+    pub find-past : labelCount index ≤ label → LabelSought s (labelPart lim classes s label) (Unfound OutOfRange)
     find-past h =
-        let f = table-found lim s r index so e in
-        let past = label-past lim s label (f .some .table) (f .read) (omega (arith, f .some .held .indexes .labels)) in
-        sought-none s (labelPart lim s label) OutOfRange past
+        let f = table-found lim classes s r index so load e in
+        let past = label-past lim classes s label load (f .some .table) (f .read) (omega (arith, f .some .held .indexes .labels)) in
+        sought-none s (labelPart lim classes s label) OutOfRange past
 
     pub find-at : label < labelCount index → ((i : ℕ) → getD s i 0 < 256) → (from : ℕ)
-        → ((f : SomeHeld large asciiClasses s index) → from ≡ nameBegins (f .table .labels) label)
+        → ((f : SomeHeld large s index) → from ≡ nameBegins (f .table .labels) label)
         → (to : ℕ) → to ≡ labelTo index label → (begins : ℕ) → begins ≡ labelFrom index label
-        → LabelSought s (labelPart lim s label) (At from (from + (to - begins)))
+        → LabelSought s (labelPart lim classes s label) (At from (from + (to - begins)))
     find-at h small from first to is-to begins is-from =
-        let f = table-found lim s r index so e in
-        let p = place-found none-above f (are-bytes s small) label h from (first (some-roomier none-above (f .some))) in
+        let f = table-found lim classes s r index so load e in
+        let p = place-found none-above load f (are-bytes s small) label h from (first (some-roomier none-above (f .some))) in
         subst
-        (λ (n : ℕ). LabelSought s (labelPart lim s label) (At from (from + n)))
+        (λ (n : ℕ). LabelSought s (labelPart lim classes s label) (At from (from + n)))
         (sym (ap₂ (λ (a b : ℕ). a - b) is-to is-from))
-        (sought-at s (labelPart lim s label) from _ (p .0) (p .1))
+        (sought-at s (labelPart lim classes s label) from _ (p .0) (p .1))
 
-module _ (lim : Limits) (table : List ℕ) (label : ℕ) (work : List ℕ) where
-  pub label-name-short : length work < lim .words → labelName lim asciiClasses table label work ≡ refused WorkTooShort
+module _ (lim : Limits) (classes : Classes) (table : List ℕ) (label : ℕ) (work : List ℕ) where
+  pub label-name-short : length work < lim .words → labelName lim classes table label work ≡ refused WorkTooShort
   unfolding labelName tableReads
   label-name-short h =
       ap
       (λ (o : Outcome Table). o >>= (λ g. turnBack (leb (length (g .labels)) label) OutOfRange >> given (partOfLabel (g .labels) label)))
-      (lent-short lim work (readTable lim asciiClasses table) h)
+      (lent-short lim work (loaded classes (readTable lim classes table)) h)
 
-  pub label-name-enough : lim .words ≤ length work → labelName lim asciiClasses table label work ≡ labelPart lim table label
+  pub label-name-enough : lim .words ≤ length work → labelName lim classes table label work ≡ labelPart lim classes table label
   unfolding labelName tableReads labelPart
   label-name-enough h =
       ap
       (λ (o : Outcome Table). o >>= (λ g. turnBack (leb (length (g .labels)) label) OutOfRange >> given (partOfLabel (g .labels) label)))
-      (lent-enough lim work (readTable lim asciiClasses table) h)
+      (lent-enough lim work (loaded classes (readTable lim classes table)) h)
+      ∙ loaded-then classes (readTable lim classes table) _
 
   -- what is told of a part at a place in memory
   abbrev Told : List ℕ → ℕ × ℕ → ℕ → List ℕ → ℕ × ℕ → Type 0
   Told left input n bytes at =
-      Naming lim asciiClasses table label work (after (record { bytes = bytes; refusal = n }) [] left)
-      × PartOf input (labelName lim asciiClasses table label work) at
+      Naming lim classes table label work (after (record { bytes = bytes; refusal = n }) [] left)
+      × PartOf input (labelName lim classes table label work) at
 
   -- a refusal, and a name that was found
   module _ (left : List ℕ) (w : left ≡ workAfter lim work) (input at : ℕ × ℕ) (block : at .0 ≡ input .0) where
-    refused-so : at .1 ≡ input .1 + 0 → (r : Refusal) → labelName lim asciiClasses table label work ≡ refused r
+    refused-so : at .1 ≡ input .1 + 0 → (r : Refusal) → labelName lim classes table label work ≡ refused r
         → Told left input (number r) [] at
     unfolding named partBytes partFrom numberAfter
     refused-so offset r e = (
@@ -194,7 +222,7 @@ module _ (lim : Limits) (table : List ℕ) (label : ℕ) (work : List ℕ) where
     unfolding number
     label-unanswered offset h = refused-so offset WorkTooShort (label-name-short h)
 
-    module _ (h : lim .words ≤ length work) (found : LabelFound) (so : LabelSought table (labelPart lim table label) found) where
+    module _ (h : lim .words ≤ length work) (found : LabelFound) (so : LabelSought table (labelPart lim classes table label) found) where
       pub label-refused : at .1 ≡ input .1 + 0 → (r : Refusal) → found ≡ Unfound r → (n : ℕ) → n ≡ number r → Told left input n [] at
       label-refused offset r e n m =
           subst (λ (k : ℕ). Told left input k [] at) (sym m) (refused-so offset r (label-name-enough h ∙ so .unfound r e))
@@ -202,7 +230,7 @@ module _ (lim : Limits) (table : List ℕ) (label : ℕ) (work : List ℕ) where
       pub label-given : (from to : ℕ) → at .1 ≡ input .1 + from → found ≡ At from to → Told left input 0 (part table from to) at
       unfolding named partBytes partFrom numberAfter
       label-given from to offset e =
-          let o : labelName lim asciiClasses table label work ≡ given (record { from = from; size = to - from }) =
+          let o : labelName lim classes table label work ≡ given (record { from = from; size = to - from }) =
           label-name-enough h ∙ so .found from to e .1 in (
             record {
               settled =

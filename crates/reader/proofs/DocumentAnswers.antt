@@ -14,7 +14,7 @@ use lib.ListN.{length, getElem?, length-append}
 use lib.Seq.{getD-at}
 use borrow.Author.Tests.{ltb-true, ltb-false}
 use Rattle.grammar.specs.Limits.{Limits}
-use Rattle.grammar.specs.Names.{Classes, asciiClasses}
+use Rattle.grammar.specs.Names.{Classes}
 use Rattle.grammar.specs.Outcome.{Outcome, given, refused, _>>=_}
 use Rattle.grammar.specs.Tree.{Tree}
 use Rattle.grammar.specs.ReadDocument.{Node, readNodes, treeOf, readDocument}
@@ -46,24 +46,24 @@ module _ (lim : Limits) (classes : Classes) where
   document-refused bytes r e = reads-on bytes (refused r) e
 
 -- a document that was read, by the answer that reading found
-module _ (lim : Limits) (s : List ℕ) (r : DocumentRead) (d : DocumentReads lim s r) where
-  nodes-are : (a : Reading) → r .answer ≡ a → readNodes lim asciiClasses s ≡ outcomeOf a (nodesIn s (r .index))
+module _ (lim : Limits) (classes : Classes) (s : List ℕ) (r : DocumentRead) (d : DocumentReads lim classes s r) where
+  nodes-are : (a : Reading) → r .answer ≡ a → readNodes lim classes s ≡ outcomeOf a (nodesIn s (r .index))
   nodes-are a e = d .outcome ∙ ap (λ (x : Reading). outcomeOf x (nodesIn s (r .index))) e
 
-  pub nodes-read : r .answer ≡ Readable → readNodes lim asciiClasses s ≡ given (nodesIn s (r .index))
+  pub nodes-read : r .answer ≡ Readable → readNodes lim classes s ≡ given (nodesIn s (r .index))
   nodes-read e = nodes-are Readable e
 
-  pub document-unread : (q : Refusal) → r .answer ≡ Unreadable q → readDocument lim asciiClasses s ≡ refused q
-  document-unread q e = document-refused lim asciiClasses s q (nodes-are (Unreadable q) e)
+  pub document-unread : (q : Refusal) → r .answer ≡ Unreadable q → readDocument lim classes s ≡ refused q
+  document-unread q e = document-refused lim classes s q (nodes-are (Unreadable q) e)
 
   -- whether the document reads is the answer
-  pub document-answer : reading (readDocument lim asciiClasses s) ≡ r .answer
+  pub document-answer : reading (readDocument lim classes s) ≡ r .answer
   unfolding reading
   document-answer = go (r .answer) refl
     where
-      go : (a : Reading) → r .answer ≡ a → reading (readDocument lim asciiClasses s) ≡ r .answer
+      go : (a : Reading) → r .answer ≡ a → reading (readDocument lim classes s) ≡ r .answer
       go Readable e =
-          ap reading (document-tree lim asciiClasses s (nodesIn s (r .index)) (nodes-read e) .2) ∙ sym e
+          ap reading (document-tree lim classes s (nodesIn s (r .index)) (nodes-read e) .2) ∙ sym e
       go (Unreadable q) e = ap reading (document-unread q e) ∙ sym e
 
 -- the nodes that an index holds, by position

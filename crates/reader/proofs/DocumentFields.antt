@@ -12,7 +12,7 @@ use lib.ListN.{length, getD, take, drop, length-drop}
 use lib.Seq.{slice, slice-empty, slice-cons, length-take-le}
 use borrow.Author.Tests.{leb-true, leb-false, ltb-false, eqb-false, eq-eqb, ne-eqb, le-leb, lt-leb, lt-ltb, le-ltb}
 use Rattle.grammar.specs.Limits.{Limits}
-use Rattle.grammar.specs.Names.{Classes, asciiClasses, isName}
+use Rattle.grammar.specs.Names.{Classes, isName}
 use Rattle.grammar.specs.Fields.{Field, Fields, _then_, fieldsOf}
 use Rattle.grammar.specs.Outcome.{Outcome, given, refused, _>>=_, _>>_, turnBack}
 use Rattle.grammar.specs.ReadTable.{isEmpty, bytesLeft}
@@ -236,36 +236,36 @@ module _ (s : List ℕ) (from to : ℕ) (order : from ≤ to) (within : to ≤ l
   name-length h = let d = length-drop (from + 1) s in length-take-le (to - (from + 1)) (drop (from + 1) s) (omega arith)
 
   -- the cases of a field that is no end
-  module _ (lim : Limits) (tag : ℕ) (rest : Fields) (o : Opened) where
+  module _ (lim : Limits) (classes : Classes) (tag : ℕ) (rest : Fields) (o : Opened) where
     abbrev field : Field
     field = record { tag = tag; value = value }
 
     goes-on : (v : List ℕ) → value ≡ v → (r : Outcome Opened)
-        → readNode lim asciiClasses o (record { tag = tag; value = v }) ≡ r
-        → restWith lim field rest o ≡ (r >>= λ more. restOf lim more rest)
+        → readNode lim classes o (record { tag = tag; value = v }) ≡ r
+        → restWith lim classes field rest o ≡ (r >>= λ more. restOf lim classes more rest)
     goes-on v p r q =
-        ap (λ (l : List ℕ). restWith lim (record { tag = tag; value = l }) rest o) p
-        ∙ ap (λ (x : Outcome Opened). x >>= λ more. restOf lim more rest) q
+        ap (λ (l : List ℕ). restWith lim classes (record { tag = tag; value = l }) rest o) p
+        ∙ ap (λ (x : Outcome Opened). x >>= λ more. restOf lim classes more rest) q
 
-    node-misfit : (1 ≤ to - from → fits lim asciiClasses o tag (getD s from 0) name ≡ false) → restWith lim field rest o ≡ refused BadField
+    node-misfit : (1 ≤ to - from → fits lim classes o tag (getD s from 0) name ≡ false) → restWith lim classes field rest o ≡ refused BadField
     node-misfit p = go (leb 1 (to - from)) refl
       where
-        go : (b : Bool) → leb 1 (to - from) ≡ b → restWith lim field rest o ≡ refused BadField
-        go false q = goes-on [] (no-value (leb-false 1 (to - from) q)) (refused BadField) (read-empty lim asciiClasses o tag)
+        go : (b : Bool) → leb 1 (to - from) ≡ b → restWith lim classes field rest o ≡ refused BadField
+        go false q = goes-on [] (no-value (leb-false 1 (to - from) q)) (refused BadField) (read-empty lim classes o tag)
         go true q =
             let some = leb-true 1 (to - from) q in
             goes-on
             (getD s from 0 ∷ name)
             (first-and-name some)
             (refused BadField)
-            (read-misfit lim asciiClasses o tag (getD s from 0) name (p some))
+            (read-misfit lim classes o tag (getD s from 0) name (p some))
 
-    pub node-foreign : (tag ≡ nodeTag → ⊥) → restWith lim field rest o ≡ refused BadField
+    pub node-foreign : (tag ≡ nodeTag → ⊥) → restWith lim classes field rest o ≡ refused BadField
     node-foreign p =
         node-misfit
         (λ q. first-fails (eqb tag nodeTag) (leb 1 (length name)) (leb (length name) (lim .name)) (ne-eqb tag nodeTag p))
 
-    pub node-short : to - from < 2 → restWith lim field rest o ≡ refused BadField
+    pub node-short : to - from < 2 → restWith lim classes field rest o ≡ refused BadField
     node-short p =
         node-misfit
         (λ q.
@@ -276,7 +276,7 @@ module _ (s : List ℕ) (from to : ℕ) (order : from ≤ to) (within : to ≤ l
         (leb (length name) (lim .name))
         (lt-leb 1 (length name) (omega arith)))
 
-    pub node-long : lim .name < to - from - 1 → restWith lim field rest o ≡ refused BadField
+    pub node-long : lim .name < to - from - 1 → restWith lim classes field rest o ≡ refused BadField
     node-long p =
         node-misfit
         (λ q.
@@ -288,20 +288,20 @@ module _ (s : List ℕ) (from to : ℕ) (order : from ≤ to) (within : to ≤ l
         (lt-leb (length name) (lim .name) (omega arith)))
 
     module _ (tagged : tag ≡ nodeTag) (some : 2 ≤ to - from) (short : to - from - 1 ≤ lim .name) where
-      node-tried : (named : Bool) → isName asciiClasses name ≡ named → (bad : Bool)
+      node-tried : (named : Bool) → isName classes name ≡ named → (bad : Bool)
           → badCounts lim (length (o .nodes)) (getD s from 0) (length (o .toCome)) ≡ bad
-          → restWith lim field rest o
+          → restWith lim classes field rest o
           ≡ (tried true named bad (withNode o (record { name = name; children = getD s from 0 }))
-          >>= λ more. restOf lim more rest)
+          >>= λ more. restOf lim classes more rest)
       node-tried named p bad q =
           let long = name-length (omega arith) in
           goes-on
           (getD s from 0 ∷ name)
           (first-and-name (omega arith))
           (tried true named bad (withNode o (record { name = name; children = getD s from 0 })))
-          (read-fits lim asciiClasses o tag (getD s from 0) name tagged (omega arith) (omega arith) named p bad q)
+          (read-fits lim classes o tag (getD s from 0) name tagged (omega arith) (omega arith) named p bad q)
 
-      pub node-misnamed : isName asciiClasses name ≡ false → restWith lim field rest o ≡ refused BadName
+      pub node-misnamed : isName classes name ≡ false → restWith lim classes field rest o ≡ refused BadName
       node-misnamed p = node-tried false p (badCounts lim (length (o .nodes)) (getD s from 0) (length (o .toCome))) refl
 
       module _ (nodes depth children : ℕ) (counted : children ≡ getD s from 0) (sized : Sized o nodes depth) where
@@ -309,15 +309,15 @@ module _ (s : List ℕ) (from to : ℕ) (order : from ≤ to) (within : to ≤ l
             → badCounts lim (length (o .nodes)) (getD s from 0) (length (o .toCome)) ≡ bad
         here bad e = rw (sized .read, sized .open-levels, ← counted) e
 
-        pub node-misplaced : isName asciiClasses name ≡ true → badCounts lim nodes children depth ≡ true
-            → restWith lim field rest o ≡ refused BadTree
+        pub node-misplaced : isName classes name ≡ true → badCounts lim nodes children depth ≡ true
+            → restWith lim classes field rest o ≡ refused BadTree
         node-misplaced p q = node-tried true p true (here true q)
 
-        pub node-here : isName asciiClasses name ≡ true → badCounts lim nodes children depth ≡ false
-            → restWith lim field rest o ≡ restOf lim (withNode o (record { name = name; children = children })) rest
+        pub node-here : isName classes name ≡ true → badCounts lim nodes children depth ≡ false
+            → restWith lim classes field rest o ≡ restOf lim classes (withNode o (record { name = name; children = children })) rest
         node-here p q =
             node-tried true p false (here false q)
-            ∙ ap (λ (k : ℕ). restOf lim (withNode o (record { name = name; children = k })) rest) (sym counted)
+            ∙ ap (λ (k : ℕ). restOf lim classes (withNode o (record { name = name; children = k })) rest) (sym counted)
 
 -- the length of the input comes first
 module _ (lim : Limits) (classes : Classes) (bytes : List ℕ) where

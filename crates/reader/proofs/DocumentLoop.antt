@@ -11,6 +11,7 @@ use lib.ListN.{length, getD, take, drop, set, length-set, length-append}
 use lib.Seq.{getD-set-same, getD-set-other}
 use borrow.Author.Tests.{ltb-true, ltb-false}
 use Rattle.grammar.specs.Limits.{Limits}
+use Rattle.grammar.specs.Names.{Classes}
 use Rattle.grammar.specs.Fields.{fieldsOf}
 use Rattle.grammar.specs.Outcome.{Outcome}
 use Rattle.grammar.specs.ReadDocument.{Node, Opened, nothingRead, withNode}
@@ -59,7 +60,7 @@ module _ (s names sizes children : List ℕ) where
       node-stored : nodeAt s (set names n a) (set sizes n b) (set children n k) n ≡ record { name = take b (drop a s); children = k }
       node-stored = rw (getD-set-same names n a 0 p, getD-set-same sizes n b 0 q, getD-set-same children n k 0 r)
 
-pub record NodesSoFar (lim : Limits) (s names sizes children : List ℕ) (nodes at : ℕ) (coming : List ℕ) (depth : ℕ) : Type 0 where
+pub record NodesSoFar (lim : Limits) (classes : Classes) (s names sizes children : List ℕ) (nodes at : ℕ) (coming : List ℕ) (depth : ℕ) : Type 0 where
   pub reached : at ≤ length s
   pub few : nodes ≤ lim .nodes
   pub names-room : lim .nodes ≤ length names
@@ -67,20 +68,20 @@ pub record NodesSoFar (lim : Limits) (s names sizes children : List ℕ) (nodes 
   pub children-room : lim .nodes ≤ length children
   pub indexed : NodesIndexed s names sizes children nodes
   pub levels-open : Open coming depth
-  pub goes-on : restOf lim nothingRead (fieldsOf s)
-      ≡ restOf lim
+  pub goes-on : restOf lim classes nothingRead (fieldsOf s)
+      ≡ restOf lim classes
       (record { nodes = firstNodes s names sizes children nodes; toCome = openLevels coming depth })
       (fieldsOf (drop at s))
 
 -- what a step says, once it is known to be a node
-pub says-node : (lim : Limits) (s : List ℕ) (at nodes depth : ℕ) (whole : Opened → Outcome (List Node)) (st : Step) {from to k : ℕ}
-    → st ≡ NodeHere from to k → StepSays lim s at nodes depth whole st → NodeStep lim s at nodes depth whole from to k
-says-node lim s at nodes depth whole st e says = subst (λ (x : Step). StepSays lim s at nodes depth whole x) e says
+pub says-node : (lim : Limits) (classes : Classes) (s : List ℕ) (at nodes depth : ℕ) (whole : Opened → Outcome (List Node)) (st : Step) {from to k : ℕ}
+    → st ≡ NodeHere from to k → StepSays lim classes s at nodes depth whole st → NodeStep lim classes s at nodes depth whole from to k
+says-node lim classes s at nodes depth whole st e says = subst (λ (x : Step). StepSays lim classes s at nodes depth whole x) e says
 
-module _ (lim : Limits) (room : lim .nodes ≤ 2048) (s names sizes children : List ℕ) where
+module _ (lim : Limits) (classes : Classes) (room : lim .nodes ≤ 2048) (s names sizes children : List ℕ) where
   pub so-far-none : (coming : List ℕ) → lim .nodes ≤ length names → lim .nodes ≤ length sizes → lim .nodes ≤ length children
       → getD coming 0 0 ≡ 1
-      → NodesSoFar lim s names sizes children 0 0 coming 1
+      → NodesSoFar lim classes s names sizes children 0 0 coming 1
   unfolding firstNodes openLevels
   so-far-none coming p q r e =
       record {
@@ -91,14 +92,14 @@ module _ (lim : Limits) (room : lim .nodes ≤ 2048) (s names sizes children : L
         children-room = r;
         indexed = record { few = omega arith; within = λ i h. absurd (omega arith); counts = λ i h. absurd (omega arith) };
         levels-open = record { innermost = innermost };
-        goes-on = ap (λ (k : ℕ). restOf lim (record { nodes = []; toCome = k ∷ [] }) (fieldsOf s)) (sym e);
+        goes-on = ap (λ (k : ℕ). restOf lim classes (record { nodes = []; toCome = k ∷ [] }) (fieldsOf s)) (sym e);
       }
     where
       innermost : (d : ℕ) → 1 ≡ suc d → 0 < getD coming d 0
       innermost zero h = omega arith
       innermost (suc d) h = absurd (omega arith)
 
-  module _ (nodes at : ℕ) (coming : List ℕ) (depth : ℕ) (far : NodesSoFar lim s names sizes children nodes at coming depth) where
+  module _ (nodes at : ℕ) (coming : List ℕ) (depth : ℕ) (far : NodesSoFar lim classes s names sizes children nodes at coming depth) where
     abbrev opened : Opened
     opened = record { nodes = firstNodes s names sizes children nodes; toCome = openLevels coming depth }
 
@@ -106,13 +107,13 @@ module _ (lim : Limits) (room : lim .nodes ≤ 2048) (s names sizes children : L
     sized = record { read = nodes-length s names sizes children nodes; open-levels = levels-length coming depth }
 
     pub so-far-stop : (st : Step) {answer : Reading} → st ≡ Stop answer
-        → StepSays lim s at nodes depth (λ o. restOf lim o (fieldsOf (drop at s))) st
-        → restOf lim nothingRead (fieldsOf s) ≡ outcomeOf answer (firstNodes s names sizes children nodes)
+        → StepSays lim classes s at nodes depth (λ o. restOf lim classes o (fieldsOf (drop at s))) st
+        → restOf lim classes nothingRead (fieldsOf s) ≡ outcomeOf answer (firstNodes s names sizes children nodes)
     so-far-stop st {answer} e says =
         far .goes-on
-        ∙ subst (λ (x : Step). StepSays lim s at nodes depth (λ o. restOf lim o (fieldsOf (drop at s))) x) e says opened sized
+        ∙ subst (λ (x : Step). StepSays lim classes s at nodes depth (λ o. restOf lim classes o (fieldsOf (drop at s))) x) e says opened sized
 
-    module _ (from to k : ℕ) (step : NodeStep lim s at nodes depth (λ o. restOf lim o (fieldsOf (drop at s))) from to k)
+    module _ (from to k : ℕ) (step : NodeStep lim classes s at nodes depth (λ o. restOf lim classes o (fieldsOf (drop at s))) from to k)
         (coming′ : List ℕ) (depth′ : ℕ) (after : LevelsAfter coming depth k coming′ depth′) where
       indexed-more : NodesIndexed s (set names nodes from) (set sizes nodes (to - from)) (set children nodes k) (nodes + 1)
       indexed-more =
@@ -147,7 +148,7 @@ module _ (lim : Limits) (room : lim .nodes ≤ 2048) (s names sizes children : L
               omega (arith, step .few)
 
       pub so-far-next
-          : NodesSoFar lim s (set names nodes from) (set sizes nodes (to - from)) (set children nodes k) (nodes + 1) to coming′ depth′
+          : NodesSoFar lim classes s (set names nodes from) (set sizes nodes (to - from)) (set children nodes k) (nodes + 1) to coming′ depth′
       unfolding withNode
       so-far-next =
           let place = step .room in
@@ -163,7 +164,7 @@ module _ (lim : Limits) (room : lim .nodes ≤ 2048) (s names sizes children : L
                 far .goes-on
                 ∙ step .goes opened sized
                 ∙ ap₂
-                (λ (ns : List Node) (ls : List ℕ). restOf lim (record { nodes = ns; toCome = ls }) (fieldsOf (drop to s)))
+                (λ (ns : List Node) (ls : List ℕ). restOf lim classes (record { nodes = ns; toCome = ls }) (fieldsOf (drop to s)))
                 (sym
                 (nodes-more s names sizes children nodes from (to - from) k
                 (omega (arith, far .names-room))

@@ -9,7 +9,7 @@ use lib.ListN.{length, drop, length-drop}
 use lib.Seq.{slice, length-slice}
 use borrow.Author.Tests.{ne-eqb}
 use Rattle.grammar.specs.Limits.{Limits}
-use Rattle.grammar.specs.Names.{asciiClasses}
+use Rattle.grammar.specs.Names.{Classes}
 use Rattle.grammar.specs.Fields.{Field, Fields, noBytes, pastEnd, _then_, fieldsOf}
 use Rattle.grammar.specs.Outcome.{Outcome, refused}
 use Rattle.grammar.specs.ReadDocument.{documentEndTag, Node, Opened, readNodeFields}
@@ -21,26 +21,26 @@ use Rattle.reader.specs.DocumentSteps.{endAnswer, Sized, restOf, restWit
 use Rattle.reader.proofs.FieldReading.{FoundField}
 use Rattle.reader.proofs.DocumentFields.{ends}
 
-pub stops-none : (lim : Limits) (o : Opened) (fs : Fields) → fs ≡ noBytes → restOf lim o fs ≡ refused FieldPastEnd
+pub stops-none : (lim : Limits) (classes : Classes) (o : Opened) (fs : Fields) → fs ≡ noBytes → restOf lim classes o fs ≡ refused FieldPastEnd
 unfolding readNodeFields
-stops-none lim o fs e = ap (restOf lim o) e
+stops-none lim classes o fs e = ap (restOf lim classes o) e
 
-pub stops-past : (lim : Limits) (o : Opened) (fs : Fields) → fs ≡ pastEnd → restOf lim o fs ≡ refused FieldPastEnd
+pub stops-past : (lim : Limits) (classes : Classes) (o : Opened) (fs : Fields) → fs ≡ pastEnd → restOf lim classes o fs ≡ refused FieldPastEnd
 unfolding readNodeFields
-stops-past lim o fs e = ap (restOf lim o) e
+stops-past lim classes o fs e = ap (restOf lim classes o) e
 
-another-tag : (lim : Limits) (f : Field) (rest : Fields) (o : Opened) → eqb (f .tag) documentEndTag ≡ false
-    → restOf lim o (f then rest) ≡ restWith lim f rest o
+another-tag : (lim : Limits) (classes : Classes) (f : Field) (rest : Fields) (o : Opened) → eqb (f .tag) documentEndTag ≡ false
+    → restOf lim classes o (f then rest) ≡ restWith lim classes f rest o
 unfolding readNodeFields
-another-tag lim f rest o e = rw (e, readNodeFields)
+another-tag lim classes f rest o e = rw (e, readNodeFields)
 
-module _ (lim : Limits) (s : List ℕ) (at tag from to : ℕ) (found : FoundField s at tag from to) where
+module _ (lim : Limits) (classes : Classes) (s : List ℕ) (at tag from to : ℕ) (found : FoundField s at tag from to) where
   pub stops-end : tag ≡ documentEndTag → (nodes depth : ℕ) (o : Opened) → Sized o nodes depth
-      → restOf lim o (fieldsOf (drop at s)) ≡ outcomeOf (endAnswer (to - from) depth (length s - to)) (o .nodes)
+      → restOf lim classes o (fieldsOf (drop at s)) ≡ outcomeOf (endAnswer (to - from) depth (length s - to)) (o .nodes)
   stops-end e nodes depth o z =
-      ap (restOf lim o) (found .fields)
-      ∙ ap (λ (t : ℕ). restOf lim o (record { tag = t; value = slice from to s } then fieldsOf (drop to s))) e
-      ∙ ends lim asciiClasses o (slice from to s) (drop to s)
+      ap (restOf lim classes o) (found .fields)
+      ∙ ap (λ (t : ℕ). restOf lim classes o (record { tag = t; value = slice from to s } then fieldsOf (drop to s))) e
+      ∙ ends lim classes o (slice from to s) (drop to s)
       ∙ sizes (length-slice from to s (found .within)) (z .open-levels) (length-drop to s)
     where
       sizes : {a b c : ℕ} → a ≡ to - from → b ≡ depth → c ≡ length s - to
@@ -48,15 +48,15 @@ module _ (lim : Limits) (s : List ℕ) (at tag from to : ℕ) (found : FoundFiel
       sizes p q r = rw (p, q, r)
 
   pub goes-with : (tag ≡ documentEndTag → ⊥) → (o : Opened)
-      → restOf lim o (fieldsOf (drop at s)) ≡ restWith lim (record { tag = tag; value = slice from to s }) (fieldsOf (drop to s)) o
+      → restOf lim classes o (fieldsOf (drop at s)) ≡ restWith lim classes (record { tag = tag; value = slice from to s }) (fieldsOf (drop to s)) o
   goes-with e o =
-      ap (restOf lim o) (found .fields)
-      ∙ another-tag lim (record { tag = tag; value = slice from to s }) (fieldsOf (drop to s)) o (ne-eqb tag documentEndTag e)
+      ap (restOf lim classes o) (found .fields)
+      ∙ another-tag lim classes (record { tag = tag; value = slice from to s }) (fieldsOf (drop to s)) o (ne-eqb tag documentEndTag e)
 
 -- a step says the same of what is the same, and from an earlier place
-pub says-also : (lim : Limits) (s : List ℕ) (at from nodes depth : ℕ) (whole whole′ : Opened → Outcome (List Node)) (st : Step) → at ≤ from
-    → ((o : Opened) → whole′ o ≡ whole o) → StepSays lim s from nodes depth whole st → StepSays lim s at nodes depth whole′ st
-says-also lim s at from nodes depth whole whole′ (NodeHere f t k) h e n =
+pub says-also : (lim : Limits) (classes : Classes) (s : List ℕ) (at from nodes depth : ℕ) (whole whole′ : Opened → Outcome (List Node)) (st : Step) → at ≤ from
+    → ((o : Opened) → whole′ o ≡ whole o) → StepSays lim classes s from nodes depth whole st → StepSays lim classes s at nodes depth whole′ st
+says-also lim classes s at from nodes depth whole whole′ (NodeHere f t k) h e n =
     record {
       forward = let p = n .forward in omega arith;
       order = n .order;
@@ -67,4 +67,4 @@ says-also lim s at from nodes depth whole whole′ (NodeHere f t k) h e n =
       few = n .few;
       goes = λ o z. e o ∙ n .goes o z;
     }
-says-also lim s at from nodes depth whole whole′ (Stop answer) h e n = λ o z. e o ∙ n o z
+says-also lim classes s at from nodes depth whole whole′ (Stop answer) h e n = λ o z. e o ∙ n o z

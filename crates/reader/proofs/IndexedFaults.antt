@@ -7,7 +7,7 @@ use mathlib.Core.Path.{_≡_, sym, _∙_, ap}
 use lib.ListN.{length, getD}
 use Rattle.grammar.specs.Lists.{isIn}
 use Rattle.grammar.specs.LimitSets.{limitsOf}
-use Rattle.grammar.specs.Names.{asciiClasses}
+use Rattle.grammar.specs.Names.{Classes}
 use Rattle.grammar.specs.Content.{Content}
 use Rattle.grammar.specs.Table.{Table}
 use Rattle.grammar.specs.Outcome.{Outcome, given, _>>=_}
@@ -43,14 +43,14 @@ use Rattle.reader.proofs.TableFaults.{
 }
 
 module _ (limits : SizeLimits) {s index : List ℕ} {g : Table} (x : Indexes s index g) {from to : ℕ} (h : Inside s from to) where
-  pub label-fits : startCount index ≡ 0 → ruleCount index ≡ 0 → (from ≡ to → ⊥) → to - from ≤ 63
-      → LabelFits (limitsOf limits) asciiClasses g (part s from to)
+  pub label-fits : {classes : Classes} → startCount index ≡ 0 → ruleCount index ≡ 0 → (from ≡ to → ⊥) → to - from ≤ 63
+      → LabelFits (limitsOf limits) classes g (part s from to)
   label-fits p q r short =
       let size = part-size s from to h in
       let order = h .order in
       record { no-starts = sym (x .starts) ∙ p; no-rules = sym (x .rules) ∙ q; long = omega arith; short = omega arith }
 
-  pub label-fitted : LabelFits (limitsOf limits) asciiClasses g (part s from to) → (1 ≤ to - from) × (to - from ≤ 63)
+  pub label-fitted : {classes : Classes} → LabelFits (limitsOf limits) classes g (part s from to) → (1 ≤ to - from) × (to - from ≤ 63)
   label-fitted f =
       let size = part-size s from to h in
       let long = f .long in

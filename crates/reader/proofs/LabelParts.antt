@@ -3,6 +3,7 @@
 --       → partBytes (given (partOfLabel (g .labels) i)) s ≡ n
 use Prim.Native.Nat.{ℕ, zero, suc, _+_, _≤_, _<_}
 use native.Mathlib.Omega.{arith}
+use mathlib.Core.Bool.{not, false}
 use mathlib.Core.List.{List, [], _∷_, _++_, append-assoc}
 use mathlib.Core.Option.{some as just}
 use mathlib.Core.Path.{_≡_, refl, sym, _∙_, ap, ap₂, subst}
@@ -12,7 +13,7 @@ use lib.Seq.{drop-drop, drop-append-add, take-append-seam}
 use borrow.Author.Tests.{le-leb, lt-leb}
 use Rattle.grammar.specs.Lists.{joinedOf}
 use Rattle.grammar.specs.Limits.{Limits}
-use Rattle.grammar.specs.Names.{Name, Classes, asciiClasses}
+use Rattle.grammar.specs.Names.{Name, Classes, loads, Loads}
 use Rattle.grammar.specs.Table.{Table}
 use Rattle.grammar.specs.Outcome.{Outcome, given, refused, _>>=_, _>>_, turnBack}
 use Rattle.grammar.specs.Fields.{fieldBytes}
@@ -20,11 +21,12 @@ use Rattle.grammar.specs.ReadTable.{labelTag, startTag, ruleTag, tableEndTag, r
 use Rattle.grammar.specs.WriteTable.{ruleBytes, tableBytes}
 use Rattle.grammar.specs.Calls.{partBytes, partOfLabel}
 use Rattle.grammar.specs.declared.Refusal.{Refusal}
-use Rattle.grammar.specs.declared.Refusal.the-variants.{OutOfRange}
+use Rattle.grammar.specs.declared.Refusal.the-variants.{BadClasses, OutOfRange}
 use Rattle.theory.proofs.bytes.FieldBytes.{AreBytes}
 use Rattle.theory.proofs.lists.ListLaws.{mem-at, just-eq, at-else}
 use Rattle.theory.proofs.bytes.OutcomeLaws.{given-then, no-fault}
 use Rattle.theory.proofs.bytes.ReadWithin.{read-was}
+use Rattle.theory.proofs.theorems.CallPromises.{loaded-is}
 use Rattle.reader.specs.LabelPlaces.{labelPart}
 use Rattle.reader.proofs.AnswerLaws.{fault}
 use Rattle.reader.proofs.FieldReading.{field-length}
@@ -84,22 +86,32 @@ module _ (lim : Limits) (classes : Classes) (s : List ℕ) (g : Table) (small : 
       let left = length-drop k s in
       omega arith
 
--- the three ways of looking for a label
-module _ (lim : Limits) (s : List ℕ) (label : ℕ) where
-  pub label-unread : (r : Refusal) → readTable lim asciiClasses s ≡ refused r → labelPart lim s label ≡ refused r
+-- the ways of looking for a label
+module _ (lim : Limits) (classes : Classes) (s : List ℕ) (label : ℕ) where
+  pub label-unloaded : loads classes ≡ false → labelPart lim classes s label ≡ refused BadClasses
   unfolding labelPart
-  label-unread r e =
-      ap
-      (λ (o : Outcome Table). o >>= (λ g. turnBack (leb (length (g .labels)) label) OutOfRange >> given (partOfLabel (g .labels) label)))
-      e
+  label-unloaded e = fault (not (loads classes)) BadClasses _ (ap not e)
 
-  module _ (g : Table) (e : readTable lim asciiClasses s ≡ given g) where
-    pub label-past : length (g .labels) ≤ label → labelPart lim s label ≡ refused OutOfRange
+  module _ (load : Loads classes) where
+    pub label-unread : (r : Refusal) → readTable lim classes s ≡ refused r → labelPart lim classes s label ≡ refused r
     unfolding labelPart
-    label-past h =
-        given-then (readTable lim asciiClasses s) g _ e ∙ fault _ OutOfRange _ (le-leb (length (g .labels)) label h)
+    label-unread r e =
+        loaded-is classes _ load
+        ∙ ap
+        (λ (o : Outcome Table). o >>= (λ g. turnBack (leb (length (g .labels)) label) OutOfRange >> given (partOfLabel (g .labels) label)))
+        e
 
-    pub label-found : label < length (g .labels) → labelPart lim s label ≡ given (partOfLabel (g .labels) label)
-    unfolding labelPart
-    label-found h =
-        given-then (readTable lim asciiClasses s) g _ e ∙ no-fault _ OutOfRange _ (lt-leb (length (g .labels)) label h)
+    module _ (g : Table) (e : readTable lim classes s ≡ given g) where
+      pub label-past : length (g .labels) ≤ label → labelPart lim classes s label ≡ refused OutOfRange
+      unfolding labelPart
+      label-past h =
+          loaded-is classes _ load
+          ∙ given-then (readTable lim classes s) g _ e
+          ∙ fault _ OutOfRange _ (le-leb (length (g .labels)) label h)
+
+      pub label-found : label < length (g .labels) → labelPart lim classes s label ≡ given (partOfLabel (g .labels) label)
+      unfolding labelPart
+      label-found h =
+          loaded-is classes _ load
+          ∙ given-then (readTable lim classes s) g _ e
+          ∙ no-fault _ OutOfRange _ (lt-leb (length (g .labels)) label h)

@@ -5,6 +5,7 @@
 use Prim.Native.Nat.{ℕ, zero, suc, _+_, _*_, _-_, _≤_, _<_}
 use native.Mathlib.Omega.{arith}
 use native.Mathlib.Numerals.{add-one}
+use mathlib.Core.Bool.{not}
 use mathlib.Core.List.{List, [], _∷_, _++_, List·Memᴰ, List·Memᴰ·head, List·Memᴰ·tail}
 use mathlib.Core.Option.{some as just}
 use mathlib.Core.Path.{_≡_, refl, sym, _∙_, ap}
@@ -13,13 +14,13 @@ use lib.Seq.{take-suc}
 use borrow.Author.Tests.{leb-false}
 use Rattle.grammar.specs.Lists.{joinedOf}
 use Rattle.grammar.specs.Limits.{Limits, NoneAbove, large}
-use Rattle.grammar.specs.Names.{Name, asciiClasses}
+use Rattle.grammar.specs.Names.{Name, Classes, loads, Loads}
 use Rattle.grammar.specs.Table.{Table}
 use Rattle.grammar.specs.Fields.{fieldBytes}
 use Rattle.grammar.specs.Outcome.{given}
 use Rattle.grammar.specs.ReadTable.{labelTag, readTable}
 use Rattle.grammar.specs.Calls.{Part, partOfLabel}
-use Rattle.grammar.specs.declared.Refusal.the-variants.{OutOfRange}
+use Rattle.grammar.specs.declared.Refusal.the-variants.{BadClasses, OutOfRange}
 use Rattle.theory.proofs.bytes.FieldBytes.{AreBytes}
 use Rattle.theory.proofs.lists.ListLaws.{below-at, at-below, at-mem, at-else, joined-end}
 use Rattle.theory.proofs.bytes.OutcomeLaws.{was-given, had-no-fault, given-eq}
@@ -54,7 +55,7 @@ begins-next : (labels : List Name) (i : ℕ) (n : Name) → getElem? labels i �
 unfolding nameBegins partOfLabel
 begins-next labels i n e = let j = joined-next (fieldBytes labelTag) labels i n e in let l = field-length labelTag n in omega arith
 
-module _ {s index : List ℕ} (f : SomeHeld large asciiClasses s index) where
+module _ {s index : List ℕ} (f : SomeHeld large s index) where
   label-size : (i : ℕ) → i < labelCount index
       → (n : Name) × (getElem? (f .table .labels) i ≡ just n) × (labelTo index i - labelFrom index i ≡ length n) × (length n ≤ 63)
   unfolding large
@@ -97,7 +98,8 @@ joined-short (n ∷ labels) h (suc i) =
     omega arith
 
 -- the place of a label that there is
-module _ {lim : Limits} (none-above : NoneAbove lim large) {s index : List ℕ} (f : TableFound lim s index) (small : AreBytes s) (label : ℕ)
+module _ {lim : Limits} (none-above : NoneAbove lim large) {classes : Classes} (load : Loads classes) {s index : List ℕ}
+    (f : TableFound lim classes s index) (small : AreBytes s) (label : ℕ)
     (h : label < labelCount index) where
   abbrev size : ℕ
   size = labelTo index label - labelFrom index label
@@ -106,32 +108,33 @@ module _ {lim : Limits} (none-above : NoneAbove lim large) {s index : List ℕ} 
   g = f .some .table
 
   pub place-found : (from : ℕ) → from ≡ nameBegins (g .labels) label
-      → Inside s from (from + size) × (labelPart lim s label ≡ given (record { from = from; size = (from + size) - from }))
+      → Inside s from (from + size) × (labelPart lim classes s label ≡ given (record { from = from; size = (from + size) - from }))
   unfolding nameBegins partOfLabel
   place-found from e =
       let few = f .some .held .indexes .labels in
       let p = label-size (some-roomier none-above (f .some)) label h in
-      let inside = label-inside lim asciiClasses s g small (f .read) label (p .0) (p .1) in
+      let inside = label-inside lim classes s g small (f .read) label (p .0) (p .1) in
       let name : length (getD (g .labels) label []) ≡ length (p .0) = ap length (at-else (g .labels) label [] (p .1)) in
       let long = p .2 in
       let same : length (getD (g .labels) label []) ≡ (from + size) - from = omega arith in (
         record { order = omega arith; within = omega arith },
-        label-found lim s label g (f .read) (omega arith)
+        label-found lim classes s label load g (f .read) (omega arith)
             ∙ ap (λ (k : ℕ). given (record { from = k; size = length (getD (g .labels) label []) })) (sym e)
             ∙ ap (λ (k : ℕ). given (record { from = from; size = k })) same,
       )
 
-module _ {lim : Limits} (none-above : NoneAbove lim large) (s : List ℕ) (label : ℕ) where
-  pub name-bounds : (p : Part) → labelPart lim s label ≡ given p → (p .from ≤ 8451) × (p .size ≤ 63)
+module _ {lim : Limits} (none-above : NoneAbove lim large) (classes : Classes) (s : List ℕ) (label : ℕ) where
+  pub name-bounds : (p : Part) → labelPart lim classes s label ≡ given p → (p .from ≤ 8451) × (p .size ≤ 63)
   unfolding labelPart large partOfLabel
   name-bounds p e =
-      let a = was-given (readTable lim asciiClasses s) _ p e in
+      let under = had-no-fault (not (loads classes)) BadClasses _ p e .1 in
+      let a = was-given (readTable lim classes s) _ p under in
       let g : Table = a .0 in
       let b = had-no-fault _ OutOfRange _ p (a .2) in
       let among = leb-false (length (g .labels)) label (b .0) in
       let n = below-at (g .labels) label among in
       let q : partOfLabel (g .labels) label ≡ p = given-eq (b .1) in
-      let within = table-roomier none-above (read-within lim asciiClasses s g (a .1)) in
+      let within = table-roomier none-above (read-within lim classes s g (a .1)) in
       let few = within .labels in
       let begins = joined-short (g .labels) (λ m k. within .names m k .size) label in
       let from : p .from ≡ length (joinedOf (fieldBytes labelTag) (take label (g .labels))) + 3 = ap (λ (r : Part). r .from) (sym q) in

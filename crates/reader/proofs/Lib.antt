@@ -2,6 +2,8 @@ pub mod ExprLaws
 pub mod ExtentLaws
 pub mod ContentAtLaws
 pub mod ClassTable
+pub mod PlaceByPlace
+pub mod LoadedClasses
 pub mod NameReading
 pub mod FieldReading
 pub mod OpenLevels

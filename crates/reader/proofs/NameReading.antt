@@ -10,6 +10,7 @@ use borrow.Author.Tests.{eq-eqb, ne-eqb, le-leb, lt-leb}
 use Rattle.grammar.specs.Lists.{allPass, sameNumbers}
 use Rattle.grammar.specs.Names.{Classes, isName, sameName}
 use Rattle.reader.proofs.FieldReading.{from-place}
+use Rattle.reader.proofs.PlaceByPlace.{all-next, all-fails}
 
 -- a byte that may stand after the first
 abbrev pub later : Classes → ℕ → Bool
@@ -39,20 +40,10 @@ module _ (classes : Classes) (s : List ℕ) where
   module _ (i : ℕ) where
     pub later-next : i < length s → (getD classes (getD s i 0) 0 ≡ 0 → ⊥)
         → allPass (later classes) (drop i s) ≡ allPass (later classes) (drop (i + 1) s)
-    unfolding allPass
-    later-next h e =
-        ap (allPass (later classes)) (from-place s i h)
-        ∙ ap (λ (t : Bool). t && allPass (later classes) (drop (i + 1) s)) (le-leb 1 (getD classes (getD s i 0) 0) (omega arith))
+    later-next h e = all-next (later classes) s i h (le-leb 1 (getD classes (getD s i 0) 0) (omega arith))
 
     pub later-fails : i < length s → getD classes (getD s i 0) 0 ≡ 0 → allPass (later classes) (drop i s) ≡ false
-    unfolding allPass
-    later-fails h e =
-        ap (allPass (later classes)) (from-place s i h)
-        ∙ ap (λ (t : Bool). t && allPass (later classes) (drop (i + 1) s)) (lt-leb 1 (getD classes (getD s i 0) 0) (omega arith))
-
-    pub later-end : length s ≤ i → allPass (later classes) (drop i s) ≡ true
-    unfolding allPass
-    later-end h = ap (allPass (later classes)) (drop-of-length-le s h)
+    later-fails h e = all-fails (later classes) s i h (lt-leb 1 (getD classes (getD s i 0) 0) (omega arith))
 
 -- two names of one length
 unequal : (a b : List ℕ) → (length a ≡ length b → ⊥) → sameNumbers a b ≡ false

@@ -1,6 +1,6 @@
 -- What a table that was read means for those above:
---   table-found : Reads s (readTable lim asciiClasses s) r index → r ≡ Readable → TableFound lim s index
---   table-refused : Reads s (readTable lim asciiClasses s) r index → r ≡ Unreadable q → readTable lim asciiClasses s ≡ refused q
+--   table-found : Loads classes → Reads s (readTable lim classes s) r index → r ≡ Readable → TableFound lim classes s index
+--   table-refused : Reads s (readTable lim classes s) r index → r ≡ Unreadable q → readTable lim classes s ≡ refused q
 --   held-roomier : a table that is held under some limits is held under roomier ones
 --   label-found-at, start-small, rule-found-at : what stands at each number below the count, with its bounds
 --   content-in-part : the content of a rule, as the walks over contents have it
@@ -11,7 +11,7 @@ use mathlib.Core.Option.{some as just}
 use mathlib.Core.Path.{_≡_, sym, _∙_, ap}
 use lib.ListN.{length, getElem?}
 use Rattle.grammar.specs.Limits.{Limits, NoneAbove, large}
-use Rattle.grammar.specs.Names.{Name, Classes, asciiClasses}
+use Rattle.grammar.specs.Names.{Name, Classes, Loads}
 use Rattle.grammar.specs.Content.{Content}
 use Rattle.grammar.specs.Table.{Rule, Table}
 use Rattle.grammar.specs.Outcome.{given, refused}
@@ -21,9 +21,11 @@ use Rattle.grammar.specs.WithinLimits.{NameWithin, RuleWithin, TableWithin}
 use Rattle.grammar.specs.declared.Refusal.{Refusal}
 use Rattle.grammar.specs.declared.Reading.{Reading}
 use Rattle.grammar.specs.declared.Reading.the-variants.{Readable, Refused as Unreadable}
+use Rattle.theory.specs.Conditions.{allLetters}
 use Rattle.theory.proofs.lists.ListLaws.{at-mem}
 use Rattle.theory.proofs.tables.RoomierLimits.{table-roomier}
 use Rattle.theory.proofs.bytes.ReadWithin.{read-within}
+use Rattle.theory.proofs.bytes.ClassLaws.{all-classed, table-letters}
 use Rattle.reader.specs.ExprAt.{_upTo_, exprAt}
 use Rattle.reader.specs.Held.{Held, SomeHeld}
 use Rattle.reader.specs.TableIndex.{
@@ -47,30 +49,31 @@ use Rattle.reader.proofs.TableFaults.{part-size}
 use Rattle.reader.proofs.TableIndexLaws.{label-at, start-at, rule-at}
 
 -- the table that was read is held
-pub record TableFound (lim : Limits) (s index : List ℕ) : Type 0 where
-  pub some : SomeHeld lim asciiClasses s index
-  pub read : readTable lim asciiClasses s ≡ given (some .table)
+pub record TableFound (lim : Limits) (classes : Classes) (s index : List ℕ) : Type 0 where
+  pub some : SomeHeld lim s index
+  pub read : readTable lim classes s ≡ given (some .table)
 
-module _ (lim : Limits) (s : List ℕ) (r : Reading) (index : List ℕ) (so : Reads s (readTable lim asciiClasses s) r index) where
-  pub table-found : r ≡ Readable → TableFound lim s index
-  table-found e =
-      let f = was-readable (readTable lim asciiClasses s) (sym (so .answer) ∙ e) in
+module _ (lim : Limits) (classes : Classes) (s : List ℕ) (r : Reading) (index : List ℕ) (so : Reads s (readTable lim classes s) r index) where
+  pub table-found : Loads classes → r ≡ Readable → TableFound lim classes s index
+  table-found load e =
+      let all = all-classed classes load in
+      let f = was-readable (readTable lim classes s) (sym (so .answer) ∙ e) in
       record {
         some = record {
           table = f .0;
-          held = record { indexes = so .index-of (f .0) (f .1); within = read-within lim asciiClasses s (f .0) (f .1) };
+          held = record { indexes = so .index-of (f .0) (f .1); within = table-letters (omega arith) (read-within lim classes s (f .0) (f .1)) };
         };
         read = f .1;
       }
 
-  pub table-refused : (q : Refusal) → r ≡ Unreadable q → readTable lim asciiClasses s ≡ refused q
-  table-refused q e = was-unreadable (readTable lim asciiClasses s) q (sym (so .answer) ∙ e)
+  pub table-refused : (q : Refusal) → r ≡ Unreadable q → readTable lim classes s ≡ refused q
+  table-refused q e = was-unreadable (readTable lim classes s) q (sym (so .answer) ∙ e)
 
 module _ {lim lim′ : Limits} (none-above : NoneAbove lim lim′) where
-  pub held-roomier : {classes : Classes} {s index : List ℕ} {g : Table} → Held lim classes s index g → Held lim′ classes s index g
+  pub held-roomier : {s index : List ℕ} {g : Table} → Held lim s index g → Held lim′ s index g
   held-roomier h = record { indexes = h .indexes; within = table-roomier none-above (h .within) }
 
-  abbrev pub some-roomier : {classes : Classes} {s index : List ℕ} → SomeHeld lim classes s index → SomeHeld lim′ classes s index
+  abbrev pub some-roomier : {s index : List ℕ} → SomeHeld lim s index → SomeHeld lim′ s index
   some-roomier f = record { table = f .table; held = held-roomier (f .held) }
 
 -- a content that stands somewhere is the expression in that part
@@ -90,10 +93,10 @@ pub record RuleFound (s index : List ℕ) (g : Table) (i : ℕ) : Type 0 where
   pub type-below : ruleType index i < 128
   pub label-below : ruleLabel index i < labelCount index
 
-module _ {s index : List ℕ} {g : Table} (x : Indexes s index g) (b : TableWithin large asciiClasses g) where
+module _ {s index : List ℕ} {g : Table} (x : Indexes s index g) (b : TableWithin large allLetters g) where
   -- a label's name is a name
   pub label-found-at : (i : ℕ) → i < labelCount index
-      → (n : Name) × (getElem? (g .labels) i ≡ just n) × BytesStand s (labelFrom index i) (labelTo index i) n × NameWithin large asciiClasses n
+      → (n : Name) × (getElem? (g .labels) i ≡ just n) × BytesStand s (labelFrom index i) (labelTo index i) n × NameWithin large allLetters n
   label-found-at i h =
       let p = label-at x i h in
       (p .0, p .1, p .2, b .names (p .0) (at-mem (g .labels) i (p .1)))

@@ -10,7 +10,7 @@ use lib.ListN.{length, drop, length-drop, drop-of-length-le}
 use borrow.Author.Tests.{eq-eqb, ne-eqb, lt-ltb, le-ltb}
 use Rattle.grammar.specs.Limits.{inputLimit}
 use Rattle.grammar.specs.LimitSets.{limitsOf}
-use Rattle.grammar.specs.Names.{asciiClasses}
+use Rattle.grammar.specs.Names.{Classes}
 use Rattle.grammar.specs.Table.{Table, emptyTable}
 use Rattle.grammar.specs.Outcome.{Outcome, refused, _>>=_, _>>_, turnBack}
 use Rattle.grammar.specs.Answers.{reading}
@@ -33,58 +33,58 @@ use Rattle.reader.proofs.TableFaults.{is-empty, is-some, part-size, par
 use Rattle.reader.proofs.TableSteps.{refused-reads}
 
 -- which of the three a field is, by its tag
-module _ (limits : SizeLimits) (g : Table) (tag : ℕ) (value : List ℕ) where
-  pub label-field : tag ≡ labelTag → readTableField (limitsOf limits) asciiClasses g (record { tag = tag; value = value }) ≡ readLabel (limitsOf limits) asciiClasses g value
+module _ (limits : SizeLimits) (classes : Classes) (g : Table) (tag : ℕ) (value : List ℕ) where
+  pub label-field : tag ≡ labelTag → readTableField (limitsOf limits) classes g (record { tag = tag; value = value }) ≡ readLabel (limitsOf limits) classes g value
   unfolding readTableField
   label-field e = rw (eq-eqb tag labelTag e, readTableField)
 
   pub start-field : (tag ≡ labelTag → ⊥) → tag ≡ startTag
-      → readTableField (limitsOf limits) asciiClasses g (record { tag = tag; value = value }) ≡ readStart (limitsOf limits) g value
+      → readTableField (limitsOf limits) classes g (record { tag = tag; value = value }) ≡ readStart (limitsOf limits) g value
   unfolding readTableField
   start-field n e = rw (ne-eqb tag labelTag n, eq-eqb tag startTag e, readTableField)
 
   pub rule-field : (tag ≡ labelTag → ⊥) → (tag ≡ startTag → ⊥) → tag ≡ ruleTag
-      → readTableField (limitsOf limits) asciiClasses g (record { tag = tag; value = value }) ≡ readRule (limitsOf limits) g value
+      → readTableField (limitsOf limits) classes g (record { tag = tag; value = value }) ≡ readRule (limitsOf limits) g value
   unfolding readTableField
   rule-field n m e = rw (ne-eqb tag labelTag n, ne-eqb tag startTag m, eq-eqb tag ruleTag e, readTableField)
 
   pub foreign-field : (tag ≡ labelTag → ⊥) → (tag ≡ startTag → ⊥) → (tag ≡ ruleTag → ⊥)
-      → readTableField (limitsOf limits) asciiClasses g (record { tag = tag; value = value }) ≡ refused BadField
+      → readTableField (limitsOf limits) classes g (record { tag = tag; value = value }) ≡ refused BadField
   unfolding readTableField
   foreign-field n m k = rw (ne-eqb tag labelTag n, ne-eqb tag startTag m, ne-eqb tag ruleTag k, readTableField)
 
 -- the table's fields as a whole
-abbrev pub wholeTable : SizeLimits → List ℕ → Outcome Table
-wholeTable limits s = readTableFields (limitsOf limits) asciiClasses emptyTable (fieldsOf s)
+abbrev pub wholeTable : SizeLimits → Classes → List ℕ → Outcome Table
+wholeTable limits classes s = readTableFields (limitsOf limits) classes emptyTable (fieldsOf s)
 
 -- Up to this place a table is read, which the index indexes; the whole reads as the rest does after that table.
-pub record TableReached (limits : SizeLimits) (s : List ℕ) (at : ℕ) (index : List ℕ) : Type 0 where
+pub record TableReached (limits : SizeLimits) (classes : Classes) (s : List ℕ) (at : ℕ) (index : List ℕ) : Type 0 where
   pub table : Table
   pub indexes : Indexes s index table
   pub inside : at ≤ length s
-  pub rest : wholeTable limits s ≡ readTableFields (limitsOf limits) asciiClasses table (fieldsOf (drop at s))
+  pub rest : wholeTable limits classes s ≡ readTableFields (limitsOf limits) classes table (fieldsOf (drop at s))
 
-pub reached-none : (limits : SizeLimits) (s index : List ℕ) → Indexes s index emptyTable → TableReached limits s 0 index
-reached-none limits s index x = record { table = emptyTable; indexes = x; inside = omega arith; rest = refl }
+pub reached-none : (limits : SizeLimits) (classes : Classes) (s index : List ℕ) → Indexes s index emptyTable → TableReached limits classes s 0 index
+reached-none limits classes s index x = record { table = emptyTable; indexes = x; inside = omega arith; rest = refl }
 
 pub found-inside : {s : List ℕ} {at tag from to : ℕ} → FoundField s at tag from to → Inside s from to
 found-inside w = record { order = w .order; within = w .within }
 
-module _ {limits : SizeLimits} {s : List ℕ} {at : ℕ} {index : List ℕ} (r : TableReached limits s at index) where
+module _ {limits : SizeLimits} {classes : Classes} {s : List ℕ} {at : ℕ} {index : List ℕ} (r : TableReached limits classes s at index) where
   pub indexed : TableIndexed s index
   indexed = record { table = r .table; indexes = r .indexes }
 
   pub ends-early : (fieldAt s at ≡ NoBytes) ⊎ (fieldAt s at ≡ PastEnd)
-      → Reads s (wholeTable limits s) (Unreadable FieldPastEnd) index
+      → Reads s (wholeTable limits classes s) (Unreadable FieldPastEnd) index
   unfolding readTableFields
   ends-early e =
-      refused-reads s (wholeTable limits s) FieldPastEnd index (unreadable (wholeTable limits s) FieldPastEnd (⊎-elim none past e))
+      refused-reads s (wholeTable limits classes s) FieldPastEnd index (unreadable (wholeTable limits classes s) FieldPastEnd (⊎-elim none past e))
     where
-      none : fieldAt s at ≡ NoBytes → wholeTable limits s ≡ refused FieldPastEnd
-      none p = r .rest ∙ ap (readTableFields (limitsOf limits) asciiClasses (r .table)) (field-none s at p .1)
+      none : fieldAt s at ≡ NoBytes → wholeTable limits classes s ≡ refused FieldPastEnd
+      none p = r .rest ∙ ap (readTableFields (limitsOf limits) classes (r .table)) (field-none s at p .1)
 
-      past : fieldAt s at ≡ PastEnd → wholeTable limits s ≡ refused FieldPastEnd
-      past p = r .rest ∙ ap (readTableFields (limitsOf limits) asciiClasses (r .table)) (field-past s at p .1)
+      past : fieldAt s at ≡ PastEnd → wholeTable limits classes s ≡ refused FieldPastEnd
+      past p = r .rest ∙ ap (readTableFields (limitsOf limits) classes (r .table)) (field-past s at p .1)
 
   module _ {tag from to : ℕ} (w : FoundField s at tag from to) where
     here : Field
@@ -97,13 +97,13 @@ module _ {limits : SizeLimits} {s : List ℕ} {at : ℕ} {index : List ℕ} (r :
         ∙ ap (λ (v : List ℕ). record { tag = tag; value = v } then fieldsOf (drop to s)) (part-slice s from to (found-inside w))
 
     pub ends-here : tag ≡ tableEndTag → (answer : Reading) → answer ≡ reading (endOutcome (r .table) (part s from to) (fieldsOf (drop to s)))
-        → Reads s (wholeTable limits s) answer index
+        → Reads s (wholeTable limits classes s) answer index
     unfolding here
     ends-here e answer a =
-        let so : wholeTable limits s ≡ endOutcome (r .table) (part s from to) (fieldsOf (drop to s)) =
+        let so : wholeTable limits classes s ≡ endOutcome (r .table) (part s from to) (fieldsOf (drop to s)) =
         r .rest
-        ∙ ap (readTableFields (limitsOf limits) asciiClasses (r .table)) fields-here
-        ∙ end-field (limitsOf limits) asciiClasses (r .table) here (fieldsOf (drop to s)) (eq-eqb tag tableEndTag e) in
+        ∙ ap (readTableFields (limitsOf limits) classes (r .table)) fields-here
+        ∙ end-field (limitsOf limits) classes (r .table) here (fieldsOf (drop to s)) (eq-eqb tag tableEndTag e) in
         record {
           answer = a ∙ ap reading (sym so);
           index-of =
@@ -114,36 +114,36 @@ module _ {limits : SizeLimits} {s : List ℕ} {at : ℕ} {index : List ℕ} (r :
         }
 
     module _ (other : tag ≡ tableEndTag → ⊥) (read : Reading) (index′ : List ℕ)
-        (so : Reads s (readTableField (limitsOf limits) asciiClasses (r .table) (record { tag = tag; value = part s from to })) read index′) where
-      goes-on : wholeTable limits s
-          ≡ (readTableField (limitsOf limits) asciiClasses (r .table) here >>= (λ more. readTableFields (limitsOf limits) asciiClasses more (fieldsOf (drop to s))))
+        (so : Reads s (readTableField (limitsOf limits) classes (r .table) (record { tag = tag; value = part s from to })) read index′) where
+      goes-on : wholeTable limits classes s
+          ≡ (readTableField (limitsOf limits) classes (r .table) here >>= (λ more. readTableFields (limitsOf limits) classes more (fieldsOf (drop to s))))
       unfolding here
       goes-on =
           r .rest
-          ∙ ap (readTableFields (limitsOf limits) asciiClasses (r .table)) fields-here
-          ∙ next-field (limitsOf limits) asciiClasses (r .table) here (fieldsOf (drop to s)) (ne-eqb tag tableEndTag other)
+          ∙ ap (readTableFields (limitsOf limits) classes (r .table)) fields-here
+          ∙ next-field (limitsOf limits) classes (r .table) here (fieldsOf (drop to s)) (ne-eqb tag tableEndTag other)
 
-      pub stops-here : (q : Refusal) → read ≡ Unreadable q → Reads s (wholeTable limits s) (Unreadable q) index′
+      pub stops-here : (q : Refusal) → read ≡ Unreadable q → Reads s (wholeTable limits classes s) (Unreadable q) index′
       unfolding here
       stops-here q e =
-          let f = was-unreadable (readTableField (limitsOf limits) asciiClasses (r .table) here) q (sym (so .answer) ∙ e) in
-          let whole : wholeTable limits s ≡ refused q =
+          let f = was-unreadable (readTableField (limitsOf limits) classes (r .table) here) q (sym (so .answer) ∙ e) in
+          let whole : wholeTable limits classes s ≡ refused q =
           goes-on
-          ∙ ap (λ (o : Outcome Table). o >>= (λ more. readTableFields (limitsOf limits) asciiClasses more (fieldsOf (drop to s)))) f in
+          ∙ ap (λ (o : Outcome Table). o >>= (λ more. readTableFields (limitsOf limits) classes more (fieldsOf (drop to s)))) f in
           record {
-            answer = sym (unreadable (wholeTable limits s) q whole);
-            index-of = λ g p. absurd (never-given (wholeTable limits s) q g whole p);
+            answer = sym (unreadable (wholeTable limits classes s) q whole);
+            index-of = λ g p. absurd (never-given (wholeTable limits classes s) q g whole p);
           }
 
-      pub reached-next : read ≡ Readable → TableReached limits s to index′
+      pub reached-next : read ≡ Readable → TableReached limits classes s to index′
       unfolding here
       reached-next e =
-          let f = was-readable (readTableField (limitsOf limits) asciiClasses (r .table) here) (sym (so .answer) ∙ e) in
+          let f = was-readable (readTableField (limitsOf limits) classes (r .table) here) (sym (so .answer) ∙ e) in
           record {
             table = f .0;
             indexes = so .index-of (f .0) (f .1);
             inside = w .within;
-            rest = goes-on ∙ given-then (readTableField (limitsOf limits) asciiClasses (r .table) here) (f .0) _ (f .1);
+            rest = goes-on ∙ given-then (readTableField (limitsOf limits) classes (r .table) here) (f .0) _ (f .1);
           }
 
 -- what an end field says
@@ -181,11 +181,11 @@ module _ (s : List ℕ) (from to : ℕ) (h : Inside s from to) (g : Table) where
         (no-value _ ∙ no-fault _ BytesAfterEnd _ (ap bytesLeft (ap fieldsOf (drop-of-length-le s {i = to} (omega arith)) ∙ fields-empty)))
 
 -- an input that is too long, and any other
-module _ (limits : SizeLimits) (s : List ℕ) where
-  pub table-too-long : inputLimit < length s → readTable (limitsOf limits) asciiClasses s ≡ refused InputTooLong
+module _ (limits : SizeLimits) (classes : Classes) (s : List ℕ) where
+  pub table-too-long : inputLimit < length s → readTable (limitsOf limits) classes s ≡ refused InputTooLong
   unfolding readTable
   table-too-long h = fault (ltb inputLimit (length s)) InputTooLong _ (lt-ltb inputLimit (length s) h)
 
-  pub table-by-fields : length s ≤ inputLimit → readTable (limitsOf limits) asciiClasses s ≡ wholeTable limits s
+  pub table-by-fields : length s ≤ inputLimit → readTable (limitsOf limits) classes s ≡ wholeTable limits classes s
   unfolding readTable
   table-by-fields h = no-fault (ltb inputLimit (length s)) InputTooLong _ (le-ltb inputLimit (length s) h)

@@ -5,7 +5,7 @@ use mathlib.Core.List.{List, [], _∷_}
 use mathlib.Core.Path.{_≡_, sym, _∙_, ap, subst}
 use lib.ListN.{length, getD}
 use Rattle.grammar.specs.LimitSets.{limitsOf, Within}
-use Rattle.grammar.specs.Names.{asciiClasses}
+use Rattle.grammar.specs.Names.{Classes}
 use Rattle.grammar.specs.Table.{Rule, Table}
 use Rattle.grammar.specs.Outcome.{Outcome, given}
 use Rattle.grammar.specs.Answers.{reading}
@@ -51,19 +51,19 @@ given-reads s o g index e x =
     record { answer = sym (readable o g e); index-of = λ h q. subst (Indexes s index) (given-eq (sym e ∙ q)) x }
 
 module _ (limits : SizeLimits) (room : Within limits) {s index : List ℕ} {g : Table} (x : Indexes s index g) {from to : ℕ} (h : Inside s from to) where
-  module _ (read : reading (readLabel (limitsOf limits) asciiClasses g (part s from to)) ≡ Readable) where
+  module _ (classes : Classes) (read : reading (readLabel (limitsOf limits) classes g (part s from to)) ≡ Readable) where
     pub label-room : labelCount index < 128
     label-room =
-        let r = was-readable (readLabel (limitsOf limits) asciiClasses g (part s from to)) read in
-        let w = label-was (limitsOf limits) asciiClasses g (part s from to) (r .0) (r .1) in
+        let r = was-readable (readLabel (limitsOf limits) classes g (part s from to)) read in
+        let w = label-was (limitsOf limits) classes g (part s from to) (r .0) (r .1) in
         let free = w .room in let most = room .rules in
         omega (arith, x .labels)
 
-    pub label-reads : Reads s (readLabel (limitsOf limits) asciiClasses g (part s from to)) Readable (withLabelAt index from to)
+    pub label-reads : Reads s (readLabel (limitsOf limits) classes g (part s from to)) Readable (withLabelAt index from to)
     label-reads =
-        let r = was-readable (readLabel (limitsOf limits) asciiClasses g (part s from to)) read in
-        let w = label-was (limitsOf limits) asciiClasses g (part s from to) (r .0) (r .1) in
-        given-reads s (readLabel (limitsOf limits) asciiClasses g (part s from to)) (withLabel g (part s from to)) (withLabelAt index from to) (r .1 ∙ ap given (sym (w .result))) (label-added x from to label-room h)
+        let r = was-readable (readLabel (limitsOf limits) classes g (part s from to)) read in
+        let w = label-was (limitsOf limits) classes g (part s from to) (r .0) (r .1) in
+        given-reads s (readLabel (limitsOf limits) classes g (part s from to)) (withLabel g (part s from to)) (withLabelAt index from to) (r .1 ∙ ap given (sym (w .result))) (label-added x from to label-room h)
 
   module _ (read : reading (readStart (limitsOf limits) g (part s from to)) ≡ Readable) where
     start-found : (more : Table) × (readStart (limitsOf limits) g (part s from to) ≡ given more) × StartRead (limitsOf limits) g (part s from to) more

@@ -4,7 +4,7 @@ use mathlib.Core.List.{List, [], _∷_, _++_}
 use mathlib.Core.Path.{_≡_}
 use lib.ListN.{length, getD, take, drop}
 use Rattle.grammar.specs.Limits.{Limits, childLimit}
-use Rattle.grammar.specs.Names.{asciiClasses}
+use Rattle.grammar.specs.Names.{Classes}
 use Rattle.grammar.specs.Outcome.{Outcome, given, refused}
 use Rattle.grammar.specs.ReadDocument.{Node, readNodes}
 use Rattle.grammar.specs.declared.Reading.{Reading}
@@ -39,12 +39,13 @@ pub record NodesIndexed (s names sizes children : List ℕ) (nodes : ℕ) : Type
   pub counts : (i : ℕ) → i < nodes → getD children i 0 ≤ childLimit
 
 -- what was read into the arrays is the document's answer, and its nodes if it reads
-pub record NodesFound (lim : Limits) (s names sizes children : List ℕ) (r : NodesRead) : Type 0 where
-  pub outcome : readNodes lim asciiClasses s ≡ outcomeOf (r .answer) (firstNodes s names sizes children (r .nodes))
+pub record NodesFound (lim : Limits) (classes : Classes) (s names sizes children : List ℕ) (r : NodesRead) : Type 0 where
+  pub outcome : readNodes lim classes s ≡ outcomeOf (r .answer) (firstNodes s names sizes children (r .nodes))
   pub few : r .nodes ≤ lim .nodes
   pub indexed : NodesIndexed s names sizes children (r .nodes)
 
 -- the same of an index
-abbrev pub DocumentReads : Limits → List ℕ → DocumentRead → Type 0
-DocumentReads lim s r =
-    NodesFound lim s (r .index .names) (r .index .sizes) (r .index .children) (record { answer = r .answer; nodes = r .index .nodes })
+abbrev pub DocumentReads : Limits → Classes → List ℕ → DocumentRead → Type 0
+DocumentReads lim classes s r =
+    NodesFound lim classes s (r .index .names) (r .index .sizes) (r .index .children)
+    (record { answer = r .answer; nodes = r .index .nodes })

@@ -6,7 +6,7 @@ use mathlib.Core.Path.{_≡_}
 use lib.Dec.{eqb, leb, ltb}
 use lib.ListN.{length, getD, take, drop}
 use Rattle.grammar.specs.Limits.{Limits, childLimit}
-use Rattle.grammar.specs.Names.{asciiClasses}
+use Rattle.grammar.specs.Names.{Classes}
 use Rattle.grammar.specs.Fields.{Field, Fields, fieldsOf}
 use Rattle.grammar.specs.Outcome.{Outcome, _>>=_}
 use Rattle.grammar.specs.ReadDocument.{Node, Opened, closed, afterNode, withNode, readNode, readNodeFields}
@@ -39,16 +39,16 @@ pub record Sized (o : Opened) (nodes depth : ℕ) : Type 0 where
   pub open-levels : length (o .toCome) ≡ depth
 
 -- the rest of a document, of which `o` is read
-abbrev pub restOf : Limits → Opened → Fields → Outcome (List Node)
-restOf lim = readNodeFields lim asciiClasses
+abbrev pub restOf : Limits → Classes → Opened → Fields → Outcome (List Node)
+restOf = readNodeFields
 
 -- the same, where the first field is no end
-abbrev pub restWith : Limits → Field → Fields → Opened → Outcome (List Node)
-restWith lim f rest o = readNode lim asciiClasses o f >>= λ more. restOf lim more rest
+abbrev pub restWith : Limits → Classes → Field → Fields → Opened → Outcome (List Node)
+restWith lim classes f rest o = readNode lim classes o f >>= λ more. restOf lim classes more rest
 
 -- A node is read: `whole` goes on behind it. Its name stands after `at`.
-pub record NodeStep (lim : Limits) (s : List ℕ) (at nodes depth : ℕ) (whole : Opened → Outcome (List Node)) (from to children : ℕ)
-    : Type 0 where
+pub record NodeStep (lim : Limits) (classes : Classes) (s : List ℕ) (at nodes depth : ℕ) (whole : Opened → Outcome (List Node))
+    (from to children : ℕ) : Type 0 where
   pub forward : at < from
   pub order : from ≤ to
   pub within : to ≤ length s
@@ -57,12 +57,13 @@ pub record NodeStep (lim : Limits) (s : List ℕ) (at nodes depth : ℕ) (whole 
   pub level : depth ≤ lim .levels
   pub few : children ≤ childLimit
   pub goes : (o : Opened) → Sized o nodes depth
-      → whole o ≡ restOf lim (withNode o (record { name = take (to - from) (drop from s); children = children })) (fieldsOf (drop to s))
+      → whole o
+      ≡ restOf lim classes (withNode o (record { name = take (to - from) (drop from s); children = children })) (fieldsOf (drop to s))
 
 -- what a step says of the rest of a document, `whole`, whatever was read before it
-abbrev pub StepSays : Limits → List ℕ → ℕ → ℕ → ℕ → (Opened → Outcome (List Node)) → Step → Type 0
-StepSays lim s at nodes depth whole (NodeHere from to children) = NodeStep lim s at nodes depth whole from to children
-StepSays lim s at nodes depth whole (Stop answer) = (o : Opened) → Sized o nodes depth → whole o ≡ outcomeOf answer (o .nodes)
+abbrev pub StepSays : Limits → Classes → List ℕ → ℕ → ℕ → ℕ → (Opened → Outcome (List Node)) → Step → Type 0
+StepSays lim classes s at nodes depth whole (NodeHere from to children) = NodeStep lim classes s at nodes depth whole from to children
+StepSays lim classes s at nodes depth whole (Stop answer) = (o : Opened) → Sized o nodes depth → whole o ≡ outcomeOf answer (o .nodes)
 
 -- the open levels, innermost first: the array has them outermost first
 unfoldable pub openLevels : List ℕ → ℕ → List ℕ

@@ -2,24 +2,26 @@
 use Prim.Native.Nat.{ℕ, _-_}
 use mathlib.Core.List.{List}
 use mathlib.Core.Path.{_≡_}
+use mathlib.Core.Bool.{not}
 use lib.Dec.{leb}
 use lib.ListN.{length}
 use Rattle.grammar.specs.Limits.{Limits}
-use Rattle.grammar.specs.Names.{Name, asciiClasses}
+use Rattle.grammar.specs.Names.{Name, Classes, loads}
 use Rattle.grammar.specs.Outcome.{Outcome, given, refused, _>>=_, _>>_, turnBack}
 use Rattle.grammar.specs.Calls.{Part, partOfLabel}
 use Rattle.grammar.specs.ReadTable.{readTable}
 use Rattle.grammar.specs.declared.Refusal.{Refusal}
-use Rattle.grammar.specs.declared.Refusal.the-variants.{OutOfRange}
+use Rattle.grammar.specs.declared.Refusal.the-variants.{BadClasses, OutOfRange}
 use Rattle.reader.specs.declared.label_places.LabelFound.{LabelFound}
 use Rattle.reader.specs.declared.label_places.LabelFound.the-variants.{At, Refused as Unfound}
 use Rattle.reader.specs.TableIndex.{Inside}
 
 -- the part of a table that is a label's name, where there is enough working memory
-unfoldable pub labelPart : Limits → List ℕ → ℕ → Outcome Part
-unfolding readTable partOfLabel
-labelPart lim table label = do
-  g ← readTable lim asciiClasses table
+unfoldable pub labelPart : Limits → Classes → List ℕ → ℕ → Outcome Part
+unfolding loads readTable partOfLabel
+labelPart lim classes table label = do
+  turnBack (not (loads classes)) BadClasses
+  g ← readTable lim classes table
   turnBack (leb (length (g .labels)) label) OutOfRange
   given (partOfLabel (g .labels) label)
 

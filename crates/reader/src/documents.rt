@@ -3,7 +3,6 @@ ghost use mathlib.Core.Path.{_≡_};
 ghost use Prim.Native.Nat.{_≤_, _<_};
 ghost use lib.ListN.{length, drop};
 ghost use lib.Seq.{slice};
-ghost use Rattle.grammar.specs.Names.{asciiClasses};
 ghost use Rattle.grammar.specs.Limits.{inputLimit};
 ghost use Rattle.grammar.specs.LimitSets.{limitsOf, Within};
 ghost use Rattle.grammar.specs.Fields.{fieldsOf};
@@ -15,7 +14,6 @@ use crate::fields::field_at;
 use crate::limits::CHILDREN;
 use crate::limits::INPUT;
 use crate::limits::NAME;
-use crate::names::CLASSES;
 use crate::names::is_name;
 use crate::numbers::wide;
 use crate::tags::DOCUMENT_END_TAG;
@@ -95,10 +93,10 @@ fn node_of(
     nodes: usize,
     depth: usize,
 ) -> Step
-    requires { ⌜ now classes ≡ asciiClasses ⌝ }
+    requires { ⌜ 256 ≤ length (now classes) ⌝ }
     requires { ⌜ (from ≤ to) × (to ≤ length (now s)) ⌝ }
-    ensures { λ r. ⌜ StepSays (limitsOf limits) (now (s .entry)) from nodes depth
-        (restWith (limitsOf limits) (record { tag = tag; value = slice from to (now (s .entry)) })
+    ensures { λ r. ⌜ StepSays (limitsOf limits) (now (classes .entry)) (now (s .entry)) from nodes depth
+        (restWith (limitsOf limits) (now (classes .entry)) (record { tag = tag; value = slice from to (now (s .entry)) })
         (fieldsOf (drop to (now (s .entry))))) r ⌝ }
 {
     let size = to - from;
@@ -132,9 +130,9 @@ fn step_at(
     nodes: usize,
     depth: usize,
 ) -> Step
-    requires { ⌜ now classes ≡ asciiClasses ⌝ }
-    ensures { λ r. ⌜ StepSays (limitsOf limits) (now (s .entry)) at nodes depth
-        (λ o. restOf (limitsOf limits) o (fieldsOf (drop at (now (s .entry))))) r ⌝ }
+    requires { ⌜ 256 ≤ length (now classes) ⌝ }
+    ensures { λ r. ⌜ StepSays (limitsOf limits) (now (classes .entry)) (now (s .entry)) at nodes depth
+        (λ o. restOf (limitsOf limits) (now (classes .entry)) o (fieldsOf (drop at (now (s .entry))))) r ⌝ }
 {
     match field_at(s, at) {
         FieldAt::NoBytes => Step::Stop(Reading::Refused(Refusal::FieldPastEnd)),
@@ -186,11 +184,11 @@ fn read_fields(
     sizes: &mut [u16],
     children: &mut [u16],
 ) -> NodesRead
-    requires { ⌜ now classes ≡ asciiClasses ⌝ }
+    requires { ⌜ 256 ≤ length (now classes) ⌝ }
     requires { ⌜ Within limits ⌝ }
     requires { ⌜ (length (now s) ≤ inputLimit) × (limits .nodes ≤ length (now names)) × (limits .nodes ≤ length (now sizes))
         × (limits .nodes ≤ length (now children)) ⌝ }
-    ensures answer { λ r. ⌜ restOf (limitsOf limits) nothingRead (fieldsOf (now (s .entry)))
+    ensures answer { λ r. ⌜ restOf (limitsOf limits) (now (classes .entry)) nothingRead (fieldsOf (now (s .entry)))
         ≡ outcomeOf (r .answer) (firstNodes (now (s .entry)) (now (names .exit)) (now (sizes .exit)) (now (children .exit)) (r .nodes)) ⌝ }
     ensures few { λ r. ⌜ r .nodes ≤ limits .nodes ⌝ }
     ensures index { λ r. ⌜ NodesIndexed (now (s .entry)) (now (names .exit)) (now (sizes .exit)) (now (children .exit)) (r .nodes) ⌝ }
@@ -224,14 +222,17 @@ fn read_fields(
 // The nodes of a document, into lent arrays.
 pub fn read_nodes(
     limits: SizeLimits,
+    classes: &[u8],
     s: &[u8],
     names: &mut [u16],
     sizes: &mut [u16],
     children: &mut [u16],
 ) -> NodesRead
+    requires { ⌜ 256 ≤ length (now classes) ⌝ }
     requires { ⌜ Within limits ⌝ }
     requires { ⌜ (limits .nodes ≤ length (now names)) × (limits .nodes ≤ length (now sizes)) × (limits .nodes ≤ length (now children)) ⌝ }
-    ensures { λ r. ⌜ NodesFound (limitsOf limits) (now (s .entry)) (now (names .exit)) (now (sizes .exit)) (now (children .exit)) r ⌝ }
+    ensures { λ r. ⌜ NodesFound (limitsOf limits) (now (classes .entry)) (now (s .entry)) (now (names .exit)) (now (sizes .exit))
+        (now (children .exit)) r ⌝ }
 {
     if INPUT < s.len() {
         return NodesRead {
@@ -239,19 +240,19 @@ pub fn read_nodes(
             nodes: 0,
         };
     }
-    let classes = CLASSES;
-    read_fields(limits, &classes, s, names, sizes, children)
+    read_fields(limits, classes, s, names, sizes, children)
 }
 
 // The nodes of a document.
-pub fn read_document(limits: SizeLimits, s: &[u8]) -> DocumentRead
+pub fn read_document(limits: SizeLimits, classes: &[u8], s: &[u8]) -> DocumentRead
+    requires { ⌜ 256 ≤ length (now classes) ⌝ }
     requires { ⌜ Within limits ⌝ }
-    ensures { λ r. ⌜ DocumentReads (limitsOf limits) (now (s .entry)) r ⌝ }
+    ensures { λ r. ⌜ DocumentReads (limitsOf limits) (now (classes .entry)) (now (s .entry)) r ⌝ }
 {
     let mut names = [0u16; 2048];
     let mut sizes = [0u16; 2048];
     let mut children = [0u16; 2048];
-    let read = read_nodes(limits, s, &mut names, &mut sizes, &mut children);
+    let read = read_nodes(limits, classes, s, &mut names, &mut sizes, &mut children);
     let answer = read.answer;
     DocumentRead {
         answer: answer,

@@ -1,4 +1,5 @@
 // Where a label's name stands in its table.
+use crate::classes::classes_load;
 use crate::index::INDEX;
 use crate::index::label_count;
 use crate::index::label_from;
@@ -11,7 +12,6 @@ ghost use mathlib.Core.Path.{_≡_};
 ghost use Prim.Native.Nat.{_<_, _≤_};
 ghost use Rattle.grammar.specs.Limits.{large};
 ghost use Rattle.grammar.specs.LimitSets.{limitsOf, Within};
-ghost use Rattle.grammar.specs.Names.{asciiClasses};
 ghost use Rattle.reader.specs.LabelPlaces.{LabelSought, labelPart, nameBegins};
 ghost use Rattle.reader.specs.Held.{SomeHeld};
 ghost use Rattle.reader.specs.TableIndex.{labelCount};
@@ -24,9 +24,9 @@ pub enum LabelFound {
 
 // A name begins behind the fields of the labels before it, and its own tag and length.
 fn name_begins(table: &[u8], index: &[u16; 899], label: usize) -> usize
-    requires { ⌜ SomeHeld large asciiClasses (now table) (now index) ⌝ }
+    requires { ⌜ SomeHeld large (now table) (now index) ⌝ }
     requires { ⌜ label < labelCount (now index) ⌝ }
-    ensures { λ r. ⌜ ((f : SomeHeld large asciiClasses (now (table .entry)) (now (index .entry)))
+    ensures { λ r. ⌜ ((f : SomeHeld large (now (table .entry)) (now (index .entry)))
         → r ≡ nameBegins (f .table .labels) label) ⌝ }
     ensures { λ r. ⌜ r ≤ 8451 ⌝ }
 {
@@ -40,12 +40,16 @@ fn name_begins(table: &[u8], index: &[u16; 899], label: usize) -> usize
 }
 
 // Where the name of a label stands in its table.
-pub fn find_label(limits: SizeLimits, table: &[u8], label: usize) -> LabelFound
+pub fn find_label(limits: SizeLimits, classes: &[u8], table: &[u8], label: usize) -> LabelFound
     requires { ⌜ Within limits ⌝ }
-    ensures { λ r. ⌜ LabelSought (now (table .entry)) (labelPart (limitsOf limits) (now (table .entry)) label) r ⌝ }
+    ensures { λ r. ⌜ LabelSought (now (table .entry))
+        (labelPart (limitsOf limits) (now (classes .entry)) (now (table .entry)) label) r ⌝ }
 {
+    if !classes_load(classes) {
+        return LabelFound::Refused(Refusal::BadClasses);
+    }
     let mut index = [0u16; INDEX];
-    match read_table(limits, table, &mut index) {
+    match read_table(limits, classes, table, &mut index) {
         Reading::Refused(r) => LabelFound::Refused(r),
         Reading::Readable => {
             if label_count(&index) <= label {

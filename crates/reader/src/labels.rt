@@ -1,8 +1,10 @@
 // Labels of a table: names of 1 to 63 bytes, before all starts and rules.
 ghost use mathlib.Core.List.{List};
 ghost use mathlib.Core.Path.{_≡_};
+ghost use Prim.Native.Nat.{_≤_};
+ghost use lib.ListN.{length};
 ghost use Rattle.grammar.specs.Lists.{anyPass, place};
-ghost use Rattle.grammar.specs.Names.{Name, asciiClasses, sameName};
+ghost use Rattle.grammar.specs.Names.{Name, sameName};
 ghost use Rattle.grammar.specs.LimitSets.{limitsOf, Within};
 ghost use Rattle.grammar.specs.Table.{Table};
 ghost use Rattle.grammar.specs.ReadTable.{readLabel};
@@ -58,10 +60,10 @@ fn label_answer(
     to: usize,
     index: &[u16; 899],
 ) -> Reading
-    requires { ⌜ now classes ≡ asciiClasses ⌝ }
+    requires { ⌜ 256 ≤ length (now classes) ⌝ }
     requires { ⌜ ValueAt (now s) from to (now index) ⌝ }
     ensures { λ r. ⌜ AnswersFor (now (s .entry)) (now (index .entry))
-        (λ g. readLabel (limitsOf limits) asciiClasses g (part (now (s .entry)) from to)) r ⌝ }
+        (λ g. readLabel (limitsOf limits) (now (classes .entry)) g (part (now (s .entry)) from to)) r ⌝ }
 {
     if start_count(index) != 0 {
         return Reading::Refused(Refusal::BadField);
@@ -97,11 +99,11 @@ pub fn after_label(
     to: usize,
     index: &mut [u16; 899],
 ) -> Reading
-    requires { ⌜ now classes ≡ asciiClasses ⌝ }
+    requires { ⌜ 256 ≤ length (now classes) ⌝ }
     requires { ⌜ Within limits ⌝ }
     requires { ⌜ ValueAt (now s) from to (now index) ⌝ }
     ensures { λ r. ⌜ ReadsFor (now (s .entry)) (now (index .entry))
-        (λ g. readLabel (limitsOf limits) asciiClasses g (part (now (s .entry)) from to)) r (now (index .exit)) ⌝ }
+        (λ g. readLabel (limitsOf limits) (now (classes .entry)) g (part (now (s .entry)) from to)) r (now (index .exit)) ⌝ }
 {
     match label_answer(limits, classes, s, from, to, index) {
         Reading::Refused(r) => Reading::Refused(r),

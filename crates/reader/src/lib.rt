@@ -1,5 +1,7 @@
 // File readers. Every byte string has the one answer that the written meaning gives it.
+pub mod ascii;
 pub mod calls;
+pub mod classes;
 pub mod documents;
 pub mod expressions;
 pub mod fields;

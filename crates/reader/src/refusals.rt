@@ -23,5 +23,6 @@ pub fn number_of(refusal: Refusal) -> u32
         Refusal::NoDocument => 13,
         Refusal::ResultTooLarge => 14,
         Refusal::OutputTooShort => 15,
+        Refusal::BadClasses => 18,
     }
 }

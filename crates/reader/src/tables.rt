@@ -2,7 +2,6 @@
 ghost use mathlib.Core.Path.{_≡_};
 ghost use Prim.Native.Nat.{_≤_};
 ghost use lib.ListN.{length, drop};
-ghost use Rattle.grammar.specs.Names.{asciiClasses};
 ghost use Rattle.grammar.specs.Limits.{inputLimit};
 ghost use Rattle.grammar.specs.LimitSets.{limitsOf, Within};
 ghost use Rattle.grammar.specs.Table.{Table, emptyTable};
@@ -15,7 +14,6 @@ use crate::fields::field_at;
 use crate::index::clear_index;
 use crate::labels::after_label;
 use crate::limits::INPUT;
-use crate::names::CLASSES;
 use crate::rules::after_rule;
 use crate::starts::after_start;
 use crate::tags::LABEL_TAG;
@@ -36,11 +34,11 @@ fn after_field(
     to: usize,
     index: &mut [u16; 899],
 ) -> Reading
-    requires { ⌜ now classes ≡ asciiClasses ⌝ }
+    requires { ⌜ 256 ≤ length (now classes) ⌝ }
     requires { ⌜ Within limits ⌝ }
     requires { ⌜ ValueAt (now s) from to (now index) ⌝ }
     ensures { λ r. ⌜ ReadsFor (now (s .entry)) (now (index .entry))
-        (λ g. readTableField (limitsOf limits) asciiClasses g (record { tag = tag; value = part (now (s .entry)) from to })) r
+        (λ g. readTableField (limitsOf limits) (now (classes .entry)) g (record { tag = tag; value = part (now (s .entry)) from to })) r
         (now (index .exit)) ⌝ }
 {
     if tag == LABEL_TAG {
@@ -72,11 +70,11 @@ fn end_answer(s: &[u8], from: usize, to: usize) -> Reading
 
 // Reads the fields of a table into the index, front to back.
 fn read_fields(limits: SizeLimits, classes: &[u8], s: &[u8], index: &mut [u16; 899]) -> Reading
-    requires { ⌜ now classes ≡ asciiClasses ⌝ }
+    requires { ⌜ 256 ≤ length (now classes) ⌝ }
     requires { ⌜ Within limits ⌝ }
     requires { ⌜ length (now s) ≤ inputLimit ⌝ }
-    ensures { λ r. ⌜ Reads (now (s .entry)) (readTableFields (limitsOf limits) asciiClasses emptyTable (fieldsOf (now (s .entry)))) r
-        (now (index .exit)) ⌝ }
+    ensures { λ r. ⌜ Reads (now (s .entry))
+        (readTableFields (limitsOf limits) (now (classes .entry)) emptyTable (fieldsOf (now (s .entry)))) r (now (index .exit)) ⌝ }
 {
     clear_index(index);
     let mut at: usize = 0;
@@ -103,13 +101,14 @@ fn read_fields(limits: SizeLimits, classes: &[u8], s: &[u8], index: &mut [u16; 8
 }
 
 // Reads a table of labels, starts and rules into the index.
-pub fn read_table(limits: SizeLimits, s: &[u8], index: &mut [u16; 899]) -> Reading
+pub fn read_table(limits: SizeLimits, classes: &[u8], s: &[u8], index: &mut [u16; 899]) -> Reading
+    requires { ⌜ 256 ≤ length (now classes) ⌝ }
     requires { ⌜ Within limits ⌝ }
-    ensures { λ r. ⌜ Reads (now (s .entry)) (readTable (limitsOf limits) asciiClasses (now (s .entry))) r (now (index .exit)) ⌝ }
+    ensures { λ r. ⌜ Reads (now (s .entry)) (readTable (limitsOf limits) (now (classes .entry)) (now (s .entry))) r
+        (now (index .exit)) ⌝ }
 {
     if INPUT < s.len() {
         return Reading::Refused(Refusal::InputTooLong);
     }
-    let classes = CLASSES;
-    read_fields(limits, &classes, s, index)
+    read_fields(limits, classes, s, index)
 }

@@ -12,7 +12,6 @@ use mathlib.Core.Path.{_≡_, sym, _∙_, ap, subst, fun-ext}
 use lib.ListN.{getD}
 use Rattle.grammar.specs.Lists.{isIn, joinedOf, numbersBelow}
 use Rattle.grammar.specs.Limits.{large}
-use Rattle.grammar.specs.Names.{asciiClasses}
 use Rattle.grammar.specs.Table.{Table}
 use Rattle.grammar.specs.Unite.{shifted, unite}
 use Rattle.grammar.specs.Normalise.{pairsOf, normalise}
@@ -54,7 +53,7 @@ list-part {from} {numbers} l k first end h a b =
     record { order = omega arith; inside = omega arith; below = λ i s. l .below i }
 
 -- the start types
-module _ {s index : List ℕ} {g : Table} (x : Held large asciiClasses s index g) where
+module _ {s index : List ℕ} {g : Table} (x : Held large s index g) where
   pub starts-small : StartsSmall index
   starts-small = record { few = x .indexes .few-starts; small = start-small (x .indexes) (x .within) }
 
@@ -81,8 +80,8 @@ module _ {s index : List ℕ} {g : Table} (x : Held large asciiClasses s index g
         (subst (λ (t : ℕ). List·Memᴰ p (f t)) (sym (x .indexes .start (a .0) k (a .1))) q)
 
 -- the pairs in the lists of both tables' start types
-module _ {old add index addition : List ℕ} {g h : Table} (x : Held large asciiClasses old index g)
-    (y : Held large asciiClasses add addition h) {lists : TypeLists} (l : ListsOf (fruitfulOf (unite large g h)) lists) where
+module _ {old add index addition : List ℕ} {g h : Table} (x : Held large old index g)
+    (y : Held large add addition h) {lists : TypeLists} (l : ListsOf (fruitfulOf (unite large g h)) lists) where
   abbrev of : ℕ → List ℕ
   of = fruitfulOf (unite large g h)
 

@@ -18,7 +18,6 @@ ghost use Prim.Native.Nat.{ℕ, _≤_, _<_};
 ghost use lib.ListN.{length};
 ghost use Rattle.grammar.specs.Lists.{isIn, joinedOf, numbersBelow};
 ghost use Rattle.grammar.specs.Limits.{large};
-ghost use Rattle.grammar.specs.Names.{asciiClasses};
 ghost use Rattle.grammar.specs.Table.{Table};
 ghost use Rattle.grammar.specs.Unite.{unite};
 ghost use Rattle.sets.specs.Sets.{member, setOfEightAt, inEither, KeptAround};
@@ -65,8 +64,8 @@ fn with_starts(set: Set8, lists: Lists, index: &[u16; 899]) -> Set8
 // Finds the fruitful pairs of the start types.
 pub fn start_pairs(lists: TypeLists, index: &[u16; 899], addition: &[u16; 899], words: &mut [u32])
     requires { ⌜ (BothListed lists) × (StartsSmall (now index)) × (StartsSmall (now addition)) × (12288 ≤ length (now words)) ⌝ }
-    ensures { λ r. ⌜ ((old add : List ℕ) (g h : Table) → Held large asciiClasses old (now (index .entry)) g
-        → Held large asciiClasses add (now (addition .entry)) h
+    ensures { λ r. ⌜ ((old add : List ℕ) (g h : Table) → Held large old (now (index .entry)) g
+        → Held large add (now (addition .entry)) h
         → ListsOf (fruitfulOf (unite large g h)) lists → setOfEightAt (now (words .exit)) startsAt ≡ isStart (unite large g h)) ⌝ }
 {
     let none = Set8::empty();

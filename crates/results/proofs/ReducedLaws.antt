@@ -14,13 +14,12 @@ use Rattle.grammar.specs.Lists.{keep, place, sameNumbers, numbersBelow}
 use Rattle.grammar.specs.Limits.{Limits, large}
 use Rattle.grammar.specs.LimitSets.{limitsOf, Within}
 use Rattle.grammar.specs.declared.SizeLimits.{SizeLimits}
-use Rattle.grammar.specs.Names.{asciiClasses}
 use Rattle.grammar.specs.Table.{Rule, Table}
 use Rattle.grammar.specs.Kinds.{Kind, local, singleType}
 use Rattle.grammar.specs.SingleTypeForm.{TypeSet}
 use Rattle.grammar.specs.Unite.{unite}
 use Rattle.grammar.specs.WriteTable.{tableBytes}
-use Rattle.theory.specs.Conditions.{Regular}
+use Rattle.theory.specs.Conditions.{Regular, allLetters}
 use Rattle.theory.proofs.lists.ListLaws.{mem-at, at-below}
 use Rattle.theory.proofs.tables.RoomierLimits.{within-large, table-roomier}
 use Rattle.reader.specs.TableIndex.{labelCount}
@@ -201,7 +200,7 @@ module _ (l : SizeLimits) (within : Within l) {old add index : List ℕ} {union 
                 lists-are = r .lists-are;
                 room = last-room;
                 left-is = types-left kept ∙ reduced-stay room front same .left-are;
-                shallow = union-shallow asciiClasses g h (table-roomier (within-large within) (r .old-held .within)) (table-roomier (within-large within) (r .second-within));
+                shallow = union-shallow allLetters g h (table-roomier (within-large within) (r .old-held .within)) (table-roomier (within-large within) (r .second-within));
                 regular = regular (kindOf asked) last count last-held many few;
               };
           names = union-names (r .seen) (r .old-held);

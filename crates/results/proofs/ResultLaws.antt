@@ -13,7 +13,7 @@ use lib.ListN.{length, length-append, getD, set, take, List·getD-append}
 use lib.Seq.{take-append-le, getD-append-add}
 use Rattle.grammar.specs.Lists.{keep, joinedOf, numbersBelow}
 use Rattle.grammar.specs.Limits.{Limits, large}
-use Rattle.grammar.specs.Names.{Name, asciiClasses}
+use Rattle.grammar.specs.Names.{Name}
 use Rattle.grammar.specs.Content.{Content}
 use Rattle.grammar.specs.Table.{Table}
 use Rattle.grammar.specs.Kinds.{Kind}
@@ -127,7 +127,7 @@ table-bytes u sets kind count names on starts e n o =
 
 -- the labels of the union of two tables
 module _ {lim : Limits} {old add index : List ℕ} {g h : Table} {r : Union} (x : UnionSeen old add g h r)
-    (held : Held lim asciiClasses old index g) where
+    (held : Held lim old index g) where
   abbrev pub union-names : LabelsIn old add index (r .«new_names»)
   union-names =
       record {

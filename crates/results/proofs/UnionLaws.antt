@@ -11,7 +11,6 @@ use mathlib.Core.Path.{_≡_, sym, _∙_, ap, subst}
 use Rattle.grammar.specs.Limits.{Limits, large}
 use Rattle.grammar.specs.LimitSets.{limitsOf, Within}
 use Rattle.grammar.specs.declared.SizeLimits.{SizeLimits}
-use Rattle.grammar.specs.Names.{asciiClasses}
 use Rattle.grammar.specs.Table.{Table}
 use Rattle.grammar.specs.Outcome.{refused}
 use Rattle.grammar.specs.Unite.{unite}
@@ -38,8 +37,8 @@ seen-viewed {old} {add} {g} {h} s = record { table = unite large g h; views = s 
 pub listed-both : {of : ℕ → List ℕ} {lists : TypeLists} → ListsOf of lists → BothListed lists
 listed-both l = record { old = l .old-listed; added = l .added-listed }
 
-module _ (l : SizeLimits) (within : Within l) {old add index addition : List ℕ} {g h : Table} (p : Held (limitsOf l) asciiClasses old index g)
-    (q : Held (limitsOf l) asciiClasses add addition h) where
+module _ (l : SizeLimits) (within : Within l) {old add index addition : List ℕ} {g h : Table} (p : Held (limitsOf l) old index g)
+    (q : Held (limitsOf l) add addition h) where
   pub none-started : (kind : Kind) (words : List ℕ) {starts : List ℕ} {empty : Bool} → setOfEightAt words startsAt ≡ isStart (unite large g h)
       → starts ≡ wordsAt words startsAt 8 → Empties starts empty → empty ≡ true → widenByTable (limitsOf l) (kindOf kind) g h ≡ refused NoDocument
   none-started kind words are loaded told e =

@@ -17,7 +17,6 @@ use Rattle.grammar.specs.Lists.{isIn, numbersBelow}
 use Rattle.grammar.specs.Limits.{Limits, large}
 use Rattle.grammar.specs.LimitSets.{limitsOf, Within}
 use Rattle.grammar.specs.declared.SizeLimits.{SizeLimits}
-use Rattle.grammar.specs.Names.{asciiClasses}
 use Rattle.grammar.specs.Table.{Rule, Table}
 use Rattle.grammar.specs.Kinds.{Kind}
 use Rattle.grammar.specs.Outcome.{refused}
@@ -32,6 +31,7 @@ use Rattle.grammar.specs.UsedLabels.{withUsedLabels}
 use Rattle.grammar.specs.Tidy.{tidyTable}
 use Rattle.grammar.specs.Widen.{form, reducedUnion, ofSize, widenByTable}
 use Rattle.grammar.specs.declared.Refusal.the-variants.{ResultTooLarge, NoDocument}
+use Rattle.theory.specs.Conditions.{allLetters}
 use Rattle.theory.proofs.lists.BoolLaws.{or-left}
 use Rattle.theory.proofs.lists.ListLaws.{mem-some, in-mem, numbers-below}
 use Rattle.theory.proofs.bytes.OutcomeLaws.{no-fault}
@@ -60,8 +60,8 @@ nothing-in (x ∷ xs) e =
     let y : _≡_ {A = ℕ} 0 1 = cc in
     absurd (omega arith)
 
-module _ (l : SizeLimits) (within : Within l) (g h : Table) (g-within : TableWithin (limitsOf l) asciiClasses g)
-    (h-within : TableWithin (limitsOf l) asciiClasses h) where
+module _ (l : SizeLimits) (within : Within l) (g h : Table) (g-within : TableWithin (limitsOf l) allLetters g)
+    (h-within : TableWithin (limitsOf l) allLetters h) where
   abbrev lim : Limits
   lim = limitsOf l
 
@@ -74,7 +74,7 @@ module _ (l : SizeLimits) (within : Within l) (g h : Table) (g-within : TableWit
 
   same-union : reducedUnion lim g h ≡ reduce (normalise u)
   unfolding reducedUnion
-  same-union = same-reduced-union lim large g h (within-large within .types) (within-below lim asciiClasses g g-within)
+  same-union = same-reduced-union lim large g h (within-large within .types) (within-below lim allLetters g g-within)
 
   starts-same : reducedUnion lim g h .starts ≡ withoutUnfruitful (normalise u) .starts
   unfolding reduce withoutUnreached

@@ -5,13 +5,13 @@ use mathlib.Core.List.{List, _++_}
 use mathlib.Core.Path.{_≡_}
 use lib.ListN.{length, drop}
 use Rattle.grammar.specs.Limits.{Limits, large, inputLimit}
-use Rattle.grammar.specs.Names.{asciiClasses}
 use Rattle.grammar.specs.Table.{Table}
 use Rattle.grammar.specs.Kinds as kinds
 use Rattle.grammar.specs.Outcome.{given, refused}
 use Rattle.grammar.specs.WriteTable.{tableBytes}
 use Rattle.grammar.specs.WithinLimits.{TableWithin}
 use Rattle.grammar.specs.Unite.{unite}
+use Rattle.theory.specs.Conditions.{allLetters}
 use Rattle.reader.specs.Held.{Held}
 use Rattle.sets.specs.Sets.{setOfEightAt}
 use Rattle.union.specs.declared.lists.TypeLists.{TypeLists}
@@ -58,8 +58,8 @@ madeOf Over = TooLarge
 -- which there is one, and the pairs that are left.
 pub record UnionReduced (lim : Limits) (old add index : List ℕ) (union : Union)
     (lists : TypeLists) (words : List ℕ) (g h : Table) : Type 0 where
-  pub old-held : Held lim asciiClasses old index g
-  pub second-within : TableWithin lim asciiClasses h
+  pub old-held : Held lim old index g
+  pub second-within : TableWithin lim allLetters h
   pub seen : UnionSeen old add g h union
   pub lists-are : ListsOf (fruitfulOf (unite large g h)) lists
   pub starts-are : setOfEightAt words startsAt ≡ isStart (unite large g h)

@@ -28,7 +28,6 @@ ghost use Prim.Native.Nat.{_+_, _≤_};
 ghost use lib.ListN.{length};
 ghost use Rattle.grammar.specs.Limits.{large, inputLimit};
 ghost use Rattle.grammar.specs.LimitSets.{limitsOf, Within};
-ghost use Rattle.grammar.specs.Names.{asciiClasses};
 ghost use Rattle.grammar.specs.Table.{Table};
 ghost use Rattle.grammar.specs.Unite.{unite};
 ghost use Rattle.grammar.specs.Kinds.{local, singleType};
@@ -190,11 +189,11 @@ pub fn widen_tables(
     words: &mut [u32],
     draft: &mut [u8],
 ) -> Made
-    requires { ⌜ (Within limits) × (SomeHeld (limitsOf limits) asciiClasses (now old) (now index))
-        × (SomeHeld (limitsOf limits) asciiClasses (now add) (now addition)) × (12288 ≤ length (now words))
+    requires { ⌜ (Within limits) × (SomeHeld (limitsOf limits) (now old) (now index))
+        × (SomeHeld (limitsOf limits) (now add) (now addition)) × (12288 ≤ length (now words))
         × (inputLimit ≤ length (now draft)) ⌝ }
-    ensures { λ r. ⌜ ((g h : Table) → Held (limitsOf limits) asciiClasses (now (old .entry)) (now (index .entry)) g
-        → Held (limitsOf limits) asciiClasses (now (add .entry)) (now (addition .entry)) h
+    ensures { λ r. ⌜ ((g h : Table) → Held (limitsOf limits) (now (old .entry)) (now (index .entry)) g
+        → Held (limitsOf limits) (now (add .entry)) (now (addition .entry)) h
         → Widens (limitsOf limits) (kindOf kind) g h (now (draft .entry)) (now (draft .exit)) r) ⌝ }
 {
     let union = unite_tables(old, index, add, addition);

@@ -6,7 +6,6 @@ use mathlib.Core.Path.{_≡_, sym, _∙_, ap}
 use lib.ListN.{length, length-map, List·getD-map, getD, take}
 use lib.Seq.{length-take-le, getD-take, ext-getD}
 use Rattle.grammar.specs.Limits.{Limits}
-use Rattle.grammar.specs.Names.{asciiClasses}
 use Rattle.grammar.specs.Outcome.{given}
 use Rattle.grammar.specs.Tree.{Tree}
 use Rattle.grammar.specs.ReadDocument.{Node, treeOf}
@@ -24,7 +23,7 @@ module _ (lim : Limits) (s : List ℕ) (ix : DocumentIndex) (x : HoldsNodes lim 
   ns = nodesIn s ix
 
   pub one-tree : (treeCount ns ≡ 1) × Enough ns
-  one-tree = complete lim asciiClasses s ns (x .reads)
+  one-tree = complete lim (x .classes) s ns (x .reads)
 
   abbrev none : Node
   none = record { name = []; children = 0 }
@@ -55,7 +54,7 @@ module _ (lim : Limits) (s : List ℕ) (ix : DocumentIndex) (x : HoldsNodes lim 
       }
 
   pub index-tree : (t : Tree) × (treeOf ns ≡ given t)
-  index-tree = let r = document-tree lim asciiClasses s ns (x .reads) in (r .0, r .1)
+  index-tree = let r = document-tree lim (x .classes) s ns (x .reads) in (r .0, r .1)
 
   module _ (parents : List ℕ) (ps : take (ix .nodes) parents ≡ parentsOf ns) (long : length parents ≡ 2048) (ln : length (ix .names) ≡ 2048)
       (ls : length (ix .sizes) ≡ 2048) where

@@ -13,7 +13,7 @@ use Rattle.grammar.specs.Fields.{fieldBytes}
 use Rattle.grammar.specs.ReadTable.{labelTag, startTag}
 use Rattle.grammar.specs.WriteTable.{tableBytes}
 use Rattle.grammar.specs.Size.{contentTooLarge}
-use Rattle.grammar.specs.Names.{asciiClasses}
+use Rattle.grammar.specs.Names.{Classes}
 use Rattle.grammar.specs.Outcome.{given, refused}
 use Rattle.grammar.specs.Tree.{Tree}
 use Rattle.grammar.specs.ReadDocument.{Node, readNodes}
@@ -87,9 +87,10 @@ SampleDrafted lim d before after (Length n) =
     × (n ≤ inputLimit)
 SampleDrafted lim d before after TooLarge = sampleTable lim d ≡ refused ResultTooLarge
 
--- a document's nodes are those that an index holds
+-- a document's nodes, read under some classes, are those that an index holds
 pub record HoldsNodes (lim : Limits) (s : List ℕ) (ix : DocumentIndex) : Type 0 where
-  pub reads : readNodes lim asciiClasses s ≡ given (nodesIn s ix)
+  pub classes : Classes
+  pub reads : readNodes lim classes s ≡ given (nodesIn s ix)
   pub indexed : NodesIndexed s (ix .names) (ix .sizes) (ix .children) (ix .nodes)
 
 -- and the child counts

@@ -5,6 +5,7 @@ pub mod NodeSteps
 pub mod TableBytes
 pub mod DocumentBytes
 pub mod ReadWithin
+pub mod ClassLaws
 pub mod WrittenBytes
 pub mod DocumentWithin
 pub mod CountedTables

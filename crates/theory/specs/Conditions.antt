@@ -1,11 +1,13 @@
 -- Conditions on contents and tables that contracts ask.
---   Counted   every sequence has from 2 operands to as many as the limit allows, and every choice at least 2
---   Regular   proper but for the width of its choices
---   Labelled  each rule's label is a label of the table
+--   Counted     every sequence has from 2 operands to as many as the limit allows, and every choice at least 2
+--   Regular     proper but for the width of its choices
+--   Labelled    each rule's label is a label of the table
+--   allLetters  the classes under which every byte may stand anywhere in a name
 use Prim.Native.Nat.{_≤_, ℕ, _<_}
 use mathlib.Core.List.{List·Memᴰ}
-use lib.ListN.{length}
+use lib.ListN.{length, replicate}
 use Rattle.grammar.specs.Limits.{Limits, large}
+use Rattle.grammar.specs.Names.{Classes}
 use Rattle.grammar.specs.Content.{
   Content,
   none,
@@ -47,3 +49,7 @@ pub record Regular (c : Content) : Type 0 where
 -- each rule's label is a label of the table
 abbrev pub Labelled : Table → Type 0
 Labelled g = (r : Rule) → List·Memᴰ r (g .rules) → r .label < length (g .labels)
+
+-- the classes under which every byte may stand anywhere in a name: all that is a name under a landlord's 256 classes is one under these
+unfoldable pub allLetters : Classes
+allLetters = replicate 256 2

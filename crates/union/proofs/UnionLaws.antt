@@ -14,7 +14,7 @@ use lib.Seq.{take-suc, take-all, getD-set-same, getD-set-other}
 use lib.Dec.{eqb}
 use Rattle.grammar.specs.Lists.{place}
 use Rattle.grammar.specs.Limits.{large}
-use Rattle.grammar.specs.Names.{sameName, asciiClasses}
+use Rattle.grammar.specs.Names.{sameName}
 use Rattle.grammar.specs.Content.{Content}
 use Rattle.grammar.specs.Table.{Rule, Table}
 use Rattle.grammar.specs.KindTests.{samePair}
@@ -202,7 +202,7 @@ take-more xs i {x} e =
     ∙ ap (λ y. take i xs ++ (y ∷ [])) (at-else xs i x e)
 
 -- the next rule of the old table
-module _ {old add : List ℕ} {v : United} {index : List ℕ} {g : Table} (t : Held large asciiClasses old index g) (i : ℕ)
+module _ {old add : List ℕ} {v : United} {index : List ℕ} {g : Table} (t : Held large old index g) (i : ℕ)
     (h : i < ruleCount index) (few : v .«old_rules» ≡ ruleCount index) (at : v .rules ≡ i) where
   pub old-next : (ty label from to : ℕ) → ty ≡ ruleType index i → label ≡ ruleLabel index i → from ≡ contentFrom index i
       → to ≡ contentTo index i

@@ -10,7 +10,6 @@ use Rattle.grammar.specs.Limits.{large}
 use Rattle.grammar.specs.Content.{Content, type, replace}
 use Rattle.grammar.specs.Table.{Rule, Table}
 use Rattle.grammar.specs.ReadContent.{isProper}
-use Rattle.grammar.specs.Names.{asciiClasses}
 use Rattle.grammar.specs.Unite.{shifted, unitedLabels, unite}
 use Rattle.grammar.specs.Normalise.{pairOf}
 use Rattle.reader.specs.ExprAt.{_upTo_, exprAt}
@@ -105,7 +104,7 @@ pub record Grown (v more : United) : Type 0 where
 -- the old table, the addition, and where its new labels stand, as its rules are put down
 pub record AddingTo (old olds add adds : List ℕ) (fresh : Names) (g h : Table) : Type 0 where
   pub old-table : Indexes old olds g
-  pub addition : Held large asciiClasses add adds h
+  pub addition : Held large add adds h
   pub new-names : NamesHeld add fresh (newNames (g .labels) (h .labels))
 
 pub record Adding (old olds add adds : List ℕ) (fresh : Names) : Type 0 where

@@ -14,7 +14,6 @@ ghost use Prim.Native.Nat.{ℕ, _+_, _<_, _≤_};
 ghost use lib.ListN.{take};
 ghost use Rattle.grammar.specs.Lists.{place};
 ghost use Rattle.grammar.specs.Limits.{large};
-ghost use Rattle.grammar.specs.Names.{asciiClasses};
 ghost use Rattle.grammar.specs.Table.{Rule, Table};
 ghost use Rattle.grammar.specs.KindTests.{samePair};
 ghost use Rattle.grammar.specs.Unite.{added, unite};
@@ -94,9 +93,9 @@ fn no_rules(olds: usize) -> United
 
 // One rule more of the old table.
 fn with_old_rule(v: United, index: &[u16; 899], i: usize) -> United
-    requires { ⌜ ((old : List ℕ) × SomeHeld large asciiClasses old (now index)) × (v .rules ≡ i) × (i < ruleCount (now index))
+    requires { ⌜ ((old : List ℕ) × SomeHeld large old (now index)) × (v .rules ≡ i) × (i < ruleCount (now index))
         × (v .«old_rules» ≡ ruleCount (now index)) ⌝ }
-    ensures { λ r. ⌜ (((old add : List ℕ) (g : Table) → Held large asciiClasses old (now (index .entry)) g
+    ensures { λ r. ⌜ (((old add : List ℕ) (g : Table) → Held large old (now (index .entry)) g
         → Views old add v (rulesOnly (take i (g .rules))) → Views old add r (rulesOnly (take (i + 1) (g .rules)))) × Grown v r) ⌝ }
 {
     with_rule(
@@ -110,8 +109,8 @@ fn with_old_rule(v: United, index: &[u16; 899], i: usize) -> United
 
 // The rules of the old table.
 fn old_rules(index: &[u16; 899]) -> United
-    requires { ⌜ ((old : List ℕ) × SomeHeld large asciiClasses old (now index)) ⌝ }
-    ensures { λ r. ⌜ (((old add : List ℕ) (g : Table) → Held large asciiClasses old (now (index .entry)) g
+    requires { ⌜ ((old : List ℕ) × SomeHeld large old (now index)) ⌝ }
+    ensures { λ r. ⌜ (((old add : List ℕ) (g : Table) → Held large old (now (index .entry)) g
         → Views old add r (rulesOnly (g .rules)))
         × (r .rules ≡ ruleCount (now (index .entry))) × (r .«old_rules» ≡ ruleCount (now (index .entry)))) ⌝ }
 {
@@ -180,9 +179,9 @@ fn new_rules(
 
 // The union of two tables that were read.
 pub fn unite_tables(old: &[u8], index: &[u16; 899], add: &[u8], addition: &[u16; 899]) -> Union
-    requires { ⌜ (SomeHeld large asciiClasses (now old) (now index)) × (SomeHeld large asciiClasses (now add) (now addition)) ⌝ }
-    ensures { λ r. ⌜ ((g h : Table) → Held large asciiClasses (now (old .entry)) (now (index .entry)) g
-        → Held large asciiClasses (now (add .entry)) (now (addition .entry)) h
+    requires { ⌜ (SomeHeld large (now old) (now index)) × (SomeHeld large (now add) (now addition)) ⌝ }
+    ensures { λ r. ⌜ ((g h : Table) → Held large (now (old .entry)) (now (index .entry)) g
+        → Held large (now (add .entry)) (now (addition .entry)) h
         → UnionSeen (now (old .entry)) (now (add .entry)) g h r) ⌝ }
 {
     let fresh = new_names(old, index, add, addition);

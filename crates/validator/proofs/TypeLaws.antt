@@ -18,7 +18,7 @@ use borrow.Author.Count.{below-more}
 use borrow.Author.Tests.{eqb-true, eq-eqb, ne-eqb}
 use Rattle.grammar.specs.Lists.{anyPass, keep, isIn, allDistinct, place}
 use Rattle.grammar.specs.Limits.{large, contentLimit}
-use Rattle.grammar.specs.Names.{Name, sameName, asciiClasses}
+use Rattle.grammar.specs.Names.{Name, sameName}
 use Rattle.grammar.specs.Table.{Rule, Table}
 use Rattle.grammar.specs.Membership.{isNamed}
 use Rattle.theory.specs.Marked.{holds}
@@ -75,7 +75,7 @@ named-by-place g differ l n below =
     )
 
 -- A rule of a table that is known.
-module _ {s index : List ℕ} {g : Table} (known : Held large asciiClasses s index g) (i : ℕ) (below : i < ruleCount index) where
+module _ {s index : List ℕ} {g : Table} (known : Held large s index g) (i : ℕ) (below : i < ruleCount index) where
   abbrev pub known-rule : RuleFound s index g i
   known-rule = rule-found-at (known .indexes) (known .within) i below
 
@@ -147,7 +147,7 @@ module _ {s index : List ℕ} {g : Table} (known : Held large asciiClasses s ind
         ∙ ap (λ (b : Bool). b && runAt (part s (contentFrom index i) (contentTo index i)) tests) (ne-eqb (ruleLabel index i) label h))
 
 -- Labels of a table that is known are few enough to be keys.
-module _ {s index : List ℕ} {g : Table} (known : Held large asciiClasses s index g) where
+module _ {s index : List ℕ} {g : Table} (known : Held large s index g) where
   pub rules-keyed : Keyed (ruleLabel index) (ruleCount index)
   rules-keyed =
       let x = known .indexes in
@@ -234,7 +234,7 @@ module _ (g : Table) (n : Name) (tests : List (ℕ → Bool)) where
           ∙ append-nil (typesFor g n tests (take i (g .rules)))))
 
 -- the rules up to the next one of the node's label, too: they have other labels, so none of them fits
-module _ {s index : List ℕ} {g : Table} (known : Held large asciiClasses s index g) (n : Name) (tests : List (ℕ → Bool)) (label : ℕ)
+module _ {s index : List ℕ} {g : Table} (known : Held large s index g) (n : Name) (tests : List (ℕ → Bool)) (label : ℕ)
     (named : label ≡ place sameName n (g .labels)) where
   abbrev of-first : ℕ → List ℕ
   of-first i = typesFor g n tests (take i (g .rules))

@@ -4,7 +4,6 @@ use mathlib.Core.List.{List}
 use mathlib.Core.Path.{_≡_}
 use lib.ListN.{length, drop}
 use Rattle.grammar.specs.Limits.{large}
-use Rattle.grammar.specs.Names.{asciiClasses}
 use Rattle.grammar.specs.Table.{Table}
 use Rattle.grammar.specs.Tree.{Tree}
 use Rattle.grammar.specs.Outcome.{given}
@@ -35,5 +34,5 @@ pub record Brought (words : List ℕ) (from to : ℕ) (after : List ℕ) : Type 
 -- the set at a word has the types of the root
 pub record RootTypes (s index d : List ℕ) (nodes : DocumentIndex) (words : List ℕ) (at : ℕ) : Type 0 where
   pub inside : at + 4 ≤ length words
-  pub types : (g : Table) → Held large asciiClasses s index g
+  pub types : (g : Table) → Held large s index g
       → (t : Tree) → treeOf (nodesIn d nodes) ≡ given t → setAt words at ≡ holds (typesOf g t)

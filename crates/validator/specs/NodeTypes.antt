@@ -6,7 +6,7 @@ use mathlib.Core.Path.{_≡_}
 use lib.ListN.{getD, drop}
 use Rattle.grammar.specs.Lists.{keep, place}
 use Rattle.grammar.specs.Limits.{large}
-use Rattle.grammar.specs.Names.{Name, asciiClasses, sameName}
+use Rattle.grammar.specs.Names.{Name, sameName}
 use Rattle.grammar.specs.Table.{Rule, Table}
 use Rattle.grammar.specs.Membership.{isNamed}
 use Rattle.theory.specs.Marked.{run, holds}
@@ -39,6 +39,6 @@ pub record PutIf (words : List ℕ) (base : ℕ) (flag : Bool) (k : ℕ) (after 
 -- the set at a word has the types of the rules that fit a node, the place of whose name among the labels is `label`; the sets of its
 -- children stand behind it, and the words there are kept
 pub record TypesAre (s index : List ℕ) (label : ℕ) (words : List ℕ) (base count : ℕ) (after : List ℕ) : Type 0 where
-  pub types : (g : Table) → Held large asciiClasses s index g → (n : Name) → label ≡ place sameName n (g .labels)
+  pub types : (g : Table) → Held large s index g → (n : Name) → label ≡ place sameName n (g .labels)
       → setAt after base ≡ holds (typesFor g n (testsAt words (base + 4) count) (g .rules))
   pub behind : drop (base + 4) after ≡ drop (base + 4) words

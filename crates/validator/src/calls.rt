@@ -10,15 +10,20 @@ use reader::limits::limits_of;
 use reader::work::clear_work;
 ghost use mathlib.Core.List.{[]};
 ghost use Rattle.grammar.specs.LimitSets.{sizeLimits};
-ghost use Rattle.grammar.specs.Names.{asciiClasses};
 ghost use Rattle.grammar.specs.Kinds.{local, singleType};
 ghost use Rattle.grammar.specs.Answers.{verdictNumbers};
 ghost use Rattle.grammar.specs.Calls.{after};
 ghost use Rattle.grammar.specs.Promises.{Membership, KindTest};
 
 // Does the table let in the document?
-pub fn lets_in(size: Size, table: &[u8], document: &[u8], work: &mut [u32]) -> Verdict
-    ensures { λ r. ⌜ Membership (sizeLimits size) asciiClasses (now (table .entry)) (now (document .entry)) (now (work .entry))
+pub fn lets_in(
+    size: Size,
+    classes: &[u8],
+    table: &[u8],
+    document: &[u8],
+    work: &mut [u32],
+) -> Verdict
+    ensures { λ r. ⌜ Membership (sizeLimits size) (now (classes .entry)) (now (table .entry)) (now (document .entry)) (now (work .entry))
         (after (verdictNumbers r) [] (now (work .exit))) ⌝ }
 {
     let limits = limits_of(size);
@@ -26,28 +31,28 @@ pub fn lets_in(size: Size, table: &[u8], document: &[u8], work: &mut [u32]) -> V
         return Verdict::Refused(Refusal::WorkTooShort);
     }
     let words = limits.words;
-    let answer = read_and_decide(limits, table, document, &mut work[0..words]);
+    let answer = read_and_decide(limits, classes, table, document, &mut work[0..words]);
     clear_work(limits, work);
     answer
 }
 
 // Is the table local?
-pub fn is_local(size: Size, table: &[u8], work: &mut [u32]) -> Verdict
-    ensures { λ r. ⌜ KindTest (sizeLimits size) asciiClasses local (now (table .entry)) (now (work .entry))
+pub fn is_local(size: Size, classes: &[u8], table: &[u8], work: &mut [u32]) -> Verdict
+    ensures { λ r. ⌜ KindTest (sizeLimits size) (now (classes .entry)) local (now (table .entry)) (now (work .entry))
         (after (verdictNumbers r) [] (now (work .exit))) ⌝ }
 {
     let limits = limits_of(size);
     if work.len() < limits.words {
         return Verdict::Refused(Refusal::WorkTooShort);
     }
-    let answer = read_and_test_local(limits, table);
+    let answer = read_and_test_local(limits, classes, table);
     clear_work(limits, work);
     answer
 }
 
 // Is the table single-type?
-pub fn is_single_type(size: Size, table: &[u8], work: &mut [u32]) -> Verdict
-    ensures { λ r. ⌜ KindTest (sizeLimits size) asciiClasses singleType (now (table .entry)) (now (work .entry))
+pub fn is_single_type(size: Size, classes: &[u8], table: &[u8], work: &mut [u32]) -> Verdict
+    ensures { λ r. ⌜ KindTest (sizeLimits size) (now (classes .entry)) singleType (now (table .entry)) (now (work .entry))
         (after (verdictNumbers r) [] (now (work .exit))) ⌝ }
 {
     let limits = limits_of(size);
@@ -55,7 +60,7 @@ pub fn is_single_type(size: Size, table: &[u8], work: &mut [u32]) -> Verdict
         return Verdict::Refused(Refusal::WorkTooShort);
     }
     let words = limits.words;
-    let answer = read_and_test_single_type(limits, table, &mut work[0..words]);
+    let answer = read_and_test_single_type(limits, classes, table, &mut work[0..words]);
     clear_work(limits, work);
     answer
 }

@@ -1,10 +1,12 @@
 // Reading the inputs of a call, and deciding.
 use crate::membership::lets_in_read;
 use grammar::Reading;
+use grammar::Refusal;
 use grammar::SizeLimits;
 use grammar::Verdict;
 use kinds::kinds::local_table;
 use kinds::kinds::single_type_table;
+use reader::classes::classes_load;
 use reader::documents::read_nodes;
 use reader::index::INDEX;
 use reader::tables::read_table;
@@ -27,26 +29,37 @@ fn yes_or_no(yes: bool) -> Verdict
     Verdict::No
 }
 
-// Reads the table, then the document, then decides.
+// Loads the classes, reads the table, then the document, then decides.
 pub fn read_and_decide(
     limits: SizeLimits,
+    classes: &[u8],
     table: &[u8],
     document: &[u8],
     words: &mut [u32],
 ) -> Verdict
     requires { ⌜ Within limits ⌝ }
     requires { ⌜ 8192 ≤ length (now words) ⌝ }
-    ensures { λ r. ⌜ r ≡ verdict (letsInOf (limitsOf limits) (now (table .entry)) (now (document .entry))) ⌝ }
+    ensures { λ r. ⌜ r ≡ verdict (letsInOf (limitsOf limits) (now (classes .entry)) (now (table .entry)) (now (document .entry))) ⌝ }
 {
+    if !classes_load(classes) {
+        return Verdict::Refused(Refusal::BadClasses);
+    }
     let mut index = [0u16; INDEX];
-    let readable = read_table(limits, table, &mut index);
+    let readable = read_table(limits, classes, table, &mut index);
     if let Reading::Refused(r) = readable {
         return Verdict::Refused(r);
     }
     let mut names = [0u16; 2048];
     let mut sizes = [0u16; 2048];
     let mut children = [0u16; 2048];
-    let found = read_nodes(limits, document, &mut names, &mut sizes, &mut children);
+    let found = read_nodes(
+        limits,
+        classes,
+        document,
+        &mut names,
+        &mut sizes,
+        &mut children,
+    );
     let complete = found.answer;
     if let Reading::Refused(r) = complete {
         return Verdict::Refused(r);
@@ -64,27 +77,38 @@ pub fn read_and_decide(
     ))
 }
 
-// Reads the table, then decides whether it is local.
-pub fn read_and_test_local(limits: SizeLimits, table: &[u8]) -> Verdict
+// Loads the classes, reads the table, then decides whether it is local.
+pub fn read_and_test_local(limits: SizeLimits, classes: &[u8], table: &[u8]) -> Verdict
     requires { ⌜ Within limits ⌝ }
-    ensures { λ r. ⌜ r ≡ verdict (isOfKindOf (limitsOf limits) local (now (table .entry))) ⌝ }
+    ensures { λ r. ⌜ r ≡ verdict (isOfKindOf (limitsOf limits) (now (classes .entry)) local (now (table .entry))) ⌝ }
 {
+    if !classes_load(classes) {
+        return Verdict::Refused(Refusal::BadClasses);
+    }
     let mut index = [0u16; INDEX];
-    let readable = read_table(limits, table, &mut index);
+    let readable = read_table(limits, classes, table, &mut index);
     if let Reading::Refused(r) = readable {
         return Verdict::Refused(r);
     }
     yes_or_no(local_table(&index))
 }
 
-// Reads the table, then decides whether it is single-type, with its set of types in the first eight words.
-pub fn read_and_test_single_type(limits: SizeLimits, table: &[u8], words: &mut [u32]) -> Verdict
+// Loads the classes, reads the table, then decides whether it is single-type, with its set of types in the first eight words.
+pub fn read_and_test_single_type(
+    limits: SizeLimits,
+    classes: &[u8],
+    table: &[u8],
+    words: &mut [u32],
+) -> Verdict
     requires { ⌜ Within limits ⌝ }
     requires { ⌜ 8 ≤ length (now words) ⌝ }
-    ensures { λ r. ⌜ r ≡ verdict (isOfKindOf (limitsOf limits) singleType (now (table .entry))) ⌝ }
+    ensures { λ r. ⌜ r ≡ verdict (isOfKindOf (limitsOf limits) (now (classes .entry)) singleType (now (table .entry))) ⌝ }
 {
+    if !classes_load(classes) {
+        return Verdict::Refused(Refusal::BadClasses);
+    }
     let mut index = [0u16; INDEX];
-    let readable = read_table(limits, table, &mut index);
+    let readable = read_table(limits, classes, table, &mut index);
     if let Reading::Refused(r) = readable {
         return Verdict::Refused(r);
     }

@@ -24,7 +24,6 @@ ghost use mathlib.Core.Path.{_≡_};
 ghost use Prim.Native.Nat.{ℕ, _+_, _*_, _<_, _≤_};
 ghost use lib.ListN.{length};
 ghost use Rattle.grammar.specs.Limits.{large, contentLimit};
-ghost use Rattle.grammar.specs.Names.{asciiClasses};
 ghost use Rattle.grammar.specs.Lists.{anyPass};
 ghost use Rattle.grammar.specs.Membership.{letsIn};
 ghost use Rattle.grammar.specs.Outcome.{given};
@@ -54,7 +53,7 @@ fn nullable_contents(
     marks: &mut [u8],
     words: &[u32],
 ) -> [bool; 128]
-    requires { ⌜ (SomeHeld large asciiClasses (now table) (now index)) × (contentLimit ≤ length (now marks)) × (4 ≤ length (now words)) ⌝ }
+    requires { ⌜ (SomeHeld large (now table) (now index)) × (contentLimit ≤ length (now marks)) × (4 ≤ length (now words)) ⌝ }
     ensures { λ r. ⌜ NullableAre (now (table .entry)) (now (index .entry)) r ⌝ }
 {
     let rules = rule_count(index);
@@ -109,7 +108,7 @@ fn put_types(
     words: &mut [u32],
     node: NodeSets,
 )
-    requires { ⌜ (SomeHeld large asciiClasses (now table) (now index)) × (RulesChained (now index) (now «by_label»))
+    requires { ⌜ (SomeHeld large (now table) (now index)) × (RulesChained (now index) (now «by_label»))
         × (NullableAre (now table) (now index) (now nullable)) × (label ≤ 128) × (contentLimit ≤ length (now marks))
         × (node .at + 4 + 4 * node .children ≤ length (now words)) ⌝ }
     ensures { λ r. ⌜ TypesAre (now (table .entry)) (now (index .entry)) label (now (words .entry)) (node .at) (node .children)
@@ -153,7 +152,7 @@ fn root_types(
     nodes: usize,
     words: &mut [u32],
 ) -> usize
-    requires { ⌜ (SomeHeld large asciiClasses (now table) (now index))
+    requires { ⌜ (SomeHeld large (now table) (now index))
         × (KnownNodes (now document) (indexOf (now names) (now sizes) (now children) nodes)) × (8192 ≤ length (now words)) ⌝ }
     ensures { λ r. ⌜ RootTypes (now (table .entry)) (now (index .entry)) (now (document .entry))
         (indexOf (now (names .entry)) (now (sizes .entry)) (now (children .entry)) nodes) (now (words .exit)) r ⌝ }
@@ -220,9 +219,9 @@ pub fn lets_in_read(
     nodes: usize,
     words: &mut [u32],
 ) -> bool
-    requires { ⌜ (SomeHeld large asciiClasses (now table) (now index))
+    requires { ⌜ (SomeHeld large (now table) (now index))
         × (KnownNodes (now document) (indexOf (now names) (now sizes) (now children) nodes)) × (8192 ≤ length (now words)) ⌝ }
-    ensures { λ r. ⌜ ((g : Table) → Held large asciiClasses (now (table .entry)) (now (index .entry)) g → (t : Tree)
+    ensures { λ r. ⌜ ((g : Table) → Held large (now (table .entry)) (now (index .entry)) g → (t : Tree)
         → treeOf (nodesIn (now (document .entry)) (indexOf (now (names .entry)) (now (sizes .entry)) (now (children .entry)) nodes))
         ≡ given t → r ≡ letsIn g t) ⌝ }
 {

@@ -115,9 +115,9 @@ fn of_name(refusal: u32, table: &[u8], name: &[u8]) -> Told
 }
 
 // The name of a label.
-fn label_told(size: Size, table: &[u8], label: usize, work: &mut [u32]) -> Told {
+fn label_told(size: Size, classes: &[u8], table: &[u8], label: usize, work: &mut [u32]) -> Told {
     let mut refusal: u32 = 0;
-    let name = label_name(size, table, label, work, &mut refusal);
+    let name = label_name(size, classes, table, label, work, &mut refusal);
     of_name(refusal, table, name)
 }
 
@@ -125,23 +125,25 @@ fn label_told(size: Size, table: &[u8], label: usize, work: &mut [u32]) -> Told 
 fn widened(
     call: u8,
     size: Size,
+    classes: &[u8],
     first: &[u8],
     second: &[u8],
     out: &mut [u8],
     work: &mut [u32],
 ) -> Written {
     match call {
-        8 => widen_local_by_table(size, first, second, out, work),
-        9 => widen_local_by_document(size, first, second, out, work),
-        10 => widen_single_type_by_table(size, first, second, out, work),
-        _ => widen_single_type_by_document(size, first, second, out, work),
+        8 => widen_local_by_table(size, classes, first, second, out, work),
+        9 => widen_local_by_document(size, classes, first, second, out, work),
+        10 => widen_single_type_by_table(size, classes, first, second, out, work),
+        _ => widen_single_type_by_document(size, classes, first, second, out, work),
     }
 }
 
-// Runs the call of this number on its inputs and lent slices.
+// Runs the call of this number on its classes, inputs and lent slices.
 pub fn answer(
     call: u8,
     size: Size,
+    classes: &[u8],
     label: u32,
     first: &[u8],
     second: &[u8],
@@ -149,14 +151,17 @@ pub fn answer(
     work: &mut [u32],
 ) -> Told {
     match call {
-        1 => of_reading(table_reads(size, first, work), byte_sum(out)),
-        2 => of_reading(document_reads(size, first, work), byte_sum(out)),
-        3 => label_told(size, first, label as usize, work),
-        4 => of_verdict(lets_in(size, first, second, work), byte_sum(out)),
-        5 => of_verdict(is_local(size, first, work), byte_sum(out)),
-        6 => of_verdict(is_single_type(size, first, work), byte_sum(out)),
-        7 => of_written(sample(size, first, out, work), byte_sum(out)),
-        8..=11 => of_written(widened(call, size, first, second, out, work), byte_sum(out)),
+        1 => of_reading(table_reads(size, classes, first, work), byte_sum(out)),
+        2 => of_reading(document_reads(size, classes, first, work), byte_sum(out)),
+        3 => label_told(size, classes, first, label as usize, work),
+        4 => of_verdict(lets_in(size, classes, first, second, work), byte_sum(out)),
+        5 => of_verdict(is_local(size, classes, first, work), byte_sum(out)),
+        6 => of_verdict(is_single_type(size, classes, first, work), byte_sum(out)),
+        7 => of_written(sample(size, classes, first, out, work), byte_sum(out)),
+        8..=11 => of_written(
+            widened(call, size, classes, first, second, out, work),
+            byte_sum(out),
+        ),
         _ => Told {
             refusal: 99,
             value: 0,

@@ -9,6 +9,7 @@ use crate::numbers::number;
 use crate::sums::word_sum;
 use libc::STDIN_FILENO;
 use libc::STDOUT_FILENO;
+use reader::ascii::ASCII;
 use reader::limits::size_numbered;
 
 // The next byte; 0 where the input has ended.
@@ -25,15 +26,22 @@ fn read_number() -> u32 {
     number(four[0], four[1], four[2], four[3])
 }
 
+// The next bytes, so many; none where there is no space for them.
+fn read_bytes(count: usize, space: &mut [u8]) -> usize
+    ensures { λ r. ⌜ r ≤ length (now (space .exit)) ⌝ }
+{
+    if space.len() < count {
+        return 0;
+    }
+    io::read_full(STDIN_FILENO, &mut space[0..count])
+}
+
 // The next input: its length, then its bytes.
 fn read_input(space: &mut [u8]) -> usize
     ensures { λ r. ⌜ r ≤ length (now (space .exit)) ⌝ }
 {
-    let length = read_number() as usize;
-    if space.len() < length {
-        return 0;
-    }
-    io::read_full(STDIN_FILENO, &mut space[0..length])
+    let count = read_number() as usize;
+    read_bytes(count, space)
 }
 
 // A number and what follows it.
@@ -56,6 +64,7 @@ fn print_line(call: u8, told: Told, worksum: u32) {
 fn run(
     call: u8,
     size: u32,
+    classes: &[u8],
     label: u32,
     word: u32,
     first: &[u8],
@@ -65,13 +74,30 @@ fn run(
 ) {
     fill_output(out);
     fill_work(work, word);
-    let told = answer(call, size_numbered(size), label, first, second, out, work);
+    let told = answer(
+        call,
+        size_numbered(size),
+        classes,
+        label,
+        first,
+        second,
+        out,
+        work,
+    );
     let worksum = word_sum(work);
     print_line(call, told, worksum);
 }
 
 // Reads the inputs of a case and runs it, with lent slices of these lengths.
-fn run_lent(call: u8, size: u32, words: usize, word: u32, bytes: usize, label: u32) -> bool {
+fn run_lent(
+    call: u8,
+    size: u32,
+    classes: &[u8],
+    words: usize,
+    word: u32,
+    bytes: usize,
+    label: u32,
+) -> bool {
     let mut first = [0u8; 65600];
     let mut second = [0u8; 65600];
     let mut out = [0u8; 33000];
@@ -87,6 +113,7 @@ fn run_lent(call: u8, size: u32, words: usize, word: u32, bytes: usize, label: u
     run(
         call,
         size,
+        classes,
         label,
         word,
         &first[0..n],
@@ -97,16 +124,36 @@ fn run_lent(call: u8, size: u32, words: usize, word: u32, bytes: usize, label: u
     true
 }
 
-// Reads a case and runs it; false after the last one.
+// Reads what follows the classes of a case and runs it.
+fn run_under(call: u8, size: u32, classes: &[u8]) -> bool {
+    let words = read_number();
+    let word = read_number();
+    let bytes = read_number();
+    let label = read_number();
+    run_lent(
+        call,
+        size,
+        classes,
+        words as usize,
+        word,
+        bytes as usize,
+        label,
+    )
+}
+
+// Reads a case and runs it; false after the last one. The number 2^32 - 1 of classes stands for those of the base, which do not follow.
 pub fn run_next() -> bool {
     let call = read_byte();
     if call == 0 {
         return false;
     }
     let size = read_number();
-    let words = read_number();
-    let word = read_number();
-    let bytes = read_number();
-    let label = read_number();
-    run_lent(call, size, words as usize, word, bytes as usize, label)
+    let count = read_number();
+    if count == u32::MAX {
+        let base = ASCII;
+        return run_under(call, size, &base);
+    }
+    let mut space = [0u8; 300];
+    let n = read_bytes(count as usize, &mut space);
+    run_under(call, size, &space[0..n])
 }

@@ -1,16 +1,17 @@
 -- The public calls that write, case by case: too few working words, or what was made in the draft handed over.
 use Prim.Native.Nat.{ℕ, _≤_, _<_}
+use mathlib.Core.Bool.{not}
 use mathlib.Core.List.{List}
 use mathlib.Core.Path.{_≡_, refl, sym, _∙_, ap}
 use lib.ListN.{length}
 use Rattle.grammar.specs.Limits.{Limits}
 use Rattle.grammar.specs.LimitSets.{limitsOf}
 use Rattle.grammar.specs.declared.SizeLimits.{SizeLimits}
-use Rattle.grammar.specs.Names.{asciiClasses}
+use Rattle.grammar.specs.Names.{Classes, loads}
 use Rattle.grammar.specs.Tree.{Tree}
 use Rattle.grammar.specs.Table.{Table}
 use Rattle.grammar.specs.Kinds.{Kind}
-use Rattle.grammar.specs.Outcome.{Outcome, given, refused, _>>=_}
+use Rattle.grammar.specs.Outcome.{Outcome, given, refused, _>>=_, _>>_, turnBack}
 use Rattle.grammar.specs.Answers.{Numbers, writtenNumbers, numbersOf, written}
 use Rattle.grammar.specs.ReadTable.{readTable}
 use Rattle.grammar.specs.ReadDocument.{readDocument}
@@ -29,15 +30,15 @@ use Rattle.grammar.specs.Calls.{
 }
 use Rattle.grammar.specs.Promises.{Sampling, Widening}
 use Rattle.grammar.specs.declared.Source.{Source}
-use Rattle.grammar.specs.declared.Refusal.the-variants.{WorkTooShort}
+use Rattle.grammar.specs.declared.Refusal.the-variants.{WorkTooShort, BadClasses}
 use Rattle.grammar.specs.declared.Written.{Written}
 use Rattle.grammar.specs.declared.Written.the-variants.{Refused}
 use Rattle.theory.proofs.bytes.NumberedTable.{sized-agree}
 use Rattle.theory.proofs.theorems.AnswerNumbers.{written-numbers}
-use Rattle.theory.proofs.theorems.CallPromises.{lent-short, lent-enough, sampling, widening}
+use Rattle.theory.proofs.theorems.CallPromises.{lent-short, lent-enough, loaded, loaded-then, sampling, widening}
 use Rattle.reader.proofs.AnswerLaws.{both-then-last}
 use Rattle.reader.proofs.WorkLaws.{work-kept}
-use Rattle.widening.specs.Drafting.{sampleOf, widenedBy, widenedFrom, HandedOver}
+use Rattle.widening.specs.Drafting.{sampleOf, sampledFrom, widenedBy, widenedFrom, HandedOver}
 
 module _ (l : SizeLimits) where
   abbrev lim : Limits
@@ -70,58 +71,69 @@ module _ (l : SizeLimits) where
   then-last (refused r) f k = refl
   then-last (given a) f k = refl
 
+  -- the classes are tried before any step, and the last step is apart
+  tried-then-last : {A B : Type 0} (classes : Classes) (x : Outcome A) (steps : A → Outcome B) (o : Outcome Table) (k : Table → Outcome B)
+      → (x >>= steps) ≡ (o >>= k) → (loaded classes x >>= steps) ≡ (loaded classes o >>= k)
+  tried-then-last {A} {B} classes x steps o k e =
+      loaded-then classes x steps
+      ∙ ap (λ (y : Outcome B). turnBack (not (loads classes)) BadClasses >> y) e
+      ∙ sym (loaded-then classes o k)
+
   -- the sample
-  module _ (document out work : List ℕ) where
+  module _ (classes : Classes) (document out work : List ℕ) where
+    abbrev sample-steps : Tree → Outcome (List ℕ)
+    sample-steps d = sampleTable lim d >>= λ g. writtenTo out g
+
     pub sample-unanswered : length work < lim .words
-        → Sampling lim asciiClasses document out work (after (writtenNumbers (Refused WorkTooShort)) out work)
+        → Sampling lim classes document out work (after (writtenNumbers (Refused WorkTooShort)) out work)
     unfolding documentSample documentReads
     sample-unanswered h =
-        sampling lim asciiClasses (sized-agree l) document out work _
+        sampling lim classes (sized-agree l) document out work _
         (left-short _ out work
-        (ap (λ (o : Outcome Tree). o >>= λ d. (sampleTable lim d >>= λ g. writtenTo out g))
-        (lent-short lim work (readDocument lim asciiClasses document) h))
+        (ap (λ (o : Outcome Tree). o >>= sample-steps) (lent-short lim work (loaded classes (readDocument lim classes document)) h))
         h)
 
-    sample-enough : lim .words ≤ length work → documentSample lim asciiClasses document out work ≡ (sampleOf lim document >>= writtenTo out)
-    unfolding documentSample documentReads sampleOf
+    sample-enough : lim .words ≤ length work
+        → documentSample lim classes document out work ≡ (sampledFrom lim classes document >>= writtenTo out)
+    unfolding documentSample documentReads sampledFrom sampleOf
     sample-enough h =
-        ap (λ (o : Outcome Tree). o >>= λ d. (sampleTable lim d >>= λ g. writtenTo out g))
-        (lent-enough lim work (readDocument lim asciiClasses document) h)
-        ∙ then-last (readDocument lim asciiClasses document) (λ d. sampleTable lim d) (writtenTo out)
+        ap (λ (o : Outcome Tree). o >>= sample-steps) (lent-enough lim work (loaded classes (readDocument lim classes document)) h)
+        ∙ tried-then-last classes (readDocument lim classes document) sample-steps (sampleOf lim classes document) (writtenTo out)
+        (then-last (readDocument lim classes document) (λ d. sampleTable lim d) (writtenTo out))
 
-    pub sample-answered : lim .words ≤ length work → (answer : Written) (left workLeft : List ℕ) → HandedOver (sampleOf lim document) out left answer
-        → workLeft ≡ workAfter lim work
-        → Sampling lim asciiClasses document out work (after (writtenNumbers answer) left workLeft)
+    pub sample-answered : lim .words ≤ length work → (answer : Written) (left workLeft : List ℕ)
+        → HandedOver (sampledFrom lim classes document) out left answer → workLeft ≡ workAfter lim work
+        → Sampling lim classes document out work (after (writtenNumbers answer) left workLeft)
     sample-answered h answer left workLeft d w =
-        sampling lim asciiClasses (sized-agree l) document out work _
-        (left-handed _ out work (sampleOf lim document) (sample-enough h) answer left workLeft d w)
+        sampling lim classes (sized-agree l) document out work _
+        (left-handed _ out work (sampledFrom lim classes document) (sample-enough h) answer left workLeft d w)
 
   -- a widening
-  module _ (kind : Kind) (source : Source) (old addition out work : List ℕ) where
+  module _ (classes : Classes) (kind : Kind) (source : Source) (old addition out work : List ℕ) where
+    abbrev widening-steps : Table → Outcome (List ℕ)
+    widening-steps g = readAddition lim classes source addition >>= λ a. (widen lim kind g a >>= λ r. writtenTo out r)
+
     pub widening-unanswered : length work < lim .words
-        → Widening lim asciiClasses kind source old addition out work (after (writtenNumbers (Refused WorkTooShort)) out work)
+        → Widening lim classes kind source old addition out work (after (writtenNumbers (Refused WorkTooShort)) out work)
     unfolding widened tableReads
     widening-unanswered h =
-        widening lim asciiClasses (sized-agree l) kind source old addition out work _
+        widening lim classes (sized-agree l) kind source old addition out work _
         (left-short _ out work
-        (ap
-        (λ (o : Outcome Table). o >>= λ g. (readAddition lim asciiClasses source addition >>= λ a. (widen lim kind g a >>= λ r. writtenTo out r)))
-        (lent-short lim work (readTable lim asciiClasses old) h))
+        (ap (λ (o : Outcome Table). o >>= widening-steps) (lent-short lim work (loaded classes (readTable lim classes old)) h))
         h)
 
     widening-enough : lim .words ≤ length work
-        → widened lim asciiClasses kind source old addition out work ≡ (widenedFrom lim source kind old addition >>= writtenTo out)
+        → widened lim classes kind source old addition out work ≡ (widenedFrom lim classes source kind old addition >>= writtenTo out)
     unfolding widened tableReads widenedFrom widenedBy
     widening-enough h =
-        ap
-        (λ (o : Outcome Table). o >>= λ g. (readAddition lim asciiClasses source addition >>= λ a. (widen lim kind g a >>= λ r. writtenTo out r)))
-        (lent-enough lim work (readTable lim asciiClasses old) h)
-        ∙ both-then-last (readTable lim asciiClasses old) (readAddition lim asciiClasses source addition) (λ g a. widen lim kind g a)
-        (writtenTo out)
+        ap (λ (o : Outcome Table). o >>= widening-steps) (lent-enough lim work (loaded classes (readTable lim classes old)) h)
+        ∙ tried-then-last classes (readTable lim classes old) widening-steps
+        (readTable lim classes old >>= λ g. widenedBy lim classes source kind g addition) (writtenTo out)
+        (both-then-last (readTable lim classes old) (readAddition lim classes source addition) (λ g a. widen lim kind g a) (writtenTo out))
 
     pub widening-answered : lim .words ≤ length work → (answer : Written) (left workLeft : List ℕ)
-        → HandedOver (widenedFrom lim source kind old addition) out left answer → workLeft ≡ workAfter lim work
-        → Widening lim asciiClasses kind source old addition out work (after (writtenNumbers answer) left workLeft)
+        → HandedOver (widenedFrom lim classes source kind old addition) out left answer → workLeft ≡ workAfter lim work
+        → Widening lim classes kind source old addition out work (after (writtenNumbers answer) left workLeft)
     widening-answered h answer left workLeft d w =
-        widening lim asciiClasses (sized-agree l) kind source old addition out work _
-        (left-handed _ out work (widenedFrom lim source kind old addition) (widening-enough h) answer left workLeft d w)
+        widening lim classes (sized-agree l) kind source old addition out work _
+        (left-handed _ out work (widenedFrom lim classes source kind old addition) (widening-enough h) answer left workLeft d w)

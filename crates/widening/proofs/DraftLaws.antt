@@ -1,6 +1,7 @@
--- A table in a draft, and handed over; inputs that are refused or read.
+-- A table in a draft, and handed over; classes that do not load, inputs that are refused or read.
 use Prim.Native.Nat.{ℕ, _+_, _≤_, _<_}
 use native.Mathlib.Omega.{arith}
+use mathlib.Core.Bool.{false}
 use mathlib.Core.List.{List, _++_}
 use mathlib.Core.Path.{_≡_, refl, sym, _∙_, ap, subst}
 use lib.ListN.{length, take, drop, length-append}
@@ -10,7 +11,7 @@ use borrow.Author.Tests.{lt-ltb, le-ltb}
 use Rattle.grammar.specs.Limits.{Limits}
 use Rattle.grammar.specs.LimitSets.{limitsOf}
 use Rattle.grammar.specs.declared.SizeLimits.{SizeLimits}
-use Rattle.grammar.specs.Names.{asciiClasses}
+use Rattle.grammar.specs.Names.{Classes, loads, Loads}
 use Rattle.grammar.specs.Table.{Table}
 use Rattle.grammar.specs.Tree.{Tree}
 use Rattle.grammar.specs.Kinds.{Kind}
@@ -26,7 +27,7 @@ use Rattle.grammar.specs.Calls.{outAfter, writtenTo, readAddition}
 use Rattle.grammar.specs.declared.Source.{Source}
 use Rattle.grammar.specs.declared.Source.the-variants.{Table as aTable, Document as aDocument}
 use Rattle.grammar.specs.declared.Refusal.{Refusal}
-use Rattle.grammar.specs.declared.Refusal.the-variants.{NoDocument, ResultTooLarge, OutputTooShort}
+use Rattle.grammar.specs.declared.Refusal.the-variants.{NoDocument, ResultTooLarge, OutputTooShort, BadClasses}
 use Rattle.grammar.specs.declared.Reading.{Reading}
 use Rattle.grammar.specs.declared.Reading.the-variants.{Readable, Refused as Unreadable}
 use Rattle.grammar.specs.declared.Written.{Written}
@@ -35,6 +36,7 @@ use Rattle.theory.proofs.bytes.OutcomeLaws.{given-then, no-fault, was-given, gi
 use Rattle.theory.proofs.bytes.NumberedTable.{sized-agree}
 use Rattle.theory.proofs.bytes.DocumentWithin.{document-within}
 use Rattle.theory.proofs.theorems.ResultWithin.{sample-read-back}
+use Rattle.theory.proofs.theorems.CallPromises.{loaded-is, unloaded-is}
 use Rattle.reader.specs.TableIndex.{Reads}
 use Rattle.reader.specs.DocumentNodes.{DocumentReads, nodesIn}
 use Rattle.reader.specs.declared.documents.DocumentRead.{DocumentRead}
@@ -48,7 +50,7 @@ use Rattle.sampling.specs.SampleTable.{SampleDrafted, HoldsNodes}
 use Rattle.results.specs.declared.widen.Made.{Made}
 use Rattle.results.specs.declared.widen.Made.the-variants.{Length as MadeTo, NoDocument as Nothing, TooLarge}
 use Rattle.results.specs.Widened.{Widens, ResultDrafted}
-use Rattle.widening.specs.Drafting.{sampleOf, widenedBy, widenedFrom, InDraft, FitsDraft, HandedOver}
+use Rattle.widening.specs.Drafting.{sampleOf, sampledFrom, widenedBy, widenedFrom, InDraft, FitsDraft, HandedOver}
 
 -- the bytes of an outcome, and its answer, before the output is looked at
 abbrev bytesOf : Outcome Table → Outcome (List ℕ)
@@ -150,149 +152,193 @@ module _ (o : Outcome Table) (draft out : List ℕ) (answer : Written) (i : InDr
 pub at-front : (out draft : List ℕ) (n : ℕ) → paste out 0 draft n ≡ take n draft ++ drop n out
 at-front out draft n = let z : 0 + n ≡ n = omega arith in ap (λ (k : ℕ). take n draft ++ drop k out) z
 
-module _ (l : SizeLimits) where
+module _ (l : SizeLimits) (classes : Classes) where
   abbrev lim : Limits
   lim = limitsOf l
 
-  -- reading a table and going on with it
-  module _ (table : List ℕ) (r : Reading) (index : List ℕ) (so : Reads table (readTable lim asciiClasses table) r index) (next : Table → Outcome Table) where
-    table-refuses : (q : Refusal) → r ≡ Unreadable q → (readTable lim asciiClasses table >>= next) ≡ refused q
-    table-refuses q e = ap (λ (o : Outcome Table). o >>= next) (table-refused lim table r index so q e)
+  -- under classes that do not load
+  module _ (e : loads classes ≡ false) (draft : List ℕ) where
+    pub sampled-unloaded : (document : List ℕ) → InDraft (sampledFrom lim classes document) draft (Refused BadClasses)
+    unfolding sampledFrom
+    sampled-unloaded document =
+        unmade (sampledFrom lim classes document) draft BadClasses (unloaded-is classes (sampleOf lim classes document) e)
 
-    table-goes-on : (e : r ≡ Readable) → (readTable lim asciiClasses table >>= next) ≡ next (table-found lim table r index so e .some .table)
-    table-goes-on e =
-        let f = table-found lim table r index so e in
-        given-then (readTable lim asciiClasses table) (f .some .table) next (f .read)
-
-    -- the old table, with any outcome that begins by reading it
-    module _ (o : Outcome Table) (is : o ≡ (readTable lim asciiClasses table >>= next)) (draft : List ℕ) where
-      pub old-refuses : (q : Refusal) → r ≡ Unreadable q → InDraft o draft (Refused q)
-      old-refuses q e = unmade o draft q (is ∙ table-refuses q e)
-
-      pub old-goes-on : r ≡ Readable → (answer : Written)
-          → ((g : Table) → Held lim asciiClasses table index g → InDraft (next g) draft answer) → InDraft o draft answer
-      old-goes-on e answer h =
-          let f = table-found lim table r index so e in
-          subst (λ (x : Outcome Table). InDraft x draft answer) (sym (is ∙ table-goes-on e)) (h (f .some .table) (f .some .held))
-
-  pub from-old : (source : Source) (kind : Kind) (old addition : List ℕ)
-      → widenedFrom lim source kind old addition ≡ (readTable lim asciiClasses old >>= λ g. widenedBy lim source kind g addition)
-  unfolding widenedFrom
-  from-old source kind old addition = refl
+    pub widened-unloaded : (source : Source) (kind : Kind) (old addition : List ℕ)
+        → InDraft (widenedFrom lim classes source kind old addition) draft (Refused BadClasses)
+    unfolding widenedFrom
+    widened-unloaded source kind old addition =
+        unmade (widenedFrom lim classes source kind old addition) draft BadClasses
+        (unloaded-is classes (readTable lim classes old >>= λ g. widenedBy lim classes source kind g addition) e)
 
   -- by a table, and by a document's sample
   by-table : (kind : Kind) (g : Table) (addition : List ℕ)
-      → widenedBy lim aTable kind g addition ≡ (readTable lim asciiClasses addition >>= λ a. widenByTable lim kind g a)
+      → widenedBy lim classes aTable kind g addition ≡ (readTable lim classes addition >>= λ a. widenByTable lim kind g a)
   unfolding widenedBy readAddition widen
-  by-table kind g addition = go (readTable lim asciiClasses addition)
+  by-table kind g addition = go (readTable lim classes addition)
     where
       go : (o : Outcome Table) → ((o >>= λ a. given (byTable a)) >>= widen lim kind g) ≡ (o >>= λ a. widenByTable lim kind g a)
       go (refused r) = refl
       go (given a) = refl
 
   by-document : (kind : Kind) (g : Table) (document : List ℕ)
-      → widenedBy lim aDocument kind g document ≡ (sampleOf lim document >>= λ a. widenByTable lim kind g a)
+      → widenedBy lim classes aDocument kind g document ≡ (sampleOf lim classes document >>= λ a. widenByTable lim kind g a)
   unfolding widenedBy readAddition widen sampleOf
-  by-document kind g document = go (readDocument lim asciiClasses document)
+  by-document kind g document = go (readDocument lim classes document)
     where
       go : (o : Outcome Tree) → ((o >>= λ d. given (byDocument d)) >>= widen lim kind g)
           ≡ ((o >>= λ d. sampleTable lim d) >>= λ a. widenByTable lim kind g a)
       go (refused r) = refl
       go (given d) = refl
 
-  -- reading the addition, and widening by it
-  module _ (kind : Kind) (g : Table) (addition : List ℕ) (r : Reading) (index : List ℕ)
-      (so : Reads addition (readTable lim asciiClasses addition) r index)
-      (draft : List ℕ) where
-    pub addition-refuses : (q : Refusal) → r ≡ Unreadable q → InDraft (widenedBy lim aTable kind g addition) draft (Refused q)
-    addition-refuses q e =
-        unmade (widenedBy lim aTable kind g addition) draft q
-        (by-table kind g addition ∙ table-refuses addition r index so (λ a. widenByTable lim kind g a) q e)
-
-    module _ (e : r ≡ Readable) (before : List ℕ) (m : Made)
-        (w : (h : Table) → Held lim asciiClasses addition index h → Widens lim kind g h before draft m) where
-      abbrev found : TableFound lim addition index
-      found = table-found lim addition r index so e
-
-      so-widens : Widens lim kind g (found .some .table) before draft m
-      so-widens = w (found .some .table) (found .some .held)
-
-      added : widenedBy lim aTable kind g addition ≡ widenByTable lim kind g (found .some .table)
-      added = by-table kind g addition ∙ table-goes-on addition r index so (λ a. widenByTable lim kind g a) e
-
-      pub widens-nothing : m ≡ Nothing → InDraft (widenedBy lim aTable kind g addition) draft (Refused NoDocument)
-      unfolding Widens
-      widens-nothing p =
-          unmade (widenedBy lim aTable kind g addition) draft NoDocument (added ∙ subst (Widens lim kind g (found .some .table) before draft) p so-widens)
-
-      pub widens-too-far : m ≡ TooLarge → InDraft (widenedBy lim aTable kind g addition) draft (Refused ResultTooLarge)
-      unfolding Widens
-      widens-too-far p =
-          unmade (widenedBy lim aTable kind g addition) draft ResultTooLarge (added ∙ subst (Widens lim kind g (found .some .table) before draft) p so-widens)
-
-      pub widens-to : (n : ℕ) → m ≡ MadeTo n → InDraft (widenedBy lim aTable kind g addition) draft (Length n)
-      unfolding Widens
-      widens-to n p =
-          let d : ResultDrafted lim kind g (found .some .table) before draft n = subst (Widens lim kind g (found .some .table) before draft) p so-widens in
-          made (widenedBy lim aTable kind g addition) draft (d .result) n (drop n before) (added ∙ d .widened) (d .size) (d .bytes)
-
   -- the sample of a document
-  module _ (document : List ℕ) (f : DocumentRead) (reads : DocumentReads lim document f) where
-    pub document-refuses : (draft : List ℕ) (q : Refusal) → f .answer ≡ Unreadable q → InDraft (sampleOf lim document) draft (Refused q)
+  module _ (document : List ℕ) (f : DocumentRead) (reads : DocumentReads lim classes document f) where
+    pub document-refuses : (draft : List ℕ) (q : Refusal) → f .answer ≡ Unreadable q
+        → InDraft (sampleOf lim classes document) draft (Refused q)
     unfolding sampleOf
     document-refuses draft q e =
-        unmade (sampleOf lim document) draft q
-        (ap (λ (o : Outcome Tree). o >>= λ d. sampleTable lim d) (document-unread lim document f reads q e))
+        unmade (sampleOf lim classes document) draft q
+        (ap (λ (o : Outcome Tree). o >>= λ d. sampleTable lim d) (document-unread lim classes document f reads q e))
 
     module _ (e : f .answer ≡ Readable) where
       pub nodes-indexed : HoldsNodes lim document (f .index)
-      nodes-indexed = record { reads = nodes-read lim document f reads e; indexed = reads .indexed }
+      nodes-indexed = record { classes = classes; reads = nodes-read lim classes document f reads e; indexed = reads .indexed }
 
       module _ (before draft : List ℕ) (m : Drafted)
           (s : (d : Tree) → treeOf (nodesIn document (f .index)) ≡ given d → SampleDrafted lim d before draft m) where
-        abbrev tree-read : (t : Tree) × (treeOf (nodesIn document (f .index)) ≡ given t) × (readDocument lim asciiClasses document ≡ given t)
-        tree-read = document-tree lim asciiClasses document (nodesIn document (f .index)) (nodes-read lim document f reads e)
+        abbrev tree-read : (t : Tree) × (treeOf (nodesIn document (f .index)) ≡ given t) × (readDocument lim classes document ≡ given t)
+        tree-read = document-tree lim classes document (nodesIn document (f .index)) (nodes-read lim classes document f reads e)
 
-        sample-is : sampleOf lim document ≡ sampleTable lim (tree-read .0)
+        sample-is : sampleOf lim classes document ≡ sampleTable lim (tree-read .0)
         unfolding sampleOf
-        sample-is = given-then (readDocument lim asciiClasses document) (tree-read .0) (λ d. sampleTable lim d) (tree-read .2)
+        sample-is = given-then (readDocument lim classes document) (tree-read .0) (λ d. sampleTable lim d) (tree-read .2)
 
         sample-drafted : (x : Drafted) → m ≡ x → SampleDrafted lim (tree-read .0) before draft x
         sample-drafted x p = subst (SampleDrafted lim (tree-read .0) before draft) p (s (tree-read .0) (tree-read .1))
 
-        pub sample-too-large : m ≡ Undrafted → InDraft (sampleOf lim document) draft (Refused ResultTooLarge)
-        sample-too-large p = unmade (sampleOf lim document) draft ResultTooLarge (sample-is ∙ sample-drafted Undrafted p)
+        pub sample-too-large : m ≡ Undrafted → InDraft (sampleOf lim classes document) draft (Refused ResultTooLarge)
+        sample-too-large p = unmade (sampleOf lim classes document) draft ResultTooLarge (sample-is ∙ sample-drafted Undrafted p)
 
-        pub sample-made : (n : ℕ) → m ≡ DraftedTo n → InDraft (sampleOf lim document) draft (Length n)
+        pub sample-made : (n : ℕ) → m ≡ DraftedTo n → InDraft (sampleOf lim classes document) draft (Length n)
         sample-made n p =
             let d = sample-drafted (DraftedTo n) p in
-            made (sampleOf lim document) draft (sample (tree-read .0)) n (drop n before) (sample-is ∙ d .0) (d .2) (d .1)
+            made (sampleOf lim classes document) draft (sample (tree-read .0)) n (drop n before) (sample-is ∙ d .0) (d .2) (d .1)
 
   -- its bytes read as the sample
-  sample-reads-back : (document : List ℕ) (a : Table) → sampleOf lim document ≡ given a → readTable lim asciiClasses (tableBytes a) ≡ given a
+  sample-reads-back : (document : List ℕ) (a : Table) → sampleOf lim classes document ≡ given a
+      → readTable lim classes (tableBytes a) ≡ given a
   unfolding sampleOf
   sample-reads-back document a e =
-      let (d, p, q) = was-given (readDocument lim asciiClasses document) (λ d. sampleTable lim d) a e in
-      sample-read-back lim asciiClasses (sized-agree l) d (document-within lim asciiClasses document d p) a q
+      let (d, p, q) = was-given (readDocument lim classes document) (λ d. sampleTable lim d) a e in
+      sample-read-back lim classes (sized-agree l) d (document-within lim classes document d p) a q
 
   -- widening by the sample of a document, whose bytes stand at the front of a draft
-  module _ (kind : Kind) (g : Table) (document drafted : List ℕ) (answer : Written) (i : InDraft (sampleOf lim document) drafted answer)
-      (draft : List ℕ) where
-    pub sample-refuses : (q : Refusal) → answer ≡ Refused q → InDraft (widenedBy lim aDocument kind g document) draft (Refused q)
+  module _ (kind : Kind) (g : Table) (document drafted : List ℕ) (answer : Written)
+      (i : InDraft (sampleOf lim classes document) drafted answer) (draft : List ℕ) where
+    pub sample-refuses : (q : Refusal) → answer ≡ Refused q → InDraft (widenedBy lim classes aDocument kind g document) draft (Refused q)
     sample-refuses q e =
-        unmade (widenedBy lim aDocument kind g document) draft q
+        unmade (widenedBy lim classes aDocument kind g document) draft q
         (by-document kind g document
-        ∙ ap (λ (o : Outcome Table). o >>= λ a. widenByTable lim kind g a) (was-unmade (sampleOf lim document) drafted answer i q e))
+        ∙ ap (λ (o : Outcome Table). o >>= λ a. widenByTable lim kind g a)
+        (was-unmade (sampleOf lim classes document) drafted answer i q e))
 
     pub by-sample : (n : ℕ) → answer ≡ Length n → (m : ℕ) → m ≡ n → (said : Written)
-        → InDraft (widenedBy lim aTable kind g (take m drafted)) draft said → InDraft (widenedBy lim aDocument kind g document) draft said
+        → InDraft (widenedBy lim classes aTable kind g (take m drafted)) draft said
+        → InDraft (widenedBy lim classes aDocument kind g document) draft said
     by-sample n e m same said d =
-        let (a, p, size) = was-made (sampleOf lim document) drafted answer i n e in
-        let back : readTable lim asciiClasses (take m drafted) ≡ given a =
-        ap (readTable lim asciiClasses) (ap (λ (k : ℕ). take k drafted) (same ∙ size) ∙ i .bytes a p)
+        let (a, p, size) = was-made (sampleOf lim classes document) drafted answer i n e in
+        let back : readTable lim classes (take m drafted) ≡ given a =
+        ap (readTable lim classes) (ap (λ (k : ℕ). take k drafted) (same ∙ size) ∙ i .bytes a p)
         ∙ sample-reads-back document a p in
         subst (λ (x : Outcome Table). InDraft x draft said)
         (by-table kind g (take m drafted)
-        ∙ given-then (readTable lim asciiClasses (take m drafted)) a (λ a. widenByTable lim kind g a) back
-        ∙ sym (by-document kind g document ∙ given-then (sampleOf lim document) a (λ a. widenByTable lim kind g a) p))
+        ∙ given-then (readTable lim classes (take m drafted)) a (λ a. widenByTable lim kind g a) back
+        ∙ sym (by-document kind g document ∙ given-then (sampleOf lim classes document) a (λ a. widenByTable lim kind g a) p))
         d
+
+  -- under classes that load
+  module _ (load : Loads classes) where
+    pub sampled-loaded : (document draft : List ℕ) (answer : Written) → InDraft (sampleOf lim classes document) draft answer
+        → InDraft (sampledFrom lim classes document) draft answer
+    unfolding sampledFrom
+    sampled-loaded document draft answer d =
+        subst (λ (x : Outcome Table). InDraft x draft answer) (sym (loaded-is classes (sampleOf lim classes document) load)) d
+
+    -- reading a table and going on with it
+    module _ (table : List ℕ) (r : Reading) (index : List ℕ) (so : Reads table (readTable lim classes table) r index)
+        (next : Table → Outcome Table) where
+      table-refuses : (q : Refusal) → r ≡ Unreadable q → (readTable lim classes table >>= next) ≡ refused q
+      table-refuses q e = ap (λ (o : Outcome Table). o >>= next) (table-refused lim classes table r index so q e)
+
+      table-goes-on : (e : r ≡ Readable)
+          → (readTable lim classes table >>= next) ≡ next (table-found lim classes table r index so load e .some .table)
+      table-goes-on e =
+          let f = table-found lim classes table r index so load e in
+          given-then (readTable lim classes table) (f .some .table) next (f .read)
+
+    -- the old table
+    module _ (source : Source) (kind : Kind) (old addition : List ℕ) (r : Reading) (index : List ℕ)
+        (so : Reads old (readTable lim classes old) r index)
+        (draft : List ℕ) where
+      abbrev whole : Outcome Table
+      whole = widenedFrom lim classes source kind old addition
+
+      abbrev next : Table → Outcome Table
+      next g = widenedBy lim classes source kind g addition
+
+      from-old : whole ≡ (readTable lim classes old >>= next)
+      unfolding widenedFrom
+      from-old = loaded-is classes (readTable lim classes old >>= next) load
+
+      pub old-refuses : (q : Refusal) → r ≡ Unreadable q → InDraft whole draft (Refused q)
+      old-refuses q e = unmade whole draft q (from-old ∙ table-refuses old r index so next q e)
+
+      -- and then an addition of this sort
+      pub old-goes-on : r ≡ Readable → (sort : Source) → source ≡ sort → (answer : Written)
+          → ((g : Table) → Held lim old index g → InDraft (widenedBy lim classes sort kind g addition) draft answer)
+          → InDraft whole draft answer
+      old-goes-on e sort is answer h =
+          let f = table-found lim classes old r index so load e in
+          let g = f .some .table in
+          subst (λ (x : Outcome Table). InDraft x draft answer)
+          (ap (λ (s : Source). widenedBy lim classes s kind g addition) (sym is) ∙ sym (from-old ∙ table-goes-on old r index so next e))
+          (h g (f .some .held))
+
+    -- reading the addition, and widening by it
+    module _ (kind : Kind) (g : Table) (addition : List ℕ) (r : Reading) (index : List ℕ)
+        (so : Reads addition (readTable lim classes addition) r index)
+        (draft : List ℕ) where
+      pub addition-refuses : (q : Refusal) → r ≡ Unreadable q → InDraft (widenedBy lim classes aTable kind g addition) draft (Refused q)
+      addition-refuses q e =
+          unmade (widenedBy lim classes aTable kind g addition) draft q
+          (by-table kind g addition ∙ table-refuses addition r index so (λ a. widenByTable lim kind g a) q e)
+
+      module _ (e : r ≡ Readable) (before : List ℕ) (m : Made)
+          (w : (h : Table) → Held lim addition index h → Widens lim kind g h before draft m) where
+        abbrev found : TableFound lim classes addition index
+        found = table-found lim classes addition r index so load e
+
+        so-widens : Widens lim kind g (found .some .table) before draft m
+        so-widens = w (found .some .table) (found .some .held)
+
+        added : widenedBy lim classes aTable kind g addition ≡ widenByTable lim kind g (found .some .table)
+        added = by-table kind g addition ∙ table-goes-on addition r index so (λ a. widenByTable lim kind g a) e
+
+        pub widens-nothing : m ≡ Nothing → InDraft (widenedBy lim classes aTable kind g addition) draft (Refused NoDocument)
+        unfolding Widens
+        widens-nothing p =
+            unmade (widenedBy lim classes aTable kind g addition) draft NoDocument
+            (added ∙ subst (Widens lim kind g (found .some .table) before draft) p so-widens)
+
+        pub widens-too-far : m ≡ TooLarge → InDraft (widenedBy lim classes aTable kind g addition) draft (Refused ResultTooLarge)
+        unfolding Widens
+        widens-too-far p =
+            unmade (widenedBy lim classes aTable kind g addition) draft ResultTooLarge
+            (added ∙ subst (Widens lim kind g (found .some .table) before draft) p so-widens)
+
+        pub widens-to : (n : ℕ) → m ≡ MadeTo n → InDraft (widenedBy lim classes aTable kind g addition) draft (Length n)
+        unfolding Widens
+        widens-to n p =
+            let d : ResultDrafted lim kind g (found .some .table) before draft n =
+            subst (Widens lim kind g (found .some .table) before draft) p so-widens in
+            made (widenedBy lim classes aTable kind g addition) draft (d .result) n (drop n before)
+            (added ∙ d .widened) (d .size) (d .bytes)

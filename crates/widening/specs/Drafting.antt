@@ -1,13 +1,14 @@
 -- A call's table in a draft, before the output is looked at, where there is enough working memory.
 use Prim.Native.Nat.{ℕ, _≤_}
+use mathlib.Core.Bool.{not}
 use mathlib.Core.List.{List}
 use mathlib.Core.Path.{_≡_}
 use lib.ListN.{length, take}
 use Rattle.grammar.specs.Limits.{Limits}
-use Rattle.grammar.specs.Names.{asciiClasses}
+use Rattle.grammar.specs.Names.{Classes, loads}
 use Rattle.grammar.specs.Table.{Table}
 use Rattle.grammar.specs.Kinds.{Kind}
-use Rattle.grammar.specs.Outcome.{Outcome, given, _>>=_}
+use Rattle.grammar.specs.Outcome.{Outcome, given, _>>=_, _>>_, turnBack}
 use Rattle.grammar.specs.Answers.{written}
 use Rattle.grammar.specs.ReadTable.{readTable}
 use Rattle.grammar.specs.ReadDocument.{readDocument}
@@ -15,25 +16,34 @@ use Rattle.grammar.specs.WriteTable.{tableBytes}
 use Rattle.grammar.specs.Widen.{widen, sampleTable}
 use Rattle.grammar.specs.Calls.{outAfter, writtenTo, readAddition}
 use Rattle.grammar.specs.declared.Source.{Source}
+use Rattle.grammar.specs.declared.Refusal.the-variants.{BadClasses}
 use Rattle.grammar.specs.declared.Written.{Written}
 use Rattle.grammar.specs.declared.Written.the-variants.{Length, Refused}
 
-unfoldable pub sampleOf : Limits → List ℕ → Outcome Table
-sampleOf lim document = do
-  d ← readDocument lim asciiClasses document
+unfoldable pub sampleOf : Limits → Classes → List ℕ → Outcome Table
+sampleOf lim classes document = do
+  d ← readDocument lim classes document
   sampleTable lim d
 
 -- a table that was read, widened
-unfoldable pub widenedBy : Limits → Source → Kind → Table → List ℕ → Outcome Table
-widenedBy lim source kind g addition = do
-  a ← readAddition lim asciiClasses source addition
+unfoldable pub widenedBy : Limits → Classes → Source → Kind → Table → List ℕ → Outcome Table
+widenedBy lim classes source kind g addition = do
+  a ← readAddition lim classes source addition
   widen lim kind g a
 
-unfoldable pub widenedFrom : Limits → Source → Kind → List ℕ → List ℕ → Outcome Table
-unfolding widenedBy
-widenedFrom lim source kind old addition = do
-  g ← readTable lim asciiClasses old
-  widenedBy lim source kind g addition
+-- The classes are tried before an input.
+unfoldable pub sampledFrom : Limits → Classes → List ℕ → Outcome Table
+unfolding loads sampleOf
+sampledFrom lim classes document = do
+  turnBack (not (loads classes)) BadClasses
+  sampleOf lim classes document
+
+unfoldable pub widenedFrom : Limits → Classes → Source → Kind → List ℕ → List ℕ → Outcome Table
+unfolding loads widenedBy
+widenedFrom lim classes source kind old addition = do
+  turnBack (not (loads classes)) BadClasses
+  g ← readTable lim classes old
+  widenedBy lim classes source kind g addition
 
 -- the table stands at the front of the draft; or the answer is why there is none
 pub record InDraft (o : Outcome Table) (draft : List ℕ) (made : Written) : Type 0 where

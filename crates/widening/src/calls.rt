@@ -12,7 +12,6 @@ use reader::limits::limits_of;
 use reader::work::clear_work;
 use results::widen::Kind;
 ghost use Rattle.grammar.specs.LimitSets.{sizeLimits};
-ghost use Rattle.grammar.specs.Names.{asciiClasses};
 ghost use Rattle.grammar.specs.Kinds.{local, singleType};
 ghost use Rattle.grammar.specs.Answers.{writtenNumbers};
 ghost use Rattle.grammar.specs.Calls.{after};
@@ -21,8 +20,14 @@ ghost use Rattle.grammar.specs.declared.Source.the-variants.{Table as aTable, D
 ghost use Rattle.results.specs.Widened.{kindOf};
 
 // The sample of a document, as a table.
-pub fn sample(size: Size, document: &[u8], out: &mut [u8], work: &mut [u32]) -> Written
-    ensures { λ r. ⌜ Sampling (sizeLimits size) asciiClasses (now (document .entry)) (now (out .entry)) (now (work .entry))
+pub fn sample(
+    size: Size,
+    classes: &[u8],
+    document: &[u8],
+    out: &mut [u8],
+    work: &mut [u32],
+) -> Written
+    ensures { λ r. ⌜ Sampling (sizeLimits size) (now (classes .entry)) (now (document .entry)) (now (out .entry)) (now (work .entry))
         (after (writtenNumbers r) (now (out .exit)) (now (work .exit))) ⌝ }
 {
     let limits = limits_of(size);
@@ -30,7 +35,7 @@ pub fn sample(size: Size, document: &[u8], out: &mut [u8], work: &mut [u32]) -> 
         return Written::Refused(Refusal::WorkTooShort);
     }
     let mut draft = [0u8; INPUT];
-    let made = draft_sample(limits, document, &mut draft);
+    let made = draft_sample(limits, classes, document, &mut draft);
     clear_work(limits, work);
     deliver(&draft, made, out)
 }
@@ -38,6 +43,7 @@ pub fn sample(size: Size, document: &[u8], out: &mut [u8], work: &mut [u32]) -> 
 // A widening, to either kind and by either sort of addition.
 fn widen(
     size: Size,
+    classes: &[u8],
     kind: Kind,
     source: Source,
     old: &[u8],
@@ -45,9 +51,8 @@ fn widen(
     out: &mut [u8],
     work: &mut [u32],
 ) -> Written
-    ensures { λ r. ⌜ Widening (sizeLimits size) asciiClasses (kindOf kind) source (now (old .entry)) (now (addition .entry))
-        (now (out .entry))
-        (now (work .entry)) (after (writtenNumbers r) (now (out .exit)) (now (work .exit))) ⌝ }
+    ensures { λ r. ⌜ Widening (sizeLimits size) (now (classes .entry)) (kindOf kind) source (now (old .entry)) (now (addition .entry))
+        (now (out .entry)) (now (work .entry)) (after (writtenNumbers r) (now (out .exit)) (now (work .exit))) ⌝ }
 {
     let limits = limits_of(size);
     let words = limits.words;
@@ -57,6 +62,7 @@ fn widen(
     let mut draft = [0u8; INPUT];
     let made = draft_widened(
         limits,
+        classes,
         kind,
         source,
         old,
@@ -71,31 +77,42 @@ fn widen(
 // The least local table that lets in all that the old table and the addition let in.
 pub fn widen_local_by_table(
     size: Size,
+    classes: &[u8],
     old: &[u8],
     addition: &[u8],
     out: &mut [u8],
     work: &mut [u32],
 ) -> Written
-    ensures { λ r. ⌜ Widening (sizeLimits size) asciiClasses local aTable (now (old .entry)) (now (addition .entry)) (now (out .entry))
-        (now (work .entry)) (after (writtenNumbers r) (now (out .exit)) (now (work .exit))) ⌝ }
+    ensures { λ r. ⌜ Widening (sizeLimits size) (now (classes .entry)) local aTable (now (old .entry)) (now (addition .entry))
+        (now (out .entry)) (now (work .entry)) (after (writtenNumbers r) (now (out .exit)) (now (work .exit))) ⌝ }
 {
-    widen(size, Kind::Local, Source::Table, old, addition, out, work)
+    widen(
+        size,
+        classes,
+        Kind::Local,
+        Source::Table,
+        old,
+        addition,
+        out,
+        work,
+    )
 }
 
 // The least single-type table that lets in all that the old table and the addition let in.
 pub fn widen_single_type_by_table(
     size: Size,
+    classes: &[u8],
     old: &[u8],
     addition: &[u8],
     out: &mut [u8],
     work: &mut [u32],
 ) -> Written
-    ensures { λ r. ⌜ Widening (sizeLimits size) asciiClasses singleType aTable (now (old .entry)) (now (addition .entry))
-        (now (out .entry))
-        (now (work .entry)) (after (writtenNumbers r) (now (out .exit)) (now (work .exit))) ⌝ }
+    ensures { λ r. ⌜ Widening (sizeLimits size) (now (classes .entry)) singleType aTable (now (old .entry)) (now (addition .entry))
+        (now (out .entry)) (now (work .entry)) (after (writtenNumbers r) (now (out .exit)) (now (work .exit))) ⌝ }
 {
     widen(
         size,
+        classes,
         Kind::SingleType,
         Source::Table,
         old,
@@ -108,16 +125,18 @@ pub fn widen_single_type_by_table(
 // The least local table that lets in all that the old table lets in, and the document.
 pub fn widen_local_by_document(
     size: Size,
+    classes: &[u8],
     old: &[u8],
     document: &[u8],
     out: &mut [u8],
     work: &mut [u32],
 ) -> Written
-    ensures { λ r. ⌜ Widening (sizeLimits size) asciiClasses local aDocument (now (old .entry)) (now (document .entry)) (now (out .entry))
-        (now (work .entry)) (after (writtenNumbers r) (now (out .exit)) (now (work .exit))) ⌝ }
+    ensures { λ r. ⌜ Widening (sizeLimits size) (now (classes .entry)) local aDocument (now (old .entry)) (now (document .entry))
+        (now (out .entry)) (now (work .entry)) (after (writtenNumbers r) (now (out .exit)) (now (work .exit))) ⌝ }
 {
     widen(
         size,
+        classes,
         Kind::Local,
         Source::Document,
         old,
@@ -130,17 +149,18 @@ pub fn widen_local_by_document(
 // The least single-type table that lets in all that the old table lets in, and the document.
 pub fn widen_single_type_by_document(
     size: Size,
+    classes: &[u8],
     old: &[u8],
     document: &[u8],
     out: &mut [u8],
     work: &mut [u32],
 ) -> Written
-    ensures { λ r. ⌜ Widening (sizeLimits size) asciiClasses singleType aDocument (now (old .entry)) (now (document .entry))
-        (now (out .entry))
-        (now (work .entry)) (after (writtenNumbers r) (now (out .exit)) (now (work .exit))) ⌝ }
+    ensures { λ r. ⌜ Widening (sizeLimits size) (now (classes .entry)) singleType aDocument (now (old .entry)) (now (document .entry))
+        (now (out .entry)) (now (work .entry)) (after (writtenNumbers r) (now (out .exit)) (now (work .exit))) ⌝ }
 {
     widen(
         size,
+        classes,
         Kind::SingleType,
         Source::Document,
         old,

@@ -4,6 +4,7 @@ use grammar::Refusal;
 use grammar::SizeLimits;
 use grammar::Source;
 use grammar::Written;
+use reader::classes::classes_load;
 use reader::documents::read_document;
 use reader::index::INDEX;
 use reader::limits::INPUT;
@@ -19,13 +20,13 @@ ghost use mathlib.Core.Path.{_≡_};
 ghost use lib.ListN.{length, take, drop};
 ghost use Rattle.grammar.specs.Limits.{inputLimit};
 ghost use Rattle.grammar.specs.LimitSets.{limitsOf, Within};
-ghost use Rattle.grammar.specs.Names.{asciiClasses};
+ghost use Rattle.grammar.specs.Names.{Loads};
 ghost use Rattle.grammar.specs.Table.{Table};
 ghost use Rattle.grammar.specs.Outcome.{Outcome};
 ghost use Rattle.grammar.specs.declared.Source.the-variants.{Table as aTable, Document as aDocument};
 ghost use Rattle.reader.specs.Held.{Held, SomeHeld};
 ghost use Rattle.results.specs.Widened.{kindOf};
-ghost use Rattle.widening.specs.Drafting.{sampleOf, widenedBy, widenedFrom, InDraft, FitsDraft, HandedOver};
+ghost use Rattle.widening.specs.Drafting.{sampleOf, sampledFrom, widenedBy, widenedFrom, InDraft, FitsDraft, HandedOver};
 
 // The first `n` bytes of the draft at the front of the output. What stands behind them stays.
 fn hand_over(draft: &[u8], n: usize, out: &mut [u8])
@@ -62,6 +63,7 @@ pub fn deliver(draft: &[u8], made: Written, out: &mut [u8]) -> Written
 // Reads the addition and widens by it a table that was read.
 fn read_and_widen(
     limits: SizeLimits,
+    classes: &[u8],
     kind: Kind,
     old: &[u8],
     index: &[u16; 899],
@@ -69,13 +71,15 @@ fn read_and_widen(
     words: &mut [u32],
     draft: &mut [u8],
 ) -> Written
-    requires { ⌜ (Within limits) × (SomeHeld (limitsOf limits) asciiClasses (now old) (now index)) × (12288 ≤ length (now words))
+    requires { ⌜ Loads (now classes) ⌝ }
+    requires { ⌜ (Within limits) × (SomeHeld (limitsOf limits) (now old) (now index)) × (12288 ≤ length (now words))
         × (inputLimit ≤ length (now draft)) ⌝ }
-    ensures { λ r. ⌜ ((g : Table) → Held (limitsOf limits) asciiClasses (now (old .entry)) (now (index .entry)) g
-        → InDraft (widenedBy (limitsOf limits) aTable (kindOf kind) g (now (addition .entry))) (now (draft .exit)) r) ⌝ }
+    ensures { λ r. ⌜ ((g : Table) → Held (limitsOf limits) (now (old .entry)) (now (index .entry)) g
+        → InDraft (widenedBy (limitsOf limits) (now (classes .entry)) aTable (kindOf kind) g (now (addition .entry)))
+        (now (draft .exit)) r) ⌝ }
 {
     let mut added = [0u16; INDEX];
-    let readable = read_table(limits, addition, &mut added);
+    let readable = read_table(limits, classes, addition, &mut added);
     if let Reading::Refused(r) = readable {
         return Written::Refused(r);
     }
@@ -87,11 +91,12 @@ fn read_and_widen(
 }
 
 // Reads a document and makes its sample in the draft.
-pub fn draft_sample(limits: SizeLimits, document: &[u8], draft: &mut [u8]) -> Written
+fn read_and_sample(limits: SizeLimits, classes: &[u8], document: &[u8], draft: &mut [u8]) -> Written
+    requires { ⌜ Loads (now classes) ⌝ }
     requires { ⌜ (Within limits) × (inputLimit ≤ length (now draft)) ⌝ }
-    ensures { λ r. ⌜ InDraft (sampleOf (limitsOf limits) (now (document .entry))) (now (draft .exit)) r ⌝ }
+    ensures { λ r. ⌜ InDraft (sampleOf (limitsOf limits) (now (classes .entry)) (now (document .entry))) (now (draft .exit)) r ⌝ }
 {
-    let found = read_document(limits, document);
+    let found = read_document(limits, classes, document);
     let readable = found.answer;
     if let Reading::Refused(r) = readable {
         return Written::Refused(r);
@@ -105,6 +110,7 @@ pub fn draft_sample(limits: SizeLimits, document: &[u8], draft: &mut [u8]) -> Wr
 // Widens by the sample of a document a table that was read.
 fn widen_by_sample(
     limits: SizeLimits,
+    classes: &[u8],
     kind: Kind,
     old: &[u8],
     index: &[u16; 899],
@@ -112,43 +118,49 @@ fn widen_by_sample(
     words: &mut [u32],
     draft: &mut [u8],
 ) -> Written
-    requires { ⌜ (Within limits) × (SomeHeld (limitsOf limits) asciiClasses (now old) (now index)) × (12288 ≤ length (now words))
+    requires { ⌜ Loads (now classes) ⌝ }
+    requires { ⌜ (Within limits) × (SomeHeld (limitsOf limits) (now old) (now index)) × (12288 ≤ length (now words))
         × (inputLimit ≤ length (now draft)) ⌝ }
-    ensures { λ r. ⌜ ((g : Table) → Held (limitsOf limits) asciiClasses (now (old .entry)) (now (index .entry)) g
-        → InDraft (widenedBy (limitsOf limits) aDocument (kindOf kind) g (now (document .entry))) (now (draft .exit)) r) ⌝ }
+    ensures { λ r. ⌜ ((g : Table) → Held (limitsOf limits) (now (old .entry)) (now (index .entry)) g
+        → InDraft (widenedBy (limitsOf limits) (now (classes .entry)) aDocument (kindOf kind) g (now (document .entry)))
+        (now (draft .exit)) r) ⌝ }
 {
     let mut sample = [0u8; INPUT];
-    match draft_sample(limits, document, &mut sample) {
+    match read_and_sample(limits, classes, document, &mut sample) {
         Written::Refused(r) => Written::Refused(r),
-        Written::Length(n) => read_and_widen(limits, kind, old, index, &sample[0..n], words, draft),
+        Written::Length(n) => read_and_widen(
+            limits,
+            classes,
+            kind,
+            old,
+            index,
+            &sample[0..n],
+            words,
+            draft,
+        ),
     }
 }
 
-// Widens by an addition of either sort a table that was read.
-fn widen_read(
+// Tries the classes, then reads a document and makes its sample in the draft.
+pub fn draft_sample(
     limits: SizeLimits,
-    kind: Kind,
-    source: Source,
-    old: &[u8],
-    index: &[u16; 899],
-    addition: &[u8],
-    words: &mut [u32],
+    classes: &[u8],
+    document: &[u8],
     draft: &mut [u8],
 ) -> Written
-    requires { ⌜ (Within limits) × (SomeHeld (limitsOf limits) asciiClasses (now old) (now index)) × (12288 ≤ length (now words))
-        × (inputLimit ≤ length (now draft)) ⌝ }
-    ensures { λ r. ⌜ ((g : Table) → Held (limitsOf limits) asciiClasses (now (old .entry)) (now (index .entry)) g
-        → InDraft (widenedBy (limitsOf limits) source (kindOf kind) g (now (addition .entry))) (now (draft .exit)) r) ⌝ }
+    requires { ⌜ (Within limits) × (inputLimit ≤ length (now draft)) ⌝ }
+    ensures { λ r. ⌜ InDraft (sampledFrom (limitsOf limits) (now (classes .entry)) (now (document .entry))) (now (draft .exit)) r ⌝ }
 {
-    match source {
-        Source::Table => read_and_widen(limits, kind, old, index, addition, words, draft),
-        Source::Document => widen_by_sample(limits, kind, old, index, addition, words, draft),
+    if !classes_load(classes) {
+        return Written::Refused(Refusal::BadClasses);
     }
+    read_and_sample(limits, classes, document, draft)
 }
 
-// Reads the old table, then the addition, and makes the result in the draft.
+// Tries the classes, then reads the old table, then the addition of either sort, and makes the result in the draft.
 pub fn draft_widened(
     limits: SizeLimits,
+    classes: &[u8],
     kind: Kind,
     source: Source,
     old: &[u8],
@@ -157,13 +169,28 @@ pub fn draft_widened(
     draft: &mut [u8],
 ) -> Written
     requires { ⌜ (Within limits) × (12288 ≤ length (now words)) × (inputLimit ≤ length (now draft)) ⌝ }
-    ensures { λ r. ⌜ InDraft (widenedFrom (limitsOf limits) source (kindOf kind) (now (old .entry)) (now (addition .entry)))
-        (now (draft .exit)) r ⌝ }
+    ensures { λ r. ⌜ InDraft (widenedFrom (limitsOf limits) (now (classes .entry)) source (kindOf kind) (now (old .entry))
+        (now (addition .entry))) (now (draft .exit)) r ⌝ }
 {
+    if !classes_load(classes) {
+        return Written::Refused(Refusal::BadClasses);
+    }
     let mut index = [0u16; INDEX];
-    let readable = read_table(limits, old, &mut index);
+    let readable = read_table(limits, classes, old, &mut index);
     if let Reading::Refused(r) = readable {
         return Written::Refused(r);
     }
-    widen_read(limits, kind, source, old, &index, addition, words, draft)
+    match source {
+        Source::Table => read_and_widen(limits, classes, kind, old, &index, addition, words, draft),
+        Source::Document => widen_by_sample(
+            limits,
+            classes,
+            kind,
+            old,
+            &index,
+            addition,
+            words,
+            draft,
+        ),
+    }
 }

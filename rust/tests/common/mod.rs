@@ -1,4 +1,8 @@
-//! Tables and documents in bytes.
+//! Tables and documents in bytes, and the classes that most tests lend.
+
+use cogarrune::Classes;
+
+pub const ASCII: &Classes = &Classes::ASCII;
 
 pub const NONE: &[u8] = &[0];
 pub const EMPTY: &[u8] = &[1];

@@ -2,7 +2,6 @@
 use mathlib.Core.List.{[]}
 use mathlib.Core.Path.{ap}
 use Rattle.grammar.specs.LimitSets.{sizeLimits, sizeNumbered}
-use Rattle.grammar.specs.Names.{asciiClasses}
 use Rattle.grammar.specs.Calls.{after}
 use Rattle.grammar.specs.Answers.{readingNumbers}
 use Rattle.grammar.specs.Promises.{DocumentReading}
@@ -26,9 +25,9 @@ same-length c = search needs
 
 returns : tie.Need-returns
 returns c =
-    let a = c .before .before .before .before .before .before .before .before .args in
+    let a = c .before .before .before .before .before .before .before .before .before .args in
     let m = c .before .before .before .document-reads in
-    retold (λ n. DocumentReading (sizeLimits (sizeNumbered (a .size))) asciiClasses (a .document .now) (a .work .now) (after n [] (m .last .1 .1 .0))) (readingNumbers (m .result)) _ (c .of-reading .ensures)
+    retold (λ n. DocumentReading (sizeLimits (sizeNumbered (a .size))) (a .classes .now) (a .document .now) (a .work .now) (after n [] (m .last .1 .1 .1 .0))) (readingNumbers (m .result)) _ (c .of-reading .ensures)
     (reading-below (m .result)) (document-sized (ap sizeLimits (c .before .before .before .before .before .size-numbered .ensures)) (m .ensures))
 
 pub cogarrune-document-reads-spec : {M : Type 1} → statement M

@@ -2,7 +2,6 @@
 use mathlib.Core.List.{[]}
 use mathlib.Core.Path.{ap}
 use Rattle.grammar.specs.LimitSets.{sizeLimits, sizeNumbered}
-use Rattle.grammar.specs.Names.{asciiClasses}
 use Rattle.grammar.specs.Calls.{after}
 use Rattle.grammar.specs.Kinds.{local}
 use Rattle.grammar.specs.Answers.{verdictNumbers}
@@ -27,9 +26,9 @@ same-length c = search needs
 
 returns : tie.Need-returns
 returns c =
-    let a = c .before .before .before .before .before .before .before .before .args in
+    let a = c .before .before .before .before .before .before .before .before .before .args in
     let m = c .before .before .before .is-local in
-    retold (λ n. KindTest (sizeLimits (sizeNumbered (a .size))) asciiClasses local (a .table .now) (a .work .now) (after n [] (m .last .1 .1 .0))) (verdictNumbers (m .result)) _ (c .of-verdict .ensures)
+    retold (λ n. KindTest (sizeLimits (sizeNumbered (a .size))) (a .classes .now) local (a .table .now) (a .work .now) (after n [] (m .last .1 .1 .1 .0))) (verdictNumbers (m .result)) _ (c .of-verdict .ensures)
     (verdict-below (m .result)) (kind-sized (ap sizeLimits (c .before .before .before .before .before .size-numbered .ensures)) (m .ensures))
 
 pub cogarrune-is-local-spec : {M : Type 1} → statement M

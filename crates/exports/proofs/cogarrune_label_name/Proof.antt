@@ -18,7 +18,7 @@ of-refusal-requires : tie.Need-of-refusal-requires
 of-refusal-requires c κs = search needs
 
 returns : tie.Need-returns
-returns c = place-sized (c .before .before .before .limits-of .ensures .0 ∙ ap sizeLimits (c .before .before .before .before .size-numbered .ensures)) (place-unanswered (within-large (c .before .before .before .limits-of .ensures .1)) (c .before .before .before .before .before .before .before .args .table .now) (c .before .before .before .before .before .before .before .args .label) (c .before .before .before .before .before .before .before .args .work .now) (c .before .if1 .taken) _ (c .of-refusal .ensures))
+returns c = place-sized (c .before .before .before .limits-of .ensures .0 ∙ ap sizeLimits (c .before .before .before .before .size-numbered .ensures)) (place-unanswered (within-large (c .before .before .before .limits-of .ensures .1)) (c .before .before .before .before .before .before .before .before .args .classes .now) (c .before .before .before .before .before .before .before .before .args .table .now) (c .before .before .before .before .before .before .before .before .args .label) (c .before .before .before .before .before .before .before .before .args .work .now) (c .before .if1 .taken) _ (c .of-refusal .ensures))
 
 find-label-requires : tie.Need-find-label-requires
 find-label-requires c κs = search needs
@@ -27,13 +27,13 @@ clear-work-requires : tie.Need-clear-work-requires
 clear-work-requires c κs = search needs
 
 of-place-requires : tie.Need-of-place-requires
-of-place-requires c κs = short-name (within-large (c .before .before .before .before .before .before .before .limits-of .ensures .1)) (c .before .before .before .before .before .before .before .before .before .before .before .args .table .now) (c .before .before .before .before .before .before .before .before .before .before .before .args .label) (c .before .before .before .before .before .before .before .before .before .before .before .args .work .now) (c .before .before .before .before .find-label .result) (c .before .before .before .before .find-label .ensures)
+of-place-requires c κs = short-name (within-large (c .before .before .before .before .before .before .before .limits-of .ensures .1)) (c .before .before .before .before .before .before .before .before .before .before .before .before .args .classes .now) (c .before .before .before .before .before .before .before .before .before .before .before .before .args .table .now) (c .before .before .before .before .before .before .before .before .before .before .before .before .args .label) (c .before .before .before .before .before .before .before .before .before .before .before .before .args .work .now) (c .before .before .before .before .find-label .result) (c .before .before .before .before .find-label .ensures)
 
 same-length : tie.Need-same-length
 same-length c = search needs
 
 returns-2 : tie.Need-returns-2
-returns-2 c = place-sized (c .before .before .before .before .before .before .before .before .limits-of .ensures .0 ∙ ap sizeLimits (c .before .before .before .before .before .before .before .before .before .size-numbered .ensures)) (place-answered (within-large (c .before .before .before .before .before .before .before .before .limits-of .ensures .1)) (c .before .before .before .before .before .before .before .before .before .before .before .before .args .table .now) (c .before .before .before .before .before .before .before .before .before .before .before .before .args .label) (c .before .before .before .before .before .before .before .before .before .before .before .before .args .work .now) (c .before .before .before .before .before .before .if1 .left) _ (c .before .before .before .clear-work .ensures) (c .before .before .before .before .before .find-label .result) (c .before .before .before .before .before .find-label .ensures) _ (c .of-place .ensures))
+returns-2 c = place-sized (c .before .before .before .before .before .before .before .before .limits-of .ensures .0 ∙ ap sizeLimits (c .before .before .before .before .before .before .before .before .before .size-numbered .ensures)) (place-answered (within-large (c .before .before .before .before .before .before .before .before .limits-of .ensures .1)) (c .before .before .before .before .before .before .before .before .before .before .before .before .before .args .classes .now) (c .before .before .before .before .before .before .before .before .before .before .before .before .before .args .table .now) (c .before .before .before .before .before .before .before .before .before .before .before .before .before .args .label) (c .before .before .before .before .before .before .before .before .before .before .before .before .before .args .work .now) (c .before .before .before .before .before .before .if1 .left) _ (c .before .before .before .clear-work .ensures) (c .before .before .before .before .before .find-label .result) (c .before .before .before .before .before .find-label .ensures) _ (c .of-place .ensures))
 
 pub cogarrune-label-name-spec : {M : Type 1} → statement M
 cogarrune-label-name-spec =

@@ -1,7 +1,6 @@
 -- `cogarrune_sample` meets its contract.
 use mathlib.Core.Path.{ap}
 use Rattle.grammar.specs.LimitSets.{sizeLimits, sizeNumbered}
-use Rattle.grammar.specs.Names.{asciiClasses}
 use Rattle.grammar.specs.Calls.{after}
 use Rattle.grammar.specs.Answers.{writtenNumbers}
 use Rattle.grammar.specs.Promises.{Sampling}
@@ -29,12 +28,12 @@ same-length-2 c = search needs
 
 returns : tie.Need-returns
 returns c =
-    let a = c .before .before .before .before .before .before .before .before .before .before .before .before .args in
+    let a = c .before .before .before .before .before .before .before .before .before .before .before .before .before .args in
     let m = c .before .before .before .before .before .sample in
     let told = sampling-sized (ap sizeLimits (c .before .before .before .before .before .before .before .before .size-numbered .ensures)) (m .ensures) in
-    retold (λ n. Sampling (sizeLimits (sizeNumbered (a .size))) asciiClasses (a .document .now) (a .out .now) (a .work .now) (after n (m .last .1 .1 .0) (m .last .1 .1 .1 .0)))
+    retold (λ n. Sampling (sizeLimits (sizeNumbered (a .size))) (a .classes .now) (a .document .now) (a .out .now) (a .work .now) (after n (m .last .1 .1 .1 .0) (m .last .1 .1 .1 .1 .0)))
     (writtenNumbers (m .result)) _ (c .of-written .ensures)
-    (sampled-value (sizeNumbered (a .size)) (a .document .now) (a .out .now) (a .work .now) _ _ _ told) told
+    (sampled-value (sizeNumbered (a .size)) (a .classes .now) (a .document .now) (a .out .now) (a .work .now) _ _ _ told) told
 
 pub cogarrune-sample-spec : {M : Type 1} → statement M
 cogarrune-sample-spec =

@@ -2,7 +2,6 @@
 use mathlib.Core.List.{[]}
 use mathlib.Core.Path.{ap}
 use Rattle.grammar.specs.LimitSets.{sizeLimits, sizeNumbered}
-use Rattle.grammar.specs.Names.{asciiClasses}
 use Rattle.grammar.specs.Calls.{after}
 use Rattle.grammar.specs.Answers.{readingNumbers}
 use Rattle.grammar.specs.Promises.{TableReading}
@@ -26,9 +25,9 @@ same-length c = search needs
 
 returns : tie.Need-returns
 returns c =
-    let a = c .before .before .before .before .before .before .before .before .args in
+    let a = c .before .before .before .before .before .before .before .before .before .args in
     let m = c .before .before .before .table-reads in
-    retold (λ n. TableReading (sizeLimits (sizeNumbered (a .size))) asciiClasses (a .table .now) (a .work .now) (after n [] (m .last .1 .1 .0))) (readingNumbers (m .result)) _ (c .of-reading .ensures)
+    retold (λ n. TableReading (sizeLimits (sizeNumbered (a .size))) (a .classes .now) (a .table .now) (a .work .now) (after n [] (m .last .1 .1 .1 .0))) (readingNumbers (m .result)) _ (c .of-reading .ensures)
     (reading-below (m .result)) (table-sized (ap sizeLimits (c .before .before .before .before .before .size-numbered .ensures)) (m .ensures))
 
 pub cogarrune-table-reads-spec : {M : Type 1} → statement M

@@ -1,7 +1,7 @@
 -- The numbers written for a table or a document that a file can hold are bytes, where the limits are those of bytes:
 --   table-bytes-small : BytesAgree lim classes → TableWithin lim classes g → AreBytes (tableBytes g)
 --   document-bytes-small : BytesAgree lim classes → DocumentWithin lim classes d → AreBytes (documentBytes d)
-use Prim.Native.Nat.{ℕ, zero, suc, _/_, _%_, _≤_, _<_}
+use Prim.Native.Nat.{ℕ, _/_, _%_, _≤_, _<_}
 use native.Mathlib.Omega.{arith}
 use mathlib.Core.Bool.{true}
 use mathlib.Core.List.{
@@ -17,14 +17,13 @@ use mathlib.Core.List.{
 }
 use mathlib.Core.Logic.{⊎-elim}
 use mathlib.Core.Path.{_≡_, ap}
-use lib.ListN.{length, length-append, length-map, getD}
-use lib.Dec.{eqb, leb}
-use borrow.Author.Tests.{eqb-true, leb-true, ltb-true}
-use Rattle.grammar.specs.Lists.{allPass, joinedOf, numbersBelow}
+use lib.ListN.{length, length-append}
+use borrow.Author.Tests.{ltb-true}
+use Rattle.grammar.specs.Lists.{joinedOf}
 use Rattle.grammar.specs.Limits.{Limits}
 use Rattle.grammar.specs.LimitSets.{limitsOf, Within}
 use Rattle.grammar.specs.declared.SizeLimits.{SizeLimits}
-use Rattle.grammar.specs.Names.{Name, Classes, isName, classOf, asciiClasses}
+use Rattle.grammar.specs.Names.{Classes, Loads}
 use Rattle.grammar.specs.Content.{
   Content,
   none,
@@ -50,8 +49,9 @@ use Rattle.grammar.specs.WriteTable.{ruleBytes, tableBytes}
 use Rattle.grammar.specs.WriteDocument.{nodesOf, nodeBytes, documentBytes}
 use Rattle.grammar.specs.WithinLimits.{TableWithin, DocumentWithin}
 use Rattle.theory.proofs.lists.BoolLaws.{and-left, and-right}
-use Rattle.theory.proofs.lists.ListLaws.{all-at, joined-from, numbers-length}
+use Rattle.theory.proofs.lists.ListLaws.{joined-from}
 use Rattle.theory.proofs.bytes.FieldBytes.{AreBytes}
+use Rattle.theory.proofs.bytes.ClassLaws.{all-classed, name-small}
 use Rattle.theory.proofs.contents.ProperContents.{proper-operands}
 
 -- limits of files of bytes
@@ -63,13 +63,11 @@ pub record BytesAgree (lim : Limits) (classes : Classes) : Type 0 where
   pub input : lim .input < 65536
   pub name-bytes : length classes ≤ 256
 
--- those that the code has room for
-pub within-bytes : {l : SizeLimits} → Within l → BytesAgree (limitsOf l) asciiClasses
-unfolding asciiClasses numbersBelow
-within-bytes w =
+-- those that the code has room for, under any classes that load
+pub within-bytes : {l : SizeLimits} → Within l → {classes : Classes} → Loads classes → BytesAgree (limitsOf l) classes
+within-bytes w {classes} load =
     let few = w .rules in
-    let a = length-map (numbersBelow 256) classOf in
-    let b = numbers-length 0 256 in
+    let all = all-classed classes load in
     record {
       types = omega arith;
       labels = omega arith;
@@ -113,33 +111,6 @@ field-small tag value t l h =
 field-long : (tag : ℕ) (value : List ℕ) → length value ≤ length (fieldBytes tag value)
 unfolding fieldBytes
 field-long tag value = omega arith
-
--- a number with a class above 0 is among those that have a class
-has-class : (classes : Classes) (b : ℕ) → 1 ≤ getD classes b 0 → b < length classes
-has-class [] b h = absurd (omega arith)
-has-class (c ∷ cs) zero h = omega arith
-has-class (c ∷ cs) (suc b) h = let r = has-class cs b h in omega arith
-
-name-small : (classes : Classes) (n : Name) → length classes ≤ 256 → isName classes n ≡ true → AreBytes n
-unfolding isName
-name-small classes [] l e = small-none
-name-small classes (b ∷ bs) l e = small-cons b bs first rest
-  where
-    first : b < 256
-    first =
-        let q =
-        eqb-true (getD classes b 0) 2 (and-left (eqb (getD classes b 0) 2) (allPass (λ c. leb 1 (getD classes c 0)) bs) e) in
-        let r = has-class classes b (omega arith) in
-        omega arith
-
-    rest : AreBytes bs
-    rest c m =
-        let q =
-        all-at (λ c. leb 1 (getD classes c 0))
-        (and-right (eqb (getD classes b 0) 2) (allPass (λ c. leb 1 (getD classes c 0)) bs) e)
-        m in
-        let r = has-class classes c (leb-true 1 (getD classes c 0) q) in
-        omega arith
 
 -- contents
 module _ (lim : Limits) (classes : Classes) (agree : BytesAgree lim classes) where

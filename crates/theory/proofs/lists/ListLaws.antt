@@ -1,5 +1,5 @@
 -- What the words of grammar's Lists mean, in terms of membership and positions. Of any lists:
---     any-found, any-of, any-append, all-at, all-of           tests of elements
+--     any-found, any-of, any-append, all-at, all-of, all-append    tests of elements
 --     kept, keep-mem, keep-on, keep-both                      what is kept
 --     distinct-was, distinct-has, distinct-mem                the distinct elements
 --     at-mem, mem-at, at-below, below-at, at-joined, at-else  what stands at a place
@@ -98,6 +98,16 @@ module _ {A : Type 0} where
   all-of test [] h = refl
   all-of test (x ∷ xs) h =
       and-intro (test x) (allPass test xs) (h x (List·Memᴰ·head refl)) (all-of test xs (λ y m. h y (List·Memᴰ·tail m)))
+
+  pub all-append : (test : A → Bool) (xs ys : List A) → allPass test (xs ++ ys) ≡ (allPass test xs && allPass test ys)
+  unfolding allPass
+  all-append test [] ys = refl
+  all-append test (x ∷ xs) ys = go (test x) (all-append test xs ys)
+    where
+      go : (b : Bool) → allPass test (xs ++ ys) ≡ (allPass test xs && allPass test ys)
+          → (b && allPass test (xs ++ ys)) ≡ (b && allPass test xs && allPass test ys)
+      go true e = e
+      go false e = refl
 
   pub keep-yes : (test : A → Bool) (x : A) (xs : List A) → test x ≡ true → keep test (x ∷ xs) ≡ x ∷ keep test xs
   unfolding keep

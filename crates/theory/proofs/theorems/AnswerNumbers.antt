@@ -1,10 +1,10 @@
 -- The paper's numbers tell answers apart: a refusal's number is not 0 and no other refusal's, so an answer's numbers settle its outcome.
-use Prim.Native.Nat.{ℕ, zero, suc, _<_}
+use Prim.Native.Nat.{ℕ, _<_}
 use native.Mathlib.Omega.{arith}
 use mathlib.Core.Bool.{Bool, true, false}
-use mathlib.Core.List.{List}
+use mathlib.Core.List.{List, [], _∷_}
 use mathlib.Core.Path.{_≡_, refl, sym, _∙_, ap}
-use lib.ListN.{length}
+use lib.ListN.{length, getD}
 use Rattle.grammar.specs.Outcome.{Outcome, given, refused, number}
 use Rattle.grammar.specs.Answers.{
   Numbers,
@@ -35,6 +35,7 @@ use Rattle.grammar.specs.declared.Refusal.the-variants.{
   NoDocument,
   ResultTooLarge,
   OutputTooShort,
+  BadClasses,
 }
 use Rattle.grammar.specs.declared.Written.the-variants.{Length, Refused as Unwritten}
 
@@ -55,28 +56,37 @@ number-positive BytesAfterEnd = omega arith
 number-positive NoDocument = omega arith
 number-positive ResultTooLarge = omega arith
 number-positive OutputTooShort = omega arith
+number-positive BadClasses = omega arith
 
--- the refusal of a number
+-- the refusals by their numbers; the first stands at those of none
+numbered : List Refusal
+numbered =
+    WorkTooShort
+    ∷ WorkTooShort
+    ∷ InputTooLong
+    ∷ FieldPastEnd
+    ∷ BadField
+    ∷ BadName
+    ∷ Repeated
+    ∷ TooMany
+    ∷ OutOfRange
+    ∷ BadContent
+    ∷ NestedTooDeep
+    ∷ BadTree
+    ∷ BytesAfterEnd
+    ∷ NoDocument
+    ∷ ResultTooLarge
+    ∷ OutputTooShort
+    ∷ WorkTooShort
+    ∷ WorkTooShort
+    ∷ BadClasses
+    ∷ []
+
 refusalOf : ℕ → Refusal
-refusalOf zero = WorkTooShort
-refusalOf (suc zero) = WorkTooShort
-refusalOf (suc (suc zero)) = InputTooLong
-refusalOf (suc (suc (suc zero))) = FieldPastEnd
-refusalOf (suc (suc (suc (suc zero)))) = BadField
-refusalOf (suc (suc (suc (suc (suc zero))))) = BadName
-refusalOf (suc (suc (suc (suc (suc (suc zero)))))) = Repeated
-refusalOf (suc (suc (suc (suc (suc (suc (suc zero))))))) = TooMany
-refusalOf (suc (suc (suc (suc (suc (suc (suc (suc zero)))))))) = OutOfRange
-refusalOf (suc (suc (suc (suc (suc (suc (suc (suc (suc zero))))))))) = BadContent
-refusalOf (suc (suc (suc (suc (suc (suc (suc (suc (suc (suc zero)))))))))) = NestedTooDeep
-refusalOf (suc (suc (suc (suc (suc (suc (suc (suc (suc (suc (suc zero))))))))))) = BadTree
-refusalOf (suc (suc (suc (suc (suc (suc (suc (suc (suc (suc (suc (suc zero)))))))))))) = BytesAfterEnd
-refusalOf (suc (suc (suc (suc (suc (suc (suc (suc (suc (suc (suc (suc (suc zero))))))))))))) = NoDocument
-refusalOf (suc (suc (suc (suc (suc (suc (suc (suc (suc (suc (suc (suc (suc (suc zero)))))))))))))) = ResultTooLarge
-refusalOf (suc (suc (suc (suc (suc (suc (suc (suc (suc (suc (suc (suc (suc (suc (suc n))))))))))))))) = OutputTooShort
+refusalOf n = getD numbered n WorkTooShort
 
 number-back : (r : Refusal) → refusalOf (number r) ≡ r
-unfolding number refusalOf
+unfolding number refusalOf numbered
 number-back WorkTooShort = refl
 number-back InputTooLong = refl
 number-back FieldPastEnd = refl
@@ -92,6 +102,7 @@ number-back BytesAfterEnd = refl
 number-back NoDocument = refl
 number-back ResultTooLarge = refl
 number-back OutputTooShort = refl
+number-back BadClasses = refl
 
 pub number-same : (q r : Refusal) → number q ≡ number r → q ≡ r
 number-same q r e = sym (number-back q) ∙ ap refusalOf e ∙ number-back r

@@ -3,7 +3,7 @@
 --     membership, kind-test, sampling, widening
 use Prim.Native.Nat.{ℕ, _≤_, _<_}
 use native.Mathlib.Omega.{arith}
-use mathlib.Core.Bool.{Bool, true, false, true≢false}
+use mathlib.Core.Bool.{Bool, true, false, not, true≢false}
 use mathlib.Core.List.{List, _++_}
 use mathlib.Core.Logic.{_↔_, _⊎_}
 use mathlib.Core.Path.{_≡_, refl, sym, _∙_, ap, subst}
@@ -12,7 +12,7 @@ use lib.ListN.{length, take, drop}
 use lib.Seq.{take-append-seam}
 use borrow.Author.Tests.{lt-ltb, le-ltb}
 use Rattle.grammar.specs.Limits.{Limits, LimitsAgree}
-use Rattle.grammar.specs.Names.{Classes}
+use Rattle.grammar.specs.Names.{Classes, loads, Loads}
 use Rattle.grammar.specs.Tree.{Tree}
 use Rattle.grammar.specs.Table.{Table}
 use Rattle.grammar.specs.Derivation.{LetsIn}
@@ -44,7 +44,7 @@ use Rattle.grammar.specs.Calls.{
 }
 use Rattle.grammar.specs.Promises.{Decides, Membership, KindTest, Sampling, Widening}
 use Rattle.grammar.specs.declared.Source.{Source}
-use Rattle.grammar.specs.declared.Refusal.the-variants.{WorkTooShort, NoDocument, OutputTooShort}
+use Rattle.grammar.specs.declared.Refusal.the-variants.{WorkTooShort, BadClasses, NoDocument, OutputTooShort}
 use Rattle.theory.proofs.bytes.OutcomeLaws.{given-then, no-fault, was-given, had-no-fault, given-eq}
 use Rattle.theory.proofs.theorems.AnswerNumbers.{numbers-given, numbers-refused}
 use Rattle.theory.proofs.matching.Membership.{lets-in}
@@ -92,11 +92,37 @@ module _ (lim : Limits) (work : List ℕ) {A : Type 0} (o : Outcome A) where
   unfolding workTooShort
   lent-enough h = no-fault (workTooShort lim work) WorkTooShort o (le-ltb (length work) (lim .words) h)
 
+-- reading under the classes lent
+module _ (classes : Classes) {A : Type 0} (o : Outcome A) where
+  abbrev pub loaded : Outcome A
+  loaded = turnBack (not (loads classes)) BadClasses >> o
+
+  pub loaded-is : Loads classes → loaded ≡ o
+  loaded-is l = no-fault (not (loads classes)) BadClasses o (ap not l)
+
+  pub unloaded-is : loads classes ≡ false → loaded ≡ refused BadClasses
+  unloaded-is e = ap (λ (b : Bool). turnBack (not b) BadClasses >> o) e
+
+  -- what follows follows under the classes
+  pub loaded-then : {B : Type 0} (next : A → Outcome B) → (loaded >>= next) ≡ (turnBack (not (loads classes)) BadClasses >> (o >>= next))
+  loaded-then next = go (loads classes)
+    where
+      go : (b : Bool) → ((turnBack (not b) BadClasses >> o) >>= next) ≡ (turnBack (not b) BadClasses >> (o >>= next))
+      go true = refl
+      go false = refl
+
+-- and with both
+module _ (lim : Limits) (classes : Classes) (work : List ℕ) {A : Type 0} (o : Outcome A) where
+  pub lent-loaded : lim .words ≤ length work → Loads classes → lent lim work (loaded classes o) ≡ o
+  lent-loaded h l = lent-enough lim work (loaded classes o) h ∙ loaded-is classes o l
+
   -- what was given in the end was read
-  lent-given : {B : Type 0} (next : A → Outcome B) (b : B) → (lent >>= next) ≡ given b → (a : A) → o ≡ given a → next a ≡ given b
+  lent-given : {B : Type 0} (next : A → Outcome B) (b : B) → (lent lim work (loaded classes o) >>= next) ≡ given b → (a : A) → o ≡ given a
+      → next a ≡ given b
   lent-given next b e a p =
-      let (x, q, n) = was-given lent next b e in
-      let same = given-eq (sym (had-no-fault (workTooShort lim work) WorkTooShort o x q .1) ∙ p) in
+      let (x, q, n) = was-given (lent lim work (loaded classes o)) next b e in
+      let under = had-no-fault (workTooShort lim work) WorkTooShort (loaded classes o) x q .1 in
+      let same = given-eq (sym (had-no-fault (not (loads classes)) BadClasses o x under .1) ∙ p) in
       subst (λ (y : A). next y ≡ given b) same n
 
 -- what is written is a table's bytes, and stands at the front of the output
@@ -131,11 +157,11 @@ module _ (lim : Limits) (classes : Classes) where
   membership table document work left s =
       record {
         settled = s;
-        decides = λ g d p q h.
+        decides = λ g d p q h l.
             decided (letsIn g d) (lets-in g d) (left .answer)
             (ap (λ (a : After Numbers). a .answer) s
             ∙ ap (λ (o : Outcome Table). numbersOf bit (o >>= λ g. (readDocument lim classes document >>= λ d. given (letsIn g d))))
-            (lent-enough lim work (readTable lim classes table) h ∙ p)
+            (lent-loaded lim classes work (readTable lim classes table) h l ∙ p)
             ∙ ap (λ (o : Outcome Tree). numbersOf bit (o >>= λ d. given (letsIn g d))) q);
       }
 
@@ -145,11 +171,11 @@ module _ (lim : Limits) (classes : Classes) where
   kind-test kind table work left s =
       record {
         settled = s;
-        decides = λ g p h.
+        decides = λ g p h l.
             decided (isOfKind kind g) (of-kind kind g) (left .answer)
             (ap (λ (a : After Numbers). a .answer) s
             ∙ ap (λ (o : Outcome Table). numbersOf bit (o >>= λ g. given (isOfKind kind g)))
-            (lent-enough lim work (readTable lim classes table) h ∙ p));
+            (lent-loaded lim classes work (readTable lim classes table) h l ∙ p));
       }
 
   module _ (agree : LimitsAgree lim) where
@@ -162,7 +188,7 @@ module _ (lim : Limits) (classes : Classes) where
           reads = λ z d p.
               let bytes = take (left .answer .value) (left .out) in
               let f =
-              lent-given lim work (readDocument lim classes document) (λ d. (sampleTable lim d >>= λ g. writtenTo out g)) bytes
+              lent-given lim classes work (readDocument lim classes document) (λ d. (sampleTable lim d >>= λ g. writtenTo out g)) bytes
               (wrote-bytes lim (documentSample lim classes document out work) out work left s z) d p in
               let (g, q, w) = was-given (sampleTable lim d) (λ g. writtenTo out g) bytes f in
               ap (readTable lim classes) (sym (written-bytes out g bytes w))
@@ -180,7 +206,7 @@ module _ (lim : Limits) (classes : Classes) where
         unfolding widened tableReads
         writes-least bytes e =
             let f =
-            lent-given lim work (readTable lim classes old)
+            lent-given lim classes work (readTable lim classes old)
             (λ g. (readAddition lim classes source addition >>= λ a. (widen lim kind g a >>= λ r. writtenTo out r))) bytes e g p in
             let (r, n, w) =
             was-given (widen lim kind g a) (λ r. writtenTo out r) bytes
@@ -189,12 +215,12 @@ module _ (lim : Limits) (classes : Classes) where
             (widening-theorem lim classes agree kind source old addition g a r p q n)
 
         -- with enough working memory the outcome is that of widening
-        widens : lim .words ≤ length work → outcome ≡ (widen lim kind g a >>= writtenTo out)
+        widens : lim .words ≤ length work → Loads classes → outcome ≡ (widen lim kind g a >>= writtenTo out)
         unfolding widened tableReads
-        widens h =
+        widens h l =
             ap
             (λ (o : Outcome Table). o >>= λ g. (readAddition lim classes source addition >>= λ a. (widen lim kind g a >>= λ r. writtenTo out r)))
-            (lent-enough lim work (readTable lim classes old) h ∙ p)
+            (lent-loaded lim classes work (readTable lim classes old) h l ∙ p)
             ∙ ap (λ (o : Outcome Addition). o >>= λ a. (widen lim kind g a >>= λ r. writtenTo out r)) q
 
         -- 13 comes from widening alone
@@ -210,7 +236,8 @@ module _ (lim : Limits) (classes : Classes) where
         was-thirteen (refused r) e = cc
         was-thirteen (given r) e = absurd (writing-thirteen r e)
 
-        module _ (left : After Numbers) (s : left ≡ wrote lim outcome out work) (h : lim .words ≤ length work) where
+        module _ (left : After Numbers) (s : left ≡ wrote lim outcome out work) (h : lim .words ≤ length work)
+            (l : Loads classes) where
           so-thirteen : (left .answer ≡ refusedBy NoDocument) ↔ ((d : Tree) → LetsIn g d ⊎ Added a d → ⊥)
           unfolding numbersOf
           so-thirteen = (
@@ -218,11 +245,11 @@ module _ (lim : Limits) (classes : Classes) where
                 thirteen lim classes agree kind source old addition g a p q
                 .0
                 (was-thirteen (widen lim kind g a)
-                (sym (widens h) ∙ numbers-refused length outcome NoDocument (sym (wrote-numbers lim outcome out work left s) ∙ e))),
+                (sym (widens h l) ∙ numbers-refused length outcome NoDocument (sym (wrote-numbers lim outcome out work left s) ∙ e))),
             λ none.
                 wrote-numbers lim outcome out work left s
                 ∙ ap (numbersOf length)
-                (widens h
+                (widens h l
                 ∙ ap (λ (o : Outcome Table). o >>= writtenTo out) (thirteen lim classes agree kind source old addition g a p q .1 none)),
           )
 
@@ -231,5 +258,5 @@ module _ (lim : Limits) (classes : Classes) where
           record {
             settled = s;
             least = λ z g a p q. writes-least g a p q _ (wrote-bytes lim outcome out work left s z);
-            no-document = λ g a p q h. so-thirteen g a p q left s h;
+            no-document = λ g a p q h l. so-thirteen g a p q left s h l;
           }

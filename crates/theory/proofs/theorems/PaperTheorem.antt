@@ -34,8 +34,9 @@ use Rattle.grammar.proofs.PaperTables.{
   p8Result,
 }
 use Rattle.grammar.proofs.PaperCases as computed
+use Rattle.grammar.proofs.ClassRules.{ascii-load}
 use Rattle.theory.proofs.matching.Membership.{is-let-in, not-let-in}
-use Rattle.theory.proofs.theorems.CallPromises.{lent-enough}
+use Rattle.theory.proofs.theorems.CallPromises.{lent-loaded}
 
 -- the table that widening g by E to a kind gives
 pub record WidenedByE (kind : Kind) (g result : Table) : Type 0 where
@@ -64,7 +65,7 @@ e-by-e kind out work h =
     ap
     (λ (o : Outcome Table).
     numberAfter (o >>= λ g. (readAddition standard asciiClasses aTable eBytes >>= λ a. (widen standard kind g a >>= λ r. writtenTo out r))))
-    (lent-enough standard work (readTable standard asciiClasses eBytes) h)
+    (lent-loaded standard asciiClasses work (readTable standard asciiClasses eBytes) h ascii-load)
     ∙ both kind
   where
     both : (kind : Kind) → numberAfter (computed.eByE kind out) ≡ 13

@@ -7,7 +7,6 @@ use lib.Seq.{take-all}
 use borrow.Author.Needs.{needs}
 use Rattle.grammar.specs.Lists.{joinedOf}
 use Rattle.grammar.specs.Limits.{large}
-use Rattle.grammar.specs.Names.{asciiClasses}
 use Rattle.grammar.specs.Listing.{ruleLine}
 use Rattle.reader.specs.Held.{SomeHeld}
 use Rattle.writer.specs.Writing.{Put}
@@ -22,7 +21,7 @@ Inv-loop table index text₀ at rules end₀ i₀ text end i =
     (i ≤ rules)
     × (length text ≡ length text₀)
     × (end ≤ at + 3141 * i)
-    × ((f : SomeHeld large asciiClasses table index) → Put text₀ at (joinedOf (ruleLine (f .table)) (take i (f .table .rules))) text end)
+    × ((f : SomeHeld large table index) → Put text₀ at (joinedOf (ruleLine (f .table)) (take i (f .table .rules))) text end)
 
 abbrev μ-loop : tie.MeasureT-loop
 μ-loop table index text₀ at rules end₀ i₀ text end i = rules - i

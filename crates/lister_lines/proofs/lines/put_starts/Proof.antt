@@ -7,7 +7,6 @@ use lib.Seq.{take-all}
 use borrow.Author.Needs.{needs}
 use Rattle.grammar.specs.Lists.{joinedOf}
 use Rattle.grammar.specs.Limits.{large}
-use Rattle.grammar.specs.Names.{asciiClasses}
 use Rattle.grammar.specs.Listing.{startLine}
 use Rattle.reader.specs.Held.{SomeHeld}
 use Rattle.reader.proofs.TableFoundLaws.{start-small}
@@ -23,7 +22,7 @@ Inv-loop table index text₀ at starts end₀ i₀ text end i =
     (i ≤ starts)
     × (length text ≡ length text₀)
     × (end ≤ at + 11 * i)
-    × ((f : SomeHeld large asciiClasses table index) → Put text₀ at (joinedOf startLine (take i (f .table .starts))) text end)
+    × ((f : SomeHeld large table index) → Put text₀ at (joinedOf startLine (take i (f .table .starts))) text end)
 
 abbrev μ-loop : tie.MeasureT-loop
 μ-loop table index text₀ at starts end₀ i₀ text end i = starts - i

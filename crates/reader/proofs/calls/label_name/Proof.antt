@@ -2,7 +2,6 @@
 use native.Mathlib.Omega.{arith}
 use mathlib.Core.Path.{refl}
 use Rattle.grammar.specs.LimitSets.{limitsOf}
-use Rattle.grammar.specs.Names.{asciiClasses}
 use Rattle.theory.proofs.theorems.SizedPromises.{part-sized}
 use Rattle.reader.proofs.CallLaws.{label-unanswered, label-refused, label-given}
 use Rattle.reader.proofs.WorkLaws.{work-kept}
@@ -23,7 +22,7 @@ part-result-end : tie.Need-part-result-end
 part-result-end c = search needs
 
 returns : tie.Need-returns
-returns c = part-sized (c .before .before .before .limits-of .ensures .0) asciiClasses (c .before .before .before .before .before .before .args .table .now) (c .before .before .before .before .before .before .args .label) (c .before .before .before .before .before .before .args .work .now) (label-unanswered (limitsOf (c .before .before .before .limits-of .result)) (c .before .before .before .before .before .before .args .table .now) (c .before .before .before .before .before .before .args .label) (c .before .before .before .before .before .before .args .work .now) _ (work-kept (limitsOf (c .before .before .before .limits-of .result)) (c .before .before .before .before .before .before .args .work .now) (c .before .if1 .taken)) (c .before .before .before .before .before .before .args .table .ptr) _ refl (omega arith) (c .before .if1 .taken))
+returns c = part-sized (c .before .before .before .limits-of .ensures .0) (c .before .before .before .before .before .before .before .args .classes .now) (c .before .before .before .before .before .before .before .args .table .now) (c .before .before .before .before .before .before .before .args .label) (c .before .before .before .before .before .before .before .args .work .now) (label-unanswered (limitsOf (c .before .before .before .limits-of .result)) (c .before .before .before .before .before .before .before .args .classes .now) (c .before .before .before .before .before .before .before .args .table .now) (c .before .before .before .before .before .before .before .args .label) (c .before .before .before .before .before .before .before .args .work .now) _ (work-kept (limitsOf (c .before .before .before .limits-of .result)) (c .before .before .before .before .before .before .before .args .work .now) (c .before .if1 .taken)) (c .before .before .before .before .before .before .before .args .table .ptr) _ refl (omega arith) (c .before .if1 .taken))
 
 find-label-requires : tie.Need-find-label-requires
 find-label-requires c κs = search needs
@@ -62,13 +61,13 @@ same-length : tie.Need-same-length
 same-length c = search needs
 
 returns-2 : tie.Need-returns-2
-returns-2 c = part-sized (c .before .before .before .before .before .before .before .before .before .before .before .before .limits-of .ensures .0) asciiClasses (c .before .before .before .before .before .before .before .before .before .before .before .before .before .before .before .args .table .now) (c .before .before .before .before .before .before .before .before .before .before .before .before .before .before .before .args .label) (c .before .before .before .before .before .before .before .before .before .before .before .before .before .before .before .args .work .now) (label-refused (limitsOf (c .before .before .before .before .before .before .before .before .before .before .before .before .limits-of .result)) (c .before .before .before .before .before .before .before .before .before .before .before .before .before .before .before .args .table .now) (c .before .before .before .before .before .before .before .before .before .before .before .before .before .before .before .args .label) (c .before .before .before .before .before .before .before .before .before .before .before .before .before .before .before .args .work .now) _ (c .before .before .before .before .before .before .before .clear-work .ensures) (c .before .before .before .before .before .before .before .before .before .before .before .before .before .before .before .args .table .ptr) _ refl (c .before .before .before .before .before .before .before .before .before .before .if1 .left) (c .before .before .before .before .before .before .before .before .before .find-label .result) (c .before .before .before .before .before .before .before .before .before .find-label .ensures) (omega arith) _ (c .before .before .before .found .given .1) _ (c .before .number-of .ensures))
+returns-2 c = part-sized (c .before .before .before .before .before .before .before .before .before .before .before .before .limits-of .ensures .0) (c .before .before .before .before .before .before .before .before .before .before .before .before .before .before .before .before .args .classes .now) (c .before .before .before .before .before .before .before .before .before .before .before .before .before .before .before .before .args .table .now) (c .before .before .before .before .before .before .before .before .before .before .before .before .before .before .before .before .args .label) (c .before .before .before .before .before .before .before .before .before .before .before .before .before .before .before .before .args .work .now) (label-refused (limitsOf (c .before .before .before .before .before .before .before .before .before .before .before .before .limits-of .result)) (c .before .before .before .before .before .before .before .before .before .before .before .before .before .before .before .before .args .classes .now) (c .before .before .before .before .before .before .before .before .before .before .before .before .before .before .before .before .args .table .now) (c .before .before .before .before .before .before .before .before .before .before .before .before .before .before .before .before .args .label) (c .before .before .before .before .before .before .before .before .before .before .before .before .before .before .before .before .args .work .now) _ (c .before .before .before .before .before .before .before .clear-work .ensures) (c .before .before .before .before .before .before .before .before .before .before .before .before .before .before .before .before .args .table .ptr) _ refl (c .before .before .before .before .before .before .before .before .before .before .if1 .left) (c .before .before .before .before .before .before .before .before .before .find-label .result) (c .before .before .before .before .before .before .before .before .before .find-label .ensures) (omega arith) _ (c .before .before .before .found .given .1) _ (c .before .number-of .ensures))
 
 same-length-2 : tie.Need-same-length-2
 same-length-2 c = search needs
 
 returns-3 : tie.Need-returns-3
-returns-3 c = part-sized (c .before .before .before .before .before .before .before .before .before .before .before .limits-of .ensures .0) asciiClasses (c .before .before .before .before .before .before .before .before .before .before .before .before .before .before .args .table .now) (c .before .before .before .before .before .before .before .before .before .before .before .before .before .before .args .label) (c .before .before .before .before .before .before .before .before .before .before .before .before .before .before .args .work .now) (label-given (limitsOf (c .before .before .before .before .before .before .before .before .before .before .before .limits-of .result)) (c .before .before .before .before .before .before .before .before .before .before .before .before .before .before .args .table .now) (c .before .before .before .before .before .before .before .before .before .before .before .before .before .before .args .label) (c .before .before .before .before .before .before .before .before .before .before .before .before .before .before .args .work .now) _ (c .before .before .before .before .before .before .clear-work .ensures) (c .before .before .before .before .before .before .before .before .before .before .before .before .before .before .args .table .ptr) _ refl (c .before .before .before .before .before .before .before .before .before .if1 .left) (c .before .before .before .before .before .before .before .before .find-label .result) (c .before .before .before .before .before .before .before .before .find-label .ensures) _ _ (omega arith) (c .before .before .found2 .given .1))
+returns-3 c = part-sized (c .before .before .before .before .before .before .before .before .before .before .before .limits-of .ensures .0) (c .before .before .before .before .before .before .before .before .before .before .before .before .before .before .before .args .classes .now) (c .before .before .before .before .before .before .before .before .before .before .before .before .before .before .before .args .table .now) (c .before .before .before .before .before .before .before .before .before .before .before .before .before .before .before .args .label) (c .before .before .before .before .before .before .before .before .before .before .before .before .before .before .before .args .work .now) (label-given (limitsOf (c .before .before .before .before .before .before .before .before .before .before .before .limits-of .result)) (c .before .before .before .before .before .before .before .before .before .before .before .before .before .before .before .args .classes .now) (c .before .before .before .before .before .before .before .before .before .before .before .before .before .before .before .args .table .now) (c .before .before .before .before .before .before .before .before .before .before .before .before .before .before .before .args .label) (c .before .before .before .before .before .before .before .before .before .before .before .before .before .before .before .args .work .now) _ (c .before .before .before .before .before .before .clear-work .ensures) (c .before .before .before .before .before .before .before .before .before .before .before .before .before .before .before .args .table .ptr) _ refl (c .before .before .before .before .before .before .before .before .before .if1 .left) (c .before .before .before .before .before .before .before .before .find-label .result) (c .before .before .before .before .before .before .before .before .find-label .ensures) _ _ (omega arith) (c .before .before .found2 .given .1))
 
 pub label-name-spec : {M : Type 1} → statement M
 label-name-spec =

@@ -6,7 +6,6 @@ use Rattle.grammar.specs.LimitSets.{limitsOf}
 use Rattle.grammar.specs.Fields.{fieldsOf}
 use lib.ListN.{drop}
 use Rattle.reader.specs.TableIndex.{part}
-use Rattle.reader.proofs.ClassTable.{all-bytes, as-tested}
 use Rattle.reader.proofs.DocumentFields.{
   node-foreign,
   node-short,
@@ -25,7 +24,7 @@ returns c =
     let s = a .s .now in
     let lim = limitsOf (a .limits) in
     let p = c .before .before .before .pre in
-    λ o z. node-foreign s (a .from) (a .to) (p .1 .0) (p .1 .1) lim (a .tag) (fieldsOf (drop (a .to) s)) o (c .if1 .taken)
+    λ o z. node-foreign s (a .from) (a .to) (p .1 .0) (p .1 .1) lim (a .classes .now) (a .tag) (fieldsOf (drop (a .to) s)) o (c .if1 .taken)
 
 returns-2 : tie.Need-returns-2
 returns-2 c =
@@ -33,7 +32,7 @@ returns-2 c =
     let s = a .s .now in
     let lim = limitsOf (a .limits) in
     let p = c .before .before .before .before .pre in
-    λ o z. node-short s (a .from) (a .to) (p .1 .0) (p .1 .1) lim (a .tag) (fieldsOf (drop (a .to) s)) o (omega arith)
+    λ o z. node-short s (a .from) (a .to) (p .1 .0) (p .1 .1) lim (a .classes .now) (a .tag) (fieldsOf (drop (a .to) s)) o (omega arith)
 
 returns-3 : tie.Need-returns-3
 returns-3 c =
@@ -41,10 +40,10 @@ returns-3 c =
     let s = a .s .now in
     let lim = limitsOf (a .limits) in
     let p = c .before .before .before .before .before .pre in
-    λ o z. node-long s (a .from) (a .to) (p .1 .0) (p .1 .1) lim (a .tag) (fieldsOf (drop (a .to) s)) o (omega arith)
+    λ o z. node-long s (a .from) (a .to) (p .1 .0) (p .1 .1) lim (a .classes .now) (a .tag) (fieldsOf (drop (a .to) s)) o (omega arith)
 
 is-name-requires : tie.Need-is-name-requires
-is-name-requires c κs = all-bytes (c .before .before .before .before .before .before .before .before .pre .0)
+is-name-requires c κs = c .before .before .before .before .before .before .before .before .pre .0
 
 returns-4 : tie.Need-returns-4
 returns-4 c =
@@ -53,11 +52,11 @@ returns-4 c =
     let lim = limitsOf (a .limits) in
     let p = c .before .before .before .before .before .before .before .before .before .before .before .before .pre in
     λ o z.
-    node-misplaced s (a .from) (a .to) (p .1 .0) (p .1 .1) lim (a .tag) (fieldsOf (drop (a .to) s)) o
+    node-misplaced s (a .from) (a .to) (p .1 .0) (p .1 .1) lim (a .classes .now) (a .tag) (fieldsOf (drop (a .to) s)) o
     (c .before .before .before .before .before .before .before .before .before .if1 .left) (omega arith) (omega arith)
     (a .nodes) (a .depth) (c .before .before .before .before .before .wide .result)
     (c .before .before .before .before .before .wide .ensures .0) z
-    (as-tested (p .0) (part s (a .from + 1) (a .to)) (c .before .before .before .is-name .ensures) (c .before .before .if4 .taken))
+    (sym (c .before .before .before .is-name .ensures) ∙ c .before .before .if4 .taken)
     (sym (c .before .bad-node .ensures) ∙ c .if5 .taken)
 
 returns-5 : tie.Need-returns-5
@@ -78,11 +77,11 @@ returns-5 c =
       few = counts .few;
       goes =
           λ o z.
-          node-here s (a .from) (a .to) (p .1 .0) (p .1 .1) lim (a .tag) (fieldsOf (drop (a .to) s)) o
+          node-here s (a .from) (a .to) (p .1 .0) (p .1 .1) lim (a .classes .now) (a .tag) (fieldsOf (drop (a .to) s)) o
           (c .before .before .before .before .before .before .before .before .before .if1 .left) (omega arith) (omega arith)
           (a .nodes) (a .depth) (c .before .before .before .before .before .wide .result)
           (c .before .before .before .before .before .wide .ensures .0) z
-          (as-tested (p .0) (part s (a .from + 1) (a .to)) (c .before .before .before .is-name .ensures) (c .before .before .if4 .taken))
+          (sym (c .before .before .before .is-name .ensures) ∙ c .before .before .if4 .taken)
           good;
     }
 
@@ -93,9 +92,9 @@ returns-6 c =
     let lim = limitsOf (a .limits) in
     let p = c .before .before .before .before .before .before .before .before .before .before .pre in
     λ o z.
-    node-misnamed s (a .from) (a .to) (p .1 .0) (p .1 .1) lim (a .tag) (fieldsOf (drop (a .to) s)) o
+    node-misnamed s (a .from) (a .to) (p .1 .0) (p .1 .1) lim (a .classes .now) (a .tag) (fieldsOf (drop (a .to) s)) o
     (c .before .before .before .before .before .before .before .if1 .left) (omega arith) (omega arith)
-    (as-tested (p .0) (part s (a .from + 1) (a .to)) (c .before .is-name .ensures) (c .if4 .left))
+    (sym (c .before .is-name .ensures) ∙ c .if4 .left)
 
 pub node-of-spec : {M : Type 1} → statement M
 node-of-spec =

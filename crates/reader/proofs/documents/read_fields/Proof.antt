@@ -13,7 +13,7 @@ use Rattle.reader.proofs.DocumentLoop.{NodesSoFar, says-node, so-far-no
 
 abbrev Inv-loop : tie.InvT-loop
 Inv-loop limits classes s names₀ sizes₀ children₀ nodes₀ at₀ coming₀ depth₀ names sizes children nodes at coming depth =
-    NodesSoFar (limitsOf limits) s names sizes children nodes at coming depth
+    NodesSoFar (limitsOf limits) classes s names sizes children nodes at coming depth
     × (length coming ≡ 65)
     × (length names ≡ length names₀)
     × (length sizes ≡ length sizes₀)
@@ -26,6 +26,7 @@ abbrev μ-loop : tie.MeasureT-loop
 step : (c : tie.After-known-told Inv-loop μ-loop)
     → NodeStep
     (limitsOf (c .before .before .before .before .before .before .before .before .before .before .args .limits))
+    (c .before .before .before .before .before .before .before .before .before .before .args .classes .now)
     (c .before .before .before .before .before .before .before .before .before .before .args .s .now)
     (c .before .before .before .before .loop .at)
     (c .before .before .before .before .loop .nodes)
@@ -33,6 +34,7 @@ step : (c : tie.After-known-told Inv-loop μ-loop)
     (λ o.
     restOf
     (limitsOf (c .before .before .before .before .before .before .before .before .before .before .args .limits))
+    (c .before .before .before .before .before .before .before .before .before .before .args .classes .now)
     o
     (fieldsOf
     (drop
@@ -45,13 +47,15 @@ step c =
     let lim = limitsOf (c .before .before .before .before .before .before .before .before .before .before .args .limits) in
     let s = c .before .before .before .before .before .before .before .before .before .before .args .s .now in
     let loop = c .before .before .before .before .loop in
+    let classes = c .before .before .before .before .before .before .before .before .before .before .args .classes .now in
     says-node
     lim
+    classes
     s
     (loop .at)
     (loop .nodes)
     (loop .depth)
-    (λ o. restOf lim o (fieldsOf (drop (loop .at) s)))
+    (λ o. restOf lim classes o (fieldsOf (drop (loop .at) s)))
     (c .before .before .before .step-at .result)
     (c .before .from .given .1)
     (c .before .before .before .step-at .ensures)
@@ -61,7 +65,7 @@ loop-holds c =
     let start = c .before .before .before .before .before in
     let room = start .pre .1 .0 .nodes in
     let p = start .pre .1 .1 in
-    (so-far-none (limitsOf (start .args .limits)) room (start .args .s .now) _ _ _ _ (p .1) (p .2) (p .3) refl, refl, refl, refl, refl)
+    (so-far-none (limitsOf (start .args .limits)) (start .args .classes .now) room (start .args .s .now) _ _ _ _ (p .1) (p .2) (p .3) refl, refl, refl, refl, refl)
 
 cast-names : tie.Need-cast-names Inv-loop μ-loop
 cast-names c = let order = step c .order in let within = step c .within in omega arith
@@ -107,6 +111,7 @@ loop-again c =
     let g = c .before .before .before .before .from .given .0 in (
       so-far-next
           (limitsOf (start .args .limits))
+          (start .args .classes .now)
           (start .pre .1 .0 .nodes)
           (start .args .s .now)
           (l .names)
@@ -136,6 +141,7 @@ returns c =
     let l = c .before .before .before .before .loop in (
       so-far-stop
           (limitsOf (start .args .limits))
+          (start .args .classes .now)
           (start .pre .1 .0 .nodes)
           (start .args .s .now)
           (l .names)

@@ -32,7 +32,7 @@ returns c =
     let tagged = sym (c .before .before .before .before .before .field-at .ensures) ∙ c .before .before .before .tag .given .1 in
     let found = field-found s (a .at) tagged in
     λ o z.
-    stops-end (limitsOf (a .limits)) s (a .at) (g .0) (g .1 .0) (g .1 .1 .0) found (c .before .if1 .taken) (a .nodes) (a .depth) o z
+    stops-end (limitsOf (a .limits)) (a .classes .now) s (a .at) (g .0) (g .1 .0) (g .1 .1 .0) found (c .before .if1 .taken) (a .nodes) (a .depth) o z
     ∙ ap (λ (r : Reading). outcomeOf r (o .nodes)) (sym (c .end-answer .ensures))
 
 node-of-requires : tie.Need-node-of-requires
@@ -47,14 +47,14 @@ returns-2 c =
     let a = c .before .before .before .before .before .args in
     let s = a .s .now in
     let ended = field-none s (a .at) (sym (c .before .before .field-at .ensures) ∙ c .enum-told .given .1) in
-    λ o z. stops-none (limitsOf (a .limits)) o (fieldsOf (drop (a .at) s)) (ended .1)
+    λ o z. stops-none (limitsOf (a .limits)) (a .classes .now) o (fieldsOf (drop (a .at) s)) (ended .1)
 
 returns-3 : tie.Need-returns-3
 returns-3 c =
     let a = c .before .before .before .before .before .args in
     let s = a .s .now in
     let ended = field-past s (a .at) (sym (c .before .before .field-at .ensures) ∙ c .enum-told2 .given .1) in
-    λ o z. stops-past (limitsOf (a .limits)) o (fieldsOf (drop (a .at) s)) (ended .1)
+    λ o z. stops-past (limitsOf (a .limits)) (a .classes .now) o (fieldsOf (drop (a .at) s)) (ended .1)
 
 returns-4 : tie.Need-returns-4
 returns-4 c =
@@ -65,18 +65,20 @@ returns-4 c =
     let found = field-found s (a .at) tagged in
     let from-is = found .begins in
     let lim = limitsOf (a .limits) in
+    let classes = a .classes .now in
     says-also
     lim
+    classes
     s
     (a .at)
     (g .1 .0)
     (a .nodes)
     (a .depth)
-    (restWith lim (record { tag = g .0; value = slice (g .1 .0) (g .1 .1 .0) s }) (fieldsOf (drop (g .1 .1 .0) s)))
-    (λ o. restOf lim o (fieldsOf (drop (a .at) s)))
+    (restWith lim classes (record { tag = g .0; value = slice (g .1 .0) (g .1 .1 .0) s }) (fieldsOf (drop (g .1 .1 .0) s)))
+    (λ o. restOf lim classes o (fieldsOf (drop (a .at) s)))
     (c .node-of .result)
     (omega arith)
-    (λ o. goes-with lim s (a .at) (g .0) (g .1 .0) (g .1 .1 .0) found (c .before .if1 .left) o)
+    (λ o. goes-with lim classes s (a .at) (g .0) (g .1 .0) (g .1 .1 .0) found (c .before .if1 .left) o)
     (c .node-of .ensures)
 
 pub step-at-spec : {M : Type 1} → statement M

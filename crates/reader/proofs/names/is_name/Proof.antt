@@ -5,7 +5,8 @@ use mathlib.Core.Path.{_≡_, sym, _∙_}
 use lib.ListN.{length, drop}
 use Rattle.grammar.specs.Lists.{allPass}
 use Rattle.grammar.specs.Names.{isName}
-use Rattle.reader.proofs.NameReading.{later, name-empty, name-first, name-not-first, later-next, later-fails, later-end}
+use Rattle.reader.proofs.NameReading.{later, name-empty, name-first, name-not-first, later-next, later-fails}
+use Rattle.reader.proofs.PlaceByPlace.{all-end}
 use Rattle.reader.proofs.names.is_name.Statement.{statement}
 use Rattle.reader.proofs.names.is_name.Tie as tie
 
@@ -37,7 +38,7 @@ loop-again c =
     ∙ later-next (c .before .before .before .before .before .before .before .before .before .before .before .args .classes .now) (c .before .before .before .before .before .before .before .before .before .before .before .args .s .now) (c .before .before .before .before .loop .i) (c .before .before .before .loop-test .taken) (λ e. c .if3 .left (c .before .class-of2 .ensures ∙ e))
 
 returns-4 : tie.Need-returns-4 Inv-loop μ-loop
-returns-4 c = sym (c .before .loop .inv ∙ later-end (c .before .before .before .before .before .before .before .before .args .classes .now) (c .before .before .before .before .before .before .before .before .args .s .now) (c .before .loop .i) (omega arith))
+returns-4 c = sym (c .before .loop .inv ∙ all-end (later (c .before .before .before .before .before .before .before .before .args .classes .now)) (c .before .before .before .before .before .before .before .before .args .s .now) (c .before .loop .i) (omega arith))
 
 pub is-name-spec : {M : Type 1} → statement M
 is-name-spec =

@@ -65,10 +65,15 @@ returns-15 : tie.Need-returns-15
 unfolding number
 returns-15 c = sym (ap number (c .enum-told15 .given .1))
 
+returns-16 : tie.Need-returns-16
+unfolding number
+returns-16 c = sym (ap number (c .enum-told16 .given .1))
+
 pub number-of-spec : {M : Type 1} → statement M
 number-of-spec =
     tie.close
     (tie.spec
+    (λ c. search needs)
     (λ c. search needs)
     (λ c. search needs)
     (λ c. search needs)
@@ -98,4 +103,5 @@ number-of-spec =
     returns-12
     returns-13
     returns-14
-    returns-15)
+    returns-15
+    returns-16)

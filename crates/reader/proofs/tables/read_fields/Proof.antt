@@ -22,7 +22,7 @@ use Rattle.reader.proofs.tables.read_fields.Statement.{statement}
 use Rattle.reader.proofs.tables.read_fields.Tie as tie
 
 abbrev Inv-loop : tie.InvT-loop
-Inv-loop limits classes s index₀ at₀ index at = TableReached limits s at index
+Inv-loop limits classes s index₀ at₀ index at = TableReached limits classes s at index
 
 abbrev μ-loop : tie.MeasureT-loop
 μ-loop limits classes s index₀ at₀ index at = length s - at
@@ -35,8 +35,8 @@ loop-holds c =
     let start = c .before .before .before .before .args in
     let index = start .index .now in
     let room : length index ≡ 899 = search needs in
-    subst (TableReached (start .limits) (start .s .now) 0) (sym (c .clear-index .ensures))
-    (reached-none (start .limits) (start .s .now) (withNone index) (none-indexed (start .s .now) index room))
+    subst (TableReached (start .limits) (start .classes .now) (start .s .now) 0) (sym (c .clear-index .ensures))
+    (reached-none (start .limits) (start .classes .now) (start .s .now) (withNone index) (none-indexed (start .s .now) index room))
 
 field-at-requires : tie.Need-field-at-requires Inv-loop μ-loop
 field-at-requires c κs = tt

@@ -6,7 +6,6 @@ use mathlib.Core.Path.{_≡_, _∙_}
 use lib.ListN.{take}
 use lib.Seq.{take-all}
 use Rattle.grammar.specs.Limits.{large}
-use Rattle.grammar.specs.Names.{asciiClasses}
 use Rattle.grammar.specs.Table.{Table}
 use Rattle.reader.specs.Held.{Held}
 use Rattle.union.specs.View.{Views, rulesOnly}
@@ -19,7 +18,7 @@ Inv-loop index rules v₀ i₀ v i =
     (i ≤ rules)
     × (v .rules ≡ i)
     × (v .«old_rules» ≡ rules)
-    × ((old add : List ℕ) (g : Table) → Held large asciiClasses old index g → Views old add v (rulesOnly (take i (g .rules))))
+    × ((old add : List ℕ) (g : Table) → Held large old index g → Views old add v (rulesOnly (take i (g .rules))))
 
 abbrev μ-loop : tie.MeasureT-loop
 μ-loop index rules v₀ i₀ v i = rules - i

@@ -7,22 +7,34 @@ use Rattle.validator.proofs.VerdictLaws as laws
 use Rattle.validator.proofs.calls.is_local.Statement.{statement}
 use Rattle.validator.proofs.calls.is_local.Tie as tie
 
+limits-of-requires : tie.Need-limits-of-requires
+limits-of-requires c κs = search needs
+
 returns : tie.Need-returns
-returns c = kind-sized (c .before .before .limits-of .ensures .0) (laws.kind-unanswered (limitsOf (c .before .before .limits-of .result)) local (c .before .before .before .before .before .args .table .now) (c .before .before .before .before .before .args .work .now) (c .if1 .taken))
+returns c = kind-sized (c .before .before .limits-of .ensures .0) (laws.kind-unanswered (limitsOf (c .before .before .limits-of .result)) (c .before .before .before .before .before .before .args .classes .now) local (c .before .before .before .before .before .before .args .table .now) (c .before .before .before .before .before .before .args .work .now) (c .if1 .taken))
+
+read-and-test-local-requires : tie.Need-read-and-test-local-requires
+read-and-test-local-requires c κs = search needs
+
+clear-work-requires : tie.Need-clear-work-requires
+clear-work-requires c κs = search needs
+
+same-length : tie.Need-same-length
+same-length c = search needs
 
 returns-2 : tie.Need-returns-2
 returns-2 c =
     kind-sized (c .before .before .before .before .before .before .before .limits-of .ensures .0)
-    (laws.kind-answered (limitsOf (c .before .before .before .before .before .before .before .limits-of .result)) local (c .before .before .before .before .before .before .before .before .before .before .args .table .now) (c .before .before .before .before .before .before .before .before .before .before .args .work .now) (c .before .before .before .before .before .if1 .left) _ (c .before .before .clear-work .ensures)
+    (laws.kind-answered (limitsOf (c .before .before .before .before .before .before .before .limits-of .result)) (c .before .before .before .before .before .before .before .before .before .before .before .args .classes .now) local (c .before .before .before .before .before .before .before .before .before .before .before .args .table .now) (c .before .before .before .before .before .before .before .before .before .before .before .args .work .now) (c .before .before .before .before .before .if1 .left) _ (c .before .before .clear-work .ensures)
     (c .before .before .before .before .read-and-test-local .result) (c .before .before .before .before .read-and-test-local .ensures))
 
 pub is-local-spec : {M : Type 1} → statement M
 is-local-spec =
     tie.close
     (tie.spec
-    (λ c κs. tt)
+    limits-of-requires
     returns
-    (λ c κs. search needs)
-    (λ c κs. search needs)
-    (λ c. search needs)
+    read-and-test-local-requires
+    clear-work-requires
+    same-length
     returns-2)

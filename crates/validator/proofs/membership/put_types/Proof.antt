@@ -7,7 +7,7 @@ use mathlib.Core.Path.{_≡_, refl, sym, _∙_, ap, subst}
 use lib.ListN.{length, take, drop}
 use Rattle.grammar.specs.Limits.{large}
 use Rattle.grammar.specs.Lists.{place}
-use Rattle.grammar.specs.Names.{Name, asciiClasses, sameName}
+use Rattle.grammar.specs.Names.{Name, sameName}
 use Rattle.grammar.specs.Table.{Table}
 use Rattle.theory.specs.Marked.{holds}
 use Rattle.reader.specs.TableIndex.{ruleLabel, ruleCount}
@@ -28,7 +28,7 @@ Inv-loop table index by-label nullable label marks₀ words₀ base count rules 
     × (length words ≡ length words₀)
     × (drop (base + 4) words ≡ drop (base + 4) words₀)
     × (i < rules → ruleLabel index i ≡ label)
-    × ((g : Table) → Held large asciiClasses table index g → (n : Name) → label ≡ place sameName n (g .labels)
+    × ((g : Table) → Held large table index g → (n : Name) → label ≡ place sameName n (g .labels)
     → setAt words base ≡ holds (typesFor g n (testsAt words₀ (base + 4) count) (take i (g .rules))))
 
 abbrev μ-loop : tie.MeasureT-loop

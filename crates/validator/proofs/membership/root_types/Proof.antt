@@ -4,7 +4,6 @@ use native.Mathlib.Omega.{arith}
 use mathlib.Core.Path.{_≡_, refl, sym, _∙_, ap, ap₂, subst}
 use lib.ListN.{length, take, drop, length-replicate}
 use Rattle.grammar.specs.Limits.{large}
-use Rattle.grammar.specs.Names.{asciiClasses}
 use Rattle.grammar.specs.Table.{Table}
 use Rattle.theory.specs.Marked.{holds}
 use Rattle.theory.proofs.lists.ListLaws.{part-of}
@@ -26,7 +25,7 @@ Inv-loop table index document names sizes children nodes words₀ marks₀ by-ke
     × (length marks ≡ 1024)
     × (length words ≡ length words₀)
     × (top + 4 * treeCount (drop i (nodesIn document (indexOf names sizes children nodes))) ≡ 4 * nodes)
-    × ((g : Table) → Held large asciiClasses table index g
+    × ((g : Table) → Held large table index g
     → laws.Stacked g (drop i (nodesIn document (indexOf names sizes children nodes))) words top)
 
 abbrev μ-loop : tie.MeasureT-loop

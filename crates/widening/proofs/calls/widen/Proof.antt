@@ -18,9 +18,9 @@ limits-of-requires c κs = search needs
 
 returns : tie.Need-returns
 returns c =
-    let a = c .before .before .before .before .before .before .args in
+    let a = c .before .before .before .before .before .before .before .args in
     widening-sized (c .before .limits-of .ensures .0)
-    (laws.widening-unanswered (c .before .limits-of .result) (kindOf (a .kind)) (a .source) (a .old .now) (a .addition .now) (a .out .now) (a .work .now) (c .if1 .taken))
+    (laws.widening-unanswered (c .before .limits-of .result) (a .classes .now) (kindOf (a .kind)) (a .source) (a .old .now) (a .addition .now) (a .out .now) (a .work .now) (c .if1 .taken))
 
 sub-draft-widened : tie.Need-sub-draft-widened
 sub-draft-widened c = search needs
@@ -45,9 +45,9 @@ slice-aggregate-deliver c = search needs
 
 deliver-requires : tie.Need-deliver-requires
 deliver-requires c κs =
-    let a = c .before .before .before .before .before .before .before .before .before .before .before .before .before .before .before .before .before .before .args in
+    let a = c .before .before .before .before .before .before .before .before .before .before .before .before .before .before .before .before .before .before .before .args in
     let d = c .before .before .before .before .before .before .before .before .before .draft-widened in
-    (d .kept .1 .1 .1 .1 .1 .1 .0, drafts.fits (widenedFrom (limitsOf (c .before .before .before .before .before .before .before .before .before .before .before .before .before .limits-of .result)) (a .source) (kindOf (a .kind)) (a .old .now) (a .addition .now)) _ (d .result) (d .ensures))
+    (d .kept .1 .1 .1 .1 .1 .1 .1 .0, drafts.fits (widenedFrom (limitsOf (c .before .before .before .before .before .before .before .before .before .before .before .before .before .limits-of .result)) (a .classes .now) (a .source) (kindOf (a .kind)) (a .old .now) (a .addition .now)) _ (d .result) (d .ensures))
 
 same-length : tie.Need-same-length
 same-length c = search needs
@@ -57,12 +57,12 @@ same-length-2 c = search needs
 
 returns-2 : tie.Need-returns-2
 returns-2 c =
-    let a = c .before .before .before .before .before .before .before .before .before .before .before .before .before .before .before .before .before .before .before .before .before .args in
+    let a = c .before .before .before .before .before .before .before .before .before .before .before .before .before .before .before .before .before .before .before .before .before .before .args in
     let d = c .before .before .before .before .before .before .before .before .before .before .before .before .draft-widened in
     widening-sized (c .before .before .before .before .before .before .before .before .before .before .before .before .before .before .before .before .limits-of .ensures .0)
-    (laws.widening-answered (c .before .before .before .before .before .before .before .before .before .before .before .before .before .before .before .before .limits-of .result) (kindOf (a .kind)) (a .source) (a .old .now) (a .addition .now) (a .out .now) (a .work .now) (c .before .before .before .before .before .before .before .before .before .before .before .before .before .before .before .if1 .left) (c .before .before .deliver .result) _ _
-    (c .before .before .deliver .ensures (widenedFrom (limitsOf (c .before .before .before .before .before .before .before .before .before .before .before .before .before .before .before .before .limits-of .result)) (a .source) (kindOf (a .kind)) (a .old .now) (a .addition .now)) (d .ensures))
-    (c .before .before .before .before .before .before .before .clear-work .ensures ∙ lent-cleared (limitsOf (c .before .before .before .before .before .before .before .before .before .before .before .before .before .before .before .before .limits-of .result)) (a .work .now) (d .last .1 .1 .1 .1 .1 .0) (c .before .before .before .before .before .before .before .before .before .before .before .before .before .before .before .before .limits-of .result .words - 0) (omega arith) (c .before .before .before .before .before .before .before .before .before .before .before .before .before .before .before .if1 .left) (d .kept .1 .1 .1 .1 .1 .0)))
+    (laws.widening-answered (c .before .before .before .before .before .before .before .before .before .before .before .before .before .before .before .before .limits-of .result) (a .classes .now) (kindOf (a .kind)) (a .source) (a .old .now) (a .addition .now) (a .out .now) (a .work .now) (c .before .before .before .before .before .before .before .before .before .before .before .before .before .before .before .if1 .left) (c .before .before .deliver .result) _ _
+    (c .before .before .deliver .ensures (widenedFrom (limitsOf (c .before .before .before .before .before .before .before .before .before .before .before .before .before .before .before .before .limits-of .result)) (a .classes .now) (a .source) (kindOf (a .kind)) (a .old .now) (a .addition .now)) (d .ensures))
+    (c .before .before .before .before .before .before .before .clear-work .ensures ∙ lent-cleared (limitsOf (c .before .before .before .before .before .before .before .before .before .before .before .before .before .before .before .before .limits-of .result)) (a .work .now) (d .last .1 .1 .1 .1 .1 .1 .0) (c .before .before .before .before .before .before .before .before .before .before .before .before .before .before .before .before .limits-of .result .words - 0) (omega arith) (c .before .before .before .before .before .before .before .before .before .before .before .before .before .before .before .if1 .left) (d .kept .1 .1 .1 .1 .1 .1 .0)))
 
 pub widen-spec : {M : Type 1} → statement M
 widen-spec =

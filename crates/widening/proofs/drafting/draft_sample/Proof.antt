@@ -1,66 +1,28 @@
--- `draft_sample` meets its contract: the refusal of the document, else its sample.
+-- `draft_sample` meets its contract: the refusal of the classes, else what the document gives.
+use Rattle.reader.proofs.LoadedClasses.{does-load, does-not-load}
 use Rattle.widening.proofs.DraftLaws as laws
 use borrow.Author.Needs.{needs}
 use Rattle.widening.proofs.drafting.draft_sample.Statement.{statement}
 use Rattle.widening.proofs.drafting.draft_sample.Tie as tie
 
-read-document-requires : tie.Need-read-document-requires
-read-document-requires c κs = search needs
-
-enum-known-readable : tie.Need-enum-known-readable
-enum-known-readable c = search needs
+classes-load-requires : tie.Need-classes-load-requires
+classes-load-requires c κs = search needs
 
 returns : tie.Need-returns
-returns c =
-    let d = c .before .before .before .read-document in
-    laws.document-refuses (c .before .before .before .before .before .before .args .limits) (c .before .before .before .before .before .before .args .document .now) (d .result) (d .ensures) _ _ (c .before .readable .given .1)
+returns c = laws.sampled-unloaded (c .before .before .before .before .before .args .limits) (c .before .before .before .before .before .args .classes .now) (does-not-load (c .before .before .before .before .before .args .classes .now) (c .before .classes-load .ensures) (c .if1 .taken)) _ (c .before .before .before .before .before .args .document .now)
 
-enum-told : tie.Need-enum-told
-enum-told c = search needs
-
-sample-table-requires : tie.Need-sample-table-requires
-sample-table-requires c κs =
-    let d = c .before .before .before .read-document in
-    (c .before .before .before .before .before .before .pre .0, (c .before .before .before .before .before .before .pre .1, laws.nodes-indexed (c .before .before .before .before .before .before .args .limits) (c .before .before .before .before .before .before .args .document .now) (d .result) (d .ensures) (c .before .enum-told .given .1)))
-
-enum-told-2 : tie.Need-enum-told-2
-enum-told-2 c = search needs
-
-enum-known-n : tie.Need-enum-known-n
-enum-known-n c = search needs
+read-and-sample-requires : tie.Need-read-and-sample-requires
+read-and-sample-requires c κs = (does-load (c .before .before .before .before .before .before .args .classes .now) (c .before .before .classes-load .ensures) (c .before .if1 .left), c .before .before .before .before .before .before .pre)
 
 same-length : tie.Need-same-length
 same-length c = search needs
 
 returns-2 : tie.Need-returns-2
 returns-2 c =
-    let a = c .before .before .before .before .before .before .before .before .before .before .before .args in
-    let d = c .before .before .before .before .before .before .before .before .read-document in
-    let s = c .before .before .before .before .sample-table in
-    laws.sample-too-large (c .before .before .before .before .before .before .before .before .before .before .before .args .limits) (a .document .now) (d .result) (d .ensures) (c .before .before .before .before .before .before .enum-told .given .1) (a .draft .now) _ (s .result) (s .ensures) (c .enum-told2 .given .1)
-
-same-length-2 : tie.Need-same-length-2
-same-length-2 c = search needs
-
-returns-3 : tie.Need-returns-3
-returns-3 c =
-    let a = c .before .before .before .before .before .before .before .before .before .before .before .before .args in
-    let d = c .before .before .before .before .before .before .before .before .before .read-document in
-    let s = c .before .before .before .before .before .sample-table in
-    laws.sample-made (c .before .before .before .before .before .before .before .before .before .before .before .before .args .limits) (a .document .now) (d .result) (d .ensures) (c .before .before .before .before .before .before .before .enum-told .given .1) (a .draft .now) _ (s .result) (s .ensures) _ (c .before .n .given .1)
+    let s = c .before .before .read-and-sample in
+    laws.sampled-loaded (c .before .before .before .before .before .before .before .before .before .args .limits) (c .before .before .before .before .before .before .before .before .before .args .classes .now) (does-load (c .before .before .before .before .before .before .before .before .before .args .classes .now) (c .before .before .before .before .before .classes-load .ensures) (c .before .before .before .before .if1 .left)) (c .before .before .before .before .before .before .before .before .before .args .document .now) _ (s .result) (s .ensures)
 
 pub draft-sample-spec : {M : Type 1} → statement M
 draft-sample-spec =
     tie.close
-    (tie.spec
-    read-document-requires
-    enum-known-readable
-    returns
-    enum-told
-    sample-table-requires
-    enum-told-2
-    enum-known-n
-    same-length
-    returns-2
-    same-length-2
-    returns-3)
+    (tie.spec classes-load-requires returns read-and-sample-requires same-length returns-2)

@@ -1,4 +1,6 @@
 -- `read_and_widen` meets its contract: the refusal of the addition, else what widening by it made.
+use native.Mathlib.Omega.{arith}
+use Rattle.theory.proofs.bytes.ClassLaws.{all-classed}
 use Rattle.results.specs.Widened.{kindOf}
 use Rattle.reader.proofs.TableFoundLaws.{table-found}
 use Rattle.widening.proofs.DraftLaws as laws
@@ -8,26 +10,27 @@ use Rattle.widening.proofs.drafting.read_and_widen.Statement.{statement
 use Rattle.widening.proofs.drafting.read_and_widen.Tie as tie
 
 read-table-requires : tie.Need-read-table-requires
-read-table-requires c κs = search needs
+read-table-requires c κs = let all = all-classed (c .before .before .before .before .before .before .args .classes .now) (c .before .before .before .before .before .before .pre .0) in (omega arith, c .before .before .before .before .before .before .pre .1 .0)
 
 enum-known-readable : tie.Need-enum-known-readable
 enum-known-readable c = search needs
 
 returns : tie.Need-returns
 returns c =
-    let a = c .before .before .before .before .before .before .before .before .before .args in
+    let a = c .before .before .before .before .before .before .before .before .before .before .args in
     let t = c .before .before .before .read-table in
-    λ g held. laws.addition-refuses (c .before .before .before .before .before .before .before .before .before .args .limits) (kindOf (a .kind)) g (a .addition .now) (t .result) _ (t .ensures) _ _ (c .before .readable .given .1)
+    λ g held. laws.addition-refuses (a .limits) (a .classes .now) (c .before .before .before .before .before .before .before .before .before .before .pre .0) (kindOf (a .kind)) g (a .addition .now) (t .result) _ (t .ensures) _ _ (c .before .readable .given .1)
 
 enum-told : tie.Need-enum-told
 enum-told c = search needs
 
 widen-tables-requires : tie.Need-widen-tables-requires
 widen-tables-requires c κs =
-    let a = c .before .before .before .before .before .before .before .before .before .before .before .args in
+    let a = c .before .before .before .before .before .before .before .before .before .before .before .before .args in
     let t = c .before .before .before .before .before .read-table in
-    let (within, held, words, draft) = c .before .before .before .before .before .before .before .before .before .before .before .pre in
-    (within, held, table-found (limitsOf (c .before .before .before .before .before .before .before .before .before .before .before .args .limits)) (a .addition .now) (t .result) _ (t .ensures) (c .before .before .before .enum-told .given .1) .some, words, draft)
+    let load = c .before .before .before .before .before .before .before .before .before .before .before .before .pre .0 in
+    let (within, held, words, draft) = c .before .before .before .before .before .before .before .before .before .before .before .before .pre .1 in
+    (within, held, table-found (limitsOf (a .limits)) (a .classes .now) (a .addition .now) (t .result) _ (t .ensures) load (c .before .before .before .enum-told .given .1) .some, words, draft)
 
 enum-told-2 : tie.Need-enum-told-2
 enum-told-2 c = search needs
@@ -46,10 +49,10 @@ same-length-2 c = search needs
 
 returns-2 : tie.Need-returns-2
 returns-2 c =
-    let a = c .before .before .before .before .before .before .before .before .before .before .before .before .before .before .before .before .before .before .args in
+    let a = c .before .before .before .before .before .before .before .before .before .before .before .before .before .before .before .before .before .before .before .args in
     let t = c .before .before .before .before .before .before .before .before .before .before .before .before .read-table in
     let m = c .before .before .before .before .before .before .widen-tables in
-    λ g held. laws.widens-nothing (c .before .before .before .before .before .before .before .before .before .before .before .before .before .before .before .before .before .before .args .limits) (kindOf (a .kind)) g (a .addition .now) (t .result) _ (t .ensures) _ (c .before .before .before .before .before .before .before .before .before .before .enum-told .given .1) (a .draft .now)
+    λ g held. laws.widens-nothing (a .limits) (a .classes .now) (c .before .before .before .before .before .before .before .before .before .before .before .before .before .before .before .before .before .before .before .pre .0) (kindOf (a .kind)) g (a .addition .now) (t .result) _ (t .ensures) _ (c .before .before .before .before .before .before .before .before .before .before .enum-told .given .1) (a .draft .now)
     (m .result) (λ h also. m .ensures g h held also) (c .enum-told2 .given .1)
 
 same-length-3 : tie.Need-same-length-3
@@ -60,10 +63,10 @@ same-length-4 c = search needs
 
 returns-3 : tie.Need-returns-3
 returns-3 c =
-    let a = c .before .before .before .before .before .before .before .before .before .before .before .before .before .before .before .before .before .before .args in
+    let a = c .before .before .before .before .before .before .before .before .before .before .before .before .before .before .before .before .before .before .before .args in
     let t = c .before .before .before .before .before .before .before .before .before .before .before .before .read-table in
     let m = c .before .before .before .before .before .before .widen-tables in
-    λ g held. laws.widens-too-far (c .before .before .before .before .before .before .before .before .before .before .before .before .before .before .before .before .before .before .args .limits) (kindOf (a .kind)) g (a .addition .now) (t .result) _ (t .ensures) _ (c .before .before .before .before .before .before .before .before .before .before .enum-told .given .1) (a .draft .now)
+    λ g held. laws.widens-too-far (a .limits) (a .classes .now) (c .before .before .before .before .before .before .before .before .before .before .before .before .before .before .before .before .before .before .before .pre .0) (kindOf (a .kind)) g (a .addition .now) (t .result) _ (t .ensures) _ (c .before .before .before .before .before .before .before .before .before .before .enum-told .given .1) (a .draft .now)
     (m .result) (λ h also. m .ensures g h held also) (c .enum-told3 .given .1)
 
 same-length-5 : tie.Need-same-length-5
@@ -74,10 +77,10 @@ same-length-6 c = search needs
 
 returns-4 : tie.Need-returns-4
 returns-4 c =
-    let a = c .before .before .before .before .before .before .before .before .before .before .before .before .before .before .before .before .before .before .before .args in
+    let a = c .before .before .before .before .before .before .before .before .before .before .before .before .before .before .before .before .before .before .before .before .args in
     let t = c .before .before .before .before .before .before .before .before .before .before .before .before .before .read-table in
     let m = c .before .before .before .before .before .before .before .widen-tables in
-    λ g held. laws.widens-to (c .before .before .before .before .before .before .before .before .before .before .before .before .before .before .before .before .before .before .before .args .limits) (kindOf (a .kind)) g (a .addition .now) (t .result) _ (t .ensures) _ (c .before .before .before .before .before .before .before .before .before .before .before .enum-told .given .1) (a .draft .now)
+    λ g held. laws.widens-to (a .limits) (a .classes .now) (c .before .before .before .before .before .before .before .before .before .before .before .before .before .before .before .before .before .before .before .before .pre .0) (kindOf (a .kind)) g (a .addition .now) (t .result) _ (t .ensures) _ (c .before .before .before .before .before .before .before .before .before .before .before .enum-told .given .1) (a .draft .now)
     (m .result) (λ h also. m .ensures g h held also) _ (c .before .n .given .1)
 
 pub read-and-widen-spec : {M : Type 1} → statement M
