@@ -15,6 +15,7 @@ EDITS = ROOT / "crates/grammar/must-fail"
 NOT_OF_THE_THEORY = {
     "children_of_201": "a number of the standard limits; the theorems are for all limits that agree",
     "nesting_of_33": "a number of the standard limits; the theorems are for all limits that agree",
+    "solidus_in_names": "which classes load; the theorems are for all classes",
 }
 
 
