@@ -26,6 +26,11 @@
  * Every other byte may have any class, also # " & and 7F to FF. Classes that do not load are refusal 18, whatever the inputs are.
  * COGARRUNE_ASCII_CLASSES, below, load.
  *
+ * Names are equal when they agree after A to Z become a to z: these 26 bytes, whatever their classes, and no others. A table of two labels
+ * with equal names is refused (6); a document is let in or not whatever its letters' case. A table that is written spells each name as
+ * it was met first: as the old table does, also where that label has no rule there; else as the addition does, a document's name as its
+ * first node of that name. cogarrune_label_name gives a name as its own table spells it.
+ *
  * Working memory. Every call is lent `work`, of at least as many words as its size needs, with any content. Afterwards just these words
  * are zero, with every refusal too (18 included), and words beyond are as they came. With fewer words the call answers refusal 1 and
  * changes none.
@@ -88,7 +93,7 @@ enum cogarrune_refusal {
     COGARRUNE_FIELD_PAST_END = 3,    /* a field runs past the input's end, or the input stops before an end field */
     COGARRUNE_BAD_FIELD = 4,         /* a tag is foreign or out of order, or its length is not one of its own */
     COGARRUNE_BAD_NAME = 5,          /* a name has a byte of class 0, or its first byte is not of class 2 */
-    COGARRUNE_REPEATED = 6,          /* a label name or a start type repeats an earlier one */
+    COGARRUNE_REPEATED = 6,          /* a label name (up to letter case) or a start type repeats an earlier one */
     COGARRUNE_TOO_MANY = 7,          /* a label, start or rule more than the size allows */
     COGARRUNE_OUT_OF_RANGE = 8,      /* a start or rule type not below the size's limit, or a label number not among the labels */
     COGARRUNE_BAD_CONTENT = 9,       /* a content is not exactly one expression, or names a type not below the size's limit */
@@ -143,7 +148,8 @@ uint64_t cogarrune_sample(uint32_t size, const uint8_t *classes, size_t classes_
                           uint8_t *out, size_t out_length, uint32_t *work, size_t work_length);
 
 /* Writes the least local (or single-type) table that lets in all that the old table and the addition let in. Value as for
- * cogarrune_sample. A document is added through its sample; the result is least over the old table and that one document. */
+ * cogarrune_sample. A document is added through its sample; the result is least over the old table and that one document, in any letter
+ * case. */
 uint64_t cogarrune_widen_local_by_table(uint32_t size, const uint8_t *classes, size_t classes_length, const uint8_t *old,
                                         size_t old_length, const uint8_t *addition, size_t addition_length, uint8_t *out,
                                         size_t out_length, uint32_t *work, size_t work_length);

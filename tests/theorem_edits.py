@@ -16,6 +16,7 @@ NOT_OF_THE_THEORY = {
     "children_of_201": "a number of the standard limits; the theorems are for all limits that agree",
     "nesting_of_33": "a number of the standard limits; the theorems are for all limits that agree",
     "solidus_in_names": "which classes load; the theorems are for all classes",
+    "a_bit_set_for_small_letters": "which names are equal; the theorems ask only that it is an equivalence",
 }
 
 

@@ -18,7 +18,7 @@ pub enum Refusal {
     BadField,
     /// A name has a byte of class 0, or its first byte is not of class 2.
     BadName,
-    /// A label name or a start type repeats an earlier one of its table.
+    /// A label name, in whatever spelling, or a start type repeats an earlier one of its table.
     Repeated,
     /// A label, start or rule more than the size allows.
     TooMany,

@@ -7,7 +7,7 @@ use crate::{ffi, new_work, Refusal, Size};
 ///
 /// Classes are had by loading only, so a call that takes them is never refused for them. They load if there are 256, each is 0, 1
 /// or 2, at least one is 2, and bytes 00 to 20 (hexadecimal) and `( ) | , * + ? ! < > / =` have class 0. Every other byte may have
-/// any class.
+/// any class. A letter and its capital may have different ones: whether bytes are a name is asked of the bytes as they are spelled.
 ///
 /// ```
 /// use cogarrune::{Classes, Refusal};

@@ -4,6 +4,10 @@
 //! memory of as many words as the size needs ([`Size::words`]), with any content. Afterwards those words are zero, and words beyond them
 //! are as they came.
 //!
+//! Two names are equal when they agree after A to Z become a to z: CARD and card are one name, under any classes. All other bytes are equal
+//! to themselves alone. The first spelling met is kept: in a result the old table's, else the addition's, in a sample that of the first
+//! node.
+//!
 //! ```
 //! use cogarrune::{lets_in, new_work, Classes, Size, Verdict};
 //!
@@ -42,7 +46,7 @@ pub fn document_reads(size: Size, classes: &Classes, document: &[u8], work: &mut
     value_of(ffi::document_reads(size, classes.as_bytes(), document, work)).map(|_| ())
 }
 
-/// The name of a label, counted from 0, as a part of its table's own bytes.
+/// The name of a label, counted from 0, as a part of its table's own bytes, so in its spelling.
 pub fn label_name<'a>(
     size: Size,
     classes: &Classes,
@@ -55,7 +59,7 @@ pub fn label_name<'a>(
     Ok(&table[offset..offset + length])
 }
 
-/// Does the table let in the document? A name that the table does not know means no.
+/// Does the table let in the document? A name that the table does not know, in whatever spelling, means no.
 pub fn lets_in(
     size: Size,
     classes: &Classes,
@@ -77,7 +81,7 @@ pub fn is_single_type(size: Size, classes: &Classes, table: &[u8], work: &mut [u
     verdict_of(ffi::is_single_type(size, classes.as_bytes(), table, work))
 }
 
-/// Writes the sample table of a document, and gives its part of the output.
+/// Writes the sample table of a document, each name as its first node spells it, and gives its part of the output.
 pub fn sample<'a>(
     size: Size,
     classes: &Classes,

@@ -1,5 +1,5 @@
-"""Cases for the calls of document 01, at the three sizes of Card 13 and under the classes of Card 4, with
-the answers of reference.py.
+"""Cases for the calls of document 01, at the three sizes of Card 13, under the classes of Card 4 and with
+names in several spellings (Card 8), with the answers of reference.py.
 
     python3 generate.py --write DIR [--seed N] [--count M]    writes DIR/cases.bin, DIR/expected.txt
     python3 generate.py --check DIR [--seed N] [--count M]    recomputes both and compares
@@ -293,6 +293,39 @@ def chain(length, name='a'):
     for _ in range(length - 1):
         made = tree(name, made)
     return made
+
+
+def names_and_rest(data):
+    """The parts of an input in order, as far as its fields go: (True, a name), (False, what stands between)."""
+    at = 0
+    while at + 3 <= len(data):
+        end = at + 3 + data[at + 1] * 256 + data[at + 2]
+        begin = {0x10: at + 3, 0x30: at + 4}.get(data[at], end)
+        if begin < end <= len(data):
+            yield False, data[at:begin]
+            yield True, data[begin:end]
+        else:
+            yield False, data[at:end]
+        at = end
+    yield False, data[at:]
+
+
+def names_in(data):
+    """The names of an input, front to back."""
+    return [part for is_name, part in names_and_rest(data) if is_name]
+
+
+def spelled(spell, data):
+    """The input with `spell(name)` in place of each name, which is as long."""
+    return b''.join(spell(part) if is_name else part for is_name, part in names_and_rest(data))
+
+
+def in_capitals(data):
+    return spelled(bytes.upper, data)
+
+
+def in_small_letters(data):
+    return spelled(bytes.lower, data)
 
 
 # ---------------------------------------------------------------- the list of cases
@@ -1642,7 +1675,7 @@ def own_name_edges():
             yield refusal, SINGLE_BY_DOCUMENT, E, a_document, lent
         for number in range(66):
             yield 0, LABEL_NAME, a_table, b'', dict(classes=OWN, size=LARGE, label=number)
-    # All eight bits of a byte tell names apart, and so does the last byte of 63.
+    # All eight bits of a byte tell these names apart, and so does the last byte of 63.
     for one, other in (('a', '\xe1'), ('A', '\xc1'), ('\xe9', '\xc9'), ('#', '\xa3'), ('\x7f', '\xff'), ('_', '\xdf'),
                        ('x' + '\x80' * 62, 'x' + '\x80' * 61 + '\x81'), ('\xff' * 63, '\xff' * 62)):
         two = table([0], [(0, one, optional(t(1))), (1, other, EMPTY)])
@@ -1731,6 +1764,303 @@ def class_cases(cases):
                 cases.add(LETS_IN, result, a_document, classes=OWN)
             for number in range(4):
                 cases.add(LABEL_NAME, result, label=number, classes=OWN)
+
+
+# ---------------------------------------------------------------- letter case
+
+# An edge of letter case is the answer, written by hand, then the call, its two inputs, and what else `Cases.add` is told;
+# selftest.py holds the second validator to the answers.
+
+YES, NO = ref.Answer(0, 1, b''), ref.Answer(0, 0, b'')
+READS = YES
+
+
+def refused(number):
+    return ref.Answer(number, 0, b'')
+
+
+def gives(a_table):
+    return ref.Answer(0, len(a_table), a_table)
+
+
+def name_at(offset, length):
+    return ref.Answer(0, offset * 65536 + length, b'')
+
+
+def two_labels(one, other):
+    return label(one) + label(other) + start(0) + rule(0, 0, optional(t(1))) + rule(1, 1, EMPTY) + END
+
+
+# Bytes that differ in the bit by which A differs from a, where both may be in names. | may not, so \ is in none of them.
+BIT_PAIRS = [(byte, byte + 0x20) for byte in (*range(0x40, 0x60), *range(0x80, 0xA0), *range(0xC0, 0xE0)) if byte != 0x5C]
+LETTER_PAIRS = [(byte, byte + 0x20) for byte in range(0x41, 0x5B)]
+NO_LETTERS = [pair for pair in BIT_PAIRS if pair not in LETTER_PAIRS]
+
+# Two names, and whether they are one.
+TWO_NAMES = [
+    ('card', 'CARD', True), ('Card', 'cARD', True), ('CARD', 'card', True), ('a', 'A', True), ('Z', 'z', True), ('m', 'M', True),
+    ('abcdefghijklmnopqrstuvwxyz', 'ABCDEFGHIJKLMNOPQRSTUVWXYZ', True), ('zYxWvUtSrQ', 'ZyXwVuTsRq', True),
+    ('x-1', 'X-1', True), ('a_.', 'A_.', True), ('_a', '_A', True), ('n' * 63, 'N' * 63, True), ('n' * 62, 'N' * 62, True),
+    ('a' + 'x' * 62, 'A' + 'x' * 62, True), ('x' * 31 + 'a' + 'x' * 31, 'x' * 31 + 'A' + 'x' * 31, True),
+    ('x' * 62 + 'A', 'x' * 62 + 'a', True), ('aB' * 31 + 'c', 'Ab' * 31 + 'C', True),
+    ('card', 'CARDS', False), ('CARD', 'car', False), ('a', 'AA', False), ('n' * 63, 'N' * 62, False), ('a', 'B', False),
+    ('x' * 62 + 'a', 'X' * 62 + 'b', False), ('b' + 'x' * 62, 'A' + 'x' * 62, False),
+    ('x' * 31 + 'a' + 'x' * 31, 'X' * 31 + 'Q' + 'X' * 31, False),
+    ('card1', 'CARD2', False), ('a-b', 'A.B', False), ('_', 'A', False), ('draC', 'CARD', False), ('Card', 'DARC', False),
+]
+
+
+def repeated_edges():
+    """6, for labels."""
+    for number, (one, other, same) in enumerate(TWO_NAMES):
+        answer = refused(6) if same else READS
+        yield answer, TABLE_READS, two_labels(one, other), b'', dict(size=SIZES[number % 3])
+        yield answer, TABLE_READS, label('q') + label(other) + label('r') + label(one) + END, b'', dict(size=SIZES[(number + 1) % 3])
+    pair = label('card') + label('CARD')
+    for data in (pair + start(0) + start(0) + rule(0, 9, EMPTY) + END, label('CARD') + label('list') + label('Card')):
+        for call in (TABLE_READS, LABEL_NAME, IS_LOCAL, IS_SINGLE_TYPE):
+            yield refused(6), call, data, b'', {}
+        for call in (LETS_IN,) + BY_DOCUMENT:
+            yield refused(6), call, data, GOOD_DOC, {}
+        for call in BY_TABLE:
+            yield refused(6), call, data, GOOD_TABLE, {}
+            yield refused(6), call, GOOD_TABLE, data, {}
+    # 6 before 7 and 8; a field past the end is 3, one of 64 bytes 4.
+    for count, *refusals in ((16, 6, 6, 6), (64, 7, 6, 6), (128, 7, 7, 6)):
+        for again in ('N000', 'N%03d' % (count - 1)):
+            data = b''.join(label(name) for name in names_of(count, 4) + [again]) + END
+            for size in SIZES:
+                yield refused(refusals[size]), TABLE_READS, data, b'', dict(size=size)
+    yield refused(6), LABEL_NAME, pair + END, b'', dict(label=9)
+    yield refused(3), TABLE_READS, label('card') + label('CARD')[:-1], b'', {}
+    yield refused(4), TABLE_READS, label('a' * 63) + label('A' * 64) + END, b'', {}
+    yield refused(6), LOCAL_BY_TABLE, pair + END, b'', {}
+    yield refused(3), LOCAL_BY_TABLE, b'', pair + END, {}
+    # Starts are numbers: type 41 is not type 61.
+    yield READS, TABLE_READS, start(0x41) + start(0x61) + END, b'', dict(size=LARGE)
+
+
+def bit_edges():
+    """The 26 letters and no other bytes."""
+    for number, pair in enumerate(BIT_PAIRS):
+        one, other = [bytes([byte]) for byte in (pair if number % 2 else pair[::-1])]
+        same = 0x41 <= pair[0] <= 0x5A
+        lent = dict(classes=ALL_LETTERS, size=SIZES[number % 3])
+        yield refused(6) if same else READS, TABLE_READS, two_labels(one, other), b'', lent
+        yield YES if same else NO, LETS_IN, table([0], [(0, one, EMPTY)]), doc(other), lent
+    # All letters, and all others, below one root.
+    names = [chr(byte) for pair in LETTER_PAIRS for byte in pair]
+    for classes in (ref.ASCII, ALL_LETTERS):
+        told = table([0], [(0, '_', seq(*[t(1 + i // 2) for i in range(52)]))] + [(1 + i, chr(0x41 + i), EMPTY) for i in range(26)])
+        yield gives(told), SAMPLE, doc('_', *[tree(name) for name in names]), b'', dict(classes=classes)
+        told = table([0], [(0, 'a', seq(*[t(1 + i % 26) for i in range(52)]))] + [(1 + i, chr(0x61 + i), EMPTY) for i in range(26)])
+        yield gives(told), SAMPLE, doc('a', *[tree(name) for name in names[1::2] + names[::2]]), b'', dict(classes=classes)
+    for part in (NO_LETTERS[:37], NO_LETTERS[37:]):
+        names = [chr(byte) for pair in part for byte in pair]
+        told = table([0], [(0, 'a', seq(*[t(1 + i) for i in range(len(names))]))] + [(1 + i, name, EMPTY) for i, name in enumerate(names)])
+        below, lent = [tree(name) for name in names], dict(classes=ALL_LETTERS, size=LARGE, out='exact')
+        yield gives(told), SAMPLE, doc('a', *below), b'', lent
+        yield READS, TABLE_READS, told, b'', lent
+        yield YES, LETS_IN, told, doc('A', *below), lent
+        yield NO, LETS_IN, told, doc('A', *below[:-2], *below[:-3:-1]), lent
+        for call in BY_DOCUMENT:
+            yield gives(told), call, E, doc('a', *below), lent
+        for call in BY_TABLE:
+            yield gives(told), call, told, in_capitals(told), lent
+
+
+def rule_on_bytes_edges():
+    """The name rule is on bytes, under the lent classes: 5 before 6."""
+    no_small, no_capital, late_small = with_class(0, b'a'), with_class(0, b'A'), with_class(1, b'a')
+    for number, (classes, one, other, refusal) in enumerate((
+            (no_small, 'A', 'a', 5), (no_small, 'a', 'A', 5), (no_small, 'A', 'A', 6), (no_small, 'b', 'B', 6), (no_small, 'bA', 'BA', 6),
+            (no_small, 'bA', 'ba', 5), (no_capital, 'a', 'A', 5), (no_capital, 'A', 'a', 5), (no_capital, 'a', 'a', 6),
+            (no_capital, 'card', 'CARD', 5), (no_capital, 'card', 'CaRD', 6), (late_small, 'A', 'a', 5), (late_small, 'a', 'A', 5),
+            (late_small, 'Aa', 'AA', 6), (late_small, 'Aa', 'aA', 5), (one_letter(0x41, b'a'), 'AA', 'Aa', 6),
+            (one_letter(0x41, b'a'), 'AA', 'aA', 5), (one_letter(0x61), 'a', 'A', 5), (OWN, 'card', 'CARD', 6),
+            (ALL_LETTERS, 'card', 'CARD', 6), (ALL_LETTERS, '1a:', '1A:', 6), (ALL_LETTERS, 'a@', 'A`', 0), (OWN, 'A\xe9', 'a\xc9', 0),
+            (OWN, 'A\xe9', 'a\xe9', 6))):
+        lent = dict(classes=classes)
+        yield refused(refusal) if refusal else READS, TABLE_READS, two_labels(one, other), b'', lent
+        yield refused(refusal) if refusal else NO, LETS_IN, two_labels(one, other), doc(other), lent
+        if refusal == 5:
+            for call in (DOCUMENT_READS, SAMPLE):
+                yield refused(5), call, doc(one, tree(other)), b'', lent
+            yield refused(5), BY_TABLE[number % 2], table([0], [(0, one, EMPTY)]), table([0], [(0, other, EMPTY)]), lent
+            yield refused(5), BY_DOCUMENT[number % 2], table([0], [(0, one, EMPTY)]), doc(other), lent
+        elif refusal == 6:
+            yield READS, DOCUMENT_READS, doc(one, tree(other)), b'', lent
+            yield YES, LETS_IN, table([0], [(0, one, EMPTY)]), doc(other), lent
+
+
+def spelled_membership_edges():
+    for one, other, same in TWO_NAMES:
+        yield YES if same else NO, LETS_IN, table([0], [(0, one, any_of(t(0)))]), doc(other), {}
+        yield YES if same else NO, LETS_IN, table([0], [(0, other, any_of(t(0)))]), doc(other, tree(one), tree(other)), {}
+    mixed = doc('LIST', tree('Card', tree('NAME'), tree('dOOR')), tree('card', tree('name')), tree('CARD', tree('naMe'), tree('DooR')))
+    for a_table in (LISTER_TABLE, in_capitals(LISTER_TABLE), spelled(bytes.title, LISTER_TABLE)):
+        for size in SIZES:
+            yield YES, LETS_IN, a_table, mixed, dict(size=size)
+        for answer, a_document in (
+                (YES, in_capitals(mixed)), (YES, in_small_letters(mixed)), (YES, doc('liST')), (NO, doc('LISTS')), (NO, doc('LIS')),
+                (NO, doc('LIST', tree('CARD', tree('DOOR')))), (NO, doc('LIST', tree('CARD', tree('DOOR'), tree('NAME')))),
+                (NO, doc('LIST', tree('CARD', tree('NAME'), tree('ZONE')))), (NO, doc('CARD')), (NO, doc('list', tree('LIST')))):
+            yield answer, LETS_IN, a_table, a_document, {}
+    for answer, a_document in ((YES, P5_STRAIGHT), (NO, P5_CROSSED)):
+        yield answer, LETS_IN, P5, in_capitals(a_document), {}
+        yield answer, LETS_IN, in_capitals(P5), a_document, {}
+    yield YES, LETS_IN, P1, doc('A'), {}
+    yield YES, LETS_IN, CHAIN, document(tree('A', tree('a', tree('a', tree('A'))))), {}
+
+
+def spelled_samples():
+    """Documents with their samples: one path, one label and one type for names that differ in case, and the first spelling."""
+    return [
+        (doc('list', tree('card'), tree('CARD')), table([0], [(0, 'list', seq(t(1), t(1))), (1, 'card', EMPTY)])),
+        (doc('list', tree('card', tree('x')), tree('CARD', tree('X'), tree('x'))),
+         table([0], [(0, 'list', seq(t(1), t(1))), (1, 'card', choice(t(2), seq(t(2), t(2)))), (2, 'x', EMPTY)])),
+        # The first spelling over all paths, and two paths with one label.
+        (doc('list', tree('A', tree('card')), tree('Card')),
+         table([0], [(0, 'list', seq(t(1), t(3))), (1, 'A', t(2)), (2, 'card', EMPTY), (3, 'card', EMPTY)])),
+        (doc('list', tree('Card'), tree('A', tree('card'))),
+         table([0], [(0, 'list', seq(t(1), t(2))), (1, 'Card', EMPTY), (2, 'A', t(3)), (3, 'Card', EMPTY)])),
+        (doc('LIST', tree('list')), table([0], [(0, 'LIST', t(1)), (1, 'LIST', EMPTY)])),
+        (doc('list', tree('LIST', tree('List'))), table([0], [(0, 'list', t(1)), (1, 'list', t(2)), (2, 'list', EMPTY)])),
+        # Child sequences that differ in case are one.
+        (doc('r', tree('g', tree('a'), tree('b')), tree('G', tree('A'), tree('B')), tree('g', tree('B'), tree('a')),
+             tree('G', tree('b'), tree('A'))),
+         table([0], [(0, 'r', seq(t(1), t(1), t(1), t(1))), (1, 'g', choice(seq(t(2), t(3)), seq(t(3), t(2)))), (2, 'a', EMPTY),
+                     (3, 'b', EMPTY)])),
+        (doc('r', tree('g', tree('X')), tree('G', tree('x')), tree('g', tree('x'))),
+         table([0], [(0, 'r', seq(t(1), t(1), t(1))), (1, 'g', t(2)), (2, 'X', EMPTY)])),
+        (doc('R', tree('p', tree('Q', tree('a'))), tree('s', tree('q', tree('b'))), tree('P', tree('q'))),
+         table([0], [(0, 'R', seq(t(1), t(4), t(1))), (1, 'p', t(2)), (2, 'Q', choice(t(3), EMPTY)), (3, 'a', EMPTY), (4, 's', t(5)),
+                     (5, 'Q', t(6)), (6, 'b', EMPTY)], ['R', 'p', 'Q', 'a', 's', 'b'])),
+        (doc('n' * 63, tree('N' * 63), tree('N' * 62)),
+         table([0], [(0, 'n' * 63, seq(t(1), t(2))), (1, 'n' * 63, EMPTY), (2, 'N' * 62, EMPTY)])),
+    ]
+
+
+def spelled_sample_edges():
+    for number, (a_document, told) in enumerate(spelled_samples()):
+        yield gives(told), SAMPLE, a_document, b'', dict(size=SIZES[number % 3], out='exact')
+        yield YES, LETS_IN, told, a_document, {}
+        yield YES, LETS_IN, in_capitals(told), in_small_letters(a_document), {}
+    # As many paths as the size takes, and one more.
+    for size, most in ((SMALL, 16), (STANDARD, 64), (LARGE, 128)):
+        names = ['c%03d' % i for i in range(most - 1)]
+        for answer, more in ((None, 'C000'), (None, 'C%03d' % (most - 2)), (refused(14), 'C%03d' % (most - 1))):
+            leaf = [(1 + i, name, EMPTY) for i, name in enumerate(names)]
+            told = table([0], [(0, 'C', seq(*[t(1 + i) for i in range(most - 1)], t(1 + int(more[1:]) % most)))] + leaf)
+            a_document = doc('C', *[tree(name) for name in names + [more]])
+            yield answer or gives(told), SAMPLE, a_document, b'', dict(size=size)
+            for call in BY_DOCUMENT:
+                yield answer or gives(told), call, E, a_document, dict(size=size)
+
+
+def spelled_widenings():
+    """An old table, an addition, and the result, or the two results to local and to single-type."""
+    list_of_cards = table([0], [(0, 'list', choice(any_of(t(1)), t(1))), (1, 'card', EMPTY)])
+    both = table([0], [(0, 'list', choice(EMPTY, t(1))), (1, 'card', EMPTY)])
+    return [
+        # The old table's spelling stays.
+        (GOOD_TABLE, table([3], [(3, 'LIST', t(4)), (4, 'CARD', EMPTY)]), list_of_cards),
+        (GOOD_TABLE, doc('LIST', tree('Card')), list_of_cards),
+        (in_capitals(GOOD_TABLE), doc('list', tree('card')), in_capitals(list_of_cards)),
+        (spelled(bytes.title, GOOD_TABLE), table([0], [(0, 'lIST', t(4)), (4, 'cARD', EMPTY)]), spelled(bytes.title, list_of_cards)),
+        # Also that of a label without a rule, of one whose rules are unfruitful, and of one whose rules are not reached.
+        (table([0], [(0, 'list', EMPTY)], ['card', 'list', 'Zone']), table([0], [(0, 'LIST', t(1)), (1, 'CARD', t(2)), (2, 'ZONE', EMPTY)]),
+         table([1], [(0, 'card', t(2)), (1, 'list', choice(EMPTY, t(0))), (2, 'Zone', EMPTY)]),
+         table([0], [(0, 'list', choice(EMPTY, t(1))), (1, 'card', t(2)), (2, 'Zone', EMPTY)], ['card', 'list', 'Zone'])),
+        (table([], [], ['Card', 'lisT']), doc('list', tree('card'), tree('CARD')),
+         table([1], [(0, 'Card', EMPTY), (1, 'lisT', seq(t(0), t(0)))]),
+         table([0], [(0, 'lisT', seq(t(1), t(1))), (1, 'Card', EMPTY)], ['Card', 'lisT'])),
+        (table([0], [(0, 'list', choice(EMPTY, t(1))), (1, 'card', t(1))]), doc('LIST', tree('CARD')), both),
+        (table([0], [(0, 'list', choice(EMPTY, t(1))), (1, 'card', t(1))]), table([0], [(0, 'LIST', t(1)), (1, 'CARD', EMPTY)]), both),
+        (table([0], [(0, 'list', EMPTY), (1, 'card', EMPTY)]), doc('LIST', tree('cARD')), both),
+        (table([0], [(0, 'list', EMPTY), (1, 'card', EMPTY)]), table([0], [(0, 'LIST', t(1)), (1, 'CARD', EMPTY)]), both),
+        (table([0], [(0, 'list', EMPTY), (1, 'card', EMPTY)]), table([0], [(0, 'LIST', EMPTY), (1, 'CARD', EMPTY)]),
+         table([0], [(0, 'list', EMPTY)])),
+        # Names that the old table does not have are spelled as they first come, whichever the spellings that follow.
+        (P1, doc('A', tree('ZONE'), tree('zone'), tree('Zone')),
+         table([0], [(0, 'a', choice(EMPTY, seq(t(1), t(1), t(1)))), (1, 'ZONE', EMPTY)])),
+        (P1, doc('A', tree('zone', tree('CARD')), tree('card')),
+         table([0], [(0, 'a', choice(EMPTY, seq(t(1), t(2)))), (1, 'zone', t(2)), (2, 'CARD', EMPTY)]),
+         table([0], [(0, 'a', choice(EMPTY, seq(t(1), t(2)))), (1, 'zone', t(3)), (2, 'CARD', EMPTY), (3, 'CARD', EMPTY)],
+               ['a', 'zone', 'CARD'])),
+        (E, doc('LIST', tree('CARD'), tree('card')), table([0], [(0, 'LIST', seq(t(1), t(1))), (1, 'CARD', EMPTY)])),
+        (E, doc('List', tree('LIST')), table([0], [(0, 'List', choice(t(0), EMPTY))]), table([0], [(0, 'List', t(1)), (1, 'List', EMPTY)])),
+        (E, in_capitals(GOOD_TABLE), in_capitals(GOOD_TABLE)), (in_capitals(GOOD_TABLE), E, in_capitals(GOOD_TABLE)),
+        # Labels stand in the order of the old ones, then of the new.
+        (table([0], [(0, 'b', t(1)), (1, 'A', EMPTY)]), table([0], [(0, 'a', t(1)), (1, 'C', t(2)), (2, 'B', EMPTY)]),
+         table([0, 1], [(0, 'b', choice(t(1), EMPTY)), (1, 'A', choice(EMPTY, t(2))), (2, 'C', t(0))]),
+         table([0, 1], [(0, 'b', t(2)), (1, 'A', t(3)), (2, 'A', EMPTY), (3, 'C', t(4)), (4, 'b', EMPTY)], ['b', 'A', 'C'])),
+    ]
+
+
+def spelled_widening_edges():
+    for number, (old, addition, *results) in enumerate(spelled_widenings()):
+        by_document = addition[0] == 0x30
+        for call, result in zip(BY_DOCUMENT if by_document else BY_TABLE, results if len(results) == 2 else results * 2):
+            yield gives(result), call, old, addition, dict(size=SIZES[number % 3], out='exact')
+            if number % 5 == 0:
+                yield refused(15), call, old, addition, dict(out='short')
+            if by_document:
+                yield YES, LETS_IN, result, addition, {}
+                yield YES, LETS_IN, result, in_small_letters(addition), {}
+    # Bytes that are no letters are two names.
+    for one, other in (('@', '`'), ('[', '{'), (']', '}'), ('^', '~'), ('_', '\x7f'), ('\xc0', '\xe0'), ('\xde', '\xfe'), ('\x9a', '\xba')):
+        two = table([0, 1], [(0, one, EMPTY), (1, other, EMPTY)])
+        for call in BY_TABLE:
+            yield gives(two), call, table([0], [(0, one, EMPTY)]), table([0], [(0, other, EMPTY)]), dict(classes=ALL_LETTERS)
+        for call in BY_DOCUMENT:
+            yield gives(two), call, table([0], [(0, one, EMPTY)]), doc(other), dict(classes=ALL_LETTERS)
+        yield gives(table([0], [(0, one, t(1)), (1, other, EMPTY)])), SAMPLE, doc(one, tree(other)), b'', dict(classes=ALL_LETTERS)
+    # As many types as the size takes: none is added where the name is an old one.
+    for size, count in ((SMALL, 15), (STANDARD, 63), (LARGE, 127)):
+        wider = table([0], [(0, 's', choice(*[t(i) for i in range(1, count + 1)], EMPTY))]
+                      + [(i, 's%d' % i, EMPTY) for i in range(1, count + 1)])
+        for call in BY_DOCUMENT:
+            yield gives(wider), call, star(count), doc('S'), dict(size=size)
+            yield refused(14), call, star(count), doc('T'), dict(size=size)
+        for call in BY_TABLE:
+            yield gives(star(count)), call, star(count), in_capitals(star(count)), dict(size=size)
+            yield gives(in_capitals(star(count))), call, in_capitals(star(count)), star(count), dict(size=size)
+
+
+def spelled_look_up_edges():
+    """A name asked for by its number comes back as its own table spells it."""
+    for names in (('card', 'LIST', 'Zone'), ('CARD', 'list', 'zONE')):
+        a_table = table([], [], names)
+        for number, answer in enumerate((name_at(3, 4), name_at(10, 4), name_at(17, 4), refused(8))):
+            yield answer, LABEL_NAME, a_table, b'', dict(label=number)
+
+
+def spelling_edges():
+    yield from repeated_edges()
+    yield from bit_edges()
+    yield from rule_on_bytes_edges()
+    yield from spelled_membership_edges()
+    yield from spelled_sample_edges()
+    yield from spelled_widening_edges()
+    yield from spelled_look_up_edges()
+
+
+def spelling_cases(cases):
+    for _, call, first, second, options in spelling_edges():
+        cases.add(call, first, second, **options)
+    # The paper's tables, the addition in capitals; the results asked for their kinds, names and documents.
+    for number, (paper_table, a_document) in enumerate((
+            (P5, P5_CROSSED), (P6, doc('group', tree('group', tree('card')))), (P7, doc('list', tree('door', tree('time')))),
+            (P8, doc('list')), (LISTER_TABLE, LISTER_DOC))):
+        for call in BY_TABLE + BY_DOCUMENT:
+            cases.add(call, paper_table, in_capitals(paper_table if call in BY_TABLE else a_document), out='exact')
+            result = answer_of(cases.all[-1]).written
+            cases.kinds(result)
+            cases.add(BY_TABLE[number % 2], result, in_capitals(result))
+            cases.add(LETS_IN, result, a_document)
+            cases.add(LETS_IN, in_capitals(result), a_document)
+            cases.add(LABEL_NAME, result, label=number % 4)
 
 
 # ---------------------------------------------------------------- random cases
@@ -1905,13 +2235,46 @@ def usable(a_tree):
     return a_tree is not None and node_count(a_tree) <= 150
 
 
-ANY_BYTES = bytes([2] * 256)       # no classes to lend; under them a table reads whatever its names are
+ANY_BYTES = bytes([2] * 256)       # no classes to lend; under them a table reads whatever its names are, if no two are one
+
+
+def has_a_name_twice(a_table_bytes):
+    """Then it is turned back by 6."""
+    names = [ref.folded(name) for name in names_in(a_table_bytes)]
+    return len(names) != len(set(names))
+
+
+# The same letter in the other case, for all letters.
+OTHER_CASE = bytes.maketrans(b'ABCDEFGHIJKLMNOPQRSTUVWXYZabcdefghijklmnopqrstuvwxyz',
+                             b'abcdefghijklmnopqrstuvwxyzABCDEFGHIJKLMNOPQRSTUVWXYZ')
+
+
+def with_other_letters(numbers, data, classes, share=50):
+    """The input with a share of its letters, in percent, in the other case, where both spellings are of one class."""
+    def spell(name):
+        return bytes(OTHER_CASE[byte] if byte != OTHER_CASE[byte] and classes[byte] == classes[OTHER_CASE[byte]]
+                     and numbers.chance(share) else byte for byte in name)
+    return spelled(spell, data)
+
+
+def respelled(numbers, data, classes=ref.ASCII):
+    """The input, at times with letters in the other case; seldom also those that are of another class so."""
+    if numbers.chance(50):
+        return data
+    alike = ANY_BYTES if len(classes) != 256 or numbers.chance(6) else classes
+    return with_other_letters(numbers, data, alike, numbers.of((20, 50, 50, 100)))
+
+
+def in_two_spellings(first, second=b''):
+    """Do inputs have a name in two spellings?"""
+    names = set(names_in(first) + names_in(second))
+    return len(names) != len({ref.folded(name) for name in names})
 
 
 def random_document(numbers, a_table_bytes, pool=POOL):
     """Derived from the table, or derived and changed, or free."""
     a_tree = None
-    if not numbers.chance(15):
+    if not numbers.chance(15) and not has_a_name_twice(a_table_bytes):
         a_tree = derived_tree(numbers, ref.read_table(ref.LARGE, ANY_BYTES, a_table_bytes))
     if not usable(a_tree):
         return document(random_tree(numbers, pool))
@@ -1996,11 +2359,17 @@ def random_classes(numbers):
         roll = numbers.below(100)
         classes[byte] = 2 if roll < letters else 1 if roll < letters + later else 0
     classes[numbers.of(MAY_BE_IN_NAMES)] = 2
+    if numbers.chance(50):      # capitals as their small letters, and some of them in names
+        some = numbers.between(0x61, 0x7A)
+        classes[some] = 2
+        for byte in range(0x41, 0x5B):
+            classes[byte] = classes[byte + 0x20]
     return bytes(classes)
 
 
 def random_pool(numbers, classes):
-    """As many names under the classes as POOL has; some differ from another in one byte."""
+    """As many names under the classes as POOL has; some differ from another in one byte, at times in the bit by which A differs from a;
+    few differ in letter case alone."""
     first = [byte for byte in range(256) if classes[byte] == 2]
     later = [byte for byte in range(256) if classes[byte] != 0]
     pool = []
@@ -2010,8 +2379,13 @@ def random_pool(numbers, classes):
         if pool and numbers.chance(30):
             at, name = numbers.below(2), [ord(letter) for letter in numbers.of(pool)]
             name[-at] = numbers.of(later if at and len(name) > 1 else first)
+        elif pool and numbers.chance(20):
+            name = [ord(letter) for letter in numbers.of(pool)]
+            at = numbers.below(len(name))
+            if classes[name[at]] == classes[name[at] ^ 0x20]:
+                name[at] ^= 0x20
         name = bytes(name).decode('latin-1')
-        if name not in pool:
+        if name not in pool and (numbers.chance(20) or name.lower() not in [other.lower() for other in pool]):
             pool.append(name)
     return pool
 
@@ -2046,48 +2420,49 @@ def random_case(cases, numbers):
     size = random_size(numbers)
     limits = random_limits(numbers, size)
     classes, pool = random_lent(numbers)
-    first = some_table(numbers, size, limits, pool)
+    respell = partial(respelled, numbers, classes=classes)
+    first = respell(some_table(numbers, size, limits, pool))
     add = partial(cases.add, size=size, classes=classes)
     roll = numbers.below(100)
     if roll < 8:
         add(numbers.of((TABLE_READS, LABEL_NAME, IS_LOCAL, IS_SINGLE_TYPE)), damaged(numbers, first),
             label=numbers.below(4))
     elif roll < 14:
-        a_document = damaged(numbers, random_document(numbers, first, pool))
+        a_document = damaged(numbers, respell(random_document(numbers, first, pool)))
         call = numbers.of((DOCUMENT_READS, SAMPLE, LETS_IN, LOCAL_BY_DOCUMENT, SINGLE_BY_DOCUMENT))
         if call in (DOCUMENT_READS, SAMPLE):
             add(call, a_document)
         else:
             add(call, first, a_document)
     elif roll < 19:
-        second = random_table(numbers, pool, limits=limits)
+        second = respell(random_table(numbers, pool, limits=limits))
         pair = (damaged(numbers, first), second) if numbers.chance(40) else (first, damaged(numbers, second))
         add(numbers.of(BY_TABLE), *pair)
     elif roll < 45:
-        add(LETS_IN, first, random_document(numbers, first, pool))
+        add(LETS_IN, first, respell(random_document(numbers, first, pool)))
     elif roll < 50:
-        a_document = document(random_tree(numbers, pool[:3], numbers.between(1, 60)))
+        a_document = respell(document(random_tree(numbers, pool[:3], numbers.between(1, 60))))
         add(SAMPLE, a_document, out=numbers.of((None, None, 'exact', 'short')))
     elif roll < 55:
         add(numbers.of((TABLE_READS, IS_LOCAL, IS_SINGLE_TYPE)), first)
     elif roll < 57:
         add(LABEL_NAME, first, label=numbers.below(5))
     else:
-        random_widening(add, numbers, roll < 82, first, limits, pool)
-        random_question(add, numbers, answer_of(cases.all[-1]).written, first, limits, pool)
+        random_widening(add, numbers, roll < 82, first, limits, pool, respell)
+        random_question(add, numbers, answer_of(cases.all[-1]).written, first, limits, pool, respell)
 
 
-def random_widening(add, numbers, by_table, first, limits, pool):
+def random_widening(add, numbers, by_table, first, limits, pool, respell):
     out = numbers.of((None,) * 12 + ('exact', 'exact', 'short', 0))
     to_kind = numbers.below(2)
     if by_table:
         make = rich_table if numbers.chance(45) else random_table if numbers.chance(80) else None
-        add(BY_TABLE[to_kind], first, make(numbers, pool, limits=limits) if make else E, out=out)
+        add(BY_TABLE[to_kind], first, respell(make(numbers, pool, limits=limits)) if make else E, out=out)
     else:
-        add(BY_DOCUMENT[to_kind], first, random_document(numbers, first, pool), out=out)
+        add(BY_DOCUMENT[to_kind], first, respell(random_document(numbers, first, pool)), out=out)
 
 
-def random_question(add, numbers, result, first, limits, pool):
+def random_question(add, numbers, result, first, limits, pool, respell):
     """At times a question to the result of a widening."""
     if not result or len(result) >= 1500 or not numbers.chance(60):
         return
@@ -2095,13 +2470,13 @@ def random_question(add, numbers, result, first, limits, pool):
     if follow == 0:
         add(numbers.of((IS_LOCAL, IS_SINGLE_TYPE)), result)
     elif follow == 1:
-        add(LETS_IN, result, random_document(numbers, result, pool))
+        add(LETS_IN, result, respell(random_document(numbers, result, pool)))
     elif follow == 2:
-        add(LETS_IN, result, random_document(numbers, first, pool))
+        add(LETS_IN, result, respell(random_document(numbers, first, pool)))
     elif follow == 3:
-        add(BY_TABLE[numbers.below(2)], result, random_table(numbers, pool, limits=limits))
+        add(BY_TABLE[numbers.below(2)], result, respell(random_table(numbers, pool, limits=limits)))
     else:
-        add(BY_DOCUMENT[numbers.below(2)], result, random_document(numbers, first, pool))
+        add(BY_DOCUMENT[numbers.below(2)], result, respell(random_document(numbers, first, pool)))
 
 
 def made_cases(cases):
@@ -2114,6 +2489,7 @@ def made_cases(cases):
     wide_cases(cases)
     size_cases(cases)
     class_cases(cases)
+    spelling_cases(cases)
 
 
 def all_cases(seed, count):
@@ -2150,7 +2526,9 @@ def lister_cases():
                           (1, 'a', any_of(t(9))), (2, 'b', EMPTY)]), doc('s', tree('a'))),
              (P1, doc('a', *[tree('c%02d' % i) for i in range(64)])),
              (padded_table(32768), doc('n00')), (padded_table(32767), doc('n00')),
-             (padded_table(32769), doc('n00')), (P1, document(chain(65)))]
+             (padded_table(32769), doc('n00')), (P1, document(chain(65))),
+             (LISTER_TABLE, in_capitals(LISTER_DOC)), (in_capitals(LISTER_TABLE), LISTER_DOC),
+             (label('card') + label('CARD') + END, LISTER_DOC)]
     for number in range(20):
         numbers = Numbers(77000 + number)
         old = random_table(numbers)

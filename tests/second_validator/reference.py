@@ -1,9 +1,10 @@
-"""The second validator: every public call, written from document 01 and Cards 4 and 13 alone.
+"""The second validator: every public call, written from document 01 and Cards 4, 8 and 13 alone.
 
 Plain search, for reading next to the papers: derivations are tried directly, every step of a
 widening is made as a table, and refusals come in the paper's order.  Sentences of the papers
 stand in quotes; where document 01 has a number of the second set, the chosen set's own is read,
-and where it has the fixed classes of bytes, those lent with the call.
+where it has the fixed classes of bytes, those lent with the call, and where it has names equal,
+they are so up to letter case.
 Python 3, standard library only.
 
     python3 reference.py list DIR      the text that the lister prints in DIR (old.tbl, new.doc)
@@ -103,6 +104,26 @@ def is_name(classes, value):
     return classes[value[0]] == ANYWHERE and all(classes[byte] != NEVER for byte in value)
 
 
+# ---------------------------------------------------------------- letter case
+
+# The 26 letters; "All other bytes compare as before."
+TO_SMALL = bytes.maketrans(b'ABCDEFGHIJKLMNOPQRSTUVWXYZ', b'abcdefghijklmnopqrstuvwxyz')
+
+
+def folded(name):
+    """"Names are to be equal when they agree after A to Z become a to z." No name is written so:
+    "the first spelling met is kept." """
+    return name.translate(TO_SMALL)
+
+
+def label_called(labels, name):
+    """The number of the label of that name, in whatever spelling; None where there is none."""
+    for number, label in enumerate(labels):
+        if folded(label) == folded(name):
+            return number
+    return None
+
+
 # ---------------------------------------------------------------- reading
 
 
@@ -192,7 +213,8 @@ def read_table(limits, classes, data):
         if tag == LABEL:
             if not is_name(classes, value):     # 5: "A name breaks the name rule."
                 raise Refused(5)
-            if value in labels:                 # 6: "A label name ... repeats an earlier one"
+            # 6: "A label name ... repeats an earlier one"; "This reaches repeated labels (6)"
+            if label_called(labels, value) is not None:
                 raise Refused(6)
             if len(labels) == limits.rules:     # 7: "It is the 65th label, start or rule."
                 raise Refused(7)
@@ -267,8 +289,10 @@ def read_document(limits, classes, data):
 # ---------------------------------------------------------------- meaning
 
 def table_lets_in(table, root):
-    """"A table lets in a document if a start type derives its root." """
+    """"A table lets in a document if a start type derives its root." "A document is read up to
+    letter case wherever letting in is spoken of." """
     known = {}
+    names = [folded(label) for label in table.labels]
 
     def derives(type_, node):
         """"A type derives a node if one of its rules has the node's name and the children, in
@@ -276,8 +300,9 @@ def table_lets_in(table, root):
         question = (type_, id(node))
         if question not in known:
             known[question] = False
+            name = folded(node.name)
             for rule in table.rules:
-                if (rule.type == type_ and table.labels[rule.label] == node.name
+                if (rule.type == type_ and names[rule.label] == name
                         and some_word_fits(rule.content, node.children)):
                     known[question] = True
                     break
@@ -381,21 +406,25 @@ def choice_of(contents):
 
 def sample_table(root):
     """"One type for each distinct path of names from the root, numbered by first visit, root 0
-    and only start. Labels by first visit, rules by type." """
-    types = {}        # path of names -> type, by first visit
-    labels = []
+    and only start. Labels by first visit, rules by type." A label is spelled as its first node in
+    the file, on whichever path that is: "the first spelling met is kept." """
+    types = {}        # path of folded names -> type, by first visit
+    labels = {}       # folded name -> its first spelling, by first visit
     visited = []      # (path, node) in the order of the file
 
-    def visit(path, node):
+    def visit(above, node):
+        name = folded(node.name)
+        path = above + (name,)
         if path not in types:
             types[path] = len(types)
-        if node.name not in labels:
-            labels.append(node.name)
+        if name not in labels:
+            labels[name] = node.name
         visited.append((path, node))
         for child in node.children:
-            visit(path + (child.name,), child)
+            visit(path, child)
 
-    visit((root.name,), root)
+    visit((), root)
+    label_numbers = {name: number for number, name in enumerate(labels)}
     rules = []
     for path, type_ in types.items():
         # "Its content is the choice of the distinct child sequences seen at that path, by first
@@ -403,7 +432,7 @@ def sample_table(root):
         seen = []
         for other, node in visited:
             if other == path:
-                sequence = [(TYPE, types[path + (child.name,)]) for child in node.children]
+                sequence = [(TYPE, types[path + (folded(child.name),)]) for child in node.children]
                 if len(sequence) == 0:
                     content = (EMPTY,)
                 elif len(sequence) == 1:
@@ -412,8 +441,8 @@ def sample_table(root):
                     content = (SEQUENCE, tuple(sequence))
                 if content not in seen:
                     seen.append(content)
-        rules.append(Rule(type_, labels.index(path[-1]), choice_of(seen)))
-    return Table(labels, [0], rules, None)
+        rules.append(Rule(type_, label_numbers[path[-1]], choice_of(seen)))
+    return Table(list(labels.values()), [0], rules, None)
 
 
 # ---------------------------------------------------------------- widening, step by step
@@ -431,10 +460,11 @@ def replaced(content, replacement):
 
 def unite(limits, old, addition):
     """"Labels are the old ones, then the addition's new names. The addition's types are made
-    distinct from the old. Rules keep their order, old first." """
+    distinct from the old. Rules keep their order, old first." A name that the old table has is
+    spelled as there, whether or not a rule of the old table has it. """
     labels = list(old.labels)
     for name in addition.labels:
-        if name not in labels:
+        if label_called(labels, name) is None:
             labels.append(name)
 
     def distinct(type_):      # types of a table that was read are below the limit
@@ -443,7 +473,7 @@ def unite(limits, old, addition):
     starts = old.starts + [distinct(start) for start in addition.starts]
     rules = list(old.rules)
     for rule in addition.rules:
-        rules.append(Rule(distinct(rule.type), labels.index(addition.labels[rule.label]),
+        rules.append(Rule(distinct(rule.type), label_called(labels, addition.labels[rule.label]),
                           replaced(rule.content, lambda t: (TYPE, distinct(t)))))
     return Table(labels, starts, rules, None)
 
@@ -741,7 +771,8 @@ def document_reads(limits, classes, document, work_len):
 
 
 def label_name(limits, classes, table, label, work_len):
-    """"A name asked for by its label number comes back as that part of the table's own bytes" """
+    """"A name asked for by its label number comes back as that part of the table's own bytes", so
+    as that table spells it."""
     def question():
         read = read_table(limits, classes, table)
         if label >= len(read.labels):  # "A caller's label number is tried after its table."

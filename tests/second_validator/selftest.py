@@ -2,10 +2,11 @@
 
     python3 selftest.py [--rounds N]
 
-The paper's P1 to P8, its edges and the lister's example; the edges of the three sizes and those of the
-classes, numbered by hand; that a larger set gives the same answer wherever a smaller one gives one, and
-so do classes with more letters; that names of other letters, under classes that say so, give the answers
-of the names that they stand for; reading against bytes written; letting in against a listing of all
+The paper's P1 to P8, its edges and the lister's example; the edges of the three sizes, those of the
+classes and those of letter case, numbered by hand; that a larger set gives the same answer wherever a
+smaller one gives one, and so do classes with more letters; that inputs with letters in the other case give
+the same answers, with every name written in its first spelling; that names of other letters, under classes
+that say so, give the answers of the names that they stand for; reading against bytes written; letting in against a listing of all
 derived documents; and widening against brute force on small tables: the result is of its kind, lets in
 what it must, and is least.
 """
@@ -86,7 +87,7 @@ def paper():
 
 # ---------------------------------------------------------------- all derived documents, listed
 
-# Trees here are pairs of a name and a tuple of trees.
+# Trees here are pairs of a name, in small letters, and a tuple of trees.
 
 def derived_documents(read, most):
     """All trees of at most `most` nodes that the table lets in, listed by building them up: no
@@ -137,7 +138,7 @@ def derived_documents(read, most):
     for nodes in range(1, most + 1):
         known = {}
         for rule in read.rules:
-            name = read.labels[rule.label].decode('ascii')
+            name = ref.folded(read.labels[rule.label]).decode('ascii')
             made = {(name, forest) for forest in forests(rule.content, nodes - 1, known)}
             trees.setdefault((rule.type, nodes), set()).update(made)
     return {one for start in read.starts for nodes in range(1, most + 1)
@@ -177,7 +178,7 @@ def membership(rounds):
         make = gen.rich_table if number % 2 else gen.random_table
         names = ('a', 'b', 'c')[:2 + number % 2]
         limits = ref.SETS[number % 3]
-        read = ref.read_table(limits, C, make(numbers, list(names), 5, limits))
+        read = ref.read_table(limits, C, gen.respelled(numbers, make(numbers, list(names), 5, limits)))
         most = 6 if len(names) == 2 else 4
         listed = derived_documents(read, most)
         for a_tree in trees_up_to(names, most):
@@ -257,14 +258,14 @@ def leastness(rounds):
         numbers = Numbers(9000 + number)
         make = (gen.random_table, gen.rich_table)
         limits = ref.SETS[number // 6 % 3]
-        old = make[number % 2](numbers, list(names), 4, limits)
+        old = gen.respelled(numbers, make[number % 2](numbers, list(names), 4, limits))
         old_trees = derived_documents(ref.read_table(limits, C, old), most + 1)
         if number % 3:
-            addition = make[number // 2 % 2](numbers, list(names), 4, limits)
+            addition = gen.respelled(numbers, make[number // 2 % 2](numbers, list(names), 4, limits))
             added = derived_documents(ref.read_table(limits, C, addition), most + 1)
         else:
             one = numbers.of(small)
-            addition, added = gen.document(one), {one}
+            addition, added = gen.respelled(numbers, gen.document(one)), {one}
         for kind, (by_table, by_document, is_kind) in FORMS.items():
             answer = (by_table if number % 3 else by_document)(limits, C, old, addition, 33000, limits.words)
             if answer.refusal:
@@ -384,7 +385,7 @@ def own_names_by_hand():
     wider = table([0, 2], [(0, one, any_of(choice(t(1), t(2)))), (1, two, EMPTY),
                            (2, three, choice(gen.optional(t(1)), any_of(t(3)))), (3, '\xe9#', EMPTY)])
     check(ref.widen_local_by_table(L, own, gen.OWN_TABLE, gen.OWN_OTHER, 500, W) == (0, len(wider), wider))
-    # Names are equal when all eight bits of their bytes are.
+    # No bit of a byte above 7F is left out of account.
     check(ref.lets_in(L, own, gen.P1, doc('\xe1'), W) == (0, 0, b''))
     wider = table([0, 1], [(0, 'a', EMPTY), (1, '\xe1', EMPTY)])
     for _, by_document, _ in FORMS.values():
@@ -392,10 +393,12 @@ def own_names_by_hand():
 
 
 def renamed_alike(rounds):
-    """ASCII's names spelled in other bytes, of the classes that theirs have, give the same answers in that spelling."""
+    """ASCII's names in small letters, spelled in other bytes that are no capitals, of the classes that theirs have, give the same answers
+    in that spelling."""
+    small = [name for name in gen.POOL if name == name.lower()]
     for number in range(rounds):
         numbers = Numbers(47000 + number)
-        left = list(gen.MAY_BE_IN_NAMES)
+        left = [byte for byte in gen.MAY_BE_IN_NAMES if not 0x41 <= byte <= 0x5A]
         spelled = {chr(byte): chr(left.pop(numbers.below(len(left)))) for byte in range(256) if C[byte]}
         classes = bytearray(256)
         for byte, other in spelled.items():
@@ -404,9 +407,9 @@ def renamed_alike(rounds):
         def respelled(name):
             return ''.join(spelled[byte] for byte in name.decode('latin-1')).encode('latin-1')
 
-        pool = [respelled(name.encode('latin-1')).decode('latin-1') for name in gen.POOL]
+        pool = [respelled(name.encode('latin-1')).decode('latin-1') for name in small]
         answers = []
-        for lent, names in ((C, gen.POOL), (bytes(classes), pool)):
+        for lent, names in ((C, small), (bytes(classes), pool)):
             same = Numbers(48000 + number)
             old, addition = gen.random_table(same, names), gen.rich_table(same, names)
             a_document = gen.random_document(same, old, names)
@@ -423,6 +426,55 @@ def renamed_alike(rounds):
                 check(ref.table_bytes(read) == theirs.written, number)
 
 
+# ---------------------------------------------------------------- letter case
+
+def spellings_by_hand():
+    # These 26 pairs, of all pairs of bytes.
+    pairs = [(one, other) for one in range(256) for other in range(one + 1, 256)
+             if ref.folded(bytes([one])) == ref.folded(bytes([other]))]
+    check(pairs == list(zip(b'ABCDEFGHIJKLMNOPQRSTUVWXYZ', b'abcdefghijklmnopqrstuvwxyz')))
+    check(pairs == gen.LETTER_PAIRS and len(gen.BIT_PAIRS) == 95 and len(gen.NO_LETTERS) == 69)
+    check(all({one, other} <= set(gen.MAY_BE_IN_NAMES) and other == one ^ 0x20 for one, other in gen.BIT_PAIRS))
+    made = gen.Cases()
+    for told, call, first, second, options in gen.spelling_edges():
+        made.add(call, first, second, **options)
+        answer = gen.answer_of(made.all[-1])
+        check(answer == told, told, answer, call, first.hex(), second.hex(), options)
+    for call in set(gen.CALL_NAMES) - {gen.DOCUMENT_READS, gen.SAMPLE}:
+        check(6 in {gen.answer_of(case).refusal for case in made.all if case.call == call}, call)
+    # An addition spelled as the old table gives the same bytes, and so does the sample that a document is added through.
+    for old, addition, *_ in gen.spelled_widenings():
+        first = {ref.folded(name): name for name in reversed(gen.names_in(old) + gen.names_in(addition))}
+        as_old = gen.spelled(lambda name: first[ref.folded(name)], addition)
+        for by_table, by_document, _ in FORMS.values():
+            by = by_document if addition[0] == 0x30 else by_table
+            check(by(L, C, old, addition, 500, W) == by(L, C, old, as_old, 500, W), old, addition)
+    text = (b'local\nstart t0\nt0 list (t1*|t1)\nt1 card ((t2,t3?)|(t2,t4))\n'
+            b't2 name ()\nt3 door ()\nt4 ZONE ()\n')
+    check(ref.listing(gen.LISTER_TABLE, gen.in_capitals(gen.LISTER_DOC)) == text, 'lister')
+    check(ref.listing(gen.label('card') + gen.label('CARD') + E, gen.LISTER_DOC) == b'refused 6\n', 'lister')
+
+
+def respelled_alike():
+    """Over all made cases: letters in the other case, of the same class, change no verdict and no refusal, and of a written table only
+    the spelling of its names, which is the first one met: the old table's, or else that of the addition's first label or node."""
+    made = gen.Cases()
+    gen.made_cases(made)
+    for number, case in enumerate(made.all):
+        if len(case.classes) != 256:
+            continue
+        numbers, answer = Numbers(52000 + number), gen.answer_of(case)
+        first, second = (gen.with_other_letters(numbers, data, case.classes) for data in (case.first, case.second))
+        for other in {case._replace(second=second), case._replace(first=first, second=second)}:
+            found = gen.answer_of(other)
+            check(found[:2] == answer[:2], case, other)
+            check(gen.in_small_letters(found.written) == gen.in_small_letters(answer.written), case, other)
+            met = {}
+            for name in gen.names_in(other.first) + gen.names_in(other.second):
+                met.setdefault(name.lower(), name)
+            check(all(met[name.lower()] == name for name in gen.names_in(found.written)), case, other)
+
+
 # ---------------------------------------------------------------- other facts
 
 def other_facts(rounds):
@@ -431,18 +483,22 @@ def other_facts(rounds):
         limits = ref.SETS[number // 2 % 3]
         words = limits.words
         old = (gen.rich_table if number % 2 else gen.random_table)(numbers, limits=limits)
-        addition = (gen.random_table if number % 2 else gen.rich_table)(numbers, limits=limits)
+        addition = gen.respelled(numbers, (gen.random_table if number % 2 else gen.rich_table)(numbers, limits=limits))
+        if gen.has_a_name_twice(old):
+            check(ref.table_reads(limits, C, old, words).refusal == 6)
+            continue
         check(ref.table_bytes(ref.read_table(limits, C, old)) == old)
         for by_table, by_document, is_kind in FORMS.values():
             answer = by_table(limits, C, old, addition, 33000, words)
             if answer.refusal:
+                check(answer.refusal in (13, 14) or gen.has_a_name_twice(addition) and answer.refusal == 6)
                 continue
             check(is_kind(limits, C, answer.written, words).value == 1)
             # Widening a result by E changes no document; here it even changes no byte, since the
             # numbering of a result is the one a second widening gives.
             again = by_table(limits, C, answer.written, E, 33000, words)
             check(again.written == answer.written, old, addition)
-            a_document = gen.random_document(numbers, old)
+            a_document = gen.respelled(numbers, gen.random_document(numbers, old))
             answer = by_document(limits, C, old, a_document, 33000, words)
             check(answer.refusal in (11, 14) or ref.lets_in(limits, C, answer.written, a_document, words).value == 1)
             a_sample = ref.sample(limits, C, a_document, 33000, words)
@@ -471,6 +527,8 @@ def main():
     sizes_by_hand()
     classes_by_hand()
     own_names_by_hand()
+    spellings_by_hand()
+    respelled_alike()
     larger_sets_agree()
     membership(max(1, rounds // 5))
     counts = leastness(rounds)

@@ -99,19 +99,26 @@ static int is_name(const uint8_t *classes, const uint8_t *name, size_t size) {
     return 1;
 }
 
-static int same_bytes(const uint8_t *one, const uint8_t *other, size_t size) {
+/* A to Z become a to z; every other byte stays. */
+static uint8_t small_letter(uint8_t byte) { return byte >= 'A' && byte <= 'Z' ? (uint8_t)(byte + ('a' - 'A')) : byte; }
+
+/* Whether names of the same length are equal, up to letter case. Only bytes that differ are looked at further. */
+static int same_name(const uint8_t *one, const uint8_t *other, size_t size) {
     for (size_t i = 0; i < size; i++)
-        if (one[i] != other[i]) return 0;
+        if (one[i] != other[i] && small_letter(one[i]) != small_letter(other[i])) return 0;
     return 1;
 }
 
-/* A number that equal names have in common. */
-static unsigned key_of(const uint8_t *name, size_t size) { return (name[0] + 7u * name[size / 2] + (unsigned)size) % KEYS; }
+/* A number that equal names have in common: the bit in which a letter differs from its capital is set in both bytes. */
+static unsigned key_of(const uint8_t *name, size_t size) {
+    const unsigned either = 'a' - 'A';
+    return ((name[0] | either) + 7u * (name[size / 2] | either) + (unsigned)size) % KEYS;
+}
 
 /* The label that has a name, NO_MORE where none has. */
 static unsigned label_of(const struct table *table, const uint8_t *name, size_t size) {
     unsigned label = table->first_label[key_of(name, size)];
-    while (label != NO_MORE && (table->label[label].size != size || !same_bytes(table->label[label].name, name, size)))
+    while (label != NO_MORE && (table->label[label].size != size || !same_name(table->label[label].name, name, size)))
         label = table->label[label].next;
     return label;
 }

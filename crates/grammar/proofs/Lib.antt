@@ -5,6 +5,7 @@ pub mod ListerExample
 pub mod Edges
 pub mod RefusalOrder
 pub mod ClassRules
+pub mod LetterCase
 pub mod Mistakes
 pub mod WideningExamples
 pub mod SampleExamples

@@ -90,7 +90,7 @@ tag-before-name : table (label (replicate 64 0x2D)) ≡ refused BadField
 unfolding readTable standard label
 tag-before-name = refl
 
--- 5 before 6: equal names keep or break the rule together, so the two meet only in different fields, and the earlier decides
+-- 5 before 6 in different fields: the earlier decides. (Both in one field: `name-before-repeat` of LetterCase.)
 name-before-repeated : table (label (ascii "a") ++ label (ascii "-") ++ label (ascii "a")) ≡ refused BadName
 unfolding readTable standard asciiClasses label ascii
 name-before-repeated = refl

@@ -7,7 +7,7 @@ use Rattle.grammar.specs.Content.{Word}
 use Rattle.grammar.specs.Tree.{Tree, node, Forest, []ᵗ, _∷ᵗ_}
 use Rattle.grammar.specs.Table.{Rule, Table, Named}
 
--- One of the type's rules has the name n, and w is a word of its content.
+-- One of the type's rules has a name equal to n (so documents are read up to letter case), and w is a word of its content.
 pub record Fits (g : Table) (k : ℕ) (n : Name) (w : List ℕ) : Type 0 where
   pub rule : Rule
   pub of-table : List·Memᴰ rule (g .rules)

@@ -1,6 +1,5 @@
 -- What it is to be the least table of a kind that lets in all that an old table lets in and all that is added.
-use mathlib.Core.Path.{_≡_}
-use Rattle.grammar.specs.Tree.{Tree}
+use Rattle.grammar.specs.Tree.{Tree, SameTree}
 use Rattle.grammar.specs.Table.{Table, DistinctNames}
 use Rattle.grammar.specs.Derivation.{LetsIn}
 use Rattle.grammar.specs.Kinds.{Kind, OfKind}
@@ -9,10 +8,10 @@ pub data Addition : Type 0 where
   byTable : Table → Addition
   byDocument : Tree → Addition
 
--- the documents added: all that a table lets in, or that one document
+-- the documents added: all that a table lets in, or that one document, read up to letter case
 abbrev pub Added : Addition → Tree → Type 0
 Added (byTable g) = λ d. LetsIn g d
-Added (byDocument document) = λ d. d ≡ document
+Added (byDocument document) = λ d. SameTree document d
 
 -- every document of one sort is let in
 abbrev pub LetsInAll : Table → (Tree → Type 0) → Type 0

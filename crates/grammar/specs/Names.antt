@@ -1,5 +1,5 @@
 -- Names, when two are equal, and which byte strings are names.
-use Prim.Native.Nat.{ℕ}
+use Prim.Native.Nat.{ℕ, _+_}
 use mathlib.Core.Bool.{Bool, true, false, _&&_, _||_}
 use mathlib.Core.List.{List, [], _∷_, _++_, map}
 use mathlib.Core.Path.{_≡_}
@@ -11,10 +11,18 @@ use Rattle.grammar.specs.Lists.{anyPass, allPass, sameNumbers, numbersBe
 abbrev pub Name : Type 0
 Name = List ℕ
 
--- Names are equal when their bytes are. All else that compares names goes through this definition.
+unfoldable pub isCapital : ℕ → Bool
+isCapital b = leb 0x41 b && leb b 0x5A
+
+-- A to Z become a to z; every other byte stays.
+unfoldable pub smallLetter : ℕ → ℕ
+unfolding isCapital
+smallLetter b = elim (isCapital b) [ true ↦ b + 0x20 | false ↦ b ]
+
+-- Names are equal when they agree after A to Z become a to z. All else that compares names goes through this definition.
 unfoldable pub sameName : Name → Name → Bool
-unfolding sameNumbers
-sameName = sameNumbers
+unfolding sameNumbers smallLetter
+sameName m n = sameNumbers (map smallLetter m) (map smallLetter n)
 
 abbrev pub SameName : Name → Name → Type 0
 SameName m n = sameName m n ≡ true
@@ -47,7 +55,8 @@ abbrev pub Loads : Classes → Type 0
 Loads classes = loads classes ≡ true
 
 unfoldable pub isLetter : ℕ → Bool
-isLetter b = (leb 0x41 b && leb b 0x5A) || (leb 0x61 b && leb b 0x7A)
+unfolding isCapital
+isLetter b = isCapital b || (leb 0x61 b && leb b 0x7A)
 
 unfoldable pub isDigit : ℕ → Bool
 isDigit b = leb 0x30 b && leb b 0x39

@@ -1,6 +1,6 @@
 -- Documents: finite trees of named nodes, of any size.
 use Prim.Native.Nat.{ℕ, zero, suc, max}
-use Rattle.grammar.specs.Names.{Name}
+use Rattle.grammar.specs.Names.{Name, SameName}
 
 infixr 40 _∷ᵗ_
 mutual
@@ -10,6 +10,15 @@ mutual
   pub data Forest : Type 0 where
     []ᵗ : Forest
     _∷ᵗ_ : Tree → Forest → Forest
+
+-- Documents that are the same up to letter case: equal names in equal places.
+mutual
+  pub data SameTree : Tree → Tree → Type 0 where
+    same-node : {m n : Name} {ts us : Forest} → SameName m n → SameForest ts us → SameTree (node m ts) (node n us)
+
+  pub data SameForest : Forest → Forest → Type 0 where
+    same-none : SameForest []ᵗ []ᵗ
+    same-next : {t u : Tree} {ts us : Forest} → SameTree t u → SameForest ts us → SameForest (t ∷ᵗ ts) (u ∷ᵗ us)
 
 -- how many trees a forest has
 unfoldable pub trees : Forest → ℕ

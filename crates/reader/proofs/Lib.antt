@@ -4,6 +4,7 @@ pub mod ContentAtLaws
 pub mod ClassTable
 pub mod PlaceByPlace
 pub mod LoadedClasses
+pub mod LetterLaws
 pub mod NameReading
 pub mod FieldReading
 pub mod OpenLevels

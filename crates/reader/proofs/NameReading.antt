@@ -7,14 +7,18 @@ use mathlib.Core.Path.{_≡_, refl, _∙_, ap, ap₂}
 use lib.Dec.{eqb, leb}
 use lib.ListN.{length, getD, drop, drop-of-length-le}
 use borrow.Author.Tests.{eq-eqb, ne-eqb, le-leb, lt-leb}
-use Rattle.grammar.specs.Lists.{allPass, sameNumbers}
-use Rattle.grammar.specs.Names.{Classes, isName, sameName}
+use Rattle.grammar.specs.Lists.{allPass}
+use Rattle.grammar.specs.Names.{Classes, isName, smallLetter, sameName}
 use Rattle.reader.proofs.FieldReading.{from-place}
 use Rattle.reader.proofs.PlaceByPlace.{all-next, all-fails}
 
 -- a byte that may stand after the first
 abbrev pub later : Classes → ℕ → Bool
 later classes c = leb 1 (getD classes c 0)
+
+-- two bytes that agree after A to Z become a to z
+abbrev pub sameLetter : ℕ → ℕ → Bool
+sameLetter x y = eqb (smallLetter x) (smallLetter y)
 
 module _ (classes : Classes) (s : List ℕ) where
   pub name-empty : length s ≡ 0 → isName classes s ≡ false
@@ -46,36 +50,36 @@ module _ (classes : Classes) (s : List ℕ) where
     later-fails h e = all-fails (later classes) s i h (lt-leb 1 (getD classes (getD s i 0) 0) (omega arith))
 
 -- two names of one length
-unequal : (a b : List ℕ) → (length a ≡ length b → ⊥) → sameNumbers a b ≡ false
-unfolding sameNumbers
+unequal : (a b : List ℕ) → (length a ≡ length b → ⊥) → sameName a b ≡ false
+unfolding sameName
 unequal [] [] h = absurd (h refl)
 unequal [] (y ∷ b) h = refl
 unequal (x ∷ a) [] h = refl
-unequal (x ∷ a) (y ∷ b) h = go (eqb x y) (unequal a b (λ e. h (ap suc e)))
+unequal (x ∷ a) (y ∷ b) h = go (sameLetter x y) (unequal a b (λ e. h (ap suc e)))
   where
-    go : (t : Bool) → sameNumbers a b ≡ false → (t && sameNumbers a b) ≡ false
+    go : (t : Bool) → sameName a b ≡ false → (t && sameName a b) ≡ false
     go true e = e
     go false e = refl
 
 module _ (a b : List ℕ) where
   pub same-lengths : (length a ≡ length b → ⊥) → sameName a b ≡ false
-  unfolding sameName
   same-lengths h = unequal a b h
 
   module _ (i : ℕ) where
-    pub same-next : i < length a → i < length b → getD a i 0 ≡ getD b i 0
+    pub same-next : i < length a → i < length b → sameLetter (getD a i 0) (getD b i 0) ≡ true
         → sameName (drop i a) (drop i b) ≡ sameName (drop (i + 1) a) (drop (i + 1) b)
     unfolding sameName
     same-next h k e =
-        ap₂ sameNumbers (from-place a i h) (from-place b i k)
-        ∙ ap (λ (t : Bool). t && sameNumbers (drop (i + 1) a) (drop (i + 1) b)) (eq-eqb (getD a i 0) (getD b i 0) e)
+        ap₂ sameName (from-place a i h) (from-place b i k)
+        ∙ ap (λ (t : Bool). t && sameName (drop (i + 1) a) (drop (i + 1) b)) e
 
-    pub same-fails : i < length a → i < length b → (getD a i 0 ≡ getD b i 0 → ⊥) → sameName (drop i a) (drop i b) ≡ false
+    pub same-fails : i < length a → i < length b → sameLetter (getD a i 0) (getD b i 0) ≡ false
+        → sameName (drop i a) (drop i b) ≡ false
     unfolding sameName
     same-fails h k e =
-        ap₂ sameNumbers (from-place a i h) (from-place b i k)
-        ∙ ap (λ (t : Bool). t && sameNumbers (drop (i + 1) a) (drop (i + 1) b)) (ne-eqb (getD a i 0) (getD b i 0) e)
+        ap₂ sameName (from-place a i h) (from-place b i k)
+        ∙ ap (λ (t : Bool). t && sameName (drop (i + 1) a) (drop (i + 1) b)) e
 
     pub same-end : length a ≤ i → length b ≤ i → sameName (drop i a) (drop i b) ≡ true
     unfolding sameName
-    same-end h k = ap₂ sameNumbers (drop-of-length-le a h) (drop-of-length-le b k)
+    same-end h k = ap₂ sameName (drop-of-length-le a h) (drop-of-length-le b k)

@@ -1,8 +1,9 @@
 // Names: which byte strings are names, and when two are equal.
 ghost use mathlib.Core.Path.{_≡_};
 ghost use Prim.Native.Nat.{_≤_};
+ghost use lib.Dec.{eqb};
 ghost use lib.ListN.{length, getD};
-ghost use Rattle.grammar.specs.Names.{isName, sameName};
+ghost use Rattle.grammar.specs.Names.{isName, isCapital, smallLetter, sameName};
 use crate::numbers::wide;
 
 // The class of a byte.
@@ -37,7 +38,37 @@ pub fn is_name(classes: &[u8], s: &[u8]) -> bool
     true
 }
 
-// Two names are equal when their bytes are.
+// A byte from A to Z.
+fn is_capital(b: u8) -> bool
+    ensures { λ r. ⌜ r ≡ isCapital b ⌝ }
+{
+    if b < 65 {
+        return false;
+    }
+    b <= 90
+}
+
+// A to Z become a to z; every other byte stays.
+fn small_letter(b: u8) -> u8
+    ensures { λ r. ⌜ r ≡ smallLetter b ⌝ }
+{
+    if is_capital(b) {
+        return b + 32;
+    }
+    b
+}
+
+// The same byte, or one letter as a capital and as a small letter.
+fn same_letter(a: u8, b: u8) -> bool
+    ensures { λ r. ⌜ r ≡ eqb (smallLetter a) (smallLetter b) ⌝ }
+{
+    if a == b {
+        return true;
+    }
+    small_letter(a) == small_letter(b)
+}
+
+// Names are equal when they agree after A to Z become a to z.
 pub fn same_name(a: &[u8], b: &[u8]) -> bool
     ensures { λ r. ⌜ r ≡ sameName (now (a .entry)) (now (b .entry)) ⌝ }
 {
@@ -46,7 +77,7 @@ pub fn same_name(a: &[u8], b: &[u8]) -> bool
     }
     let mut i: usize = 0;
     while i < a.len() {
-        if a[i] != b[i] {
+        if !same_letter(a[i], b[i]) {
             return false;
         }
         i += 1;

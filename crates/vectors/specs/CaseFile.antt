@@ -18,7 +18,7 @@ listed f (suc n) = listed f n ++ (f n ∷ [])
 abbrev pub outputByte : ℕ → ℕ
 outputByte i = (165 + 7 * i) % 256
 
--- this name stands at a place of a table
+-- a name equal to this one stands at a place of a table
 pub record NameAt (table : List ℕ) (place : ℕ) (name : List ℕ) : Type 0 where
   pub within : place + length name ≤ length table
   pub same : SameName (part table place (place + length name)) name

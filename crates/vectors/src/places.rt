@@ -1,4 +1,5 @@
-// Where a label's name stands in a table. A part of a slice does not say where it came from, so its bytes are looked for.
+// Where a label's name stands in a table. A part of a slice does not say where it came from, so the label of that name is looked for: no
+// two labels of a table that reads have equal names. How the name is spelled, the sum of the part's own bytes tells.
 ghost use mathlib.Core.Path.{_≡_};
 ghost use mathlib.Core.Bool.{true};
 ghost use Prim.Native.Nat.{_+_, _≤_, _<_};

@@ -8,13 +8,24 @@ use Prim.Native.Nat.{ℕ}
 use mathlib.Core.List.{List}
 use mathlib.Core.Logic.{_↔_}
 use mathlib.Core.Path.{_≡_, refl, subst}
-use Rattle.grammar.specs.Tree.{Tree, node, Forest, []ᵗ, _∷ᵗ_}
+use Rattle.grammar.specs.Tree.{
+  Tree,
+  node,
+  Forest,
+  []ᵗ,
+  _∷ᵗ_,
+  SameTree,
+  same-node,
+  SameForest,
+  same-none,
+  same-next,
+}
 use Rattle.grammar.specs.Table.{Table, DistinctNames}
 use Rattle.grammar.specs.Derivation.{LetsIn}
 use Rattle.grammar.specs.Kinds.{Kind, local, singleType, OfKind, SingleType}
 use Rattle.grammar.specs.Least.{LetsInAll}
 use Rattle.theory.proofs.tables.KindLaws.{local-single-type}
-use Rattle.theory.proofs.tables.SameTree.{SameTree, same-node, SameForest, same-none, same-next, same-refl, same-let-in}
+use Rattle.theory.proofs.tables.SameTree.{same-refl, same-let-in}
 use Rattle.theory.proofs.automata.Automaton.{
   Automaton,
   Accepts,

@@ -1,22 +1,27 @@
--- Trees that are equal up to equal names, an equivalence:
+-- Trees that are the same up to letter case, an equivalence:
 --     same-derives    a type that derives a tree derives every tree that is the same
 --     same-let-in     so a table that lets in a document lets in every document that is the same
+--     let-in-alike    and letting in does not tell such documents apart
 use Prim.Native.Nat.{ℕ}
 use mathlib.Core.List.{List}
+use mathlib.Core.Logic.{_↔_}
 use Rattle.grammar.specs.Names.{Name, SameName}
-use Rattle.grammar.specs.Tree.{Tree, node, Forest, []ᵗ, _∷ᵗ_}
+use Rattle.grammar.specs.Tree.{
+  Tree,
+  node,
+  Forest,
+  []ᵗ,
+  _∷ᵗ_,
+  SameTree,
+  same-node,
+  SameForest,
+  same-none,
+  same-next,
+}
 use Rattle.grammar.specs.Table.{Table}
 use Rattle.grammar.specs.Derivation.{Fits, Derives, derives, DerivesAll, derives-none, derives-next, LetsIn}
 use Rattle.theory.proofs.trees.NameLaws.{name-refl, name-sym, name-trans}
 use Rattle.theory.proofs.tables.NamedLabels.{same-named}
-
-mutual
-  pub data SameTree : Tree → Tree → Type 0 where
-    same-node : {m n : Name} {ts us : Forest} → SameName m n → SameForest ts us → SameTree (node m ts) (node n us)
-
-  pub data SameForest : Forest → Forest → Type 0 where
-    same-none : SameForest []ᵗ []ᵗ
-    same-next : {t u : Tree} {ts us : Forest} → SameTree t u → SameForest ts us → SameForest (t ∷ᵗ ts) (u ∷ᵗ us)
 
 mutual
   pub same-refl : (t : Tree) → SameTree t t
@@ -65,3 +70,6 @@ module _ {g : Table} where
 
   pub same-let-in : {d e : Tree} → LetsIn g d → SameTree d e → LetsIn g e
   same-let-in l e = record { start = l .start; of-table = l .of-table; derived = same-derives (l .derived) e }
+
+  pub let-in-alike : {d e : Tree} → SameTree d e → LetsIn g d ↔ LetsIn g e
+  let-in-alike same = (λ l. same-let-in l same, λ l. same-let-in l (same-sym same))

@@ -27,6 +27,7 @@ use Rattle.theory.proofs.bytes.OutcomeLaws.{given-eq, was-given, had-no
 use Rattle.theory.proofs.steps.ReducedUnion.{reduced-union, union-documents, union-nothing}
 use Rattle.theory.proofs.steps.FinishedForm.{LeastForm, finished, finished-least}
 use Rattle.theory.proofs.steps.LeastForms.{least-form}
+use Rattle.theory.proofs.tables.SameTree.{same-refl, same-let-in}
 use Rattle.theory.proofs.sample.SampleMembers.{sample-lets-in}
 use Rattle.theory.proofs.sample.SampleLeast.{sample-least}
 use Rattle.theory.proofs.bytes.NumberedTable.{TableSmall, table-small, finished-rules}
@@ -132,7 +133,7 @@ module _ (lim : Limits) (classes : Classes) (kind : Kind) (old : Table) (d : Tre
         keeps-added =
             λ e p.
             w .keeps-added e
-            (subst (λ (g : Table). LetsIn g e) (sym q) (subst (λ (t : Tree). LetsIn (sample d) t) (sym p) (sample-lets-in d)));
+            (subst (λ (g : Table). LetsIn g e) (sym q) (same-let-in (sample-lets-in d) p));
         least =
             λ rival r.
             w .least rival
@@ -142,6 +143,6 @@ module _ (lim : Limits) (classes : Classes) (kind : Kind) (old : Table) (d : Tre
               keeps-old = r .keeps-old;
               keeps-added =
                   subst (λ (g : Table). LetsInAll rival (LetsIn g)) (sym q)
-                  (sample-least d kind rival (r .names) (r .of-kind) (r .keeps-added d refl));
+                  (sample-least d kind rival (r .names) (r .of-kind) (r .keeps-added d (same-refl d)));
             });
       }
