@@ -102,10 +102,11 @@ static int is_name(const uint8_t *classes, const uint8_t *name, size_t size) {
 /* A to Z become a to z; every other byte stays. */
 static uint8_t small_letter(uint8_t byte) { return byte >= 'A' && byte <= 'Z' ? (uint8_t)(byte + ('a' - 'A')) : byte; }
 
-/* Whether names of the same length are equal, up to letter case. Only bytes that differ are looked at further. */
+/* Whether names of the same length are equal, up to letter case. Only bytes that differ are looked at further, and of
+ * these only those whose last five bits agree. */
 static int same_name(const uint8_t *one, const uint8_t *other, size_t size) {
     for (size_t i = 0; i < size; i++)
-        if (one[i] != other[i] && small_letter(one[i]) != small_letter(other[i])) return 0;
+        if (one[i] != other[i] && ((one[i] ^ other[i]) % 32 || small_letter(one[i]) != small_letter(other[i]))) return 0;
     return 1;
 }
 

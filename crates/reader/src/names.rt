@@ -58,12 +58,16 @@ fn small_letter(b: u8) -> u8
     b
 }
 
-// The same byte, or one letter as a capital and as a small letter.
+// The same byte, or one letter as a capital and as a small letter. These agree in their last five bits, so that most other bytes are told
+// apart without looking for letters.
 fn same_letter(a: u8, b: u8) -> bool
     ensures { λ r. ⌜ r ≡ eqb (smallLetter a) (smallLetter b) ⌝ }
 {
     if a == b {
         return true;
+    }
+    if a % 32 != b % 32 {
+        return false;
     }
     small_letter(a) == small_letter(b)
 }

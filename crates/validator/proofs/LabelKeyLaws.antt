@@ -2,7 +2,7 @@
 -- is sought (`sought-first`, `sought-next`).
 use Prim.Native.Nat.{ℕ, _+_, _*_, _/_, _%_, _<_}
 use native.Mathlib.Omega.{arith}
-use mathlib.Core.Bool.{Bool, true, false}
+use mathlib.Core.Bool.{false}
 use mathlib.Core.List.{List, [], _∷_, map}
 use mathlib.Core.Logic.{⊎-elim}
 use mathlib.Core.Path.{_≡_, refl, sym, _∙_, ap, subst}
@@ -10,10 +10,11 @@ use lib.Dec.{ltb}
 use lib.ListN.{length, getD, length-map, List·getD-map}
 use borrow.Author.Count.{below-none, below-more}
 use borrow.Author.Tests.{ltb-true, ltb-false}
-use Rattle.grammar.specs.Names.{Name, isCapital, smallLetter, sameName, SameName}
+use Rattle.grammar.specs.Names.{Name, smallLetter, sameName, SameName}
 use Rattle.grammar.specs.Table.{Table}
 use Rattle.theory.proofs.lists.BoolLaws.{false-of, passes-or-fails}
 use Rattle.theory.proofs.trees.NameLaws.{name-small-letters}
+use Rattle.reader.proofs.LetterLaws.{small-remainder}
 use Rattle.reader.specs.TableIndex.{part, labelFrom, labelTo, labelCount, Indexes}
 use Rattle.validator.specs.Chains.{Keyed, PlaceFrom}
 use Rattle.validator.specs.LabelKeys.{nameKey, labelKey, LabelsChained}
@@ -32,19 +33,10 @@ pub key-of : (n : Name) {a b : ℕ} → a ≡ getD n 0 0 → b ≡ getD n (lengt
 unfolding nameKey
 key-of n p q = cc
 
--- a letter counts alike as a capital and as a small letter
-small-key : (b : ℕ) → smallLetter b % 32 ≡ b % 32
-unfolding smallLetter
-small-key b = go (isCapital b) refl
-  where
-    go : (t : Bool) → isCapital b ≡ t → smallLetter b % 32 ≡ b % 32
-    go true e = rw (smallLetter, e) (omega arith)
-    go false e = rw (smallLetter, e) refl
-
 -- the byte at a place, and the length, as the key counts them, are those of the name in small letters
 byte-key : (n : Name) (i : ℕ) → getD (map smallLetter n) i 0 % 32 ≡ getD n i 0 % 32
 unfolding smallLetter
-byte-key n i = ap (λ (b : ℕ). b % 32) (List·getD-map smallLetter n i 0) ∙ small-key (getD n i 0)
+byte-key n i = ap (λ (b : ℕ). b % 32) (List·getD-map smallLetter n i 0) ∙ small-remainder (getD n i 0)
 
 small-letters-key : (n : Name) → nameKey (map smallLetter n) ≡ nameKey n
 unfolding nameKey
