@@ -143,13 +143,15 @@ uint64_t cogarrune_is_local(uint32_t size, const uint8_t *classes, size_t classe
 uint64_t cogarrune_is_single_type(uint32_t size, const uint8_t *classes, size_t classes_length, const uint8_t *table,
                                   size_t table_length, uint32_t *work, size_t work_length);
 
-/* Writes the sample table of a document. Value: how many bytes of `out` it takes; bytes past them stay as they came. */
+/* Writes the sample table of a document: a type for each path of names, and of the children of its nodes the choice of their sequences, in
+ * which a run of two or more neighbours of one name is one or more of its type. The sample lets in the document. Value: how many bytes of
+ * `out` it takes; bytes past them stay as they came. */
 uint64_t cogarrune_sample(uint32_t size, const uint8_t *classes, size_t classes_length, const uint8_t *document, size_t document_length,
                           uint8_t *out, size_t out_length, uint32_t *work, size_t work_length);
 
 /* Writes the least local (or single-type) table that lets in all that the old table and the addition let in. Value as for
- * cogarrune_sample. A document is added through its sample; the result is least over the old table and that one document, in any letter
- * case. */
+ * cogarrune_sample. A document is added through its sample: the result lets in all that the sample lets in, the document among them, and is
+ * least over the old table and the sample. */
 uint64_t cogarrune_widen_local_by_table(uint32_t size, const uint8_t *classes, size_t classes_length, const uint8_t *old,
                                         size_t old_length, const uint8_t *addition, size_t addition_length, uint8_t *out,
                                         size_t out_length, uint32_t *work, size_t work_length);

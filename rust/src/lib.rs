@@ -8,6 +8,9 @@
 //! to themselves alone. The first spelling met is kept: in a result the old table's, else the addition's, in a sample that of the first
 //! node.
 //!
+//! A document is added to a table through its [`sample`], in which a run of neighbours of one name is one or more of it: a list of nine
+//! cards lets in ten.
+//!
 //! ```
 //! use cogarrune::{lets_in, new_work, Classes, Size, Verdict};
 //!
@@ -81,7 +84,8 @@ pub fn is_single_type(size: Size, classes: &Classes, table: &[u8], work: &mut [u
     verdict_of(ffi::is_single_type(size, classes.as_bytes(), table, work))
 }
 
-/// Writes the sample table of a document, each name as its first node spells it, and gives its part of the output.
+/// Writes the sample table of a document, each name as its first node spells it, and gives its part of the output. It lets in the
+/// document. Two or more neighbouring children of one name are one or more of it there.
 pub fn sample<'a>(
     size: Size,
     classes: &Classes,
@@ -106,7 +110,8 @@ pub fn widen_local_by_table<'a>(
     written(answer, out)
 }
 
-/// Writes the least local table that lets in all of the old table, and the document. Gives its part of the output.
+/// Writes the least local table that lets in all of the old table and of the document's sample, the document itself among them. Gives
+/// its part of the output.
 pub fn widen_local_by_document<'a>(
     size: Size,
     classes: &Classes,
@@ -132,7 +137,8 @@ pub fn widen_single_type_by_table<'a>(
     written(answer, out)
 }
 
-/// Writes the least single-type table that lets in all of the old table, and the document. Gives its part of the output.
+/// Writes the least single-type table that lets in all of the old table and of the document's sample, the document itself among them.
+/// Gives its part of the output.
 pub fn widen_single_type_by_document<'a>(
     size: Size,
     classes: &Classes,

@@ -73,7 +73,7 @@ fn labels_that_differ_in_case_repeat() {
 #[test]
 fn a_sample_keeps_the_first_spelling() {
     let twice = document(node("list", &[node("card", &[]), node("CARD", &[])]));
-    let taken = table(&[0], &[(0, "list", &sequence(&[&t(1), &t(1)])), (1, "card", EMPTY)]);
+    let taken = table(&[0], &[(0, "list", &some(&t(1))), (1, "card", EMPTY)]);
     assert_eq!(sampled(ASCII, &twice), Ok(taken));
 
     // on whichever path that node is

@@ -1,5 +1,6 @@
-"""Cases for the calls of document 01, at the three sizes of Card 13, under the classes of Card 4 and with
-names in several spellings (Card 8), with the answers of reference.py.
+"""Cases for the calls of document 01, at the three sizes of Card 13, under the classes of Card 4, with
+names in several spellings (Card 8) and with runs of neighbours in documents (Card 5), with the answers of
+reference.py.
 
     python3 generate.py --write DIR [--seed N] [--count M]    writes DIR/cases.bin, DIR/expected.txt
     python3 generate.py --check DIR [--seed N] [--count M]    recomputes both and compares
@@ -53,6 +54,7 @@ MOST_WORK words, and no more than MOST_CLASSES classes are lent.
 """
 
 import argparse
+import itertools
 import os
 import sys
 from collections import Counter, namedtuple
@@ -178,18 +180,28 @@ def cases_in(data):
 
 # ---------------------------------------------------------------- a generator of numbers
 
-class Numbers:
-    """Fixed pseudo-random numbers (splitmix64), so that no library changes the cases."""
+STEP = 0x9E3779B97F4A7C15
 
-    def __init__(self, seed):
-        self.state = seed * 0x9E3779B97F4A7C15 % 2**64
+
+def mixed(z):
+    """A number below 2^64 whose bits all depend on all those of z."""
+    z = (z ^ (z >> 30)) * 0xBF58476D1CE4E5B9 % 2**64
+    z = (z ^ (z >> 27)) * 0x94D049BB133111EB % 2**64
+    return z ^ (z >> 31)
+
+
+class Numbers:
+    """Fixed pseudo-random numbers (splitmix64), so that no library changes the cases. A seed is one number or several, such as a run's
+    own and a turn; mixed, it is a place in the long row of all states, so that seeds next to each other have nothing in common."""
+
+    def __init__(self, *seed):
+        self.state = 0
+        for number in seed:
+            self.state = mixed((self.state + number + STEP) % 2**64)
 
     def next(self):
-        self.state = (self.state + 0x9E3779B97F4A7C15) % 2**64
-        z = self.state
-        z = (z ^ (z >> 30)) * 0xBF58476D1CE4E5B9 % 2**64
-        z = (z ^ (z >> 27)) * 0x94D049BB133111EB % 2**64
-        return z ^ (z >> 31)
+        self.state = (self.state + STEP) % 2**64
+        return mixed(self.state)
 
     def below(self, bound):
         return self.next() % bound
@@ -694,6 +706,11 @@ def wide_doc(children):
     return tree('list', *[tree('card')] * children)
 
 
+def alternating_doc(children):
+    """No two neighbours of one name."""
+    return tree('list', *[tree(('card', 'zone')[i % 2]) for i in range(children)])
+
+
 def big_doc(count):
     """Exactly `count` nodes (1,000 to 1,025): a root, 200 cards, and fours or fives below."""
     below = count - 201
@@ -710,6 +727,14 @@ def crowd(count, names=('a',)):
     for number in range(1, count):
         made[(number - 1) // 200][1].append(made[number])
     return made[0]
+
+
+def many_sequences(groups, distinct, children=4):
+    """So many groups at one path, with so many distinct sequences in turn, at most 108; each begins with one of 108 fours without a run
+    and goes on as it ends."""
+    fours = [word for word in itertools.product('wxyz', repeat=4) if all(one != two for one, two in zip(word, word[1:]))]
+    words = [(word + word[2:] * children)[:children] for word in fours[:distinct]]
+    return tree('r', *[tree('g', *[tree(name) for name in words[i % distinct]]) for i in range(groups)])
 
 
 CARDS = table([0], [(0, 'list', any_of(t(1))), (1, 'card', any_of(t(2))), (2, 'name', EMPTY)])
@@ -790,8 +815,10 @@ def edge_cases(cases):
         cases.add(DOCUMENT_READS, a_document)
         cases.add(LETS_IN, GOOD_TABLE, a_document)
         cases.add(SAMPLE, a_document)
-    cases.widen_doc(GOOD_TABLE, document(wide_doc(200)))
-    cases.widen_doc(GOOD_TABLE, document(wide_doc(201)))
+        cases.add(SAMPLE, document(alternating_doc(children)))
+    for many in (wide_doc, alternating_doc):
+        cases.widen_doc(GOOD_TABLE, document(many(200)))
+        cases.widen_doc(GOOD_TABLE, document(many(201)))
     for levels in (1, 63, 64, 65):
         a_document = document(chain(levels))
         cases.add(DOCUMENT_READS, a_document)
@@ -808,6 +835,13 @@ def edge_cases(cases):
         cases.add(DOCUMENT_READS, a_document)
         cases.add(LETS_IN, CARDS, a_document)
         cases.add(SAMPLE, a_document)
+    # Many sequences at one path: 102 of them have 1,022 bytes, 103 are too many.
+    for groups, distinct in ((200, 102), (200, 103), (102, 102)):
+        a_document = document(many_sequences(groups, distinct))
+        cases.add(SAMPLE, a_document)
+        cases.widen_doc(CARDS, a_document)
+    cases.add(SAMPLE, document(crowd(1024, ('a', 'b'))))
+    cases.widen_doc(CROWDS, document(crowd(1024, ('a', 'b'))))
     cases.add(LOCAL_BY_DOCUMENT, CARDS, document(big_doc(1024)))
     cases.add(SINGLE_BY_DOCUMENT, CARDS, document(big_doc(1025)))
     cases.add(LETS_IN, LISTER_TABLE, document(big_doc(1024)))
@@ -903,7 +937,7 @@ def limit_cases(cases):
         cases.widen(old, addition, out='exact')
         marked = [any_of(t(1))] * (108 + spare) + [t(1)] * (147 - spare)
         old = table([0], [(0, 'r', seq(*marked)), (1, 'c', EMPTY)])
-        cases.widen_doc(old, doc('r', *[tree('c')] * 200))
+        cases.widen_doc(old, doc('r', *[tree('c'), tree('d')] * 100))
         # Normalising alone lengthens a content: t1 has two labels.
         count = (1024 - 2 - spare) // 6
         body = [t(1)] * count
@@ -913,8 +947,8 @@ def limit_cases(cases):
         cases.widen(old, E)
     # The sample's content of 1,024, 1,025 and 1,026 bytes; each group is a node of one path.
     for empty, last in ((0, 5), (1, 5), (0, 6)):
-        groups = [tree('g', *([tree('x')] * (99 - i) + [tree('y')] + [tree('x')] * i)) for i in range(5)]
-        groups += [tree('g', *[tree('x')] * last)] + [tree('g')] * empty + groups[:1]
+        groups = [tree('g', *[tree(name) for name in pair * 50]) for pair in ('xy', 'yx', 'xz', 'zx', 'yz')]
+        groups += [tree('g', *[tree(name) for name in 'xyxyxy'[:last]])] + [tree('g')] * empty + groups[:1]
         a_document = doc('r', *groups)
         cases.add(SAMPLE, a_document)
         cases.widen_doc(E, a_document)
@@ -1457,6 +1491,13 @@ def large_samples(cases):
         cases.add(SAMPLE, rows(more), size=LARGE, out='exact')
     cases.add(LOCAL_BY_DOCUMENT, CARDS, rows(0), size=LARGE)
     cases.add(SINGLE_BY_DOCUMENT, star(3), rows(0), size=LARGE)
+    for distinct in (51, 52):    # 1,022 bytes, and too many
+        cases.add(SAMPLE, document(many_sequences(200, distinct, 9)), size=LARGE, out='exact')
+        cases.widen_doc(CARDS, document(many_sequences(200, distinct, 9)), size=LARGE)
+    cases.add(SAMPLE, document(many_sequences(51, 51, 4)), size=SMALL)
+    for size, count in ((SMALL, 256), (LARGE, 2048)):
+        cases.add(SAMPLE, document(crowd(count, ('a', 'b'))), size=size)
+        cases.widen_doc(CROWDS, document(crowd(count, ('a', 'b'))), size=size)
     cards = document(crowd(2048, ['l'] + ['c'] * 200 + ['n'] * 1847))
     a_table = table([100], [(100, 'l', any_of(t(64))), (64, 'c', any_of(t(31))), (31, 'n', EMPTY)])
     cases.add(LETS_IN, a_table, cards, size=LARGE)
@@ -1851,7 +1892,7 @@ def bit_edges():
     # All letters, and all others, below one root.
     names = [chr(byte) for pair in LETTER_PAIRS for byte in pair]
     for classes in (ref.ASCII, ALL_LETTERS):
-        told = table([0], [(0, '_', seq(*[t(1 + i // 2) for i in range(52)]))] + [(1 + i, chr(0x41 + i), EMPTY) for i in range(26)])
+        told = table([0], [(0, '_', seq(*[some_of(t(1 + i)) for i in range(26)]))] + [(1 + i, chr(0x41 + i), EMPTY) for i in range(26)])
         yield gives(told), SAMPLE, doc('_', *[tree(name) for name in names]), b'', dict(classes=classes)
         told = table([0], [(0, 'a', seq(*[t(1 + i % 26) for i in range(52)]))] + [(1 + i, chr(0x61 + i), EMPTY) for i in range(26)])
         yield gives(told), SAMPLE, doc('a', *[tree(name) for name in names[1::2] + names[::2]]), b'', dict(classes=classes)
@@ -1916,9 +1957,9 @@ def spelled_membership_edges():
 def spelled_samples():
     """Documents with their samples: one path, one label and one type for names that differ in case, and the first spelling."""
     return [
-        (doc('list', tree('card'), tree('CARD')), table([0], [(0, 'list', seq(t(1), t(1))), (1, 'card', EMPTY)])),
+        (doc('list', tree('card'), tree('CARD')), table([0], [(0, 'list', some_of(t(1))), (1, 'card', EMPTY)])),
         (doc('list', tree('card', tree('x')), tree('CARD', tree('X'), tree('x'))),
-         table([0], [(0, 'list', seq(t(1), t(1))), (1, 'card', choice(t(2), seq(t(2), t(2)))), (2, 'x', EMPTY)])),
+         table([0], [(0, 'list', some_of(t(1))), (1, 'card', choice(t(2), some_of(t(2)))), (2, 'x', EMPTY)])),
         # The first spelling over all paths, and two paths with one label.
         (doc('list', tree('A', tree('card')), tree('Card')),
          table([0], [(0, 'list', seq(t(1), t(3))), (1, 'A', t(2)), (2, 'card', EMPTY), (3, 'card', EMPTY)])),
@@ -1929,10 +1970,9 @@ def spelled_samples():
         # Child sequences that differ in case are one.
         (doc('r', tree('g', tree('a'), tree('b')), tree('G', tree('A'), tree('B')), tree('g', tree('B'), tree('a')),
              tree('G', tree('b'), tree('A'))),
-         table([0], [(0, 'r', seq(t(1), t(1), t(1), t(1))), (1, 'g', choice(seq(t(2), t(3)), seq(t(3), t(2)))), (2, 'a', EMPTY),
-                     (3, 'b', EMPTY)])),
+         table([0], [(0, 'r', some_of(t(1))), (1, 'g', choice(seq(t(2), t(3)), seq(t(3), t(2)))), (2, 'a', EMPTY), (3, 'b', EMPTY)])),
         (doc('r', tree('g', tree('X')), tree('G', tree('x')), tree('g', tree('x'))),
-         table([0], [(0, 'r', seq(t(1), t(1), t(1))), (1, 'g', t(2)), (2, 'X', EMPTY)])),
+         table([0], [(0, 'r', some_of(t(1))), (1, 'g', t(2)), (2, 'X', EMPTY)])),
         (doc('R', tree('p', tree('Q', tree('a'))), tree('s', tree('q', tree('b'))), tree('P', tree('q'))),
          table([0], [(0, 'R', seq(t(1), t(4), t(1))), (1, 'p', t(2)), (2, 'Q', choice(t(3), EMPTY)), (3, 'a', EMPTY), (4, 's', t(5)),
                      (5, 'Q', t(6)), (6, 'b', EMPTY)], ['R', 'p', 'Q', 'a', 's', 'b'])),
@@ -1949,13 +1989,14 @@ def spelled_sample_edges():
     # As many paths as the size takes, and one more.
     for size, most in ((SMALL, 16), (STANDARD, 64), (LARGE, 128)):
         names = ['c%03d' % i for i in range(most - 1)]
-        for answer, more in ((None, 'C000'), (None, 'C%03d' % (most - 2)), (refused(14), 'C%03d' % (most - 1))):
-            leaf = [(1 + i, name, EMPTY) for i, name in enumerate(names)]
-            told = table([0], [(0, 'C', seq(*[t(1 + i) for i in range(most - 1)], t(1 + int(more[1:]) % most)))] + leaf)
+        every, leaf = [t(1 + i) for i in range(most - 1)], [(1 + i, name, EMPTY) for i, name in enumerate(names)]
+        for more, sequence in (('C000', every + [t(1)]), ('C%03d' % (most - 2), every[:-1] + [some_of(every[-1])]),
+                               ('C%03d' % (most - 1), None)):
+            answer = gives(table([0], [(0, 'C', seq(*sequence))] + leaf)) if sequence else refused(14)
             a_document = doc('C', *[tree(name) for name in names + [more]])
-            yield answer or gives(told), SAMPLE, a_document, b'', dict(size=size)
+            yield answer, SAMPLE, a_document, b'', dict(size=size)
             for call in BY_DOCUMENT:
-                yield answer or gives(told), call, E, a_document, dict(size=size)
+                yield answer, call, E, a_document, dict(size=size)
 
 
 def spelled_widenings():
@@ -1973,8 +2014,8 @@ def spelled_widenings():
          table([1], [(0, 'card', t(2)), (1, 'list', choice(EMPTY, t(0))), (2, 'Zone', EMPTY)]),
          table([0], [(0, 'list', choice(EMPTY, t(1))), (1, 'card', t(2)), (2, 'Zone', EMPTY)], ['card', 'list', 'Zone'])),
         (table([], [], ['Card', 'lisT']), doc('list', tree('card'), tree('CARD')),
-         table([1], [(0, 'Card', EMPTY), (1, 'lisT', seq(t(0), t(0)))]),
-         table([0], [(0, 'lisT', seq(t(1), t(1))), (1, 'Card', EMPTY)], ['Card', 'lisT'])),
+         table([1], [(0, 'Card', EMPTY), (1, 'lisT', some_of(t(0)))]),
+         table([0], [(0, 'lisT', some_of(t(1))), (1, 'Card', EMPTY)], ['Card', 'lisT'])),
         (table([0], [(0, 'list', choice(EMPTY, t(1))), (1, 'card', t(1))]), doc('LIST', tree('CARD')), both),
         (table([0], [(0, 'list', choice(EMPTY, t(1))), (1, 'card', t(1))]), table([0], [(0, 'LIST', t(1)), (1, 'CARD', EMPTY)]), both),
         (table([0], [(0, 'list', EMPTY), (1, 'card', EMPTY)]), doc('LIST', tree('cARD')), both),
@@ -1983,12 +2024,12 @@ def spelled_widenings():
          table([0], [(0, 'list', EMPTY)])),
         # Names that the old table does not have are spelled as they first come, whichever the spellings that follow.
         (P1, doc('A', tree('ZONE'), tree('zone'), tree('Zone')),
-         table([0], [(0, 'a', choice(EMPTY, seq(t(1), t(1), t(1)))), (1, 'ZONE', EMPTY)])),
+         table([0], [(0, 'a', choice(EMPTY, some_of(t(1)))), (1, 'ZONE', EMPTY)])),
         (P1, doc('A', tree('zone', tree('CARD')), tree('card')),
          table([0], [(0, 'a', choice(EMPTY, seq(t(1), t(2)))), (1, 'zone', t(2)), (2, 'CARD', EMPTY)]),
          table([0], [(0, 'a', choice(EMPTY, seq(t(1), t(2)))), (1, 'zone', t(3)), (2, 'CARD', EMPTY), (3, 'CARD', EMPTY)],
                ['a', 'zone', 'CARD'])),
-        (E, doc('LIST', tree('CARD'), tree('card')), table([0], [(0, 'LIST', seq(t(1), t(1))), (1, 'CARD', EMPTY)])),
+        (E, doc('LIST', tree('CARD'), tree('card')), table([0], [(0, 'LIST', some_of(t(1))), (1, 'CARD', EMPTY)])),
         (E, doc('List', tree('LIST')), table([0], [(0, 'List', choice(t(0), EMPTY))]), table([0], [(0, 'List', t(1)), (1, 'List', EMPTY)])),
         (E, in_capitals(GOOD_TABLE), in_capitals(GOOD_TABLE)), (in_capitals(GOOD_TABLE), E, in_capitals(GOOD_TABLE)),
         # Labels stand in the order of the old ones, then of the new.
@@ -2061,6 +2102,292 @@ def spelling_cases(cases):
             cases.add(LETS_IN, result, a_document)
             cases.add(LETS_IN, in_capitals(result), a_document)
             cases.add(LABEL_NAME, result, label=number % 4)
+
+
+# ---------------------------------------------------------------- runs of neighbours
+
+# An edge of runs is as one of letter case: the answer, written by hand, then the call, its two inputs, and what else `Cases.add` is told;
+# selftest.py holds the second validator to the answers.
+
+def row(word, name='r'):
+    """A tree of a node and its leaves, a letter each."""
+    return tree(name, *[tree(letter) for letter in word])
+
+
+def above_leaves(content, names, root='r'):
+    """A rule of that content over leaves of these names, types 1 and on."""
+    return table([0], [(0, root, content)] + [(1 + i, name, EMPTY) for i, name in enumerate(names)])
+
+
+A, B, C = t(1), t(2), t(3)
+AS, BS, CS = some_of(A), some_of(B), some_of(C)
+
+
+def run_words():
+    """Leaves below one node, and the content of their sample; the letters stand in the order of first sight."""
+    return [
+        # No run, and a run that is all.
+        ('', EMPTY), ('a', A), ('ab', seq(A, B)), ('aa', AS), ('aaa', AS), ('a' * 9, AS), ('a' * 10, AS), ('a' * 199, AS), ('a' * 200, AS),
+        # First, last, between.
+        ('aab', seq(AS, B)), ('aaab', seq(AS, B)), ('abb', seq(A, BS)), ('abbb', seq(A, BS)), ('abbc', seq(A, BS, C)),
+        ('abbbbc', seq(A, BS, C)), ('aabc', seq(AS, B, C)), ('abcc', seq(A, B, CS)), ('a' * 199 + 'b', seq(AS, B)),
+        ('a' + 'b' * 199, seq(A, BS)), ('a' + 'b' * 198 + 'c', seq(A, BS, C)),
+        # Two runs, and three.
+        ('aabb', seq(AS, BS)), ('aaabb', seq(AS, BS)), ('aabbb', seq(AS, BS)), ('aabcc', seq(AS, B, CS)), ('aabbcc', seq(AS, BS, CS)),
+        ('a' * 100 + 'b' * 100, seq(AS, BS)), ('a' * 2 + 'b' * 198, seq(AS, BS)),
+        # Only neighbours make a run.
+        ('aba', seq(A, B, A)), ('abab', seq(A, B, A, B)), ('aaba', seq(AS, B, A)), ('abaa', seq(A, B, AS)), ('aabaa', seq(AS, B, AS)),
+        ('aabab', seq(AS, B, A, B)), ('aabaab', seq(AS, B, AS, B)), ('abba', seq(A, BS, A)), ('abbaabba', seq(A, BS, AS, BS, A)),
+        ('abcabc', seq(A, B, C, A, B, C)), ('a' * 99 + 'b' + 'a' * 100, seq(AS, B, AS)),
+        # A count byte of 2, 3, 127, 128, 199 and 200: it counts what stands after it, not the children.
+        ('ab' * 63 + 'a', seq(*[A, B] * 63, A)), ('ab' * 64, seq(*[A, B] * 64)), ('ab' * 63 + 'aa', seq(*[A, B] * 63, AS)),
+        ('ab' * 99 + 'a', seq(*[A, B] * 99, A)), ('ab' * 100, seq(*[A, B] * 100)), ('ab' * 99 + 'aa', seq(*[A, B] * 99, AS)),
+        ('aa' + 'ba' * 99, seq(AS, *[B, A] * 99)), ('ab' * 49 + 'aab' + 'ab' * 49 + 'a', seq(*[A, B] * 49, AS, B, *[A, B] * 49, A)),
+        ('aabb' * 50, seq(*[AS, BS] * 50)), ('aab' * 66 + 'aa', seq(*[AS, B] * 66, AS)), ('a' * 100 + 'ba' * 50, seq(AS, *[B, A] * 50)),
+        ('abc' * 66 + 'cc', seq(*[A, B, C] * 65, A, B, CS)),
+    ]
+
+
+def first_seen(word):
+    return ''.join(dict.fromkeys(word))
+
+
+def run_samples():
+    """Documents with their samples."""
+    x, y = tree('x'), tree('y')
+
+    def groups(*words):
+        """A run of groups, each with leaves."""
+        return doc('r', *[row(word, 'g') for word in words])
+
+    def of_groups(content, names='x'):
+        return table([0], [(0, 'r', some_of(t(1))), (1, 'g', content)] + [(2 + i, name, EMPTY) for i, name in enumerate(names)])
+
+    return [
+        # A run's members may differ in letter case; the first spelling is kept.
+        (document(row('aA')), above_leaves(AS, 'a')), (document(row('Aa')), above_leaves(AS, 'A')),
+        (document(row('AaaAB')), above_leaves(seq(AS, B), 'AB')), (document(row('aBAbB')), above_leaves(seq(A, B, A, BS), 'aB')),
+        (document(row('abABba')), above_leaves(seq(A, B, A, BS, A), 'ab')),
+        (doc('LIST', tree('Card'), tree('CARD'), tree('card'), tree('Name')), above_leaves(seq(AS, B), ['Card', 'Name'], 'LIST')),
+        (doc('r', tree('n' * 63), tree('N' * 63), tree('n' * 62)), above_leaves(seq(AS, B), ['n' * 63, 'n' * 62])),
+        # Names that are not equal make none.
+        (doc('r', tree('a'), tree('aa'), tree('aaa')), above_leaves(seq(A, B, C), ['a', 'aa', 'aaa'])),
+        (doc('r', tree('aa'), tree('a')), above_leaves(seq(A, B), ['aa', 'a'])),
+        (doc('r', tree('n' * 62 + 'a'), tree('n' * 62 + 'b')), above_leaves(seq(A, B), ['n' * 62 + 'a', 'n' * 62 + 'b'])),
+        # Its members may differ below.
+        (doc('r', tree('a', x), tree('a', y)), table([0], [(0, 'r', AS), (1, 'a', choice(t(2), t(3))), (2, 'x', EMPTY), (3, 'y', EMPTY)])),
+        (doc('r', tree('a'), tree('a', x)), table([0], [(0, 'r', AS), (1, 'a', choice(EMPTY, t(2))), (2, 'x', EMPTY)])),
+        (doc('r', tree('a', x), tree('A')), table([0], [(0, 'r', AS), (1, 'a', choice(t(2), EMPTY)), (2, 'x', EMPTY)])),
+        (doc('r', tree('a', tree('x', y, y)), tree('a', x, y), tree('a', y, x, x)),
+         table([0], [(0, 'r', AS), (1, 'a', choice(t(2), seq(t(2), t(4)), seq(t(4), some_of(t(2))))),
+                     (2, 'x', choice(some_of(t(3)), EMPTY)), (3, 'y', EMPTY), (4, 'y', EMPTY)])),
+        # Sequences are told apart with their runs: xx and xxx are one, x and xx are two.
+        (groups('xx', 'xxx'), of_groups(some_of(t(2)))), (groups('xxx', 'xx'), of_groups(some_of(t(2)))),
+        (groups('x', 'xx'), of_groups(choice(t(2), some_of(t(2))))), (groups('xx', 'x'), of_groups(choice(some_of(t(2)), t(2)))),
+        (groups('x', 'xx', 'xxx', 'x'), of_groups(choice(t(2), some_of(t(2))))),
+        (groups('xxx', 'x', 'xx', ''), of_groups(choice(some_of(t(2)), t(2), EMPTY))),
+        (groups('', 'xx', '', 'xxx'), of_groups(choice(EMPTY, some_of(t(2))))),
+        (groups('xX', 'Xxx', 'X'), of_groups(choice(some_of(t(2)), t(2)))),
+        (groups('xxy', 'xxxy'), of_groups(seq(some_of(t(2)), t(3)), 'xy')),
+        (groups('xxy', 'xy', 'xxxy', 'xyy'), of_groups(choice(seq(some_of(t(2)), t(3)), seq(t(2), t(3)), seq(t(2), some_of(t(3)))), 'xy')),
+        (groups('xyx', 'xxyxx', 'xyyx', 'xxxyxxx', 'xyx'),
+         of_groups(choice(seq(t(2), t(3), t(2)), seq(some_of(t(2)), t(3), some_of(t(2))), seq(t(2), some_of(t(3)), t(2))), 'xy')),
+        (groups('xyxy', 'xxyy', 'xy'), of_groups(choice(seq(*[t(2), t(3)] * 2), seq(some_of(t(2)), some_of(t(3))), seq(t(2), t(3))), 'xy')),
+        (groups('x' * 200, 'x' * 199, 'xx'), of_groups(some_of(t(2)))),
+        (groups('xy' * 99 + 'x', 'xy' * 99 + 'xx'),
+         of_groups(choice(seq(*[t(2), t(3)] * 99, t(2)), seq(*[t(2), t(3)] * 99, some_of(t(2)))), 'xy')),
+        # Of documents with many children that differ in their runs alone few sequences are left.
+        (groups(*['x' * (99 - i) + 'y' + 'x' * i for i in (0, 1, 2, 98, 97)], 'xxxxx'),
+         of_groups(choice(seq(some_of(t(2)), t(3)), seq(some_of(t(2)), t(3), t(2)), seq(some_of(t(2)), t(3), some_of(t(2))),
+                          seq(t(2), t(3), some_of(t(2))), some_of(t(2))), 'xy')),
+        # Runs on several paths, of one name on two, and one below the other.
+        (doc('r', tree('p', x, x), tree('s', x, x, x), tree('p', x)),
+         table([0], [(0, 'r', seq(t(1), t(3), t(1))), (1, 'p', choice(some_of(t(2)), t(2))), (2, 'x', EMPTY), (3, 's', some_of(t(4))),
+                     (4, 'x', EMPTY)])),
+        (doc('r', tree('b'), tree('a', x), tree('a', y, y), tree('b'), tree('b')),
+         table([0], [(0, 'r', seq(t(1), some_of(t(2)), some_of(t(1)))), (1, 'b', EMPTY), (2, 'a', choice(t(3), some_of(t(4)))),
+                     (3, 'x', EMPTY), (4, 'y', EMPTY)])),
+        (doc('a', tree('a'), tree('A', tree('a'), tree('a', tree('a')))),
+         table([0], [(0, 'a', some_of(t(1))), (1, 'a', choice(EMPTY, some_of(t(2)))), (2, 'a', choice(EMPTY, t(3))), (3, 'a', EMPTY)])),
+        (doc('a', tree('a', tree('b')), tree('b'), tree('a', tree('b'), tree('b'))),
+         table([0], [(0, 'a', seq(t(1), t(3), t(1))), (1, 'a', choice(t(2), some_of(t(2)))), (2, 'b', EMPTY), (3, 'b', EMPTY)])),
+    ]
+
+
+def run_sample_edges():
+    for number, (word, content) in enumerate(run_words()):
+        told = above_leaves(content, first_seen(word))
+        for size in SIZES if len(word) < 10 else (SIZES[number % 3],):
+            yield gives(told), SAMPLE, document(row(word)), b'', dict(size=size, out='exact')
+        yield gives(told), BY_DOCUMENT[number % 2], E, document(row(word)), dict(size=SIZES[number % 3])
+        yield YES, LETS_IN, told, document(row(word)), {}
+    for number, (a_document, told) in enumerate(run_samples()):
+        yield gives(told), SAMPLE, a_document, b'', dict(size=SIZES[number % 3] if len(a_document) < 1000 else LARGE, out='exact')
+        yield YES, LETS_IN, told, a_document, {}
+        if number % 4 == 0:
+            yield refused(15), SAMPLE, a_document, b'', dict(out='short', size=LARGE)
+    # 201 children are too many, whatever their sample would be.
+    for word in ('a' * 201, 'ab' * 100 + 'a', 'ab' * 100 + 'b', 'a' * 200 + 'b'):
+        for size in SIZES:
+            yield refused(11), SAMPLE, document(row(word)), b'', dict(size=size)
+        for call in BY_DOCUMENT:
+            yield refused(11), call, GOOD_TABLE, document(row(word)), {}
+    # Bytes that differ as A and a do and are no letters are two names.
+    for one, other in (('@', '`'), ('[', '{'), ('_', '\x7f'), ('\xc9', '\xe9')):
+        told = above_leaves(seq(A, B, AS), [one, other])
+        yield gives(told), SAMPLE, document(row([one, other, one, one])), b'', dict(classes=ALL_LETTERS)
+    # The first and the last type of a size in a run, and all of them, or as many as there can be.
+    for size, most in ((SMALL, 16), (STANDARD, 64), (LARGE, 128)):
+        names, every = ['c%03d' % i for i in range(most - 1)], [t(1 + i) for i in range(most - 1)]
+        few = min(most - 1, 100)
+        for word, items, used in (
+                (names[:1] + names, [AS] + every[1:], names), (names + names[-1:], every[:-1] + [some_of(every[-1])], names),
+                ([name for name in names[:few] for _ in range(2)], [some_of(one) for one in every[:few]], names[:few])):
+            yield gives(above_leaves(seq(*items), used)), SAMPLE, document(row(word)), b'', dict(size=size)
+        yield refused(14), SAMPLE, document(row(names + ['d', 'd'])), b'', dict(size=size)
+
+
+def run_limit_edges():
+    """14 is on the sample with its runs."""
+    x, y, z = t(2), t(3), t(4)
+    xs, ys, zs = some_of(x), some_of(y), some_of(z)
+    leaf = [(2, 'x', EMPTY), (3, 'y', EMPTY), (4, 'z', EMPTY)]
+    # These five, in a choice, have 1,012 bytes.
+    words = [pair * 50 for pair in ('xy', 'yx', 'xz', 'zx', 'yz')]
+    contents = [seq(*pair * 50) for pair in ([x, y], [y, x], [x, z], [z, x], [y, z])]
+    for more, last in (
+            # 1,024 bytes.
+            (['xyxyx'], [seq(x, y, x, y, x)]), (['xxyxyy'], [seq(xs, y, x, ys)]), (['xxyyxy'], [seq(xs, ys, x, y)]),
+            (['x' * 90 + 'yx' + 'y' * 108], [seq(xs, y, x, ys)]), (['xxyxyy', 'xxxyxyyy'], [seq(xs, y, x, ys)]),
+            (['xyxy', 'x'], [seq(x, y, x, y), x]), (['x', 'xx', 'yy', 'y', 'z'], [x, xs, ys, y, z]),
+            # Fewer.
+            (['xxyxz'], [seq(xs, y, x, z)]), (['xx', 'xxx', 'yy', 'zz', 'xxxx'], [xs, ys, zs]),
+            # 1,025, and the last one 1,026.
+            (['xyxyx', ''], None), (['xyxyxx'], None), (['xyxyxxx'], None), (['xxyyxxy'], None), (['xxyxyy', ''], None),
+            (['x', 'xx', 'yy', 'y', 'z', ''], None), (['xyxyxy'], None)):
+        a_document = doc('r', *[row(word, 'g') for word in words + more])
+        told = gives(table([0], [(0, 'r', some_of(t(1))), (1, 'g', choice(*contents, *last))] + leaf)) if last else refused(14)
+        yield told, SAMPLE, a_document, b'', dict(out=2000)
+        yield told, BY_DOCUMENT[len(more) % 2], E, a_document, dict(out=2000)
+        if last is None:
+            yield refused(14), BY_DOCUMENT[len(more[0]) % 2], P1, a_document, dict(out=0)
+    # The result's content has 514 bytes, one for each marked type of the old table, and those of the sample's.
+    for marks, word, items in (
+            (110, 'ab' * 99 + 'a', [A, B] * 99 + [A]), (111, 'ab' * 99 + 'a', None), (108, 'ab' * 100, [A, B] * 100),
+            (109, 'ab' * 100, None), (109, 'ab' * 99 + 'aa', [A, B] * 99 + [AS]), (110, 'ab' * 99 + 'aa', None),
+            (255, 'a' * 199 + 'b', [AS, B])):
+        old = seq(*[any_of(A)] * marks, *[A] * (255 - marks))
+        told = gives(above_leaves(choice(old, seq(*items)), 'ab')) if items else refused(14)
+        for call in BY_DOCUMENT:
+            yield told, call, above_leaves(old, 'a'), document(row(word)), dict(out='exact')
+
+
+def cards(content):
+    return above_leaves(content, ['card'], 'list')
+
+
+def list_of(count):
+    return document(wide_doc(count))
+
+
+def run_widenings():
+    """An old table, a document, its sample, and the result, or the two results to local and to single-type."""
+    nine, one = (list_of(9), cards(AS)), (list_of(1), cards(A))
+    x, door, time, code = tree('x'), 'door', tree('time'), tree('code')
+    return [
+        (E, *nine, cards(AS)), (cards(any_of(A)), *nine, cards(choice(any_of(A), AS))), (cards(AS), *nine, cards(AS)),
+        (cards(seq(A, A)), *nine, cards(choice(seq(A, A), AS))), (cards(A), *nine, cards(choice(A, AS))),
+        (cards(optional(A)), *nine, cards(choice(optional(A), AS))), (cards(EMPTY), *nine, cards(choice(EMPTY, AS))),
+        (cards(choice(A, AS)), *nine, cards(choice(A, AS))), (cards(seq(*[A] * 9)), *nine, cards(choice(seq(*[A] * 9), AS))),
+        (E, *one, cards(A)), (cards(any_of(A)), *one, cards(choice(any_of(A), A))), (cards(AS), *one, cards(choice(AS, A))),
+        (cards(seq(A, A)), *one, cards(choice(seq(A, A), A))), (cards(A), *one, cards(A)),
+        (cards(choice(EMPTY, A, seq(A, A))), list_of(2), cards(AS), cards(choice(EMPTY, A, seq(A, A), AS))),
+        (cards(any_of(A)), list_of(200), cards(AS), cards(choice(any_of(A), AS))),
+        # The old table's spelling, over a run of two spellings.
+        (GOOD_TABLE, doc('LIST', tree('CARD'), tree('Card')), table([0], [(0, 'LIST', AS), (1, 'CARD', EMPTY)]),
+         cards(choice(any_of(A), AS))),
+        # An old type without a document, and one that is not reached.
+        (table([0], [(0, 'list', choice(EMPTY, t(1))), (1, 'card', t(1))]), list_of(3), cards(AS), cards(choice(EMPTY, AS))),
+        (table([0], [(0, 'list', EMPTY), (1, 'card', EMPTY), (1, 'zone', EMPTY)]), list_of(3), cards(AS), cards(choice(EMPTY, AS))),
+        (LISTER_TABLE, doc('list', tree('card', tree('name'), tree('zone')), tree('card', tree('name'), tree('zone'), tree('zone')),
+                           tree('card', tree('name'))),
+         table([0], [(0, 'list', AS), (1, 'card', choice(seq(t(2), t(3)), seq(t(2), some_of(t(3))), t(2))), (2, 'name', EMPTY),
+                     (3, 'zone', EMPTY)]),
+         table([0], [(0, 'list', choice(any_of(A), AS)),
+                     (1, 'card', choice(seq(t(2), optional(t(3))), seq(t(2), t(4)), seq(t(2), some_of(t(4))), t(2))), (2, 'name', EMPTY),
+                     (3, 'door', EMPTY), (4, 'zone', EMPTY)])),
+        # One name on two paths: one type to local, two to single-type.
+        (P5, doc('block', tree('floor', tree(door, time), tree(door, time)), tree('lift', tree(door, code, code))),
+         table([0], [(0, 'block', seq(t(1), t(4))), (1, 'floor', some_of(t(2))), (2, door, t(3)), (3, 'time', EMPTY), (4, 'lift', t(5)),
+                     (5, door, some_of(t(6))), (6, 'code', EMPTY)]),
+         table([0], [(0, 'block', seq(t(1), t(2))), (1, 'floor', choice(t(3), some_of(t(3)))), (2, 'lift', t(3)),
+                     (3, door, choice(t(4), t(5), some_of(t(5)))), (4, 'time', EMPTY), (5, 'code', EMPTY)]),
+         table([0], [(0, 'block', seq(t(1), t(2))), (1, 'floor', choice(t(3), some_of(t(3)))), (2, 'lift', t(4)), (3, door, t(5)),
+                     (4, door, choice(t(6), some_of(t(6)))), (5, 'time', EMPTY), (6, 'code', EMPTY)])),
+        (P6, doc('group', tree('group', tree('card'), tree('card')), tree('group', tree('card'))),
+         table([0], [(0, 'group', some_of(t(1))), (1, 'group', choice(some_of(t(2)), t(2))), (2, 'card', EMPTY)]),
+         table([0], [(0, 'group', choice(seq(t(0), t(0)), t(1), some_of(t(0)), some_of(t(1)))), (1, 'card', EMPTY)]),
+         table([0], [(0, 'group', choice(seq(t(1), t(1)), some_of(t(1)))), (1, 'group', choice(t(2), some_of(t(2)))), (2, 'card', EMPTY)])),
+        (E, doc('r', tree('p', x, x), tree('s', x)),
+         table([0], [(0, 'r', seq(t(1), t(3))), (1, 'p', some_of(t(2))), (2, 'x', EMPTY), (3, 's', t(4)), (4, 'x', EMPTY)]),
+         table([0], [(0, 'r', seq(t(1), t(3))), (1, 'p', some_of(t(2))), (2, 'x', EMPTY), (3, 's', t(2))]),
+         table([0], [(0, 'r', seq(t(1), t(2))), (1, 'p', some_of(t(3))), (2, 's', t(4)), (3, 'x', EMPTY), (4, 'x', EMPTY)],
+               ['r', 'p', 'x', 's'])),
+        (E, doc('a', tree('a'), tree('a', tree('a'), tree('a'))),
+         table([0], [(0, 'a', some_of(t(1))), (1, 'a', choice(EMPTY, some_of(t(2)))), (2, 'a', EMPTY)]),
+         table([0], [(0, 'a', choice(some_of(t(0)), EMPTY))]),
+         table([0], [(0, 'a', some_of(t(1))), (1, 'a', choice(EMPTY, some_of(t(2)))), (2, 'a', EMPTY)])),
+    ]
+
+
+def run_widening_edges():
+    for number, (old, a_document, sampled, *results) in enumerate(run_widenings()):
+        for by_document, by_table, result in zip(BY_DOCUMENT, BY_TABLE, results if len(results) == 2 else results * 2):
+            for size in SIZES if number < 5 else (SIZES[number % 3],):
+                yield gives(result), by_document, old, a_document, dict(size=size, out='exact')
+            yield gives(result), by_table, old, sampled, dict(size=SIZES[number % 3])
+            yield gives(result), by_document, result, a_document, {}                                # nothing is added twice
+            yield YES, LETS_IN, result, a_document, {}
+        yield gives(sampled), SAMPLE, a_document, b'', dict(size=SIZES[number % 3])
+        yield YES, LETS_IN, sampled, a_document, {}
+
+
+def run_membership_edges():
+    """A list of nine lets in ten, and one of one stays one."""
+    for count in (0, 1, 2, 8, 9, 10, 11, 199, 200):
+        some, only = YES if count else NO, YES if count == 1 else NO
+        for answer, content in ((some, AS), (only, A), (YES, choice(any_of(A), AS)), (some, choice(seq(A, A), AS)), (some, choice(A, AS)),
+                                (YES, choice(EMPTY, AS)), (YES if count in (1, 2) else NO, choice(seq(A, A), A))):
+            yield answer, LETS_IN, cards(content), list_of(count), dict(size=SIZES[count % 3])
+    for answer, word in ((YES, 'aab'), (YES, 'ab'), (YES, 'aaaaaab'), (YES, 'aAaB'), (YES, 'a' * 199 + 'b'), (NO, ''), (NO, 'b'),
+                         (NO, 'aa'), (NO, 'abb'), (NO, 'aba')):
+        yield answer, LETS_IN, above_leaves(seq(AS, B), 'ab'), document(row(word)), {}
+    for answer, word in ((YES, 'aba'), (NO, 'aaba'), (NO, 'abaa'), (NO, 'abba'), (NO, 'ab')):
+        yield answer, LETS_IN, above_leaves(seq(A, B, A), 'ab'), document(row(word)), {}
+    for answer, word in ((YES, 'aba'), (YES, 'aaba'), (YES, 'abaa'), (YES, 'aaabaaa'), (NO, 'abba'), (NO, 'aab'), (NO, 'baa'),
+                         (NO, 'ababa')):
+        yield answer, LETS_IN, above_leaves(seq(AS, B, AS), 'ab'), document(row(word)), {}
+
+
+def run_edges():
+    yield from run_sample_edges()
+    yield from run_limit_edges()
+    yield from run_widening_edges()
+    yield from run_membership_edges()
+
+
+def run_cases(cases):
+    for _, call, first, second, options in run_edges():
+        cases.add(call, first, second, **options)
+    # The results asked for their kinds, and widened by other lists.
+    for number, (old, a_document, _, *results) in enumerate(run_widenings()):
+        for result in results:
+            cases.kinds(result, size=SIZES[number % 3])
+            cases.add(BY_TABLE[number % 2], result, E)
+            cases.add(BY_DOCUMENT[number % 2], result, list_of(number % 4))
+    for paper_table in (P5, P6, P7, P8, LISTER_TABLE):
+        for a_document in (list_of(9), doc('list', *[tree('door')] * 3, tree('lift')), doc('group', *[tree('group', tree('card'))] * 3)):
+            cases.widen_doc(paper_table, a_document)
 
 
 # ---------------------------------------------------------------- random cases
@@ -2226,6 +2553,60 @@ def changed_tree(numbers, a_tree, pool):
     return made
 
 
+def with_more_neighbours(numbers, a_tree):
+    """The tree with some children followed by others of their name: copies, leaves, or with less below them."""
+    children = []
+    for child in a_tree[1]:
+        child = with_more_neighbours(numbers, child)
+        children.append(child)
+        if numbers.chance(30):
+            for _ in range(numbers.of((1, 1, 1, 2, 2, 3, 8))):
+                children.append((child[0], numbers.of((child[1], child[1], child[1][1:], []))))
+    return (a_tree[0], children)
+
+
+def neighbours(a_tree):
+    """The children of a node in groups: runs of one name, and children that stand alone."""
+    return [list(group) for _, group in itertools.groupby(a_tree[1], lambda child: ref.folded(child[0].encode('latin-1')))]
+
+
+def with_other_runs(numbers, a_tree):
+    """The tree with some of its runs longer or shorter, seldom so short that one child stands alone."""
+    children = []
+    for group in neighbours(a_tree):
+        group = [with_other_runs(numbers, child) for child in group]
+        if len(group) > 1 and numbers.chance(60):
+            group = [numbers.of(group) for _ in range(numbers.between(1 if numbers.chance(15) else 2, len(group) + 2))]
+        children += group
+    return (a_tree[0], children)
+
+
+def has_a_run(a_tree):
+    return any(len(group) > 1 or any(has_a_run(child) for child in group) for group in neighbours(a_tree))
+
+
+def tree_of(node):
+    return (node.name.decode('latin-1'), [tree_of(child) for child in node.children])
+
+
+def document_has_a_run(data):
+    """Where it reads at the large size, whatever the bytes of its names."""
+    try:
+        return has_a_run(tree_of(ref.read_document(ref.LARGE, ANY_BYTES, data)))
+    except ref.Refused:
+        return False
+
+
+def document_of(case):
+    """The document of a call that makes its sample; None for other calls."""
+    return case.first if case.call == SAMPLE else case.second if case.call in BY_DOCUMENT else None
+
+
+def samples_a_run(case):
+    """Is a run of neighbours part of a sample that the call makes?"""
+    return document_of(case) is not None and document_has_a_run(document_of(case))
+
+
 def node_count(a_tree):
     return 1 + sum(node_count(child) for child in a_tree[1])
 
@@ -2277,10 +2658,21 @@ def random_document(numbers, a_table_bytes, pool=POOL):
     if not numbers.chance(15) and not has_a_name_twice(a_table_bytes):
         a_tree = derived_tree(numbers, ref.read_table(ref.LARGE, ANY_BYTES, a_table_bytes))
     if not usable(a_tree):
-        return document(random_tree(numbers, pool))
-    if numbers.chance(45):
+        a_tree = random_tree(numbers, pool)
+    elif numbers.chance(45):
         a_tree = changed_tree(numbers, a_tree, pool)
-    return document(a_tree)
+    return document(perhaps_with_runs(numbers, a_tree, 30))
+
+
+def perhaps_with_runs(numbers, a_tree, share):
+    """In a share of the cases, in percent, the tree with more neighbours of one name."""
+    more = with_more_neighbours(numbers, a_tree) if numbers.chance(share) else a_tree
+    return more if usable(more) and most_children(more) <= ref.CHILDREN else a_tree
+
+
+def most_children(a_tree):
+    """The most children of a node."""
+    return max([len(a_tree[1])] + [most_children(child) for child in a_tree[1]])
 
 
 def fields_of(data):
@@ -2441,7 +2833,8 @@ def random_case(cases, numbers):
     elif roll < 45:
         add(LETS_IN, first, respell(random_document(numbers, first, pool)))
     elif roll < 50:
-        a_document = respell(document(random_tree(numbers, pool[:3], numbers.between(1, 60))))
+        a_tree = random_tree(numbers, pool[:3], numbers.between(1, 60))
+        a_document = respell(document(perhaps_with_runs(numbers, a_tree, 60)))
         add(SAMPLE, a_document, out=numbers.of((None, None, 'exact', 'short')))
     elif roll < 55:
         add(numbers.of((TABLE_READS, IS_LOCAL, IS_SINGLE_TYPE)), first)
@@ -2449,7 +2842,7 @@ def random_case(cases, numbers):
         add(LABEL_NAME, first, label=numbers.below(5))
     else:
         random_widening(add, numbers, roll < 82, first, limits, pool, respell)
-        random_question(add, numbers, answer_of(cases.all[-1]).written, first, limits, pool, respell)
+        random_question(add, numbers, cases.all[-1], first, limits, pool, respell)
 
 
 def random_widening(add, numbers, by_table, first, limits, pool, respell):
@@ -2462,12 +2855,16 @@ def random_widening(add, numbers, by_table, first, limits, pool, respell):
         add(BY_DOCUMENT[to_kind], first, respell(random_document(numbers, first, pool)), out=out)
 
 
-def random_question(add, numbers, result, first, limits, pool, respell):
+def random_question(add, numbers, case, first, limits, pool, respell):
     """At times a question to the result of a widening."""
+    result = answer_of(case).written
     if not result or len(result) >= 1500 or not numbers.chance(60):
         return
     follow = numbers.below(5)
-    if follow == 0:
+    if case.call in BY_DOCUMENT and numbers.chance(40):
+        added = tree_of(ref.read_document(ref.LARGE, ANY_BYTES, case.second))
+        add(LETS_IN, result, respell(document(with_other_runs(numbers, added))))
+    elif follow == 0:
         add(numbers.of((IS_LOCAL, IS_SINGLE_TYPE)), result)
     elif follow == 1:
         add(LETS_IN, result, respell(random_document(numbers, result, pool)))
@@ -2490,6 +2887,7 @@ def made_cases(cases):
     size_cases(cases)
     class_cases(cases)
     spelling_cases(cases)
+    run_cases(cases)
 
 
 def all_cases(seed, count):
@@ -2498,7 +2896,7 @@ def all_cases(seed, count):
     made = len(cases.all)
     turn = 0
     while len(cases.all) < made + count:
-        random_case(cases, Numbers(seed * 1000003 + turn))
+        random_case(cases, Numbers(seed, turn))
         turn += 1
     return cases.all[:made + count]
 
@@ -2528,7 +2926,8 @@ def lister_cases():
              (padded_table(32768), doc('n00')), (padded_table(32767), doc('n00')),
              (padded_table(32769), doc('n00')), (P1, document(chain(65))),
              (LISTER_TABLE, in_capitals(LISTER_DOC)), (in_capitals(LISTER_TABLE), LISTER_DOC),
-             (label('card') + label('CARD') + END, LISTER_DOC)]
+             (label('card') + label('CARD') + END, LISTER_DOC), (E, list_of(9)), (LISTER_TABLE, list_of(200))]
+    pairs += [(old, a_document) for old, a_document, *_ in run_widenings()[-5:]]
     for number in range(20):
         numbers = Numbers(77000 + number)
         old = random_table(numbers)

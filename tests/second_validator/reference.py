@@ -1,10 +1,10 @@
-"""The second validator: every public call, written from document 01 and Cards 4, 8 and 13 alone.
+"""The second validator: every public call, written from document 01 and Cards 4, 5, 8 and 13 alone.
 
 Plain search, for reading next to the papers: derivations are tried directly, every step of a
 widening is made as a table, and refusals come in the paper's order.  Sentences of the papers
 stand in quotes; where document 01 has a number of the second set, the chosen set's own is read,
-where it has the fixed classes of bytes, those lent with the call, and where it has names equal,
-they are so up to letter case.
+where it has the fixed classes of bytes, those lent with the call, where it has names equal, they
+are so up to letter case, and where it has child sequences of a sample, their runs are made first.
 Python 3, standard library only.
 
     python3 reference.py list DIR      the text that the lister prints in DIR (old.tbl, new.doc)
@@ -14,6 +14,7 @@ import os
 import sys
 from collections import namedtuple
 from functools import partial
+from itertools import groupby
 
 sys.setrecursionlimit(20000)  # contents may nest 1,023 deep before refusal 10 is given
 
@@ -404,6 +405,20 @@ def choice_of(contents):
     return (CHOICE, tuple(contents))
 
 
+def with_runs(types):
+    """The content of a node whose children have these types. "In a sample, a run of two or more
+    neighbouring children of one name becomes one or more of that type; a run that is the whole
+    sequence stands alone." Children of one node have one type where they have one name. "[...] no
+    child is empty, one child is the type itself"."""
+    items = []
+    for type_, neighbours in groupby(types):
+        alone = len(list(neighbours)) == 1
+        items.append((TYPE, type_) if alone else (SOME, (TYPE, type_)))
+    if not items:
+        return (EMPTY,)
+    return items[0] if len(items) == 1 else (SEQUENCE, tuple(items))
+
+
 def sample_table(root):
     """"One type for each distinct path of names from the root, numbered by first visit, root 0
     and only start. Labels by first visit, rules by type." A label is spelled as its first node in
@@ -428,17 +443,12 @@ def sample_table(root):
     rules = []
     for path, type_ in types.items():
         # "Its content is the choice of the distinct child sequences seen at that path, by first
-        # sight: no child is empty, one child is the type itself, one sequence needs no choice."
+        # sight [...] one sequence needs no choice." "Distinct sequences are told apart after this",
+        # that is with their runs.
         seen = []
         for other, node in visited:
             if other == path:
-                sequence = [(TYPE, types[path + (folded(child.name),)]) for child in node.children]
-                if len(sequence) == 0:
-                    content = (EMPTY,)
-                elif len(sequence) == 1:
-                    content = sequence[0]
-                else:
-                    content = (SEQUENCE, tuple(sequence))
+                content = with_runs([types[path + (folded(child.name),)] for child in node.children])
                 if content not in seen:
                     seen.append(content)
         rules.append(Rule(type_, label_numbers[path[-1]], choice_of(seen)))
@@ -831,7 +841,8 @@ def widen_by_table(limits, classes, old, addition, form, out_len, work_len):
 
 
 def widen_by_document(limits, classes, old, document, form, out_len, work_len):
-    """"A document is added through its sample." """
+    """"A document is added through its sample." The result is then "least over the old table's
+    documents and all those of the sample table"."""
     def made():
         first = read_table(limits, classes, old)
         root = read_document(limits, classes, document)

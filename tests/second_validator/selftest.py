@@ -3,12 +3,13 @@
     python3 selftest.py [--rounds N]
 
 The paper's P1 to P8, its edges and the lister's example; the edges of the three sizes, those of the
-classes and those of letter case, numbered by hand; that a larger set gives the same answer wherever a
+classes, those of letter case and those of runs, numbered by hand; that a larger set gives the same answer wherever a
 smaller one gives one, and so do classes with more letters; that inputs with letters in the other case give
-the same answers, with every name written in its first spelling; that names of other letters, under classes
+the same answers, with every name written in its first spelling; that widening by a document is widening by its
+sample, that both let it in, and that one more member of a run changes neither; that names of other letters, under classes
 that say so, give the answers of the names that they stand for; reading against bytes written; letting in against a listing of all
-derived documents; and widening against brute force on small tables: the result is of its kind, lets in
-what it must, and is least.
+derived documents; a sample's documents against what a run stands for, on all small trees; and widening against
+brute force on small tables: the result is of its kind, lets in what it must, and is least.
 """
 
 import argparse
@@ -260,12 +261,14 @@ def leastness(rounds):
         limits = ref.SETS[number // 6 % 3]
         old = gen.respelled(numbers, make[number % 2](numbers, list(names), 4, limits))
         old_trees = derived_documents(ref.read_table(limits, C, old), most + 1)
+        one = numbers.of(small)
         if number % 3:
-            addition = gen.respelled(numbers, make[number // 2 % 2](numbers, list(names), 4, limits))
-            added = derived_documents(ref.read_table(limits, C, addition), most + 1)
-        else:
-            one = numbers.of(small)
-            addition, added = gen.respelled(numbers, gen.document(one)), {one}
+            addition = through = gen.respelled(numbers, make[number // 2 % 2](numbers, list(names), 4, limits))
+        else:                           # a document, "added through its sample"
+            addition = gen.respelled(numbers, gen.document(one))
+            through = ref.sample(limits, C, addition, 33000, limits.words).written
+        added = derived_documents(ref.read_table(limits, C, through), most + 1)
+        check(number % 3 or one in added, one)
         for kind, (by_table, by_document, is_kind) in FORMS.items():
             answer = (by_table if number % 3 else by_document)(limits, C, old, addition, 33000, limits.words)
             if answer.refusal:
@@ -273,7 +276,8 @@ def leastness(rounds):
                 continue
             counts['widenings'] += 1
             result = ref.read_table(limits, C, answer.written)
-            # "Being of the kind, letting in the old and the added, and being least are one claim"
+            # "Being of the kind, letting in the old and the added, and being least are one claim"; "The widened
+            # table is then least over the old table's documents and all those of the sample table".
             check(is_kind(limits, C, answer.written, limits.words) == (0, 1, b''), kind, old, addition)
             let_in = derived_documents(result, most + 1)
             must = old_trees | added
@@ -287,10 +291,13 @@ def leastness(rounds):
                 counts['whole'] += 1
             else:
                 # The documents that show a piece may be larger; try again with more nodes.
-                wider = derived_documents(ref.read_table(limits, C, old), 9)
-                wider |= (derived_documents(ref.read_table(limits, C, addition), 9) if number % 3 else added)
-                found = seen_pieces(wider, kind)
-                check(all(made_of(one, found, kind) for one in narrow), kind, old, addition)
+                for nodes in (9, 11, 13):
+                    wider = set().union(*(derived_documents(ref.read_table(limits, C, data), nodes) for data in (old, through)))
+                    found = seen_pieces(wider, kind)
+                    whole = all(made_of(one, found, kind) for one in narrow)
+                    if whole:
+                        break
+                check(whole, kind, old, addition)
                 continue
             # And what is made of seen pieces is let in: the result is no more than a closure.
             for one in small:
@@ -475,7 +482,116 @@ def respelled_alike():
             check(all(met[name.lower()] == name for name in gen.names_in(found.written)), case, other)
 
 
+# ---------------------------------------------------------------- runs of neighbours
+
+def runs_by_hand():
+    made = gen.Cases()
+    for told, call, first, second, options in gen.run_edges():
+        made.add(call, first, second, **options)
+        answer = gen.answer_of(made.all[-1])
+        check(answer == told, told, answer, call, first.hex(), second.hex(), options)
+    # In bytes: a list of two cards, and of nine; a card alone, and beside another.
+    head = bytes.fromhex('100004 6C697374 100004 63617264 110001 00')
+    tail = bytes.fromhex('120003 010101 1F0000')
+    for count, rule in ((1, '120004 00000201'), (2, '120005 0000060201'), (9, '120005 0000060201'), (200, '120005 0000060201')):
+        sampled = head + bytes.fromhex(rule) + tail
+        check(ref.sample(L, C, gen.list_of(count), 500, W) == (0, len(sampled), sampled), count)
+    # The second byte of a sequence is the number of its operands.
+    for word, count, length in (('aab', 2, 7), ('a' * 199 + 'b', 2, 7), ('ab' * 99 + 'aa', 199, 401), ('ab' * 100, 200, 402),
+                                ('aabb' * 50, 100, 302), ('aabaa', 3, 10)):
+        content = ref.sample(L, C, gen.document(gen.row(word)), 2000, W).written.split(gen.start(0))[1][5:]
+        check(content[:2] == bytes([3, count]) and content[length:length + 3] == b'\x12\x00\x03', word)
+    text = (b'local\nstart t0\nt0 list (t1*|t1+)\nt1 card ((t2,t3?)|(t2,t4)|(t2,t4+)|t2)\n'
+            b't2 name ()\nt3 door ()\nt4 zone ()\n')
+    check(text in [ref.listing(old, a_document) for old, a_document, *_ in gen.run_widenings()], 'lister')
+    check(ref.listing(E, gen.list_of(9)) == b'local\nstart t0\nt0 list t1+\nt1 card ()\n', 'lister')
+
+
+def runs_in(a_tree, above=()):
+    """Where children are that have a neighbour of their name: the numbers of children on the way to each."""
+    number = 0
+    for group in gen.neighbours(a_tree):
+        for child in group:
+            if len(group) > 1:
+                yield above + (number,)
+            yield from runs_in(child, above + (number,))
+            number += 1
+
+
+def with_one_more(a_tree, way):
+    """The tree with the child that the way leads to a second time, after itself."""
+    (name, children), number = a_tree, way[0]
+    if len(way) > 1:
+        return (name, children[:number] + [with_one_more(children[number], way[1:])] + children[number + 1:])
+    return (name, children[:number + 1] + children[number:])
+
+
+def added_through_samples():
+    """Over all made cases of a sample or of a widening by a document that give a table: it lets in the document; the widening by the
+    sample has the same bytes; and so has the answer with one more member of a run."""
+    made = gen.Cases()
+    gen.made_cases(made)
+    counts = {'through samples': 0, 'longer runs': 0}
+    for turn, case in enumerate(made.all):
+        data, answer = gen.document_of(case), gen.answer_of(case)
+        if data is None or answer.refusal:
+            continue
+        limits, classes, words = gen.limits_of(case), case.classes, case.work_len
+        sampled = ref.sample(limits, classes, data, gen.MOST_OUTPUT, words)
+        check(sampled.refusal == 0 and ref.is_single_type(limits, classes, sampled.written, words) == (0, 1, b''), case)
+        for a_table in {sampled.written, answer.written}:
+            check(ref.lets_in(limits, classes, a_table, data, words) == (0, 1, b''), case)
+        if case.call in gen.BY_DOCUMENT:
+            by_table = gen.BY_TABLE[gen.BY_DOCUMENT.index(case.call)]
+            check(gen.answer_of(case._replace(call=by_table, second=sampled.written)) == answer, case)
+            counts['through samples'] += 1
+        numbers, a_tree = Numbers(53000, turn), gen.tree_of(ref.read_document(limits, classes, data))
+        ways = list(runs_in(a_tree))
+        check(bool(ways) == gen.samples_a_run(case), case)
+        for way in {numbers.of(ways) for _ in range(3)} if ways else ():
+            longer = gen.document(with_one_more(a_tree, way))
+            found = gen.answer_of(case._replace(first=longer) if case.call == gen.SAMPLE else case._replace(second=longer))
+            check(found == answer or found.refusal in (2, 11), case, way)
+            counts['longer runs'] += found == answer
+    return counts
+
+
+def small_samples():
+    """A sample lets in just the trees whose children, at each path, are those of a node of the document there: in the same order, each
+    that stands alone there alone here too, each run there one or more here."""
+    def words(a_tree, above=()):
+        """Paths with their children in groups, a name and a number each."""
+        path = above + (a_tree[0],)
+        yield path, tuple((group[0][0], len(group)) for group in gen.neighbours(a_tree))
+        for child in a_tree[1]:
+            yield from words(child, path)
+
+    def like(here, there):
+        return len(here) == len(there) and all(one[0] == other[0] and (other[1] > 1 or one[1] == 1) for one, other in zip(here, there))
+
+    trees = [(one, list(words(one))) for one in trees_up_to(('a', 'b'), 5)]
+    for number, (one, seen) in enumerate(trees):
+        if gen.node_count(one) == 5 and number % 7:
+            continue
+        sampled = ref.read_table(L, C, ref.sample(L, C, gen.document(one), 500, W).written)
+        listed = derived_documents(sampled, 5)
+        for other, asked in trees:
+            fits = all(any(path == there and like(groups, others) for there, others in seen) for path, groups in asked)
+            check(fits == (other in listed), one, other)
+
+
 # ---------------------------------------------------------------- other facts
+
+def numbers_by_hand():
+    """The same on every machine, and nothing in common next to each other."""
+    first = [Numbers(*seed).next() for seed in ((1,), (1, 0), (2**40, 7))]
+    check(first == [0x5E41AB087439611E, 0xB18A02F46D8D86C3, 0xBA138EB04E162B1F], 'numbers')
+    rows = []
+    for seed in [(number,) for number in range(50)] + [(1, number) for number in range(50)] + [(number, 1) for number in range(2, 50)]:
+        numbers = Numbers(*seed)
+        rows.append([numbers.next() for _ in range(200)])
+    check(len({number for row in rows for number in row}) == 200 * len(rows), 'numbers')
+
 
 def other_facts(rounds):
     for number in range(rounds):
@@ -529,9 +645,13 @@ def main():
     own_names_by_hand()
     spellings_by_hand()
     respelled_alike()
+    runs_by_hand()
+    counts = added_through_samples()
+    small_samples()
+    numbers_by_hand()
     larger_sets_agree()
     membership(max(1, rounds // 5))
-    counts = leastness(rounds)
+    counts.update(leastness(rounds))
     other_facts(rounds)
     renamed_alike(rounds)
     print('%d facts hold; %s' % (done[0], ', '.join('%s %d' % pair for pair in counts.items())))

@@ -17,7 +17,7 @@ use Rattle.theory.specs.Alternatives.{gathered}
 use Rattle.theory.proofs.lists.BoolLaws.{same-test}
 use Rattle.theory.proofs.contents.ContentBytes.{same-content}
 use Rattle.theory.proofs.emission.GatheringLaws.{gathered-so, gather-old, gather-new}
-use Rattle.theory.proofs.bytes.SampleWithin.{operands-count}
+use Rattle.theory.proofs.contents.CountedContents.{operands-count}
 use Rattle.reader.specs.ExprAt.{_upTo_, exprAt, exprsAt}
 use Rattle.reader.proofs.ExprLaws.{same-placed, expr-written, expr-of, expr-bytes, expr-forward, exprs-written}
 use Rattle.contents.specs.declared.drafts.OperandRow.{OperandRow}

@@ -22,7 +22,7 @@ use Rattle.theory.proofs.lists.BoolLaws.{or-left, or-right}
 use Rattle.theory.proofs.lists.ListLaws.{distinct-has}
 use Rattle.theory.proofs.contents.ContentBytes.{same-content}
 use Rattle.theory.proofs.emission.GatheringLaws.{gathered-so, gather-more, gather-grows, written-gathered}
-use Rattle.theory.proofs.bytes.SampleWithin.{operands-count}
+use Rattle.theory.proofs.contents.CountedContents.{operands-count}
 use Rattle.contents.specs.Drafts.{Unfit, long, wide, TooWide, unfit, many}
 
 -- the bytes and the widest choice of operands

@@ -81,11 +81,12 @@ module _ (lim : Limits) (classes : Classes) where
     pub decides : (g : Table) → readTable lim classes table ≡ given g → lim .words ≤ length work → Loads classes
         → Decides (left .answer) (OfKind kind g)
 
-  -- `sample`: the bytes written read as the sample.
+  -- `sample`: the bytes written read as the sample, which lets in the document.
   pub record Sampling (document out work : List ℕ) (left : After Numbers) : Type 0 where
     pub settled : left ≡ wrote lim (documentSample lim classes document out work) out work
     pub reads : left .answer .refusal ≡ 0 → (d : Tree) → readDocument lim classes document ≡ given d
         → readTable lim classes (take (left .answer .value) (left .out)) ≡ given (sample d)
+    pub lets-in : (d : Tree) → readDocument lim classes document ≡ given d → LetsIn (sample d) d
 
   -- The four widening calls. Demand 3: the bytes written read as the least table of the kind that lets in the old and the added; and 13 is
   -- given exactly where neither the old table nor the addition has a document.

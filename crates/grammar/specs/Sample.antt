@@ -2,9 +2,10 @@
 use Prim.Native.Nat.{ℕ, zero}
 use mathlib.Core.Bool.{Bool, true, false, _&&_}
 use mathlib.Core.List.{List, [], _∷_, _++_, map}
+use lib.Dec.{eqb}
 use Rattle.grammar.specs.Lists.{keep, distinct, place}
 use Rattle.grammar.specs.Names.{Name, sameName}
-use Rattle.grammar.specs.Content.{Content, empty, type, sequence, choiceOf, operands}
+use Rattle.grammar.specs.Content.{Content, empty, type, sequence, oneOrMore, choiceOf, operands}
 use Rattle.grammar.specs.Tree.{Tree, node, Forest, []ᵗ, _∷ᵗ_}
 use Rattle.grammar.specs.Table.{Rule, Table}
 use Rattle.grammar.specs.ReadContent.{sameContent}
@@ -48,12 +49,40 @@ unfoldable pub namesOf : List Visit → List Name
 unfolding distinct sameName
 namesOf vs = distinct sameName (map (λ (v : Visit). v .name) vs)
 
--- No child is empty, one child is the type itself.
-unfoldable pub sequenceOf : List ℕ → Content
+-- neighbouring children of one name, which have one type: that type, and whether there are two or more
+pub record Run : Type 0 where
+  pub type : ℕ
+  pub several : Bool
+
+-- one child more, in front: it belongs to the first run if that is of its type, else it is a run of its own
+unfoldable pub withChild : ℕ → List Run → List Run
+withChild k [] = record { type = k; several = false } ∷ []
+withChild k (r ∷ rs) =
+    elim (eqb k (r .type)) [
+      | true ↦ record { type = k; several = true } ∷ rs
+      | false ↦ record { type = k; several = false } ∷ r ∷ rs
+    ]
+
+-- the runs of children, each as long as can be
+unfoldable pub runsOf : List ℕ → List Run
+unfolding withChild
+runsOf [] = []
+runsOf (k ∷ ks) = withChild k (runsOf ks)
+
+-- A run of two or more is one or more of that type; a child alone is the type itself.
+unfoldable pub runContent : Run → Content
+runContent r = elim (r .several) [ true ↦ oneOrMore (type (r .type)) | false ↦ type (r .type) ]
+
+-- No child is empty; a run that is the whole sequence stands alone.
+unfoldable pub asSequence : List Content → Content
 unfolding operands
-sequenceOf [] = empty
-sequenceOf (k ∷ []) = type k
-sequenceOf (k ∷ l ∷ ls) = sequence (operands (map type (k ∷ l ∷ ls)))
+asSequence [] = empty
+asSequence (c ∷ []) = c
+asSequence (c ∷ d ∷ ds) = sequence (operands (c ∷ d ∷ ds))
+
+unfoldable pub sequenceOf : List ℕ → Content
+unfolding runsOf runContent asSequence
+sequenceOf ks = asSequence (map runContent (runsOf ks))
 
 -- the child sequence of one node
 unfoldable pub childSequence : List Visit → Visit → Content

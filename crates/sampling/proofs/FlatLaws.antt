@@ -1,7 +1,7 @@
 -- A choice of child sequences nests little, and is as wide as there are sequences: what makes it too large are its bytes or its operands.
 use Prim.Native.Nat.{ℕ, _+_, _≤_, _<_}
 use native.Mathlib.Omega.{arith}
-use mathlib.Core.Bool.{true, false, _||_}
+use mathlib.Core.Bool.{Bool, true, false, _||_}
 use mathlib.Core.List.{List, [], _∷_, map, append-nil, List·Memᴰ, List·Memᴰ·head, List·Memᴰ·tail, Memᴰ·of-map}
 use mathlib.Core.Option.{some as just}
 use mathlib.Core.Path.{_≡_, refl, subst}
@@ -10,15 +10,15 @@ use borrow.Author.Tests.{lt-ltb, le-ltb}
 use lib.ListN.{length, getD}
 use Rattle.grammar.specs.Lists.{keep, numbersBelow}
 use Rattle.grammar.specs.Limits.{standard, large, contentLimit, operandLimit, nestingLimit}
-use Rattle.grammar.specs.Content.{Content, type, operands, choiceOf, nesting, deepest}
+use Rattle.grammar.specs.Content.{Content, operands, choiceOf, nesting, deepest}
 use Rattle.grammar.specs.ReadContent.{contentBytes, sameContent}
 use Rattle.grammar.specs.Size.{widestChoice, widestOf, contentTooLarge}
-use Rattle.grammar.specs.Sample.{sequenceOf}
+use Rattle.grammar.specs.Sample.{Run, runsOf, runContent, asSequence, sequenceOf}
 use Rattle.theory.specs.Alternatives.{gathered, oneContent}
 use Rattle.theory.proofs.lists.BoolLaws.{or-left, or-none}
 use Rattle.theory.proofs.lists.ListLaws.{distinct-was}
 use Rattle.theory.proofs.emission.GatheringLaws.{written-gathered}
-use Rattle.theory.proofs.bytes.SampleWithin.{operands-count}
+use Rattle.theory.proofs.contents.CountedContents.{operands-count}
 use Rattle.reader.specs.ExprAt.{_upTo_, exprAt}
 use Rattle.reader.proofs.ExprLaws.{expr-written}
 use Rattle.contents.specs.Drafts.{Row, TooWide}
@@ -28,21 +28,36 @@ use Rattle.contents.proofs.KeptLaws.{row-count}
 use Rattle.contents.proofs.WideLaws.{too-large}
 
 record Flat (c : Content) : Type 0 where
-  shallow : nesting c ≤ 2
+  shallow : nesting c ≤ 3
   narrow : widestChoice c ≡ 0
 
-types-flat : (ks : List ℕ) → (deepest (operands (map type ks)) ≤ 1) × (widestOf (operands (map type ks)) ≡ 0)
-unfolding nesting deepest widestChoice widestOf operands
-types-flat [] = (omega arith, refl)
-types-flat (k ∷ ks) = let h = types-flat ks in (omega arith, omega arith)
+run-flat : (r : Run) → (nesting (runContent r) ≤ 2) × (widestChoice (runContent r) ≡ 0)
+unfolding nesting widestChoice runContent
+run-flat r = go (r .several) refl
+  where
+    go : (s : Bool) → r .several ≡ s → (nesting (runContent r) ≤ 2) × (widestChoice (runContent r) ≡ 0)
+    go true e = rw (runContent, e) (omega arith, refl)
+    go false e = rw (runContent, e) (omega arith, refl)
+
+runs-flat : (rs : List Run) → (deepest (operands (map runContent rs)) ≤ 2) × (widestOf (operands (map runContent rs)) ≡ 0)
+unfolding deepest widestOf operands
+runs-flat [] = (omega arith, refl)
+runs-flat (r ∷ rs) =
+    let f = run-flat r in
+    let h = runs-flat rs in
+    (omega arith, omega arith)
+
+turn-flat : (rs : List Run) → Flat (asSequence (map runContent rs))
+unfolding asSequence nesting widestChoice operands
+turn-flat [] = record { shallow = omega arith; narrow = refl }
+turn-flat (r ∷ []) = let f = run-flat r in record { shallow = omega arith; narrow = f .1 }
+turn-flat (r ∷ q ∷ rs) = let h = runs-flat (r ∷ q ∷ rs) in record { shallow = omega arith; narrow = h .1 }
 
 sequence-flat : (ks : List ℕ) → Flat (sequenceOf ks)
-unfolding sequenceOf nesting widestChoice
-sequence-flat [] = record { shallow = omega arith; narrow = refl }
-sequence-flat (k ∷ []) = record { shallow = omega arith; narrow = refl }
-sequence-flat (k ∷ l ∷ ks) = let h = types-flat (k ∷ l ∷ ks) in record { shallow = omega arith; narrow = h .1 }
+unfolding sequenceOf
+sequence-flat ks = turn-flat (runsOf ks)
 
-all-flat : (ds : List Content) → ((c : Content) → List·Memᴰ c ds → Flat c) → (deepest (operands ds) ≤ 2) × (widestOf (operands ds) ≡ 0)
+all-flat : (ds : List Content) → ((c : Content) → List·Memᴰ c ds → Flat c) → (deepest (operands ds) ≤ 3) × (widestOf (operands ds) ≡ 0)
 unfolding deepest widestOf operands
 all-flat [] h = (omega arith, refl)
 all-flat (d ∷ ds) h =
@@ -52,7 +67,7 @@ all-flat (d ∷ ds) h =
     let r = all-flat ds (λ c m. h c (List·Memᴰ·tail m)) in
     (omega arith, omega arith)
 
-choice-flat : (ds : List Content) → ((c : Content) → List·Memᴰ c ds → Flat c) → (nesting (choiceOf ds) ≤ 3) × (widestChoice (choiceOf ds) ≤ length ds)
+choice-flat : (ds : List Content) → ((c : Content) → List·Memᴰ c ds → Flat c) → (nesting (choiceOf ds) ≤ 4) × (widestChoice (choiceOf ds) ≤ length ds)
 unfolding choiceOf nesting widestChoice operands
 choice-flat [] h = (omega arith, omega arith)
 choice-flat (c ∷ []) h =

@@ -5,6 +5,7 @@ pub mod FillLaws
 pub mod ParentLaws
 pub mod TypeLaws
 pub mod KidLaws
+pub mod RunLaws
 pub mod SequenceLaws
 pub mod FlatLaws
 pub mod RuleLaws

@@ -1,14 +1,15 @@
 -- The contents of a sample, by arrays of parents and types.
-use Prim.Native.Nat.{ℕ, zero, suc, _+_, _-_, _≤_, _<_}
-use mathlib.Core.Bool.{Bool, true, false}
-use mathlib.Core.List.{List, [], _∷_, _++_, map}
+use Prim.Native.Nat.{ℕ, suc, _+_, _-_, _≤_, _<_}
+use mathlib.Core.Bool.{Bool, _&&_}
+use mathlib.Core.List.{List, map}
 use mathlib.Core.Path.{_≡_}
-use lib.Dec.{eqb}
+use lib.Dec.{eqb, ltb}
 use lib.ListN.{length, getD}
 use Rattle.grammar.specs.Limits.{contentLimit, childLimit}
 use Rattle.grammar.specs.Lists.{keep, numbersFrom}
-use Rattle.grammar.specs.Content.{Content}
-use Rattle.grammar.specs.Sample.{sequenceOf}
+use Rattle.grammar.specs.Content.{Content, operands}
+use Rattle.grammar.specs.ReadContent.{operandBytes}
+use Rattle.grammar.specs.Sample.{Run, runContent, sequenceOf}
 use Rattle.contents.specs.declared.drafts.OperandRow.{OperandRow}
 
 -- A content is made in scratch bytes: where its operands end at most, where it ends, and how many bytes are lent.
@@ -26,15 +27,16 @@ abbrev pub kidTypes : (parents types : List ℕ) → ℕ → ℕ → List ℕ
 kidTypes parents types n i =
     map (λ (j : ℕ). getD types j 0) (keep (λ (j : ℕ). eqb (getD parents j 0) i) (numbersFrom (suc i) (n - suc i)))
 
--- the bytes of such a type, if it is one; and of those among the next `m` nodes
-abbrev pub kidBytes : Bool → ℕ → List ℕ
-kidBytes true k = 2 ∷ k ∷ []
-kidBytes false k = []
+-- the child after the one at a place is of the same type
+abbrev pub goesOn : List ℕ → ℕ → Bool
+goesOn ks at = ltb (at + 1) (length ks) && eqb (getD ks at 0) (getD ks (at + 1) 0)
 
-unfoldable pub kidsBytes : (parents types : List ℕ) → ℕ → ℕ → List ℕ
-kidsBytes parents types i zero = []
-kidsBytes parents types i (suc m) =
-    kidsBytes parents types i m ++ kidBytes (eqb (getD parents (suc i + m) 0) i) (getD types (suc i + m) 0)
+-- a run, and the bytes of runs one after the other
+abbrev pub run : ℕ → Bool → Run
+run k several = record { type = k; several = several }
+
+abbrev pub runsBytes : List Run → List ℕ
+runsBytes rs = operandBytes (operands (map runContent rs))
 
 -- the arrays hold the children of a node: so many, with types that are bytes
 pub record Kids (parents types : List ℕ) (n i kids : ℕ) : Type 0 where

@@ -1,52 +1,124 @@
-// The child sequence of a node, as a content.
+// The child sequence of a node, as a content: its children run by run.
+use reader::limits::CHILDREN;
 use reader::operators::EMPTY_BYTE;
+use reader::operators::ONE_OR_MORE_BYTE;
 use reader::operators::SEQUENCE_BYTE;
 use reader::operators::TYPE_BYTE;
-ghost use Prim.Native.Nat.{suc, _+_, _-_, _*_, _≤_, _<_};
+ghost use Prim.Native.Nat.{_+_, _*_, _≤_, _<_};
+ghost use mathlib.Core.Bool.{true};
 ghost use mathlib.Core.Path.{_≡_};
-ghost use lib.Dec.{eqb};
-ghost use lib.ListN.{length};
+ghost use lib.ListN.{length, take};
+ghost use Rattle.grammar.specs.Limits.{childLimit};
 ghost use Rattle.grammar.specs.ReadContent.{contentBytes};
+ghost use Rattle.grammar.specs.Sample.{runsOf, runContent, sequenceOf};
+ghost use Rattle.theory.specs.Alternatives.{onlyIf};
 ghost use Rattle.writer.specs.Writing.{Put};
-ghost use Rattle.sampling.specs.SampleContents.{kidBytes, kidsBytes, Kids, sequenceIn};
+ghost use Rattle.sampling.specs.SampleContents.{kidTypes, goesOn, run, runsBytes, Kids, sequenceIn};
 
-// Writes a node's type, if it is a child of the node `i`.
-fn put_kid(scratch: &mut [u8], at: usize, parent: usize, i: usize, ty: usize) -> usize
-    requires { ⌜ (at ≤ length (now scratch)) × (parent ≡ i → at + 2 ≤ length (now scratch)) × (ty < 256) ⌝ }
-    ensures { λ r. ⌜ Put (now (scratch .entry)) at (kidBytes (eqb parent i) ty) (now (scratch .exit)) r ⌝ }
+// The types of a node's children, in order.
+fn kid_types(parents: &[u16], types: &[u16], nodes: usize, i: usize, kids: usize) -> [u8; CHILDREN]
+    requires { ⌜ Kids (now parents) (now types) nodes i kids ⌝ }
+    ensures { λ r. ⌜ take kids r ≡ kidTypes (now (parents .entry)) (now (types .entry)) nodes i ⌝ }
 {
-    if parent != i {
+    let mut of = [0u8; CHILDREN];
+    let mut count: usize = 0;
+    let mut j = i + 1;
+    while j < nodes {
+        if parents[j] as usize != i {
+            j += 1;
+            continue;
+        }
+        of[count] = types[j] as u8;
+        count += 1;
+        j += 1;
+    }
+    of
+}
+
+// Whether the next child is of the same type.
+fn goes_on(kinds: &[u8], at: usize) -> bool
+    requires { ⌜ at < length (now kinds) ⌝ }
+    ensures { λ r. ⌜ r ≡ goesOn (now (kinds .entry)) at ⌝ }
+{
+    if kinds.len() - at < 2 {
+        return false;
+    }
+    kinds[at] == kinds[at + 1]
+}
+
+// How many runs there are: each ends where no child of its type follows.
+fn run_count(kinds: &[u8]) -> usize
+    ensures { λ r. ⌜ r ≡ length (runsOf (now (kinds .entry))) ⌝ }
+{
+    let mut runs: usize = 0;
+    let mut at: usize = 0;
+    while at < kinds.len() {
+        if goes_on(kinds, at) {
+            at += 1;
+            continue;
+        }
+        runs += 1;
+        at += 1;
+    }
+    runs
+}
+
+// Writes a run, if it begins here: one or more of its type, or the type itself.
+fn put_run(scratch: &mut [u8], at: usize, ty: u8, several: bool, begins: bool) -> usize
+    requires { ⌜ at + length (onlyIf begins (contentBytes (runContent (run ty several)))) ≤ length (now scratch) ⌝ }
+    ensures { λ r. ⌜ Put (now (scratch .entry)) at (onlyIf begins (contentBytes (runContent (run ty several))))
+        (now (scratch .exit)) r ⌝ }
+{
+    if !begins {
         return at;
     }
+    if several {
+        scratch[at] = ONE_OR_MORE_BYTE;
+        scratch[at + 1] = TYPE_BYTE;
+        scratch[at + 2] = ty;
+        return at + 3;
+    }
     scratch[at] = TYPE_BYTE;
-    scratch[at + 1] = ty as u8;
+    scratch[at + 1] = ty;
     at + 2
 }
 
-// Writes the types of a node's children, one after the other.
-fn put_kids(
-    scratch: &mut [u8],
-    at: usize,
-    parents: &[u16],
-    types: &[u16],
-    nodes: usize,
-    i: usize,
-    kids: usize,
-) -> usize
-    requires { ⌜ Kids (now parents) (now types) nodes i kids × (at + 2 * kids ≤ length (now scratch)) ⌝ }
-    ensures { λ r. ⌜ Put (now (scratch .entry)) at (kidsBytes (now (parents .entry)) (now (types .entry)) i (nodes - suc i))
-        (now (scratch .exit)) r ⌝ }
+// Writes the runs, one after the other.
+fn put_runs(scratch: &mut [u8], at: usize, kinds: &[u8]) -> usize
+    requires { ⌜ at + 2 * length (now kinds) ≤ length (now scratch) ⌝ }
+    ensures { λ r. ⌜ Put (now (scratch .entry)) at (runsBytes (runsOf (now (kinds .entry)))) (now (scratch .exit)) r ⌝ }
 {
     let mut end = at;
-    let mut j = i + 1;
-    while j < nodes {
-        end = put_kid(scratch, end, parents[j] as usize, i, types[j] as usize);
-        j += 1;
+    let mut begins = true;
+    let mut p: usize = 0;
+    while p < kinds.len() {
+        let on = goes_on(kinds, p);
+        end = put_run(scratch, end, kinds[p], on, begins);
+        begins = !on;
+        p += 1;
     }
     end
 }
 
-// Writes the child sequence of a node: no child is empty, one child is the type itself.
+// Writes the sequence of children of these types: no child is empty, a run that is the whole sequence stands alone.
+fn put_in_turn(scratch: &mut [u8], at: usize, kinds: &[u8]) -> usize
+    requires { ⌜ (at + 2 + 2 * length (now kinds) ≤ length (now scratch)) × (length (now kinds) ≤ childLimit) ⌝ }
+    ensures { λ r. ⌜ Put (now (scratch .entry)) at (contentBytes (sequenceOf (now (kinds .entry)))) (now (scratch .exit)) r ⌝ }
+{
+    let runs = run_count(kinds);
+    if runs == 0 {
+        scratch[at] = EMPTY_BYTE;
+        return at + 1;
+    }
+    if runs == 1 {
+        return put_runs(scratch, at, kinds);
+    }
+    scratch[at] = SEQUENCE_BYTE;
+    scratch[at + 1] = runs as u8;
+    put_runs(scratch, at + 2, kinds)
+}
+
+// Writes the child sequence of a node.
 pub fn put_sequence(
     scratch: &mut [u8],
     at: usize,
@@ -60,14 +132,6 @@ pub fn put_sequence(
     ensures { λ r. ⌜ Put (now (scratch .entry)) at (contentBytes (sequenceIn (now (parents .entry)) (now (types .entry)) nodes i))
         (now (scratch .exit)) r ⌝ }
 {
-    if kids == 0 {
-        scratch[at] = EMPTY_BYTE;
-        return at + 1;
-    }
-    if kids == 1 {
-        return put_kids(scratch, at, parents, types, nodes, i, kids);
-    }
-    scratch[at] = SEQUENCE_BYTE;
-    scratch[at + 1] = kids as u8;
-    put_kids(scratch, at + 2, parents, types, nodes, i, kids)
+    let kinds = kid_types(parents, types, nodes, i, kids);
+    put_in_turn(scratch, at, &kinds[0..kids])
 }

@@ -5,4 +5,3 @@ pub mod LeastLocal
 pub mod LeastSingleType
 pub mod TableAutomaton
 pub mod ReducedAutomaton
-pub mod TreeAutomaton

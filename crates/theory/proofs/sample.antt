@@ -1,3 +1,3 @@
+pub mod SampleRuns
 pub mod SampleRules
-pub mod SampleMembers
-pub mod SampleLeast
+pub mod SampleDocument

@@ -93,6 +93,13 @@ pub put-two : (before : List ℕ) (at a b : ℕ) → at + 2 ≤ length before �
 put-two before at a b h =
     subst (λ (k : ℕ). Put before at (a ∷ b ∷ []) (set (set before at a) k b) (at + 2)) (sym (add-one at)) (put-sets before at (a ∷ b ∷ []) h)
 
+pub put-three : (before : List ℕ) (at a b c : ℕ) → at + 3 ≤ length before
+    → Put before at (a ∷ b ∷ c ∷ []) (set (set (set before at a) (at + 1) b) (at + 2) c) (at + 3)
+put-three before at a b c h =
+    subst (λ (m : ℕ). Put before at (a ∷ b ∷ c ∷ []) (set (set (set before at a) m b) (at + 2) c) (at + 3)) (sym (add-one at))
+    (subst (λ (m : ℕ). Put before at (a ∷ b ∷ c ∷ []) (set (set (set before at a) (suc at) b) m c) (at + 3)) (sym (add-two at))
+    (put-sets before at (a ∷ b ∷ c ∷ []) h))
+
 pub put-paste : (before : List ℕ) (at : ℕ) (value after : List ℕ) → at + length value ≤ length before → after ≡ paste before at value (length value)
     → Put before at value after (at + length value)
 put-paste before at value after h e =

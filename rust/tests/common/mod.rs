@@ -34,6 +34,11 @@ pub fn choice(operands: &[&[u8]]) -> Vec<u8> {
     listed(4, operands)
 }
 
+/// One or more of an operand.
+pub fn some(operand: &[u8]) -> Vec<u8> {
+    [&[6], operand].concat()
+}
+
 /// A table with these starts and rules; labels are numbered as they first appear.
 pub fn table(starts: &[u8], rules: &[(u8, &str, &[u8])]) -> Vec<u8> {
     let mut labels: Vec<&str> = Vec::new();

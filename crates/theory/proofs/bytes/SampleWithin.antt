@@ -1,7 +1,7 @@
 -- The sample of a document within the limits is a table that a file can hold, if it is not too large:
 --   sample-within : LimitsAgree lim → DocumentWithin lim classes d → sampleTable lim d ≡ given g → TableWithin lim classes g
 -- A document that is read is within the limits (document-within).
-use Prim.Native.Nat.{ℕ, zero, suc, _≤_, _<_}
+use Prim.Native.Nat.{ℕ, zero, _≤_, _<_}
 use native.Mathlib.Omega.{arith}
 use mathlib.Core.Bool.{true}
 use mathlib.Core.List.{List, [], _∷_, _++_, map, List·Memᴰ, List·Memᴰ·head, Memᴰ·of-map}
@@ -12,19 +12,18 @@ use borrow.Author.Tests.{eq-eqb}
 use Rattle.grammar.specs.Lists.{anyPass, distinct, allDistinct, numbersBelow}
 use Rattle.grammar.specs.Limits.{Limits, LimitsAgree}
 use Rattle.grammar.specs.Names.{Name, sameName, SameName, Classes}
-use Rattle.grammar.specs.Content.{Content, type, typesIn, operandCount, operands}
+use Rattle.grammar.specs.Content.{Content, typesIn}
 use Rattle.grammar.specs.Tree.{Tree, node}
 use Rattle.grammar.specs.Table.{Rule, Table}
-use Rattle.grammar.specs.Derivation.{Fits}
 use Rattle.grammar.specs.Outcome.{given}
 use Rattle.grammar.specs.declared.Refusal.the-variants.{ResultTooLarge}
 use Rattle.grammar.specs.WithinLimits.{NameWithin, TableWithin, DocumentWithin}
 use Rattle.grammar.specs.UsedLabels.{usedLabels, withUsedLabels}
 use Rattle.grammar.specs.Size.{tooLarge}
-use Rattle.grammar.specs.Sample.{Visit, visits, samePath, pathsOf, namesOf, sequenceOf, contentAt, ruleAt, sample}
+use Rattle.grammar.specs.Sample.{Visit, visits, samePath, pathsOf, namesOf, contentAt, ruleAt, sample}
 use Rattle.grammar.specs.Widen.{ofSize, sampleTable}
 use Rattle.theory.specs.SamplePaths.{pathType}
-use Rattle.theory.specs.Conditions.{Counted, AllCounted}
+use Rattle.theory.specs.Conditions.{Counted}
 use Rattle.theory.proofs.lists.ListLaws.{
   any-of,
   distinct-was,
@@ -37,14 +36,13 @@ use Rattle.theory.proofs.lists.ListLaws.{
   keep-all,
 }
 use Rattle.theory.proofs.lists.PlaceLaws.{place-found}
-use Rattle.theory.proofs.trees.NameLaws.{name-refl}
 use Rattle.theory.proofs.bytes.OutcomeLaws.{had-no-fault, given-eq}
 use Rattle.theory.proofs.steps.UsedLabelsDocuments.{used-labels-count}
 use Rattle.theory.proofs.sample.SampleRules.{
   seen,
   childTypes,
   child-visited,
-  sample-fits,
+  visit-fits,
   sample-names,
   sample-labelled,
   sample-starts,
@@ -57,29 +55,10 @@ use Rattle.theory.proofs.sample.SampleRules.{
   sequence-at,
   sample-start,
 }
+use Rattle.theory.proofs.sample.SampleRuns.{sequence-counted}
 use Rattle.theory.proofs.contents.CountedContents.{choice-counted}
 use Rattle.theory.proofs.bytes.DocumentWithin.{nodeOfVisit, visit-node}
 use Rattle.theory.proofs.bytes.NumberedTable.{Numbered, table-small, numbered-within}
-
--- the sequence of some types
-pub operands-count : (cs : List Content) → operandCount (operands cs) ≡ length cs
-unfolding operandCount operands
-operands-count [] = refl
-operands-count (c ∷ cs) = ap suc (operands-count cs)
-
-types-counted : (lim : Limits) (ks : List ℕ) → AllCounted lim (operands (map type ks))
-unfolding operands
-types-counted lim [] = tt
-types-counted lim (k ∷ ks) = (tt, types-counted lim ks)
-
-sequence-counted : (lim : Limits) (ks : List ℕ) → length ks ≤ lim .operands → Counted lim (sequenceOf ks)
-unfolding sequenceOf
-sequence-counted lim [] h = tt
-sequence-counted lim (k ∷ []) h = tt
-sequence-counted lim (k ∷ l ∷ ls) h =
-    let n = operands-count (map type (k ∷ l ∷ ls)) in
-    let m = length-map ls type in
-    (omega arith, omega arith, types-counted lim (k ∷ l ∷ ls))
 
 first-visit : (d : Tree) → (v : Visit) × List·Memᴰ v (visits d [])
 unfolding visits
@@ -140,11 +119,6 @@ module _ (d : Tree) where
       let o = length-map (v .children) (λ x. pathType d (v .path ++ (x ∷ []))) in
       subst (Counted lim) (s .sequence) (sequence-counted lim (childTypes d v) (omega arith))))
 
-  visit-fits : (v : Visit) → List·Memᴰ v (seen d) → Fits (sample d) (pathType d (v .path)) (v .name) (childTypes d v)
-  visit-fits v m =
-      sample-fits d (pathType d (v .path)) (v .name) (childTypes d v) .1
-      (record { visit = v; visited = m; of-type = refl; of-name = name-refl (v .name); children = refl })
-
   name-from : (n : Name) → List·Memᴰ n (sample d .labels) → (v : Visit) × List·Memᴰ v (seen d) × (v .name ≡ n)
   unfolding sample namesOf
   name-from n m =
@@ -155,7 +129,7 @@ module _ (d : Tree) where
   label-used l h =
       let (n, at) = below-at (sample d .labels) l h in
       let (v, m, e) = name-from n (at-mem (sample d .labels) l at) in
-      let f = visit-fits v m in
+      let f = visit-fits d v m in
       let same = subst (λ (x : Name). SameName (f .of-name .name) x) e (f .of-name .same) in
       any-of (λ (r : Rule). eqb (r .label) l) (f .of-table)
       (eq-eqb (f .rule .label) l (sample-names d (f .rule .label) l (f .of-name .name) n (f .of-name .listed) at same))

@@ -1,4 +1,5 @@
 -- Counted contents: every sequence has from 2 operands to as many as the limit allows, and every choice at least 2.
+--     operands-count        as many operands as there are contents
 --     proper-counted        a proper content is counted
 --     counted-proper        a counted content with no choice too wide and all types in range is proper
 --     choice-counted        the choice of counted contents is counted
@@ -10,6 +11,7 @@ use native.Mathlib.Omega.{arith}
 use mathlib.Core.Bool.{Bool, true, false, not}
 use mathlib.Core.List.{List, [], _∷_, List·Memᴰ, List·Memᴰ·head, List·Memᴰ·tail, Memᴰ·append-left, Memᴰ·append-right}
 use mathlib.Core.Path.{_≡_, refl, ap}
+use lib.ListN.{length}
 use borrow.Author.Tests.{lt-ltb}
 use Rattle.grammar.specs.Lists.{anyPass, keep, distinct, joinedOf, isIn}
 use Rattle.grammar.specs.Limits.{Limits}
@@ -42,6 +44,11 @@ use Rattle.theory.specs.Conditions.{Counted, AllCounted}
 use Rattle.theory.proofs.lists.BoolLaws.{and-left, and-right, and-intro}
 use Rattle.theory.proofs.lists.ListLaws.{kept, distinct-was, joined-from, Each, each-none, each-cons}
 use Rattle.theory.proofs.contents.ProperContents.{proper-operands}
+
+pub operands-count : (cs : List Content) → operandCount (operands cs) ≡ length cs
+unfolding operandCount operands
+operands-count [] = refl
+operands-count (c ∷ cs) = ap suc (operands-count cs)
 
 mutual
   unfolding isProper areProper

@@ -1,12 +1,10 @@
 -- What the rules of a document's sample say, in terms of the document's visits:
---     sample-fits        a type fits a node's name and children's types iff some visit at a path of that type has an equal name and
---                        those children's types
+--     visit-fits         the type of a visit's path fits the visit's name and its children's types
 --     content-type       a type that stands in the content at a path is that of a child of a visit there
 --     path-types         visited paths have one type iff they are equal
 --     child-visited      each child's path is visited
 --     sample-root        the root's path has type 0, the only start
 --     sample-names       no two labels of the sample have equal names
---     sample-types       no two rules of the sample have one type
 --     sample-labelled    each rule's label is among the labels
 use Prim.Native.Nat.{ℕ, zero, _<_}
 use mathlib.Core.Bool.{Bool, true}
@@ -24,11 +22,11 @@ use mathlib.Core.List.{
   List·Memᴰ·head,
 }
 use mathlib.Core.Logic.{_↔_}
-use mathlib.Core.Path.{_≡_, refl, sym, _∙_, ap, subst}
+use mathlib.Core.Path.{_≡_, refl, sym, ap, subst}
 use lib.ListN.{length}
 use Rattle.grammar.specs.Lists.{anyPass, keep, distinct, place}
 use Rattle.grammar.specs.Names.{Name, sameName, SameName}
-use Rattle.grammar.specs.Content.{Content, type, Word, InTurn, operands, choiceOf, typesIn, typesInAll}
+use Rattle.grammar.specs.Content.{Content, Word, choiceOf, typesIn}
 use Rattle.grammar.specs.ReadContent.{sameContent}
 use Rattle.grammar.specs.Tree.{Tree, node}
 use Rattle.grammar.specs.Table.{Rule, Named, DistinctNames}
@@ -41,7 +39,7 @@ use Rattle.theory.proofs.lists.PlaceLaws.{place-found, place-same, same
 use Rattle.theory.proofs.trees.NameLaws.{name-refl, name-sym, name-trans}
 use Rattle.theory.proofs.trees.PathLaws.{SamePath, path-refl, path-sym, path-trans, path-parts}
 use Rattle.theory.proofs.contents.WordLaws.{choice-words}
-use Rattle.theory.proofs.tables.TableConditions.{OneRuleEach}
+use Rattle.theory.proofs.sample.SampleRuns.{sequence-word, sequence-type}
 use Rattle.theory.proofs.trees.VisitedTrees.{
   root-named,
   visitOf,
@@ -51,40 +49,11 @@ use Rattle.theory.proofs.trees.VisitedTrees.{
   Ends,
   stands-ends,
 }
-use Rattle.theory.proofs.lists.NoTwo.{no-two-map, no-two-weaken, no-two-distinct}
+use Rattle.theory.proofs.lists.NoTwo.{no-two-distinct}
 use Rattle.theory.proofs.contents.ContentBytes.{same-content}
 use Rattle.theory.proofs.trees.TreeParts.{rootName, childrenOf}
 use Rattle.theory.proofs.contents.Standing.{StandsIn, choice-type}
-use Rattle.theory.proofs.tables.NamedLabels.{one-name, same-named}
-
--- the sequence of some types has that one word
-turn-word : (ks w : List ℕ) → InTurn (operands (map type ks)) w ↔ (w ≡ ks)
-unfolding operands
-turn-word [] w = (λ e. e, λ e. e)
-turn-word (k ∷ ks) w = (
-  λ j.
-      let e = turn-word ks (j .back) .0 (j .back-in) in
-      j .joined ∙ ap (λ (z : List ℕ). z ++ j .back) (j .front-in) ∙ ap (λ (z : List ℕ). k ∷ z) e,
-  λ e. record { front = k ∷ []; back = ks; joined = e; front-in = refl; back-in = turn-word ks ks .1 refl },
-)
-
-sequence-word : (ks w : List ℕ) → Word (sequenceOf ks) w ↔ (w ≡ ks)
-unfolding sequenceOf
-sequence-word [] w = (λ e. e, λ e. e)
-sequence-word (k ∷ []) w = (λ e. e, λ e. e)
-sequence-word (k ∷ l ∷ ls) w = turn-word (k ∷ l ∷ ls) w
-
--- and those types stand in it
-turn-types : (ks : List ℕ) → typesInAll (operands (map type ks)) ≡ ks
-unfolding typesInAll operands
-turn-types [] = refl
-turn-types (k ∷ ks) = ap (λ (l : List ℕ). k ∷ l) (turn-types ks)
-
-sequence-types : (ks : List ℕ) → typesIn (sequenceOf ks) ≡ ks
-unfolding sequenceOf typesIn
-sequence-types [] = refl
-sequence-types (k ∷ []) = refl
-sequence-types (k ∷ l ∷ ls) = turn-types (k ∷ l ∷ ls)
+use Rattle.theory.proofs.tables.NamedLabels.{same-named}
 
 -- a path of a visit ends with the visit's name
 pub path-ends : (d : Tree) (above : List Name) (v : Visit) → List·Memᴰ v (visits d above) → Ends (v .path) (v .name)
@@ -150,13 +119,6 @@ module _ (d : Tree) where
         at-path = ap (λ (k : Name). v .path ++ (k ∷ [])) e;
       }
 
-  -- the content at a path has the children's types of the visits there
-  pub record ChildrenAt (p : List Name) (w : List ℕ) : Type 0 where
-    pub visit : Visit
-    pub visited : List·Memᴰ visit seen
-    pub at-path : SamePath p (visit .path)
-    pub children : w ≡ childTypes visit
-
   -- a visit at the path whose children's types make the sequence
   pub record SequenceAt (p : List Name) (c : Content) : Type 0 where
     pub visit : Visit
@@ -190,24 +152,13 @@ module _ (d : Tree) where
       sequences : List Content
       sequences = map (childSequence seen) (keep atPath seen)
 
-  content-words : (p : List Name) (w : List ℕ) → Word (contentAt seen p) w ↔ ChildrenAt p w
-  content-words p w = (
-    λ x.
-        let (c, l, v) = choice-words (sequencesAt p) w .0 (subst (λ (c : Content). Word c w) (content-at p) x) in
-        let s = sequence-at p c .0 l in
-        record {
-          visit = s .visit;
-          visited = s .visited;
-          at-path = s .at-path;
-          children = sequence-word (childTypes (s .visit)) w .0 (subst (λ (c : Content). Word c w) (sym (s .sequence)) v);
-        },
-    λ a.
-        let c = sequenceOf (childTypes (a .visit)) in
-        let s : SequenceAt p c = record { visit = a .visit; visited = a .visited; at-path = a .at-path; sequence = refl } in
-        subst (λ (c : Content). Word c w) (sym (content-at p))
-        (choice-words (sequencesAt p) w .1
-        (c, sequence-at p c .1 s, sequence-word (childTypes (a .visit)) w .1 (a .children))),
-  )
+  -- the types of a visit's children are a word of the content at its path
+  content-word : (p : List Name) (v : Visit) → List·Memᴰ v seen → SamePath p (v .path) → Word (contentAt seen p) (childTypes v)
+  content-word p v m e =
+      let c = sequenceOf (childTypes v) in
+      let s : SequenceAt p c = record { visit = v; visited = m; at-path = e; sequence = refl } in
+      subst (λ (c : Content). Word c (childTypes v)) (sym (content-at p))
+      (choice-words (sequencesAt p) (childTypes v) .1 (c, sequence-at p c .1 s, sequence-word (childTypes v)))
 
   -- the types that stand in the content at a path are those of children of visits there
   pub record ChildAt (p : List Name) (k : ℕ) : Type 0 where
@@ -225,7 +176,7 @@ module _ (d : Tree) where
       let v = s .visit in
       let (x, y, z) =
       Memᴰ·of-map (λ x. pathType d (v .path ++ (x ∷ []))) (v .children)
-      (subst (λ (ks : List ℕ). List·Memᴰ k ks) (ap typesIn (sym (s .sequence)) ∙ sequence-types (childTypes v)) n) in
+      (sequence-type (childTypes v) k (subst (λ (x : Content). List·Memᴰ k (typesIn x)) (sym (s .sequence)) n)) in
       record { visit = v; visited = s .visited; at-path = s .at-path; name = x; child = y; of-type = z }
 
   -- the rules of the sample
@@ -257,63 +208,24 @@ module _ (d : Tree) where
       let (n, at, e) = place-found sameName (v .name) (namesOf seen) (name-found v m) in
       record { name = n; listed = at; same = name-sym (v .name) n e }
 
-  pub visit-named : (v : Visit) (n : Name) → List·Memᴰ v seen → Named (sample d) (ruleAt seen v .label) n ↔ SameName (v .name) n
-  visit-named v n m = (one-name (own-name v m), same-named (own-name v m))
-
-  -- a visit at a path of type k, with a name equal to n, whose children's types are w
-  pub record SampleFits (k : ℕ) (n : Name) (w : List ℕ) : Type 0 where
-    pub visit : Visit
-    pub visited : List·Memᴰ visit seen
-    pub of-type : pathType d (visit .path) ≡ k
-    pub of-name : SameName (visit .name) n
-    pub children : w ≡ childTypes visit
-
   same-names : {u v : Visit} → List·Memᴰ u seen → List·Memᴰ v seen → SamePath (u .path) (v .path) → SameName (u .name) (v .name)
   same-names {u} {v} m n e = ends-agree (path-ends d [] u m) (path-ends d [] v n) e
 
-  pub sample-fits : (k : ℕ) (n : Name) (w : List ℕ) → Fits (sample d) k n w ↔ SampleFits k n w
+  pub visit-fits : (v : Visit) → List·Memᴰ v seen → Fits (sample d) (pathType d (v .path)) (v .name) (childTypes v)
   unfolding ruleAt
-  sample-fits k n w = (λ f. let (u, m, e) = sample-rule (f .of-table) in there f u m e, back)
-    where
-      there : (f : Fits (sample d) k n w) (u : Visit) → List·Memᴰ u seen → ruleAt seen u ≡ f .rule → SampleFits k n w
-      there f u m e =
-          let a = content-words (u .path) w .0 (subst (λ (r : Rule). Word (r .content) w) (sym e) (f .word)) in
-          let v = a .visit in
-          let x = visit-named u n m .0 (subst (λ (r : Rule). Named (sample d) (r .label) n) (sym e) (f .of-name)) in
-          let y = name-sym (u .name) (v .name) (same-names m (a .visited) (a .at-path)) in
-          record {
-            visit = v;
-            visited = a .visited;
-            of-type = sym (path-type (u .path) (v .path) (a .at-path)) ∙ ap (λ (r : Rule). r .type) e ∙ f .of-type;
-            of-name = name-trans (v .name) (u .name) n y x;
-            children = a .children;
-          }
-
-      back : SampleFits k n w → Fits (sample d) k n w
-      back a =
-          let v = a .visit in
-          let (u, m, e) = first-at (a .visited) in
-          record {
-            rule = ruleAt seen u;
-            of-table = rule-sample m;
-            of-type = path-type (u .path) (v .path) e ∙ a .of-type;
-            of-name =
-                visit-named u n (first-was m) .1
-                (name-trans (u .name) (v .name) n (same-names (first-was m) (a .visited) e) (a .of-name));
-            word = content-words (u .path) w .1 (record { visit = v; visited = a .visited; at-path = e; children = a .children });
-          }
+  visit-fits v m =
+      let (u, n, e) = first-at m in
+      record {
+        rule = ruleAt seen u;
+        of-table = rule-sample n;
+        of-type = path-type (u .path) (v .path) e;
+        of-name = same-named (own-name u (first-was n)) (same-names (first-was n) m e);
+        word = content-word (u .path) v m e;
+      }
 
   pub sample-names : DistinctNames (sample d)
   unfolding sample
   sample-names = no-two-distinct sameName name-sym (map (λ (v : Visit). v .name) seen)
-
-  pub sample-types : OneRuleEach (sample d)
-  unfolding sample
-  sample-types =
-      no-two-map (ruleAt seen) (λ r s. r .type ≡ s .type) firsts
-      (no-two-weaken (λ u v. pathType d (u .path) ≡ pathType d (v .path)) (λ u v. oneVisit u v ≡ true) firsts
-      (no-two-distinct oneVisit (λ u v. path-sym (u .path) (v .path)) seen)
-      (λ u v m n e. path-types u v (first-was m) (first-was n) .0 e))
 
   pub sample-labelled : Labelled (sample d)
   sample-labelled r m =

@@ -2,7 +2,6 @@
 --     one-rule             where no two rules are alike, rules that are alike are equal
 --     one-fitting          in a single-type table, a type has one rule of a name
 --     local-compete        in a local table, types that have rules with one label are equal
---     local-single-type    a local table is single-type
 use Prim.Native.Nat.{ℕ}
 use mathlib.Core.List.{List, List·Memᴰ}
 use mathlib.Core.Option.{some as just}
@@ -36,11 +35,3 @@ local-compete g local k l c =
     ∙ ap (λ (r : Rule). r .type)
     (one-rule g (λ r s. r .label ≡ s .label) local (c .rule₁) (c .rule₂) (c .of-table₁) (c .of-table₂) (c .one-label))
     ∙ c .of-type₂
-
-pub local-single-type : (g : Table) → Local g → SingleType g
-local-single-type g local =
-    record {
-      rules = λ i j r s p q e. local i j r s p q (e .1);
-      starts = λ k l m n c. local-compete g local k l c;
-      contents = λ r at k l m n c. local-compete g local k l c;
-    }

@@ -50,6 +50,7 @@ use Rattle.theory.proofs.theorems.AnswerNumbers.{numbers-given, numbers
 use Rattle.theory.proofs.matching.Membership.{lets-in}
 use Rattle.theory.proofs.tables.KindTests.{is-local, is-single-type}
 use Rattle.theory.proofs.bytes.DocumentWithin.{document-within}
+use Rattle.theory.proofs.sample.SampleDocument.{sample-lets-in}
 use Rattle.theory.proofs.theorems.ResultWithin.{sample-read-back}
 use Rattle.theory.proofs.theorems.WidenLeast.{sampled}
 use Rattle.theory.proofs.theorems.WideningTheorem.{widening-theorem, thirteen}
@@ -194,6 +195,7 @@ module _ (lim : Limits) (classes : Classes) where
               ap (readTable lim classes) (sym (written-bytes out g bytes w))
               ∙ sample-read-back lim classes agree d (document-within lim classes document d p) g q
               ∙ ap (λ (x : Table). given x) (sampled lim d g q);
+          lets-in = λ d p. sample-lets-in d;
         }
 
     module _ (kind : Kind) (source : Source) (old addition out work : List ℕ) where

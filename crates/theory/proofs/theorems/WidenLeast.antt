@@ -15,7 +15,7 @@ use Rattle.grammar.specs.Tree.{Tree}
 use Rattle.grammar.specs.Table.{Table}
 use Rattle.grammar.specs.Derivation.{LetsIn}
 use Rattle.grammar.specs.Kinds.{Kind}
-use Rattle.grammar.specs.Least.{byTable, byDocument, LetsInAll, LeastWidening}
+use Rattle.grammar.specs.Least.{byTable, byDocument, LeastWidening}
 use Rattle.grammar.specs.Outcome.{given, refused, _>>_, turnBack}
 use Rattle.grammar.specs.declared.Refusal.the-variants.{NoDocument, ResultTooLarge}
 use Rattle.grammar.specs.WithinLimits.{TableWithin}
@@ -27,9 +27,8 @@ use Rattle.theory.proofs.bytes.OutcomeLaws.{given-eq, was-given, had-no
 use Rattle.theory.proofs.steps.ReducedUnion.{reduced-union, union-documents, union-nothing}
 use Rattle.theory.proofs.steps.FinishedForm.{LeastForm, finished, finished-least}
 use Rattle.theory.proofs.steps.LeastForms.{least-form}
-use Rattle.theory.proofs.tables.SameTree.{same-refl, same-let-in}
-use Rattle.theory.proofs.sample.SampleMembers.{sample-lets-in}
-use Rattle.theory.proofs.sample.SampleLeast.{sample-least}
+use Rattle.theory.proofs.tables.SameTree.{same-let-in}
+use Rattle.theory.proofs.sample.SampleDocument.{sample-lets-in}
 use Rattle.theory.proofs.bytes.NumberedTable.{TableSmall, table-small, finished-rules}
 
 -- the table before its size is looked at
@@ -87,6 +86,7 @@ module _ (lim : Limits) (classes : Classes) (kind : Kind) (old addition : Table)
         of-kind = f .of-kind;
         keeps-old = λ d l. f .keeps d (in-union d (inl l));
         keeps-added = λ d l. f .keeps d (in-union d (inr l));
+        keeps-document = λ d n. absurd n;
         least =
             λ rival r d l.
             f .least rival (r .names) (r .of-kind)
@@ -117,7 +117,7 @@ pub sampled-thirteen : (lim : Limits) (d : Tree) → sampleTable lim d ≡ refus
 unfolding sampleTable
 sampled-thirteen lim d e = not-thirteen lim (sample d) e
 
--- A document is added through its sample, and the sample adds no more than the document asks.
+-- A document is added through its sample, which lets it in.
 module _ (lim : Limits) (classes : Classes) (kind : Kind) (old : Table) (d : Tree) (old-within : TableWithin lim classes old)
     (sample-within : (g : Table) → sampleTable lim d ≡ given g → TableWithin lim classes g) where
   pub widened-by-document : (result : Table) → widen lim kind old (byDocument d) ≡ given result
@@ -125,24 +125,16 @@ module _ (lim : Limits) (classes : Classes) (kind : Kind) (old : Table) (d : Tre
   unfolding widen
   widened-by-document result e =
       let a = was-given (sampleTable lim d) (λ g. widenByTable lim kind old g) result e in
-      let q = sampled lim d (a .0) (a .1) in
-      let w = widened-by-table lim classes kind old (a .0) old-within (sample-within (a .0) (a .1)) result (a .2) in
+      let within = sample-within (a .0) (a .1) in
+      let w =
+      subst (λ (g : Table). LeastWidening kind old (byTable g) result) (sampled lim d (a .0) (a .1))
+      (widened-by-table lim classes kind old (a .0) old-within within result (a .2)) in
       record {
         of-kind = w .of-kind;
         keeps-old = w .keeps-old;
-        keeps-added =
-            λ e p.
-            w .keeps-added e
-            (subst (λ (g : Table). LetsIn g e) (sym q) (same-let-in (sample-lets-in d) p));
+        keeps-added = w .keeps-added;
+        keeps-document = λ e same. w .keeps-added e (same-let-in (sample-lets-in d) same);
         least =
             λ rival r.
-            w .least rival
-            (record {
-              names = r .names;
-              of-kind = r .of-kind;
-              keeps-old = r .keeps-old;
-              keeps-added =
-                  subst (λ (g : Table). LetsInAll rival (LetsIn g)) (sym q)
-                  (sample-least d kind rival (r .names) (r .of-kind) (r .keeps-added d (same-refl d)));
-            });
+            w .least rival (record { names = r .names; of-kind = r .of-kind; keeps-old = r .keeps-old; keeps-added = r .keeps-added });
       }

@@ -7,7 +7,7 @@ use mathlib.Core.Logic.{_↔_, _⊎_, inr}
 use mathlib.Core.Path.{_≡_, refl, sym, _∙_, subst}
 use Rattle.grammar.specs.Limits.{Limits, LimitsAgree}
 use Rattle.grammar.specs.Names.{Classes}
-use Rattle.grammar.specs.Tree.{Tree, SameTree}
+use Rattle.grammar.specs.Tree.{Tree}
 use Rattle.grammar.specs.Table.{Table}
 use Rattle.grammar.specs.Derivation.{LetsIn}
 use Rattle.grammar.specs.Kinds.{Kind}
@@ -15,6 +15,7 @@ use Rattle.grammar.specs.Least.{Addition, byTable, byDocument, Added}
 use Rattle.grammar.specs.Outcome.{Outcome, given, refused, _>>=_}
 use Rattle.grammar.specs.ReadTable.{readTable}
 use Rattle.grammar.specs.ReadDocument.{readDocument}
+use Rattle.grammar.specs.Sample.{sample}
 use Rattle.grammar.specs.WriteTable.{tableBytes}
 use Rattle.grammar.specs.Widen.{widen, widenByTable, sampleTable}
 use Rattle.grammar.specs.Claim.{WritesLeast}
@@ -26,8 +27,7 @@ use Rattle.theory.proofs.bytes.OutcomeLaws.{was-given, given-eq}
 use Rattle.theory.proofs.bytes.ReadWithin.{read-within}
 use Rattle.theory.proofs.bytes.DocumentWithin.{document-within}
 use Rattle.theory.proofs.bytes.SampleWithin.{sample-within}
-use Rattle.theory.proofs.tables.SameTree.{same-refl}
-use Rattle.theory.proofs.sample.SampleMembers.{sample-lets-in}
+use Rattle.theory.proofs.sample.SampleDocument.{sample-lets-in}
 use Rattle.theory.proofs.theorems.ResultWithin.{result-read-back, document-result-read-back}
 use Rattle.theory.proofs.theorems.WidenLeast.{widened-by-table, widened-by-document, sampled, sampled-thirteen, no-document}
 
@@ -78,8 +78,9 @@ module _ (lim : Limits) (classes : Classes) (agree : LimitsAgree lim) (kind : Ki
           (inr (subst (λ (h : Table). LetsIn h d) (sym (sampled lim d g s)) (sample-lets-in d)))
 
   thirteen-by-document : (document : Tree) → readDocument lim classes addedBytes ≡ given document
-      → (widen lim kind old (byDocument document) ≡ refused NoDocument) ↔ ((d : Tree) → LetsIn old d ⊎ SameTree document d → ⊥)
-  thirteen-by-document document q = (λ e. absurd (never-by-document document q e), λ none. absurd (none document (inr (same-refl document))))
+      → (widen lim kind old (byDocument document) ≡ refused NoDocument) ↔ ((d : Tree) → LetsIn old d ⊎ LetsIn (sample document) d → ⊥)
+  thirteen-by-document document q =
+      (λ e. absurd (never-by-document document q e), λ none. absurd (none document (inr (sample-lets-in document))))
 
 -- a fact of every addition that reads, from one of tables and one of documents
 of-addition : (lim : Limits) (classes : Classes) (source : Source) (bytes : List ℕ) (addition : Addition) (Fact : Addition → Type 0)
