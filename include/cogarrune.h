@@ -31,6 +31,11 @@
  * it was met first: as the old table does, also where that label has no rule there; else as the addition does, a document's name as its
  * first node of that name. cogarrune_label_name gives a name as its own table spells it.
  *
+ * Text. A rule of tag 13 is for text: its nodes may hold text. A node of tag 32 does hold text. A rule 12 takes only nodes 30, a rule 13
+ * both. In every other way the two tags of a rule, and those of a node, are read alike. A table that is written has a rule 13 where a
+ * rule 13 of the inputs, or a node 32 of a document, stands behind it: one whose own content is not none once it is reduced, of a type that
+ * is reached. Kinds do not look at text: a rule 12 and a rule 13 of one type and label are two rules.
+ *
  * Working memory. Every call is lent `work`, of at least as many words as its size needs, with any content. Afterwards just these words
  * are zero, with every refusal too (18 included), and words beyond are as they came. With fewer words the call answers refusal 1 and
  * changes none.

@@ -25,22 +25,25 @@ def field(tag, value):
 
 
 def table(names, starts, rules):
+    """The rules end in 1 where they are for text."""
     parts = [field(0x10, name.encode()) for name in names] + [field(0x11, [k]) for k in starts]
-    return b"".join(parts + [field(0x12, [k, label] + content) for k, label, content in rules] + [field(0x1F, [])])
+    parts += [field(0x12 + sum(text), [k, label] + content) for k, label, content, *text in rules]
+    return b"".join(parts + [field(0x1F, [])])
 
 
-def node(name, *children):
-    """The fields of a tree, parent before children."""
-    return field(0x30, [len(children)] + list(name.encode())) + b"".join(children)
+def node(name, *children, text=0):
+    """The fields of a tree, parent before children; text is 1 where the root holds some."""
+    return field(0x30 + 2 * text, [len(children)] + list(name.encode())) + b"".join(children)
 
 
 def document(root):
     return root + field(0x3F, [])
 
 
-def flat(cards):
-    rules = [(0, 0, [5, 2, 1]), (1, 1, [3, 2, 2, 2, 7, 2, 3]), (2, 2, [1]), (3, 3, [1])]
-    card = node("card", node("name"), node("door"))
+def flat(cards, text=0):
+    """Cards with a name and a door; text is 1 where each name holds some."""
+    rules = [(0, 0, [5, 2, 1]), (1, 1, [3, 2, 2, 2, 7, 2, 3]), (2, 2, [1], text), (3, 3, [1])]
+    card = node("card", node("name", text=text), node("door"))
     return table(["list", "card", "name", "door"], [0], rules), document(node("list", *[card] * cards)), cards * 3 + cards * 2 * 7
 
 
@@ -170,6 +173,7 @@ def instructions(program, one):
 
 MEMBERSHIP = [
     ("flat list, cards:", STANDARD, flat, (50, 100, 200)),
+    ("flat list, names with text, cards:", STANDARD, lambda n: flat(n, 1), (50, 100, 200)),
     ("64 levels, chains:", STANDARD, lambda n: deep(n, 64), (4, 8, 16)),
     ("stars nested 32 deep, children:", STANDARD, stars, (50, 100, 200)),
     ("64 rules, full contents, children:", STANDARD, full, (50, 100, 200)),

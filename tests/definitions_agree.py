@@ -3,8 +3,9 @@
 
 Takes cases with small inputs and enough working words (so not refusals 1 and 2) from the second validator's generator, at the three
 sizes, under document 01's classes and others, with each name in one spelling and with one in several, with runs of neighbours in their
-documents and without, writes each as an equation between grammar's definition of the call, over the limits of the size and the classes,
-and the second validator's answer, and has the checker compute them, in a copy of crates/grammar. Not part of the gate.
+documents and without, with text marks and without, writes each as an equation between grammar's definition of the call, over the limits
+of the size and the classes, and the second validator's answer, and has the checker compute them, in a copy of crates/grammar. Not part of
+the gate.
 
     python3 tests/definitions_agree.py [--seed N] [--most BYTES] [--each N]
 """
@@ -83,8 +84,8 @@ def equation(case, refusal, value):
 
 
 def chosen(folder, most, each, seed):
-    """Up to `each` small cases of each call, size, sort of classes, sort of spelling, with and without a run, and refusal, ten times as
-    many that were not refused."""
+    """Up to `each` small cases of each call, size, sort of classes, sort of spelling, with and without a run, with and without a mark, and
+    refusal, ten times as many that were not refused."""
     sorts = {}
     for case, refusal, value in cases(folder):
         enough = case.size in generate.SIZES and case.work_len >= generate.limits_of(case).words
@@ -92,7 +93,8 @@ def chosen(folder, most, each, seed):
             own = case.classes != reference.ASCII
             twice = generate.in_two_spellings(case.first, case.second)
             runs = refusal == 0 and generate.samples_a_run(case)
-            sorts.setdefault((case.call, case.size, own, twice, runs, refusal), []).append((case, refusal, value))
+            marks = generate.has_marks(case.first, case.second)
+            sorts.setdefault((case.call, case.size, own, twice, runs, marks, refusal), []).append((case, refusal, value))
     pick = random.Random(seed)
     for (*_, refusal), found in sorted(sorts.items()):
         pick.shuffle(found)

@@ -11,6 +11,10 @@
 //! A document is added to a table through its [`sample`], in which a run of neighbours of one name is one or more of it: a list of nine
 //! cards lets in ten.
 //!
+//! A rule with tag 13 (hexadecimal) in place of 12 is for nodes that may hold text, and a node with tag 32 in place of 30 does hold some. A
+//! node with text needs a rule for text; one without takes either. Widening keeps such marks: a result's rule is for text if one of the
+//! rules behind it is that has a document of its own.
+//!
 //! ```
 //! use cogarrune::{lets_in, new_work, Classes, Size, Verdict};
 //!
@@ -18,6 +22,12 @@
 //! let document = [0x30, 0, 2, 0, b'a', 0x3F, 0, 0];
 //! let mut work = new_work(Size::Standard);
 //! assert_eq!(lets_in(Size::Standard, &Classes::ASCII, &table, &document, &mut work), Ok(Verdict::Yes));
+//!
+//! // with text, which needs a rule for it
+//! let with_text = [0x32, 0, 2, 0, b'a', 0x3F, 0, 0];
+//! let for_text = [0x10, 0, 1, b'a', 0x11, 0, 1, 0, 0x13, 0, 3, 0, 0, 1, 0x1F, 0, 0];
+//! assert_eq!(lets_in(Size::Standard, &Classes::ASCII, &table, &with_text, &mut work), Ok(Verdict::No));
+//! assert_eq!(lets_in(Size::Standard, &Classes::ASCII, &for_text, &with_text, &mut work), Ok(Verdict::Yes));
 //! ```
 #![deny(unsafe_code)]
 
@@ -62,7 +72,8 @@ pub fn label_name<'a>(
     Ok(&table[offset..offset + length])
 }
 
-/// Does the table let in the document? A name that the table does not know, in whatever spelling, means no.
+/// Does the table let in the document? A name that the table does not know, in whatever spelling, means no, and so does text in a node
+/// that no rule for text takes.
 pub fn lets_in(
     size: Size,
     classes: &Classes,
@@ -73,7 +84,7 @@ pub fn lets_in(
     verdict_of(ffi::lets_in(size, classes.as_bytes(), table, document, work))
 }
 
-/// Is the table local: has no label two rules?
+/// Is the table local: has no label two rules? Two rules are two whether or not they are for text.
 pub fn is_local(size: Size, classes: &Classes, table: &[u8], work: &mut [u32]) -> Result<Verdict, Refusal> {
     verdict_of(ffi::is_local(size, classes.as_bytes(), table, work))
 }
@@ -85,7 +96,8 @@ pub fn is_single_type(size: Size, classes: &Classes, table: &[u8], work: &mut [u
 }
 
 /// Writes the sample table of a document, each name as its first node spells it, and gives its part of the output. It lets in the
-/// document. Two or more neighbouring children of one name are one or more of it there.
+/// document. Two or more neighbouring children of one name are one or more of it there. The rule of a path is for text if any of its nodes
+/// holds some.
 pub fn sample<'a>(
     size: Size,
     classes: &Classes,

@@ -1,6 +1,6 @@
 """Cases for the calls of document 01, at the three sizes of Card 13, under the classes of Card 4, with
-names in several spellings (Card 8) and with runs of neighbours in documents (Card 5), with the answers of
-reference.py.
+names in several spellings (Card 8), with runs of neighbours in documents (Card 5) and with text marks
+(Card 7), with the answers of reference.py.
 
     python3 generate.py --write DIR [--seed N] [--count M]    writes DIR/cases.bin, DIR/expected.txt
     python3 generate.py --check DIR [--seed N] [--count M]    recomputes both and compares
@@ -230,8 +230,8 @@ def start(type_):
     return field(0x11, bytes([type_]))
 
 
-def rule(type_, label_, content):
-    return field(0x12, bytes([type_, label_]) + content)
+def rule(type_, label_, content, text=False):
+    return field(0x13 if text else 0x12, bytes([type_, label_]) + content)
 
 
 END = field(0x1F, b'')
@@ -265,30 +265,49 @@ def optional(operand):
     return b'\x07' + operand
 
 
+# The mark of a rule with tag 13, and of a node with tag 32, after its name: no byte is this character.
+TEXT = '\u2020'
+
+
 def table(starts, rules, names=()):
-    """A table of rules (type, name, content); labels are `names`, then others as they appear."""
+    """A table of rules (type, name, content) or (type, name, content, TEXT); labels are `names`, then others as they appear."""
     labels = list(names)
-    for _, name, _ in rules:
+    for _, name, *_ in rules:
         if name not in labels:
             labels.append(name)
     return (b''.join(label(name) for name in labels) + b''.join(start(s) for s in starts)
-            + b''.join(rule(ty, labels.index(name), content) for ty, name, content in rules) + END)
+            + b''.join(rule(ty, labels.index(name), content, *text) for ty, name, content, *text in rules) + END)
 
 
-def node_field(children, name):
-    return field(0x30, bytes([children]) + (name.encode('latin-1') if isinstance(name, str)
-                                            else name))
+# The head of a node is its name, with TEXT after it where the node holds text.
+
+def holds_text(head):
+    return isinstance(head, str) and head.endswith(TEXT)
 
 
-# Trees are pairs of a name and a list of trees.
+def name_of(head):
+    return head[:-len(TEXT)] if holds_text(head) else head
 
-def tree(name, *children):
-    return (name, list(children))
+
+def node_field(children, head):
+    name = name_of(head)
+    return field(0x32 if holds_text(head) else 0x30, bytes([children]) + (name.encode('latin-1') if isinstance(name, str) else name))
+
+
+# Trees are pairs of a head and a list of trees.
+
+def tree(head, *children):
+    return (head, list(children))
+
+
+def text(name, *children):
+    """A tree whose root holds text."""
+    return tree(name + TEXT, *children)
 
 
 def nodes(a_tree):
-    name, children = a_tree
-    return node_field(len(children), name) + b''.join(nodes(child) for child in children)
+    head, children = a_tree
+    return node_field(len(children), head) + b''.join(nodes(child) for child in children)
 
 
 def document(a_tree):
@@ -312,7 +331,7 @@ def names_and_rest(data):
     at = 0
     while at + 3 <= len(data):
         end = at + 3 + data[at + 1] * 256 + data[at + 2]
-        begin = {0x10: at + 3, 0x30: at + 4}.get(data[at], end)
+        begin = {0x10: at + 3, 0x30: at + 4, 0x32: at + 4}.get(data[at], end)
         if begin < end <= len(data):
             yield False, data[at:begin]
             yield True, data[begin:end]
@@ -501,7 +520,7 @@ def refused_tables():
             b'\x10\xff\xff' + b'a' * 70, HEAD + b'\x11\x00\x02\x00', HEAD + b'\x12\x04\x03\x00\x00\x01',
         ],
         4: [
-            b'\x99\x00\x00' + END, b'\x13\x00\x03\x00\x00\x01' + END, b'\x00\x00\x00' + END,
+            b'\x99\x00\x00' + END, b'\x14\x00\x03\x00\x00\x01' + END, b'\x00\x00\x00' + END,
             GOOD_DOC, b'\x0f\x00\x01a' + END, b'\x1e\x00\x00' + END, b'\x20\x00\x00',
             start(0) + label('a') + END, HEAD + rule(0, 0, EMPTY) + start(0) + END,
             HEAD + rule(0, 0, EMPTY) + label('b') + END, start(0) + b'\x10\x00\x00' + END,
@@ -572,7 +591,7 @@ def refused_documents():
             b'\x30\x00\x40\x00' + b'a' * 62,
         ],
         4: [
-            b'\x31\x00\x02\x00a' + DOC_END, b'\x32\x00\x02\x00a' + DOC_END, GOOD_TABLE, E,
+            b'\x31\x00\x02\x00a' + DOC_END, b'\x33\x00\x02\x00a' + DOC_END, GOOD_TABLE, E,
             b'\x30\x00\x01\x00' + DOC_END, b'\x30\x00\x00' + DOC_END, node_field(0, 'a' * 64) + DOC_END,
             node_field(0, 'a' * 64 + '!') + DOC_END, b'\x3f\x00\x01a', node_field(1, 'a') + b'\x3f\x00\x01a',
             node_field(0, 'a') + b'\x3f\x00\x01a' + b'zz', node_field(0, 'a') + b'\x3e\x00\x00',
@@ -2114,9 +2133,10 @@ def row(word, name='r'):
     return tree(name, *[tree(letter) for letter in word])
 
 
-def above_leaves(content, names, root='r'):
-    """A rule of that content over leaves of these names, types 1 and on."""
-    return table([0], [(0, root, content)] + [(1 + i, name, EMPTY) for i, name in enumerate(names)])
+def above_leaves(content, heads, root='r'):
+    """A rule of that content over leaves of these names, types 1 and on; rules 13 for heads with text."""
+    return table([0], [(0, name_of(root), content, holds_text(root))]
+                 + [(1 + i, name_of(head), EMPTY, holds_text(head)) for i, head in enumerate(heads)])
 
 
 A, B, C = t(1), t(2), t(3)
@@ -2390,6 +2410,721 @@ def run_cases(cases):
             cases.widen_doc(paper_table, a_document)
 
 
+# ---------------------------------------------------------------- text marks
+
+# An edge of text marks is as one of letter case: the answer, written by hand, then the call, its two inputs, and what else `Cases.add` is
+# told; selftest.py holds the second validator to the answers.
+
+OTHER_TAG = {0x12: 0x13, 0x13: 0x12, 0x30: 0x32, 0x32: 0x30}
+
+
+def with_tags(data, tag_of):
+    """The input with `tag_of(tag)` in place of each field's tag, as far as its fields go."""
+    made, at = bytearray(data), 0
+    while at + 3 <= len(data):
+        made[at] = tag_of(data[at])
+        at += 3 + data[at + 1] * 256 + data[at + 2]
+    return bytes(made)
+
+
+def with_all_marks(data):
+    """Rules 13 for all rules, nodes 32 for all nodes."""
+    return with_tags(data, lambda tag: OTHER_TAG[tag] if tag in (0x12, 0x30) else tag)
+
+
+def without_marks(data):
+    return with_tags(data, lambda tag: OTHER_TAG[tag] if tag in (0x13, 0x32) else tag)
+
+
+def with_other_marks(numbers, data, share):
+    """The input with the other tag for a share of its rules and nodes, in percent."""
+    return with_tags(data, lambda tag: OTHER_TAG[tag] if tag in OTHER_TAG and numbers.chance(share) else tag)
+
+
+def has_marks(*inputs):
+    """Is there a rule 13 or a node 32?"""
+    return any(part[0] in (0x13, 0x32) for data in inputs for part in fields_of(data))
+
+
+text_rule = partial(rule, text=True)
+
+
+def some_rules(count, *more, marked=lambda i: i % 2):
+    """So many rules, by default every other one a rule 13, and more fields."""
+    return HEAD + b''.join(rule(i % 16, i % 2, EMPTY, marked(i)) for i in range(count)) + b''.join(more) + END
+
+
+def every_rule(_):
+    return True
+
+
+def no_rule(_):
+    return False
+
+
+def text_rule_fields():
+    """Tables with rules 13, and what reading gives at the small, the standard and the large size."""
+    one, other = text_rule(0, 0, EMPTY), rule(1, 1, EMPTY)
+    return [
+        # Any mixture of the two.
+        (HEAD + one + END, 0, 0, 0), (HEAD + one + other + END, 0, 0, 0), (HEAD + other + one + END, 0, 0, 0),
+        (HEAD + one + other + one + other + END, 0, 0, 0), (HEAD + start(0) + other + one + one + other + END, 0, 0, 0),
+        (HEAD + start(0) + one + rule(0, 0, EMPTY) + END, 0, 0, 0),
+        # Out of order.
+        (HEAD + one + start(0) + END, 4, 4, 4), (HEAD + one + label('b') + END, 4, 4, 4), (HEAD + one + other + start(0) + END, 4, 4, 4),
+        (HEAD + other + one + label('b') + END, 4, 4, 4), (HEAD + start(0) + one + start(1) + END, 4, 4, 4),
+        (HEAD + one + END + one, 12, 12, 12), (one + END, 8, 8, 8), (one + HEAD + END, 8, 8, 8),
+        # Lengths: 3 is the least, 1,026 the most.
+        (HEAD + b'\x13\x00\x00' + END, 4, 4, 4), (HEAD + b'\x13\x00\x01\x00' + END, 4, 4, 4),
+        (HEAD + b'\x13\x00\x02\x00\x00' + END, 4, 4, 4), (HEAD + b'\x13\x00\x02\xff\xff' + END, 4, 4, 4),
+        (HEAD + text_rule(0, 0, EMPTY * 1025) + END, 4, 4, 4),
+        (HEAD + text_rule(99, 99, EMPTY * 1025) + END, 4, 4, 4), (HEAD + text_rule(0, 0, EMPTY * 1024) + END, 9, 9, 9),
+        (HEAD + text_rule(0, 0, seq(*[seq(*[t(1)] * 102)] * 4, *[EMPTY] * 198)) + END, 0, 0, 0),
+        (HEAD + text_rule(0, 0, seq(*[seq(*[t(1)] * 102)] * 4, *[EMPTY] * 199)) + END, 4, 4, 4),
+        # Past the end.
+        (HEAD + b'\x13', 3, 3, 3), (HEAD + b'\x13\x00', 3, 3, 3), (HEAD + one[:-1], 3, 3, 3), (HEAD + one, 3, 3, 3),
+        (HEAD + b'\x13\x04\x03\x00\x00\x01', 3, 3, 3), (HEAD + b'\x13\xff\xff' + one, 3, 3, 3),
+        # 7 counts the rules of both tags.
+        (some_rules(16), 0, 0, 0), (some_rules(16, marked=every_rule), 0, 0, 0), (some_rules(17), 7, 0, 0), (some_rules(15, one), 0, 0, 0),
+        (some_rules(16, one, marked=no_rule), 7, 0, 0), (some_rules(16, other, marked=every_rule), 7, 0, 0), (some_rules(63, one), 7, 0, 0),
+        (some_rules(64, one, marked=no_rule), 7, 7, 0), (some_rules(64, other, marked=every_rule), 7, 7, 0), (some_rules(128), 7, 7, 0),
+        (some_rules(128, one, marked=no_rule), 7, 7, 7), (some_rules(128, other, marked=every_rule), 7, 7, 7),
+    ]
+
+
+def text_rule_values():
+    """Rules 13 after so many others, with the same three refusals: 7, 8, 9, 10 in this order."""
+    return [
+        (16, text_rule(16, 9, b'\x09'), 7, 8, 8), (64, text_rule(64, 9, b'\x09'), 7, 7, 8), (128, text_rule(128, 9, b'\x09'), 7, 7, 7),
+        (0, text_rule(15, 0, t(15)), 0, 0, 0), (0, text_rule(16, 0, EMPTY), 8, 0, 0), (0, text_rule(63, 0, EMPTY), 8, 0, 0),
+        (0, text_rule(64, 0, EMPTY), 8, 8, 0), (0, text_rule(127, 1, t(127)), 8, 8, 0), (0, text_rule(128, 0, EMPTY), 8, 8, 8),
+        (0, text_rule(0, 2, EMPTY), 8, 8, 8), (0, text_rule(0, 2, b'\x08'), 8, 8, 8), (0, text_rule(255, 255, deep(33)), 8, 8, 8),
+        (0, text_rule(0, 0, t(16)), 9, 0, 0), (0, text_rule(0, 0, t(64)), 9, 9, 0), (0, text_rule(0, 0, t(128)), 9, 9, 9),
+        (0, text_rule(0, 0, b'\x08'), 9, 9, 9), (0, text_rule(0, 0, EMPTY + EMPTY), 9, 9, 9),
+        (0, text_rule(0, 0, seq(deep(33), b'\x08')), 9, 9, 9), (0, text_rule(0, 0, deep(32)), 0, 0, 0),
+        (0, text_rule(0, 0, deep(33)), 10, 10, 10), (0, text_rule(0, 0, deep(33)) + b'\x99\x00\x00', 10, 10, 10),
+    ]
+
+
+def text_node_fields():
+    """Documents with nodes 32, and the same three refusals."""
+    one, below = node_field(0, 'a' + TEXT), node_field(1, 'a' + TEXT)
+    return [
+        (one + DOC_END, 0, 0, 0), (below + node_field(0, 'b') + DOC_END, 0, 0, 0), (node_field(1, 'b') + one + DOC_END, 0, 0, 0),
+        (below + one + DOC_END, 0, 0, 0), (node_field(3, 'r') + one + node_field(0, 'a') + one + DOC_END, 0, 0, 0),
+        # Lengths: 2 is the least, 64 the most.
+        (b'\x32\x00\x00' + DOC_END, 4, 4, 4), (b'\x32\x00\x01\x00' + DOC_END, 4, 4, 4), (b'\x32\x00\x02\x00a' + DOC_END, 0, 0, 0),
+        (node_field(0, 'a' * 63 + TEXT) + DOC_END, 0, 0, 0), (node_field(0, 'a' * 64 + TEXT) + DOC_END, 4, 4, 4),
+        (node_field(201, '!' * 64 + TEXT) + DOC_END, 4, 4, 4),
+        # Past the end.
+        (one, 3, 3, 3), (one[:-1], 3, 3, 3), (b'\x32', 3, 3, 3), (b'\x32\x00', 3, 3, 3), (b'\x32\x00\x40\x00' + b'a' * 62, 3, 3, 3),
+        # 5 before 11.
+        (node_field(0, '1' + TEXT) + DOC_END, 5, 5, 5), (node_field(201, '!' + TEXT) + DOC_END, 5, 5, 5),
+        (one + node_field(0, '!' + TEXT) + DOC_END, 5, 5, 5), (one + one + DOC_END, 11, 11, 11), (below + DOC_END, 11, 11, 11),
+        (one + node_field(0, 'a') + DOC_END, 11, 11, 11), (node_field(0, 'a') + one + DOC_END, 11, 11, 11),
+        (node_field(201, 'a' + TEXT) + DOC_END, 11, 11, 11),
+        (below + one + one + DOC_END, 11, 11, 11), (node_field(200, 'r' + TEXT) + one * 200 + DOC_END, 0, 0, 0),
+        (node_field(201, 'r' + TEXT) + one * 201 + DOC_END, 11, 11, 11),
+        # Nodes of both tags are counted, and levels.
+        (document(crowd(256, ('a', 'a' + TEXT))), 0, 0, 0), (document(crowd(257, ('a' + TEXT, 'a'))), 11, 0, 0),
+        (document(crowd(1024, ('a' + TEXT, 'b', 'a'))), 11, 0, 0), (document(crowd(1025, ('a' + TEXT,))), 11, 11, 0),
+        (document(crowd(2048, ('a', 'a' + TEXT))), 11, 11, 0), (document(crowd(2049, ('a', 'a' + TEXT))), 11, 11, 11),
+        (below * 15 + one + DOC_END, 0, 0, 0), (below * 16 + one + DOC_END, 11, 0, 0), (below * 63 + one + DOC_END, 11, 0, 0),
+        (below * 64 + one + DOC_END, 11, 11, 11), (document(chain(63, 'b'))[:-8] + node_field(1, 'b') + one + DOC_END, 11, 0, 0),
+        (one + DOC_END + b'\x00', 12, 12, 12), (one + DOC_END + one, 12, 12, 12),
+    ]
+
+
+def foreign_tag_edges():
+    """4: no other tag is one, and each stays in its file; past the end it is 3."""
+    for number, tag in enumerate((0x02, 0x03, 0x0F, 0x14, 0x1E, 0x22, 0x23, 0x30, 0x31, 0x32, 0x33, 0x3F, 0x52, 0x53, 0x92, 0x93, 0xB2)):
+        yield refused(4), TABLE_READS, HEAD + field(tag, b'\x00\x00\x01') + END, b'', dict(size=SIZES[number % 3])
+    for number, tag in enumerate((0x02, 0x10, 0x12, 0x13, 0x1F, 0x22, 0x2F, 0x31, 0x33, 0x34, 0x3E, 0x70, 0x72, 0xB0, 0xB2, 0xF2)):
+        yield refused(4), DOCUMENT_READS, field(tag, b'\x00a') + DOC_END, b'', dict(size=SIZES[number % 3])
+    yield refused(3), TABLE_READS, HEAD + field(0x32, b'\x00\x00\x01')[:-1], b'', {}
+    yield refused(3), DOCUMENT_READS, field(0x13, b'\x00a')[:-1], b'', {}
+    a_table, a_document = HEAD + start(0) + field(0x32, b'\x00\x00\x01') + END, node_field(1, 'a') + field(0x13, b'\x00a') + DOC_END
+    for call in (TABLE_READS, LABEL_NAME, IS_LOCAL, IS_SINGLE_TYPE):
+        yield refused(4), call, a_table, b'', {}
+    for call in (DOCUMENT_READS, SAMPLE):
+        yield refused(4), call, a_document, b'', {}
+    for call in (LETS_IN,) + BY_DOCUMENT:
+        yield refused(4), call, a_table, a_document, {}
+        yield refused(4), call, GOOD_TABLE, a_document, {}
+    for call in BY_TABLE:
+        yield refused(4), call, a_table, GOOD_TABLE, {}
+        yield refused(4), call, GOOD_TABLE, a_table, {}
+
+
+def sizes_to_ask(refusals):
+    """All where they differ, else one."""
+    return SIZES if len(set(refusals)) > 1 else SIZES[refusals[0] % 3:][:1]
+
+
+def text_reading_edges():
+    yield from foreign_tag_edges()
+    for data, *refusals in text_rule_fields() + [(some_rules(count, more), *refusals) for count, more, *refusals in text_rule_values()]:
+        for size in sizes_to_ask(refusals):
+            yield refused(refusals[size]) if refusals[size] else READS, TABLE_READS, data, b'', dict(size=size)
+    for number, (data, *refusals) in enumerate(text_node_fields()):
+        for size in sizes_to_ask(refusals) if len(data) < 1000 else beside_the_edge(refusals):
+            yield refused(refusals[size]) if refusals[size] else READS, DOCUMENT_READS, data, b'', dict(size=size)
+        if refusals[STANDARD]:
+            yield refused(refusals[STANDARD]), SAMPLE, data, b'', {}
+            yield refused(refusals[STANDARD]), ((LETS_IN,) + BY_DOCUMENT)[number % 3], GOOD_TABLE, data, {}
+    # What turns back rules 12 and nodes 30 turns back rules 13 and nodes 32.
+    for read, numbered in ((TABLE_READS, refused_tables()), (DOCUMENT_READS, refused_documents())):
+        for refusal, inputs in numbered.items():
+            for data in inputs:
+                if with_all_marks(data) != data:
+                    yield refused(refusal), read, with_all_marks(data), b'', {}
+    for number, (_, more, _, refusal, _) in enumerate(text_rule_values()):
+        if refusal:
+            data = some_rules(0, more) if refusal != 7 else some_rules(64, more)
+            call = (LABEL_NAME, LETS_IN, *BY_TABLE, IS_LOCAL, *BY_DOCUMENT, IS_SINGLE_TYPE)[number % 8]
+            yield refused(refusal), call, data, good_inputs(call)[1], {}
+            yield refused(refusal), BY_TABLE[number % 2], GOOD_TABLE, data, {}
+
+
+AT, BT, NAME = 'a' + TEXT, 'b' + TEXT, 'name' + TEXT
+
+# Only a name holds text here; then only what is no name.
+NAME_TEXT = table([0], [(0, 'list', any_of(t(1))), (1, 'card', seq(t(2), optional(t(3)))), (2, 'name', EMPTY, TEXT), (3, 'door', EMPTY)])
+OTHER_TEXT = table([0], [(0, 'list', any_of(t(1)), TEXT), (1, 'card', seq(t(2), optional(t(3))), TEXT), (2, 'name', EMPTY),
+                         (3, 'door', EMPTY, TEXT)])
+
+
+def marked_cards(card, *leaves):
+    """A list with one card of these heads."""
+    return tree('list', tree(card, *[tree(leaf) for leaf in leaves]))
+
+
+def text_in_cards():
+    """Two tables, each with documents that it lets in and others that it does not."""
+    two = [tree('card', tree('name')), tree('card', text('name'))]
+    return [
+        (NAME_TEXT, [marked_cards('card', NAME), marked_cards('card', 'name'), marked_cards('card', NAME, 'door'), tree('list'),
+                     tree('list', *two), tree('list', *two[::-1]), tree('LIST', tree('Card', text('NAME')), tree('CARD', tree('Name')))],
+         [marked_cards('card', NAME, 'door' + TEXT), marked_cards('card' + TEXT, NAME), text('list', two[0]), text('list'), text('name'),
+          marked_cards('card', 'door' + TEXT), marked_cards('card', 'zone' + TEXT), marked_cards('card', 'names' + TEXT),
+          tree('list', two[0], text('card', tree('name'))), tree('LIST', text('CARD', tree('name')))]),
+        (OTHER_TEXT, [tree('list', two[0]), text('list', text('card', tree('name'), text('door'))), text('list', two[0]), text('list'),
+                      marked_cards('card' + TEXT, 'name'), marked_cards('card', 'name', 'door' + TEXT)],
+         [marked_cards('card', NAME), text('list', text('card', text('name'), text('door'))), tree('list', *two)]),
+    ]
+
+
+def text_in_pairs():
+    """The same: rules of one pair, of one type, of one label."""
+    a, b, x, y, at, bt = tree('a'), tree('b'), tree('x'), tree('y'), text('a'), text('b')
+    ax, ay, ax_text, ay_text = tree('a', x), tree('a', y), text('a', x), text('a', y)
+    leaf = [(8, 'x', EMPTY), (9, 'y', EMPTY)]
+    return [
+        (table([0], [(0, 'a', t(8)), (0, 'a', t(9), TEXT)] + leaf), [ax, ay, ay_text], [ax_text, at, a]),
+        (table([0], [(0, 'a', t(9), TEXT), (0, 'a', t(8))] + leaf), [ax, ay, ay_text], [ax_text, text('a', y, y), text('a', text('y'))]),
+        (table([0], [(0, 'a', EMPTY, TEXT), (0, 'b', EMPTY)]), [a, at, b], [bt]),
+        (table([0], [(0, 'a', EMPTY), (0, 'b', EMPTY, TEXT)]), [a, b, bt], [at]),
+        (table([0], [(0, 'a', EMPTY), (0, 'a', EMPTY, TEXT)]), [a, at], [bt]),
+        (table([0], [(0, 'a', EMPTY, TEXT), (0, 'a', EMPTY)]), [a, at], [bt]),
+        (table([0], [(0, 'r', choice(A, B)), (1, 'a', t(8)), (2, 'a', t(9), TEXT)] + leaf),
+         [tree('r', ax), tree('r', ay), tree('r', ay_text)], [tree('r', ax_text), text('r', ax)]),
+        (table([0], [(0, 'r', seq(A, B)), (1, 'a', EMPTY), (2, 'a', EMPTY, TEXT)]), [tree('r', a, a), tree('r', a, at)],
+         [tree('r', at, a), tree('r', at, at), text('r', a, at)]),
+        (table([0, 1], [(0, 'a', t(8)), (1, 'a', t(9), TEXT)] + leaf), [ax, ay, ay_text], [ax_text, text('a', text('x'))]),
+        (table([1], [(0, 'a', EMPTY, TEXT), (1, 'a', EMPTY)]), [a], [at]),
+        (table([0], [(0, 'a', EMPTY, TEXT), (1, 'a', EMPTY)]), [a, at], [bt]),
+        # Leaves alone.
+        (table([0], [(0, 'a', any_of(t(0))), (0, 'a', EMPTY, TEXT)]), [at, a, tree('a', at, tree('a', at))],
+         [text('a', a), tree('a', text('a', a))]),
+    ]
+
+
+def text_membership():
+    """The same, of all sorts."""
+    a, b, at, bt = tree('a'), tree('b'), text('a'), text('b')
+    one_of_three = [tree('r', at, a, a), tree('r', a, at, a), tree('r', a, a, at), tree('r', at)]
+    one_of_200 = [('r', [a] * number + [at] + [a] * (199 - number)) for number in (0, 100, 199)]
+    return [
+        (table([0], [(0, 'a', EMPTY)]), [a, tree('A')], [at, text('A'), bt, b]),
+        (table([0], [(0, 'a', EMPTY, TEXT)]), [a, at, text('A'), tree('A')], [b, bt, text('a', a), text('a', at)]),
+        *text_in_cards(), *text_in_pairs(),
+        (above_leaves(any_of(A), ['a']), [tree('r', a, a, a)], one_of_three + one_of_200),
+        (above_leaves(any_of(A), [AT]), [tree('r', a, a, a)] + one_of_three + one_of_200, [text('r', at), tree('r', at, bt)]),
+        (above_leaves(any_of(A), ['a'], 'r' + TEXT), [tree('r', a), text('r', a, a), text('r')], [tree('r', at), text('r', at)]),
+        # No word, and one of no types.
+        (table([0], [(0, 'a', NONE, TEXT)]), [], [a, at]), (table([0], [(0, 'a', any_of(NONE), TEXT)]), [a, at], [bt]),
+        (table([0], [(0, 'a', optional(NONE), TEXT), (0, 'a', t(0))]), [a, at, tree('a', at), tree('a', a)], [text('a', at), text('a', a)]),
+    ]
+
+
+def text_membership_edges():
+    for number, (a_table, let_in, turned_back) in enumerate(text_membership()):
+        for answer, trees in ((YES, let_in), (NO, turned_back)):
+            for turn, a_tree in enumerate(trees):
+                for size in SIZES if number < 2 else (SIZES[(number + turn) % 3],):
+                    yield answer, LETS_IN, a_table, document(a_tree), dict(size=size)
+    # As many levels and nodes as there may be, the last of them with text.
+    for answer, mark in ((YES, TEXT), (NO, '')):
+        last = document(chain(63))[:-8] + node_field(1, 'a') + node_field(0, 'a' + TEXT) + DOC_END
+        yield answer, LETS_IN, table([0], [(0, 'a', optional(t(0)), mark)]), last, {}
+        for size, count in ((SMALL, 256), (STANDARD, 1024), (LARGE, 2048)):
+            heads = ['a'] * (count - 1) + [AT]
+            yield answer, LETS_IN, table([0], [(0, 'a', any_of(t(0)), mark)]), document(crowd(count, heads)), dict(size=size)
+    # One rule of as many as there may be.
+    for size, most in ((SMALL, 16), (STANDARD, 64), (LARGE, 128)):
+        for place in (1, most // 2, most - 1):
+            told = marked_star(most - 1, place)
+            for number in (1, most // 2, most - 1):
+                yield YES if number == place else NO, LETS_IN, told, doc('s', text('s%d' % number)), dict(size=size)
+            rules = [(0, 'a', EMPTY, TEXT if i == place else '') for i in range(most)]
+            yield YES, LETS_IN, table([0], rules), document(text('a')), dict(size=size)
+        yield NO, LETS_IN, table([0], [(0, 'a', EMPTY)] * most), document(text('a')), dict(size=size)
+    far = table([127], [(127, 'a', any_of(t(64))), (64, 'b', EMPTY, TEXT)])
+    for answer, a_tree in ((YES, tree('a', text('b'))), (NO, text('a', tree('b')))):
+        yield answer, LETS_IN, far, document(a_tree), dict(size=LARGE)
+    # Under other classes, in which # is a letter too.
+    own = table([0], [(0, '\xe9#', any_of(t(1)), TEXT), (1, '#', EMPTY)])
+    for answer, a_tree in ((YES, text('\xe9#', tree('#'))), (NO, tree('\xe9#', text('#')))):
+        yield answer, LETS_IN, own, document(a_tree), dict(classes=OWN)
+
+
+def marked_star(count, *places):
+    """As `star`, with rules 13 at some places, the root's at 0."""
+    return table([0], [(0, 's', choice(*[t(i) for i in range(1, count + 1)]), TEXT if 0 in places else '')]
+                 + [(i, 's%d' % i, EMPTY, TEXT if i in places else '') for i in range(1, count + 1)])
+
+
+def text_kind_edges():
+    """A table, and whether it is local and single-type."""
+    leaf = [(1, 'a', EMPTY), (2, 'a', EMPTY, TEXT)]
+    for number, (local, single, a_table) in enumerate((
+            (YES, YES, table([0], [(0, 'a', EMPTY, TEXT)])), (NO, NO, table([0], [(0, 'a', EMPTY), (0, 'a', EMPTY, TEXT)])),
+            (NO, NO, table([0], [(0, 'a', EMPTY, TEXT), (0, 'a', EMPTY)])), (NO, NO, table([0], [(0, 'a', EMPTY, TEXT)] * 2)),
+            (NO, NO, table([0], [(0, 'a', t(1)), (1, 'b', EMPTY), (0, 'a', NONE, TEXT)])),
+            (YES, YES, table([0], [(0, 'a', EMPTY, TEXT), (0, 'b', EMPTY)])),
+            (NO, YES, table([0], [(0, 'a', EMPTY, TEXT), (1, 'a', EMPTY)])),
+            (NO, NO, table([0, 1], [(0, 'a', EMPTY, TEXT), (1, 'a', EMPTY)])),
+            (NO, NO, table([0], [(0, 'r', seq(t(1), t(2)))] + leaf)),
+            (NO, YES, table([0], [(0, 'r', seq(t(1), t(1)))] + leaf)), (NO, NO, table([0], [(0, 'r', choice(t(2), t(1)), TEXT)] + leaf)),
+            (NO, YES, table([0], [(0, 'r', seq(t(3), t(4))), (3, 'p', t(1)), (4, 'q', t(2), TEXT)] + leaf)),
+            (YES, YES, NAME_TEXT), (YES, YES, OTHER_TEXT), (NO, YES, with_all_marks(P5)), (NO, YES, with_all_marks(P6)),
+            (NO, NO, with_all_marks(P7)), (YES, YES, with_all_marks(P8)), (YES, YES, marked_star(15, 3, 4)))):
+        yield local, IS_LOCAL, a_table, b'', dict(size=SIZES[number % 3])
+        yield single, IS_SINGLE_TYPE, a_table, b'', dict(size=SIZES[number % 3])
+    for number, answer in enumerate((name_at(3, 4), name_at(10, 4), name_at(17, 4), name_at(24, 4), refused(8))):
+        yield answer, LABEL_NAME, NAME_TEXT, b'', dict(label=number)
+
+
+def text_samples():
+    """Documents with their samples."""
+    a, b, at, bt = tree('a'), tree('b'), text('a'), text('b')
+    return [
+        (text('a'), table([0], [(0, 'a', EMPTY, TEXT)])), (text('r', a), above_leaves(A, 'a', 'r' + TEXT)),
+        (tree('r', at), above_leaves(A, [AT])), (text('r', at), above_leaves(A, [AT], 'r' + TEXT)),
+        (text('r', a, bt), above_leaves(seq(A, B), ['a', BT], 'r' + TEXT)), (tree('r', at, b), above_leaves(seq(A, B), [AT, 'b'])),
+        # A run, whichever of its members.
+        *[(tree('r', *word), above_leaves(AS, [AT])) for word in (
+            [at, a, a], [a, at, a], [a, a, at], [at, at], [at, a], [a, at], [a] * 199 + [at], [a] * 100 + [at] + [a] * 99)],
+        (tree('r', a, at, b), above_leaves(seq(AS, B), [AT, 'b'])), (tree('r', a, b, bt), above_leaves(seq(A, BS), ['a', BT])),
+        (tree('r', b, at, a, bt), above_leaves(seq(A, BS, A), [BT, AT])),
+        # Several nodes of a path that are no neighbours.
+        (tree('r', at, b, a), above_leaves(seq(A, B, A), [AT, 'b'])), (tree('r', a, b, at), above_leaves(seq(A, B, A), [AT, 'b'])),
+        (tree('r', a, bt, a), above_leaves(seq(A, B, A), ['a', BT])),
+        (tree('r', a, b, at, b, a), above_leaves(seq(A, B, A, B, A), [AT, 'b'])),
+        # Another spelling.
+        (tree('r', a, text('A')), above_leaves(AS, [AT])), (tree('r', text('A'), a), above_leaves(AS, ['A' + TEXT])),
+        (tree('r', a, b, text('A')), above_leaves(seq(A, B, A), [AT, 'b'])),
+        (tree('r', tree('A'), at, tree('A')), above_leaves(AS, ['A' + TEXT])),
+        (tree('R', tree('P', tree('x')), tree('p', text('X'))), table([0], [(0, 'R', AS), (1, 'P', t(2)), (2, 'x', EMPTY, TEXT)])),
+        *text_samples_below()]
+
+
+def text_samples_below():
+    """Documents of two levels or more below the root."""
+    x, xt = tree('x'), text('x')
+
+    def of_groups(content, group, leaf):
+        return table([0], [(0, 'r', some_of(t(1))), (1, 'g', content, group), (2, 'x', EMPTY, leaf)])
+
+    return [
+        # Sequences are told apart by names alone.
+        (tree('r', tree('g', x), tree('g', xt)), of_groups(t(2), '', TEXT)),
+        (tree('r', tree('g', xt), text('g', x)), of_groups(t(2), TEXT, TEXT)),
+        (tree('r', text('g', x), tree('g', x)), of_groups(t(2), TEXT, '')),
+        (tree('r', text('g'), tree('g', x)), of_groups(choice(EMPTY, t(2)), TEXT, '')),
+        (tree('r', tree('g', x), text('g')), of_groups(choice(t(2), EMPTY), TEXT, '')),
+        (tree('r', tree('g', x, xt), tree('g', xt, x, x)), of_groups(some_of(t(2)), '', TEXT)),
+        (tree('r', tree('g', xt), tree('g', x, x), tree('g', x)), of_groups(choice(t(2), some_of(t(2))), '', TEXT)),
+        # One name on two paths.
+        (tree('r', tree('p', xt), tree('q', x)),
+         table([0], [(0, 'r', seq(t(1), t(3))), (1, 'p', t(2)), (2, 'x', EMPTY, TEXT), (3, 'q', t(4)), (4, 'x', EMPTY)])),
+        (tree('r', tree('p', x), text('q', xt)),
+         table([0], [(0, 'r', seq(t(1), t(3))), (1, 'p', t(2)), (2, 'x', EMPTY), (3, 'q', t(4), TEXT), (4, 'x', EMPTY, TEXT)])),
+        (text('a', tree('a')), table([0], [(0, 'a', t(1), TEXT), (1, 'a', EMPTY)])),
+        (tree('a', text('a')), table([0], [(0, 'a', t(1)), (1, 'a', EMPTY, TEXT)])),
+        (tree('a', tree('a', text('a')), tree('a')),
+         table([0], [(0, 'a', some_of(t(1))), (1, 'a', choice(t(2), EMPTY)), (2, 'a', EMPTY, TEXT)])),
+    ]
+
+
+def text_sample_edges():
+    for number, (a_tree, told) in enumerate(text_samples()):
+        a_document = document(a_tree)
+        for size in SIZES if number < 6 else (SIZES[number % 3],):
+            yield gives(told), SAMPLE, a_document, b'', dict(size=size, out='exact')
+        yield YES, LETS_IN, told, a_document, {}
+        if number % 2:
+            yield YES, LETS_IN, told, without_marks(a_document), {}
+        else:
+            yield NO, LETS_IN, without_marks(told), a_document, {}
+        if number % 6 == 0:
+            yield refused(15), SAMPLE, a_document, b'', dict(out='short')
+    # As many paths as the size takes, the last with text, and one more.
+    for size, most in ((SMALL, 16), (STANDARD, 64), (LARGE, 128)):
+        heads = ['c%03d' % i for i in range(most - 2)] + ['d' + TEXT]
+        told = above_leaves(seq(*[t(1 + i) for i in range(most - 1)]), heads)
+        yield gives(told), SAMPLE, document(row(heads)), b'', dict(size=size, out='exact')
+        run = above_leaves(seq(*[t(1 + i) for i in range(most - 2)], some_of(t(most - 1))), heads)
+        yield gives(run), SAMPLE, document(row(heads[:-1] + ['d', 'D' + TEXT, 'd'])), b'', dict(size=size)
+        for call in (SAMPLE,) + BY_DOCUMENT:
+            inputs = (document(row(heads + ['e' + TEXT])), b'')
+            yield refused(14), call, *(inputs if call == SAMPLE else (E, inputs[0])), dict(size=size)
+
+
+def joined_pairs():
+    """The contents of a rule 12 and of a rule 13 of one pair, over leaves x and y; the result's content and the leaves that it names. Type
+    8 has no document, type 9 no rule."""
+    x, y = t(1), t(2)
+    empty = [any_of(NONE), optional(NONE), any_of(t(9)), optional(t(8)), optional(seq(x, NONE)), choice(NONE, EMPTY), any_of(some_of(NONE)),
+             optional(some_of(t(8))), choice(t(8), any_of(t(9)))]
+    return [(x, part, choice(x, EMPTY), 'x') for part in empty] + [(EMPTY, part, EMPTY, '') for part in empty] + [
+        (x, y, choice(x, y), 'xy'), (EMPTY, x, choice(EMPTY, x), 'x'), (x, choice(seq(x, t(9)), y), choice(x, y), 'xy'),
+        (x, seq(any_of(NONE), y), choice(x, seq(EMPTY, y)), 'xy'), (EMPTY, choice(NONE, optional(y)), choice(EMPTY, optional(t(1))), 'y'),
+        (any_of(x), optional(any_of(x)), choice(any_of(x), optional(any_of(x))), 'x'),
+        # Equal operands are dropped.
+        (x, x, x, 'x'), (EMPTY, EMPTY, EMPTY, ''), (choice(x, y), choice(y, x), choice(x, y), 'xy'), (choice(x, y), y, choice(x, y), 'xy'),
+        (x, choice(x, NONE), x, 'x'), (some_of(x), some_of(x), some_of(x), 'x'), (x, choice(t(8), x), x, 'x')]
+
+
+def contents_without_words():
+    """Contents over the same types that reduce to none."""
+    x, y = t(1), t(2)
+    return [NONE, t(9), t(8), seq(x, NONE), seq(NONE, y), some_of(NONE), seq(x, t(9)), seq(t(8), x), some_of(t(9)), choice(NONE, NONE),
+            choice(t(9), seq(NONE, x)), seq(some_of(t(8)), any_of(x)), some_of(seq(y, t(8))), choice(t(8), some_of(choice(NONE, t(9))))]
+
+
+def joined_edges():
+    """The mark of a pair's rule."""
+    leaf = [(1, 'x', EMPTY), (2, 'y', EMPTY), (8, 'z', t(8))]
+    for number, (plain, own, content, names) in enumerate(joined_pairs()):
+        told, call = gives(above_leaves(content, names, 'r' + TEXT)), BY_TABLE[number % 2]
+        for by in BY_TABLE:
+            yield told, by, table([0], [(0, 'r', plain), (0, 'r', own, TEXT)] + leaf), E, dict(size=SIZES[number % 3], out='exact')
+        yield told, call, table([0], [(0, 'r', plain, TEXT), (0, 'r', own)] + leaf), E, {}
+        if number % 2:
+            apart = [(5, 'r', plain)] + leaf[:1] + [(5, 'r', own, TEXT)] + leaf[1:]
+            yield told, call, E, table([5], apart, ['r', 'x', 'y', 'z']), {}
+        else:               # in two tables they are two pairs, of which the same holds
+            yield told, call, table([0], [(0, 'r', plain)] + leaf), table([0], [(0, 'r', own, TEXT)] + leaf), dict(size=SIZES[number % 3])
+    for number, own in enumerate(contents_without_words()):
+        gone, call = (0, 'r', own, TEXT), BY_TABLE[number % 2]
+        for mark in ('', TEXT):             # the other rule's mark alone counts
+            told, plain = gives(above_leaves(A, 'x', 'r' + mark)), (0, 'r', A, mark)
+            for by in BY_TABLE:
+                yield told, by, table([0], [plain, gone] + leaf), E, dict(size=SIZES[number % 3], out='exact')
+            yield told, call, E, table([0], [gone, plain] + leaf), {}
+            yield told, call, table([0], [plain] + leaf), table([0], [gone] + leaf), {}
+        yield refused(13), call, table([0], [gone] + leaf), E, {}
+        yield NO, LETS_IN, table([0], [(0, 'r', A), gone] + leaf), document(text('r', tree('x'))), {}
+
+
+def later_round_widenings():
+    """A rule 13 whose content has a word only once later rounds have made its types fruitful, or its own."""
+    r, x, y, z = (0, 'r', t(1), TEXT), (1, 'x', t(2)), (2, 'y', t(3)), (3, 'z', EMPTY)
+    plain, names = (0, 'r', EMPTY), ['r', 'x', 'y', 'z']
+    return [
+        (table([0], [r, plain, x, y, z]), E, table([0], [(0, 'r', choice(t(1), EMPTY), TEXT), x, y, z])),
+        (table([0], [plain, r, x, y, z]), E, table([0], [(0, 'r', choice(EMPTY, t(1)), TEXT), x, y, z])),
+        (table([0], [z, y, x, r, plain], names), E, table([0], [(0, 'r', choice(t(1), EMPTY), TEXT), x, y, z])),
+        (E, table([0], [z, plain, y, r, x], names), table([0], [(0, 'r', choice(EMPTY, t(1)), TEXT), x, y, z])),
+        (table([0], [(0, 'a', EMPTY), (0, 'a', t(0), TEXT)]), E, table([0], [(0, 'a', choice(EMPTY, t(0)), TEXT)])),
+        (table([0], [(0, 'a', t(0), TEXT), (0, 'a', EMPTY)]), E, table([0], [(0, 'a', choice(t(0), EMPTY), TEXT)])),
+        (table([0], [(0, 'a', some_of(t(0)), TEXT), (0, 'a', EMPTY)]), E, table([0], [(0, 'a', choice(some_of(t(0)), EMPTY), TEXT)])),
+        # Two pairs of one type: the fruitful one is enough.
+        (table([0], [plain, r, (1, 'x', t(9)), (1, 'y', EMPTY)]), E, table([0], [(0, 'r', choice(EMPTY, t(1)), TEXT), (1, 'y', EMPTY)])),
+        (table([0], [(0, 'r', t(1)), (1, 'x', t(9), TEXT), (1, 'y', EMPTY)]), E, table([0], [(0, 'r', t(1)), (1, 'y', EMPTY)])),
+        (table([0], [(0, 'r', t(1)), (1, 'x', t(1), TEXT), (1, 'y', EMPTY)]), E,
+         table([0], [(0, 'r', choice(t(1), t(2))), (1, 'x', choice(t(1), t(2)), TEXT), (2, 'y', EMPTY)])),
+        # The addition's types are its own: type 1 is none of the other table's.
+        (table([0], [plain, (1, 'x', EMPTY)]), table([0], [r]), table([0], [plain])),
+        (table([0], [plain, r]), table([1], [(1, 'x', EMPTY)]), table([0, 1], [plain, (1, 'x', EMPTY)])),
+        (table([0], [plain, r]), table([0], [(0, 'r', t(1)), (1, 'x', EMPTY)]), above_leaves(choice(EMPTY, A), 'x')),
+    ]
+
+
+def unreached_widenings():
+    """Two types of label a, of which one is not behind the result, or both are."""
+    one, other, told = (1, 'a', EMPTY), (2, 'a', EMPTY, TEXT), table([0], [(0, 'r', A), (1, 'a', EMPTY)])
+    made = []
+    for root in (A, choice(A, seq(B, NONE)), choice(seq(NONE, B), A), choice(A, seq(B, t(9))), choice(A, some_of(seq(B, NONE))),
+                 choice(A, seq(A, some_of(NONE), B))):
+        made.append((table([0], [(0, 'r', root), one, other]), E, told))
+        made.append((table([0], [(0, 'r', root), other[:3], one + (TEXT,)]), E, above_leaves(A, [AT])))
+    made.append((table([0], [(0, 'r', A), other, one]), E, told))
+    for root in (choice(A, any_of(seq(B, NONE))), choice(A, optional(seq(t(9), B)))):
+        made.append((table([0], [(0, 'r', root), one, other]), E, above_leaves(choice(A, EMPTY), 'a')))
+    return made + [
+        # Through a type without a document, or through one that is not reached; without a document itself.
+        (table([0], [(0, 'r', choice(A, C)), one, other, (3, 'b', seq(B, C))]), E, told),
+        (table([0], [(0, 'r', A), one, other, (3, 'b', B)]), E, told),
+        (table([0], [(0, 'r', choice(A, B)), one, (2, 'a', B, TEXT)]), E, told),
+        (table([0], [(0, 'r', choice(A, B)), one, (2, 'a', seq(A, NONE), TEXT), (2, 'b', EMPTY)]), E,
+         table([0], [(0, 'r', choice(A, B)), (1, 'a', EMPTY), (2, 'b', EMPTY)])),
+        (table([0], [(0, 'r', A), one, (1, 'b', t(9), TEXT)]), E, told),
+        (table([0], [(0, 'r', A), one]), table([], [(0, 'a', EMPTY, TEXT)]), told),
+        (table([], [(0, 'a', EMPTY, TEXT)]), table([0], [(0, 'r', A), one]), table([1], [(0, 'a', EMPTY), (1, 'r', t(0))]),
+         table([0], [(0, 'r', A), one], ['a', 'r'])),
+        (P7.replace(rule(1, 1, t(4)), text_rule(1, 1, t(4))).replace(rule(4, 3, EMPTY), text_rule(4, 3, EMPTY)), E,
+         table([0], [(0, 'list', A), (1, 'door', B), (2, 'code', EMPTY)])),
+        (P7.replace(rule(3, 1, t(5)), text_rule(3, 1, t(5))), E, table([0], [(0, 'list', A), (1, 'door', B, TEXT), (2, 'code', EMPTY)])),
+        # Both are behind it.
+        (table([0], [(0, 'r', choice(A, B)), one, other]), E, above_leaves(A, [AT])),
+        (table([0], [(0, 'r', choice(A, any_of(B))), one, other]), E, above_leaves(choice(A, any_of(A)), [AT])),
+        (table([0], [(0, 'r', choice(A, seq(B, any_of(NONE)))), one, other]), E, above_leaves(choice(A, seq(A, EMPTY)), [AT])),
+    ]
+
+
+def text_kinds_of_widenings():
+    """Where local and single-type differ, and sets with one member for text."""
+    block, floor, lift, time, code = (0, 'block', seq(A, B)), (1, 'floor', C), (2, 'lift', t(4)), (5, 'time', EMPTY), (6, 'code', EMPTY)
+    local_block = [block, floor, (2, 'lift', C)]
+    two = [(1, 'p', C), (2, 'q', seq(C, t(4)))]
+    made = [
+        # P5, one door for text.
+        (table([0], [block, floor, lift, (3, 'door', t(5)), (4, 'door', t(6), TEXT), time, code]), E,
+         table([0], local_block + [(3, 'door', choice(t(4), t(5)), TEXT), (4, 'time', EMPTY), (5, 'code', EMPTY)]),
+         table([0], [block, floor, lift, (3, 'door', t(5)), (4, 'door', t(6), TEXT), time, code])),
+        (P5, document(tree('block', tree('floor', text('door', tree('time'))), tree('lift', tree('door', text('code'))))),
+         table([0], local_block + [(3, 'door', choice(t(4), t(5)), TEXT), (4, 'time', EMPTY), (5, 'code', EMPTY, TEXT)]),
+         table([0], [block, floor, lift, (3, 'door', t(5), TEXT), (4, 'door', t(6)), time, (6, 'code', EMPTY, TEXT)])),
+        # P6, the outer group, or the inner.
+        (table([0], [(0, 'group', seq(A, A)), (1, 'group', B, TEXT), (2, 'card', EMPTY)]), E,
+         table([0], [(0, 'group', choice(seq(t(0), t(0)), A), TEXT), (1, 'card', EMPTY)]),
+         table([0], [(0, 'group', seq(A, A)), (1, 'group', B, TEXT), (2, 'card', EMPTY)])),
+        (table([0], [(0, 'group', seq(A, A), TEXT), (1, 'group', B), (2, 'card', EMPTY)]), E,
+         table([0], [(0, 'group', choice(seq(t(0), t(0)), A), TEXT), (1, 'card', EMPTY)]),
+         table([0], [(0, 'group', seq(A, A), TEXT), (1, 'group', B), (2, 'card', EMPTY)])),
+        # P8, one of two labels.
+        (table([0], [(0, 'list', A), (1, 'door', EMPTY, TEXT), (1, 'lift', EMPTY)]), E,
+         table([0], [(0, 'list', choice(A, B)), (1, 'door', EMPTY, TEXT), (2, 'lift', EMPTY)])),
+        # A set of one type, and a set of it and another.
+        (table([0], [(0, 'r', seq(A, B))] + two + [(3, 'a', EMPTY), (4, 'a', EMPTY, TEXT)]), E,
+         table([0], [(0, 'r', seq(A, B)), (1, 'p', C), (2, 'q', seq(C, C)), (3, 'a', EMPTY, TEXT)]),
+         table([0], [(0, 'r', seq(A, B)), (1, 'p', C), (2, 'q', seq(t(4), t(4))), (3, 'a', EMPTY), (4, 'a', EMPTY, TEXT)])),
+        (table([0], [(0, 'r', seq(A, B))] + two + [(3, 'a', EMPTY, TEXT), (4, 'a', EMPTY)]), E,
+         table([0], [(0, 'r', seq(A, B)), (1, 'p', C), (2, 'q', seq(C, C)), (3, 'a', EMPTY, TEXT)]),
+         table([0], [(0, 'r', seq(A, B)), (1, 'p', C), (2, 'q', seq(t(4), t(4))), (3, 'a', EMPTY, TEXT), (4, 'a', EMPTY, TEXT)])),
+        # Starts of one label.
+        (table([0, 1], [(0, 'a', B), (1, 'a', C, TEXT), (2, 'x', EMPTY), (3, 'y', EMPTY)]), E,
+         table([0], [(0, 'a', choice(A, B), TEXT), (1, 'x', EMPTY), (2, 'y', EMPTY)])),
+        (table([0, 1], [(0, 'a', B, TEXT), (1, 'b', C), (2, 'x', EMPTY), (3, 'y', EMPTY, TEXT)]), E,
+         table([0, 1], [(0, 'a', B, TEXT), (1, 'b', C), (2, 'x', EMPTY), (3, 'y', EMPTY, TEXT)])),
+        # Labels that are not used, and the order of labels.
+        (table([0], [(0, 'b', A), (1, 'a', EMPTY, TEXT)], ['x', 'a', 'y', 'b']), E, table([1], [(0, 'a', EMPTY, TEXT), (1, 'b', t(0))]),
+         table([0], [(0, 'b', A), (1, 'a', EMPTY, TEXT)], ['a', 'b'])),
+        (E, doc('r', tree('p', text('x')), tree('q', tree('x'))),
+         table([0], [(0, 'r', seq(A, C)), (1, 'p', B), (2, 'x', EMPTY, TEXT), (3, 'q', B)]),
+         table([0], [(0, 'r', seq(A, B)), (1, 'p', C), (2, 'q', t(4)), (3, 'x', EMPTY, TEXT), (4, 'x', EMPTY)], ['r', 'p', 'x', 'q'])),
+        (E, document(text('a', tree('a'))), table([0], [(0, 'a', choice(t(0), EMPTY), TEXT)]),
+         table([0], [(0, 'a', A, TEXT), (1, 'a', EMPTY)])),
+        (E, doc('a', text('a')), table([0], [(0, 'a', choice(t(0), EMPTY), TEXT)]), table([0], [(0, 'a', A), (1, 'a', EMPTY, TEXT)])),
+    ]
+    for place in (1, 2, 3):         # three members
+        leaf = [(i, 'a', EMPTY, TEXT if i == place else '') for i in (1, 2, 3)]
+        made.append((table([0], [(0, 'r', seq(A, B, C))] + leaf), E, above_leaves(seq(A, A, A), [AT])))
+    for place in (0, 4, 9):         # a path of one label
+        chained_marks = [(i, 'a', optional(t(i + 1)) if i < 9 else EMPTY, TEXT if i == place else '') for i in range(10)]
+        made.append((table([0], chained_marks), E, table([0], [(0, 'a', choice(optional(t(0)), EMPTY), TEXT)]), table([0], chained_marks)))
+    return made
+
+
+def added_marks():
+    """Marks of the old table, of the addition, or of both."""
+    made = []
+    list_of_cards = [(0, 'list', choice(any_of(A), A))]
+    for old, new in (('', TEXT), (TEXT, ''), (TEXT, TEXT)):
+        wider = table([0], list_of_cards + [(1, 'card', EMPTY, TEXT)])
+        before = table([0], [(0, 'list', any_of(A)), (1, 'card', EMPTY, old)])
+        made.append((before, table([3], [(3, 'list', t(4)), (4, 'card', EMPTY, new)]), wider))
+        made.append((before, doc('list', tree('card' + new)), wider))
+        made.append((before, doc('LIST', tree('CARD' + new)), wider))
+        made.append((in_capitals(before), doc('list', tree('card' + new)), in_capitals(wider)))
+        # The same content again is dropped, its mark stays.
+        made.append((table([0], [(0, 'a', EMPTY, old)]), table([0], [(0, 'a', EMPTY, new)]), table([0], [(0, 'a', EMPTY, TEXT)])))
+        made.append((table([0], [(0, 'a', EMPTY, old)]), doc('A' + new), table([0], [(0, 'a', EMPTY, TEXT)])))
+        made.append((table([0], [(0, 'A', EMPTY, old)]), table([7], [(7, 'a', EMPTY, new)]), table([0], [(0, 'A', EMPTY, TEXT)])))
+        made.append((cards(AS), document(tree('list' + new, tree('card'), tree('card' + old), tree('CARD'))),
+                     above_leaves(AS, ['card' + old], 'list' + new)))
+        # Other labels have none.
+        apart = table([0, 1], [(0, 'a', EMPTY, old), (1, 'b', EMPTY, new)])
+        made.append((table([0], [(0, 'a', EMPTY, old)]), table([0], [(0, 'b', EMPTY, new)]), apart))
+    return made + [
+        (E, doc('list', tree('card'), text('card'), tree('CARD')), cards(AS).replace(rule(1, 1, EMPTY), text_rule(1, 1, EMPTY))),
+        (E, NAME_TEXT, NAME_TEXT), (NAME_TEXT, E, NAME_TEXT), (OTHER_TEXT, E, OTHER_TEXT), (NAME_TEXT, NAME_TEXT, NAME_TEXT),
+        (NAME_TEXT, LISTER_TABLE, NAME_TEXT), (LISTER_TABLE, NAME_TEXT, NAME_TEXT), (NAME_TEXT, OTHER_TEXT, with_all_marks(NAME_TEXT)),
+        (OTHER_TEXT, NAME_TEXT, with_all_marks(NAME_TEXT)), (LISTER_TABLE, with_all_marks(LISTER_TABLE), with_all_marks(LISTER_TABLE)),
+        (NAME_TEXT, doc('list', tree('card', text('name'), text('zone'))), LISTED_TEXT),
+        (LISTER_TABLE, doc('list', tree('card', text('name'), text('zone'))), LISTED_TEXT),
+        (table([0], [(0, 'a', any_of(NONE), TEXT)]), E, table([0], [(0, 'a', EMPTY, TEXT)])),
+        (table([0], [(0, 'a', optional(t(7)), TEXT)]), E, table([0], [(0, 'a', EMPTY, TEXT)])),
+    ]
+
+
+LISTED_TEXT = table([0], [(0, 'list', choice(any_of(A), A)), (1, 'card', choice(seq(B, optional(C)), seq(B, t(4)))),
+                          (2, 'name', EMPTY, TEXT), (3, 'door', EMPTY), (4, 'zone', EMPTY, TEXT)])
+
+
+def text_widenings():
+    """An old table, an addition, and the result, or the two results to local and to single-type."""
+    return later_round_widenings() + unreached_widenings() + text_kinds_of_widenings() + added_marks()
+
+
+def text_widening_edges():
+    for number, (old, addition, *results) in enumerate(text_widenings()):
+        by_document = addition[0] in (0x30, 0x32)
+        for call, result in zip(BY_DOCUMENT if by_document else BY_TABLE, results if len(results) == 2 else results * 2):
+            yield gives(result), call, old, addition, dict(size=SIZES[number % 3], out='exact')
+            if number % 7 == 0:
+                yield refused(15), call, old, addition, dict(out='short')
+            if by_document:
+                yield YES, LETS_IN, result, addition, {}
+                yield YES, LETS_IN, result, without_marks(addition), {}
+            if len(results) == 2:           # a result of a kind is its own widening
+                yield gives(result), BY_TABLE[BY_DOCUMENT.index(call)] if by_document else call, result, E, {}
+    # The joined rule lets in text above the other's content, in both kinds.
+    joined = table([0], [(0, 'r', choice(A, B), TEXT), (1, 'x', EMPTY), (2, 'y', EMPTY)])
+    for a_tree in (text('r', tree('x')), text('r', tree('y')), tree('r', tree('x'))):
+        yield YES, LETS_IN, joined, document(a_tree), {}
+    # To single-type a door for text on one path stays apart.
+    local, single = text_kinds_of_widenings()[0][2:]
+    for below_floor, below_lift, both, one in (('', '', YES, YES), ('', TEXT, YES, YES), (TEXT, '', YES, NO), (TEXT, TEXT, YES, NO)):
+        doors = tree('door' + below_floor, tree('time')), tree('door' + below_lift, tree('code'))
+        a_document = doc('block', tree('floor', doors[0]), tree('lift', doors[1]))
+        yield both, LETS_IN, local, a_document, {}
+        yield one, LETS_IN, single, a_document, {}
+    # 13 sees no mark.
+    for old in (table([0], [(0, 'a', NONE, TEXT)]), table([0], [(0, 'a', t(0), TEXT)]), table([], [(0, 'a', EMPTY, TEXT)]),
+                with_all_marks(fruitless(16)), table([0], [(0, 'a', some_of(t(1)), TEXT), (1, 'b', t(0))])):
+        for call in BY_TABLE:
+            yield refused(13), call, old, E, {}
+            yield refused(13), call, E, old, dict(out=0)
+
+
+def one_in_many_edges():
+    """One rule 13 of as many rules as there may be, in the old table and in the addition."""
+    for size, most in ((SMALL, 16), (STANDARD, 64), (LARGE, 128)):
+        for place in (0, most // 2, most - 1):
+            marks = [TEXT if i == place else '' for i in range(most)]
+            pair = table([0], [(0, 'a', EMPTY, mark) for mark in marks])
+            types = table(range(most), [(i, 'a', EMPTY, mark) for i, mark in enumerate(marks)])
+            gone = table([0], [(0, 'a', NONE, mark) if mark else (0, 'a', EMPTY) for mark in marks])
+            call = BY_TABLE[place % 2]
+            for old, addition in ((pair, E), (E, pair), (types, E), (E, types), (types, without_marks(pair))):
+                yield gives(table([0], [(0, 'a', EMPTY, TEXT)])), call, old, addition, dict(size=size)
+            for old, addition in ((gone, E), (E, gone), (gone, gone)):
+                yield gives(table([0], [(0, 'a', EMPTY)])), call, old, addition, dict(size=size)
+            told = marked_star(most - 1, place)
+            yield gives(told), BY_TABLE[(place + 1) % 2], told, E, dict(size=size, out='exact')
+            yield gives(told), call, star(most - 1), told, dict(size=size, out='exact')
+
+
+def text_limit_edges():
+    """14 sees no mark: a rule 13 is as long as a rule 12."""
+    for size, most in ((SMALL, 16), (STANDARD, 64), (LARGE, 128)):
+        old, extra = with_all_marks(star(most - 2)), with_all_marks(EXTRA)
+        leaf = ['s%d' % i for i in range(1, most - 1)]
+        local = table([0, most - 1], [(0, 's', choice(*[t(i) for i in range(1, most - 1)]))]
+                      + [(1 + i, name, EMPTY) for i, name in enumerate(leaf)] + [(most - 1, 'extra', EMPTY)])
+        single = table([0, 1], [(0, 's', choice(*[t(i) for i in range(2, most)])), (1, 'extra', EMPTY)]
+                       + [(2 + i, name, EMPTY) for i, name in enumerate(leaf)], ['s'] + leaf + ['extra'])
+        for by_table, by_document, result in zip(BY_TABLE, BY_DOCUMENT, (local, single)):
+            yield gives(with_all_marks(result)), by_table, old, extra, dict(size=size, out='exact')
+            yield gives(with_all_marks(result)), by_document, old, document(text('extra')), dict(size=size, out='exact')
+            yield refused(14), by_table, with_all_marks(star(most - 1)), extra, dict(size=size)
+            yield refused(14), by_document, with_all_marks(star(most - 1)), document(text('extra')), dict(size=size, out=0)
+    # A content of 1,024 and of 1,025 bytes; what reduces to none is not counted.
+    long, short, over = seq(*[A] * 255), seq(*[A] * 254), seq(*[A] * 252, any_of(A), any_of(EMPTY))
+    leaf = [(1, 'c', EMPTY)]
+    for old, new in (('', TEXT), (TEXT, '')):
+        told = gives(table([0], [(0, 'r', choice(long, short), TEXT)] + leaf))
+        for call in BY_TABLE:
+            yield told, call, table([0], [(0, 'r', long, old)] + leaf), table([0], [(0, 'r', short, new)] + leaf), dict(out='exact')
+            yield refused(14), call, table([0], [(0, 'r', long, old)] + leaf), table([0], [(0, 'r', over, new)] + leaf), {}
+            yield told, call, table([0], [(0, 'r', long, old), (0, 'r', short, new)] + leaf), E, {}
+            yield refused(14), call, table([0], [(0, 'r', long, old), (0, 'r', over, new)] + leaf), E, dict(out=0)
+            gone = table([0], [(0, 'r', long, old), (0, 'r', seq(over, NONE), new), (0, 'r', short)] + leaf)
+            yield gives(table([0], [(0, 'r', choice(long, short), old)] + leaf)), call, gone, E, {}
+    # 32,768 bytes in all.
+    full = with_all_marks(padded_table(32768))
+    yield gives(full), LOCAL_BY_TABLE, full, E, dict(out='exact')
+    yield gives(full), SINGLE_BY_TABLE, E, full, dict(out=MOST_OUTPUT)
+    yield refused(15), LOCAL_BY_TABLE, full, E, dict(out='short')
+    root = choice(*[t(i) for i in range(1, 64)])
+    near = padded_table(32767)
+    wider = near.replace(rule(0, 0, root), text_rule(0, 0, choice(*[t(i) for i in range(1, 64)], EMPTY)))
+    yield gives(wider), LOCAL_BY_DOCUMENT, near, document(text('n00')), dict(out='exact')
+    yield refused(14), SINGLE_BY_DOCUMENT, full, document(text('n00')), {}
+    yield refused(2), TABLE_READS, with_all_marks(padded_table(32769)), b'', {}
+    yield READS, DOCUMENT_READS, with_all_marks(padded_document(32768)), b'', {}
+    yield refused(2), DOCUMENT_READS, with_all_marks(padded_document(32769)), b'', {}
+
+
+def text_edges():
+    yield from text_reading_edges()
+    yield from text_membership_edges()
+    yield from text_kind_edges()
+    yield from text_sample_edges()
+    yield from joined_edges()
+    yield from text_widening_edges()
+    yield from one_in_many_edges()
+    yield from text_limit_edges()
+
+
+def with_mark_at(data, number):
+    """The input with the other tag for the rule or node of this number."""
+    parts = fields_of(data)
+    at = [place for place, part in enumerate(parts) if part[0] in OTHER_TAG][number]
+    parts[at] = bytes([OTHER_TAG[parts[at][0]]]) + parts[at][1:]
+    return b''.join(parts)
+
+
+def text_cases(cases):
+    for _, call, first, second, options in text_edges():
+        cases.add(call, first, second, **options)
+    # The paper's tables and documents with each rule and each node for text in turn; the results asked for documents.
+    for paper_table, a_document in (
+            (P1, P2), (P5, P5_CROSSED), (P6, doc('group', tree('group', tree('card')), tree('group', tree('card')))),
+            (P7, doc('list', tree('door', tree('time')))), (P8, doc('list', tree('lift'))), (LISTER_TABLE, LISTER_DOC)):
+        rules, below = (sum(part[0] in OTHER_TAG for part in fields_of(data)) for data in (paper_table, a_document))
+        for place in range(rules):
+            marked = with_mark_at(paper_table, place)
+            cases.widen(marked, E, out='exact')
+            result = answer_of(cases.all[-1]).written
+            cases.add(LETS_IN, result, with_mark_at(a_document, place % below))
+            cases.add(BY_TABLE[place % 2], paper_table, marked)
+            cases.add(BY_DOCUMENT[place % 2], marked, a_document)
+        for place in range(below):
+            marked = with_mark_at(a_document, place)
+            cases.add(SAMPLE, marked)
+            cases.widen_doc(paper_table, marked)
+            cases.add(LETS_IN, with_mark_at(paper_table, place % rules), marked)
+    for number in range(20):
+        numbers = Numbers(710000 + number)
+        first, second = (with_other_marks(numbers, wide_table(numbers), 50) for _ in range(2))
+        cases.add(BY_TABLE[number % 2], first, second)
+        cases.add(BY_DOCUMENT[number % 2], first, random_document(numbers, first, WIDE_POOL))
+
+
 # ---------------------------------------------------------------- random cases
 
 POOL = ['a', 'b', 'c', 'd', 'list', 'card', 'x-1', 'A']
@@ -2512,8 +3247,8 @@ def derived_tree(numbers, a_table, budget=40):
                  if r.type == type_ and ref.has_word_over(r.content, allowed)]
         a_rule = numbers.of(rules)
         word = random_word(numbers, a_rule.content, allowed, 1 if room else 0)
-        return (a_table.labels[a_rule.label].decode('latin-1'),
-                [derive(x, level + 1) for x in word])
+        mark = TEXT if a_rule.text and numbers.chance(60) else ''
+        return (a_table.labels[a_rule.label].decode('latin-1') + mark, [derive(x, level + 1) for x in word])
 
     return derive(numbers.of(starts), 1)
 
@@ -2567,7 +3302,7 @@ def with_more_neighbours(numbers, a_tree):
 
 def neighbours(a_tree):
     """The children of a node in groups: runs of one name, and children that stand alone."""
-    return [list(group) for _, group in itertools.groupby(a_tree[1], lambda child: ref.folded(child[0].encode('latin-1')))]
+    return [list(group) for _, group in itertools.groupby(a_tree[1], lambda child: ref.folded(name_of(child[0]).encode('latin-1')))]
 
 
 def with_other_runs(numbers, a_tree):
@@ -2586,7 +3321,7 @@ def has_a_run(a_tree):
 
 
 def tree_of(node):
-    return (node.name.decode('latin-1'), [tree_of(child) for child in node.children])
+    return (node.name.decode('latin-1') + TEXT * node.text, [tree_of(child) for child in node.children])
 
 
 def document_has_a_run(data):
@@ -2657,11 +3392,17 @@ def random_document(numbers, a_table_bytes, pool=POOL):
     a_tree = None
     if not numbers.chance(15) and not has_a_name_twice(a_table_bytes):
         a_tree = derived_tree(numbers, ref.read_table(ref.LARGE, ANY_BYTES, a_table_bytes))
-    if not usable(a_tree):
+    free = not usable(a_tree)
+    if free:
         a_tree = random_tree(numbers, pool)
     elif numbers.chance(45):
         a_tree = changed_tree(numbers, a_tree, pool)
-    return document(perhaps_with_runs(numbers, a_tree, 30))
+    return perhaps_with_text(numbers, document(perhaps_with_runs(numbers, a_tree, 30)), 50 if free else 12)
+
+
+def perhaps_with_text(numbers, a_document, share):
+    """In a share of the cases, in percent, the document with the other tag for some of its nodes."""
+    return with_other_marks(numbers, a_document, numbers.of((5, 20, 50, 100))) if numbers.chance(share) else a_document
 
 
 def perhaps_with_runs(numbers, a_tree, share):
@@ -2685,14 +3426,15 @@ def fields_of(data):
     return found
 
 
-# Operators, and types about the limits.
+# Operators, types about the limits, and tags.
 TELLING_BYTES = (0, 1, 2, 3, 4, 5, 6, 7, 8, 15, 16, 63, 64, 127, 128, 255)
+TELLING_TAGS = (0x10, 0x11, 0x12, 0x13, 0x14, 0x1F, 0x30, 0x31, 0x32, 0x33, 0x3F)
 
 
 def damaged(numbers, data):
     """The bytes with one or two faults."""
     for _ in range(1 + numbers.below(2)):
-        action = numbers.below(9)
+        action = numbers.below(10)
         at = numbers.below(len(data)) if data else 0
         if action == 0:
             data = data[:at]
@@ -2714,8 +3456,10 @@ def damaged(numbers, data):
                     parts[i], parts[j] = parts[j], parts[i]
                 elif action == 7:
                     parts.insert(j, parts[i])
-                else:
+                elif action == 8:
                     parts.pop(i)
+                else:
+                    parts[i] = bytes([numbers.of(TELLING_TAGS)]) + parts[i][1:]
                 data = b''.join(parts)
     return data
 
@@ -2734,9 +3478,13 @@ def random_limits(numbers, size):
 
 def some_table(numbers, size, limits, pool=POOL):
     """A random table of either sort; at times a large one."""
-    if numbers.chance(45):
-        return rich_table(numbers, pool, SELDOM[size] if numbers.chance(10) else 9, limits)
-    return random_table(numbers, pool, SELDOM[size] if numbers.chance(10) else 8, limits)
+    make, most = (rich_table, 9) if numbers.chance(45) else (random_table, 8)
+    return perhaps_marked(numbers, make(numbers, pool, SELDOM[size] if numbers.chance(10) else most, limits))
+
+
+def perhaps_marked(numbers, a_table):
+    """The table, at times with rules 13 for some of its rules."""
+    return with_other_marks(numbers, a_table, numbers.of((15, 40, 60, 85, 100))) if numbers.chance(55) else a_table
 
 
 # How many of the bytes that may be in names are letters, and how many stand later only, in percent.
@@ -2827,14 +3575,14 @@ def random_case(cases, numbers):
         else:
             add(call, first, a_document)
     elif roll < 19:
-        second = respell(random_table(numbers, pool, limits=limits))
+        second = respell(perhaps_marked(numbers, random_table(numbers, pool, limits=limits)))
         pair = (damaged(numbers, first), second) if numbers.chance(40) else (first, damaged(numbers, second))
         add(numbers.of(BY_TABLE), *pair)
     elif roll < 45:
         add(LETS_IN, first, respell(random_document(numbers, first, pool)))
     elif roll < 50:
         a_tree = random_tree(numbers, pool[:3], numbers.between(1, 60))
-        a_document = respell(document(perhaps_with_runs(numbers, a_tree, 60)))
+        a_document = respell(perhaps_with_text(numbers, document(perhaps_with_runs(numbers, a_tree, 60)), 50))
         add(SAMPLE, a_document, out=numbers.of((None, None, 'exact', 'short')))
     elif roll < 55:
         add(numbers.of((TABLE_READS, IS_LOCAL, IS_SINGLE_TYPE)), first)
@@ -2850,7 +3598,8 @@ def random_widening(add, numbers, by_table, first, limits, pool, respell):
     to_kind = numbers.below(2)
     if by_table:
         make = rich_table if numbers.chance(45) else random_table if numbers.chance(80) else None
-        add(BY_TABLE[to_kind], first, respell(make(numbers, pool, limits=limits)) if make else E, out=out)
+        addition = respell(perhaps_marked(numbers, make(numbers, pool, limits=limits))) if make else E
+        add(BY_TABLE[to_kind], first, addition, out=out)
     else:
         add(BY_DOCUMENT[to_kind], first, respell(random_document(numbers, first, pool)), out=out)
 
@@ -2863,7 +3612,7 @@ def random_question(add, numbers, case, first, limits, pool, respell):
     follow = numbers.below(5)
     if case.call in BY_DOCUMENT and numbers.chance(40):
         added = tree_of(ref.read_document(ref.LARGE, ANY_BYTES, case.second))
-        add(LETS_IN, result, respell(document(with_other_runs(numbers, added))))
+        add(LETS_IN, result, respell(perhaps_with_text(numbers, document(with_other_runs(numbers, added)), 20)))
     elif follow == 0:
         add(numbers.of((IS_LOCAL, IS_SINGLE_TYPE)), result)
     elif follow == 1:
@@ -2871,7 +3620,7 @@ def random_question(add, numbers, case, first, limits, pool, respell):
     elif follow == 2:
         add(LETS_IN, result, respell(random_document(numbers, first, pool)))
     elif follow == 3:
-        add(BY_TABLE[numbers.below(2)], result, respell(random_table(numbers, pool, limits=limits)))
+        add(BY_TABLE[numbers.below(2)], result, respell(perhaps_marked(numbers, random_table(numbers, pool, limits=limits))))
     else:
         add(BY_DOCUMENT[numbers.below(2)], result, respell(random_document(numbers, first, pool)))
 
@@ -2888,6 +3637,7 @@ def made_cases(cases):
     class_cases(cases)
     spelling_cases(cases)
     run_cases(cases)
+    text_cases(cases)
 
 
 def all_cases(seed, count):
@@ -2928,6 +3678,11 @@ def lister_cases():
              (LISTER_TABLE, in_capitals(LISTER_DOC)), (in_capitals(LISTER_TABLE), LISTER_DOC),
              (label('card') + label('CARD') + END, LISTER_DOC), (E, list_of(9)), (LISTER_TABLE, list_of(200))]
     pairs += [(old, a_document) for old, a_document, *_ in run_widenings()[-5:]]
+    pairs += [(old, addition) for old, addition, *_ in text_widenings() if addition[0] in (0x30, 0x32)]
+    several = [(0, 'r', seq(any_of(A), some_of(B), optional(A)), TEXT), (1, 'a', choice(A, EMPTY), TEXT), (2, 'b', EMPTY, TEXT)]
+    pairs += [(with_all_marks(LISTER_TABLE), LISTER_DOC), (OTHER_TEXT, LISTER_DOC), (P1, doc('a', text('b'))),
+              (table([0], several), document(text('r'))), (with_tags(LISTER_TABLE, lambda tag: 0x32 if tag == 0x12 else tag), LISTER_DOC),
+              (LISTER_TABLE, with_tags(LISTER_DOC, lambda tag: 0x13 if tag == 0x30 else tag))]
     for number in range(20):
         numbers = Numbers(77000 + number)
         old = random_table(numbers)

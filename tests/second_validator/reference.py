@@ -1,11 +1,11 @@
-"""The second validator: every public call, written from document 01 and Cards 4, 5, 8 and 13 alone.
+"""The second validator: every public call, written from document 01 and Cards 4, 5, 7, 8 and 13 alone.
 
 Plain search, for reading next to the papers: derivations are tried directly, every step of a
 widening is made as a table, and refusals come in the paper's order.  Sentences of the papers
 stand in quotes; where document 01 has a number of the second set, the chosen set's own is read,
 where it has the fixed classes of bytes, those lent with the call, where it has names equal, they
-are so up to letter case, and where it has child sequences of a sample, their runs are made first.
-Python 3, standard library only.
+are so up to letter case, where it has child sequences of a sample, their runs are made first, and
+rules and nodes have their text marks.  Python 3, standard library only.
 
     python3 reference.py list DIR      the text that the lister prints in DIR (old.tbl, new.doc)
 """
@@ -45,6 +45,10 @@ def limits_of(size):
 LABEL, START, RULE, TABLE_END = 0x10, 0x11, 0x12, 0x1F
 NODE, DOCUMENT_END = 0x30, 0x3F
 
+# "A rule may have tag 13 instead of 12: its nodes may hold text. A node may have tag 32 instead of
+# 30: it does hold text." Each tag belongs to its own file; in the other it is foreign.
+TEXT_RULE, TEXT_NODE = 0x13, 0x32
+
 
 class Refused(Exception):
     """A refusal with the paper's number."""
@@ -63,16 +67,18 @@ NONE, EMPTY, TYPE, SEQUENCE, CHOICE, ANY, SOME, OPTIONAL = range(8)
 
 # labels: list of names; starts: list of types; rules: list of Rule, in order;
 # places: where each label's name begins in the table's bytes (None for made tables).
+# text: whether the rule has tag 13.
 Table = namedtuple('Table', 'labels starts rules places')
-Rule = namedtuple('Rule', 'type label content')
+Rule = namedtuple('Rule', 'type label content text')
 
 
 class Node:
-    """A named node with its children in order."""
+    """A named node with its children in order; `text` where it has tag 32."""
 
-    def __init__(self, name, children=()):
+    def __init__(self, name, children=(), text=False):
         self.name = name
         self.children = list(children)
+        self.text = text
 
 
 # ---------------------------------------------------------------- classes of bytes
@@ -194,23 +200,27 @@ def nesting(content):
     return 1 + deepest
 
 
+# The parts of a table: "in this order: labels, starts, rules, end". Rules of either tag are one part,
+# in any mixture. Then the shortest and the longest value of a field there.
+PART = {LABEL: 1, START: 2, RULE: 3, TEXT_RULE: 3, TABLE_END: 4}
+LENGTHS = {1: (1, NAME_BYTES), 2: (1, 1), 3: (2 + 1, 2 + CONTENT_BYTES), 4: (0, 0)}
+
+
 def read_table(limits, classes, data):
     """A table from its bytes, or Refused."""
     if len(data) > INPUT_BYTES:                 # "2 opens each input"
         raise Refused(2)
     labels, places, starts, rules = [], [], [], []
-    at, last_tag = 0, LABEL
+    at, last_part = 0, PART[LABEL]
     while True:
         tag, value, after = field_at(data, at)  # 3
         # 4: "A tag is foreign to this file or out of order, or its length is not one stated above."
-        # "in this order: labels, starts, rules, end": the tags of a table never fall.
-        if tag not in (LABEL, START, RULE, TABLE_END) or tag < last_tag:
+        if tag not in PART or PART[tag] < last_part:
             raise Refused(4)
-        shortest, longest = {LABEL: (1, NAME_BYTES), START: (1, 1),
-                             RULE: (2 + 1, 2 + CONTENT_BYTES), TABLE_END: (0, 0)}[tag]
+        last_part = PART[tag]
+        shortest, longest = LENGTHS[last_part]
         if not shortest <= len(value) <= longest:
             raise Refused(4)
-        last_tag = tag
         if tag == LABEL:
             if not is_name(classes, value):     # 5: "A name breaks the name rule."
                 raise Refused(5)
@@ -229,7 +239,7 @@ def read_table(limits, classes, data):
             if value[0] >= limits.rules:        # 8: "A start or rule type is above 63"
                 raise Refused(8)
             starts.append(value[0])
-        elif tag == RULE:
+        elif tag in (RULE, TEXT_RULE):
             if len(rules) == limits.rules:      # 7
                 raise Refused(7)
             # 8: "... or a rule's ... label number is not among the labels."
@@ -238,7 +248,7 @@ def read_table(limits, classes, data):
             content = read_content(limits, value[2:])    # 9
             if nesting(content) > NESTING:      # 10: "A content nests more than 32 deep."
                 raise Refused(10)
-            rules.append(Rule(value[0], value[1], content))
+            rules.append(Rule(value[0], value[1], content, tag == TEXT_RULE))
         else:
             if after != len(data):              # 12: "Bytes follow the end field."
                 raise Refused(12)
@@ -255,9 +265,9 @@ def read_document(limits, classes, data):
     at = 0
     while True:
         tag, value, after = field_at(data, at)  # 3
-        if tag not in (NODE, DOCUMENT_END):     # 4
+        if tag not in (NODE, TEXT_NODE, DOCUMENT_END):     # 4
             raise Refused(4)
-        if not (2 <= len(value) <= 1 + NAME_BYTES if tag == NODE else len(value) == 0):
+        if not (len(value) == 0 if tag == DOCUMENT_END else 2 <= len(value) <= 1 + NAME_BYTES):
             raise Refused(4)
         complete = root is not None and not unfilled
         if tag == DOCUMENT_END:
@@ -274,7 +284,7 @@ def read_document(limits, classes, data):
         level = len(unfilled) + 1
         if nodes == limits.nodes or children > CHILDREN or level > limits.levels or complete:
             raise Refused(11)
-        node = Node(name)
+        node = Node(name, text=tag == TEXT_NODE)
         nodes += 1
         if unfilled:
             unfilled[-1][0].children.append(node)
@@ -297,13 +307,14 @@ def table_lets_in(table, root):
 
     def derives(type_, node):
         """"A type derives a node if one of its rules has the node's name and the children, in
-        order, are derived by the types of some word of the content." """
+        order, are derived by the types of some word of the content." "Derivation requires rule 13
+        for a node 32"; a node 30 takes either rule."""
         question = (type_, id(node))
         if question not in known:
             known[question] = False
             name = folded(node.name)
             for rule in table.rules:
-                if (rule.type == type_ and names[rule.label] == name
+                if (rule.type == type_ and names[rule.label] == name and (rule.text or not node.text)
                         and some_word_fits(rule.content, node.children)):
                     known[question] = True
                     break
@@ -372,7 +383,8 @@ def types_in(content):
 
 
 def table_is_local(table):
-    """"Local: no two rules have one label." """
+    """"Local: no two rules have one label." "Kinds are unchanged": a rule 12 and a rule 13 are two
+    rules."""
     labels = [rule.label for rule in table.rules]
     return len(labels) == len(set(labels))
 
@@ -444,14 +456,15 @@ def sample_table(root):
     for path, type_ in types.items():
         # "Its content is the choice of the distinct child sequences seen at that path, by first
         # sight [...] one sequence needs no choice." "Distinct sequences are told apart after this",
-        # that is with their runs.
-        seen = []
+        # that is with their runs. "a sample path with any node 32 gets 13."
+        seen, text = [], False
         for other, node in visited:
             if other == path:
                 content = with_runs([types[path + (folded(child.name),)] for child in node.children])
                 if content not in seen:
                     seen.append(content)
-        rules.append(Rule(type_, label_numbers[path[-1]], choice_of(seen)))
+                text = text or node.text
+        rules.append(Rule(type_, label_numbers[path[-1]], choice_of(seen), text))
     return Table(list(labels.values()), [0], rules, None)
 
 
@@ -484,14 +497,16 @@ def unite(limits, old, addition):
     rules = list(old.rules)
     for rule in addition.rules:
         rules.append(Rule(distinct(rule.type), label_called(labels, addition.labels[rule.label]),
-                          replaced(rule.content, lambda t: (TYPE, distinct(t)))))
+                          replaced(rule.content, lambda t: (TYPE, distinct(t))), rule.text))
     return Table(labels, starts, rules, None)
 
 
 def normalise(table):
     """"Each pair of type and label becomes one type, ordered by its first rule; contents of the
     same pair join by choice. A type in a content becomes the choice of its pairs, or none; the
-    pairs of a start type are all starts." """
+    pairs of a start type are all starts." The contents come first: which of them reduce to none is
+    seen over all pairs, and then "A rule 13 behind a result type makes its rule 13 if its own
+    content, reduced, is not none; normalising does likewise." """
     pairs = []
     for rule in table.rules:
         if (rule.type, rule.label) not in pairs:
@@ -506,11 +521,17 @@ def normalise(table):
             return (NONE,)
         return choice_of([(TYPE, number) for number in pairs_of[type_]])
 
+    behind = []       # for each pair its rules, each with its own content in pairs
+    for pair in pairs:
+        behind.append([rule._replace(content=replaced(rule.content, choice_of_pairs))
+                       for rule in table.rules if (rule.type, rule.label) == pair])
     rules = []
-    for number, pair in enumerate(pairs):
-        contents = [replaced(rule.content, choice_of_pairs)
-                    for rule in table.rules if (rule.type, rule.label) == pair]
-        rules.append(Rule(number, pair[1], choice_of(contents)))
+    for number, (_, label) in enumerate(pairs):
+        rules.append(Rule(number, label, choice_of([rule.content for rule in behind[number]]), False))
+    fruitful = fruitful_types(Table(table.labels, [], rules, None))
+    for number in range(len(pairs)):
+        text = any(rule.text and reduced(rule.content, fruitful) != (NONE,) for rule in behind[number])
+        rules[number] = rules[number]._replace(text=text)
     starts = []
     for start in table.starts:
         starts.extend(pairs_of.get(start, []))
@@ -562,15 +583,20 @@ def without_none(content):
     return content
 
 
-def reduce_table(table):
-    """"Unfruitful types become none; their rules and starts go. [...] After that, types not
-    reached from a start through the remaining contents are dropped." """
-    fruitful = fruitful_types(table)
-
+def reduced(content, fruitful):
+    """"Unfruitful types become none", and what follows from it for the content."""
     def none_if_unfruitful(type_):
         return (TYPE, type_) if type_ in fruitful else (NONE,)
 
-    rules = [Rule(rule.type, rule.label, without_none(replaced(rule.content, none_if_unfruitful)))
+    return without_none(replaced(content, none_if_unfruitful))
+
+
+def reduce_table(table):
+    """"Unfruitful types become none; their rules and starts go. [...] After that, types not
+    reached from a start through the remaining contents are dropped." A rule that stays keeps its
+    mark."""
+    fruitful = fruitful_types(table)
+    rules = [rule._replace(content=reduced(rule.content, fruitful))
              for rule in table.rules if rule.type in fruitful]
     starts = [start for start in table.starts if start in fruitful]
 
@@ -589,15 +615,16 @@ def reduce_table(table):
 
 def to_local(table):
     """"One type for each label left, numbered in label order; its content is the choice of all
-    contents of that label, in rule order, each type, starts too, replaced by its label's type." """
+    contents of that label, in rule order, each type, starts too, replaced by its label's type." The
+    rules behind it are those that reducing left; their contents are not none."""
     left = sorted({rule.label for rule in table.rules})
     type_of_label = {label: number for number, label in enumerate(left)}
     new_type = {rule.type: type_of_label[rule.label] for rule in table.rules}
     rules = []
     for label in left:
-        contents = [replaced(rule.content, lambda t: (TYPE, new_type[t]))
-                    for rule in table.rules if rule.label == label]
-        rules.append(Rule(type_of_label[label], label, choice_of(contents)))
+        behind = [rule for rule in table.rules if rule.label == label]
+        contents = [replaced(rule.content, lambda t: (TYPE, new_type[t])) for rule in behind]
+        rules.append(Rule(type_of_label[label], label, choice_of(contents), any(rule.text for rule in behind)))
     starts = sorted({new_type[start] for start in table.starts})
     return Table(table.labels, starts, rules, None)
 
@@ -617,7 +644,8 @@ def to_single_type(limits, table):
         number = len(rules)
         members = sets[number]
         # "A set's content is the choice of its members' contents in rule order."
-        content = choice_of([rule.content for rule in table.rules if rule.type in members])
+        behind = [rule for rule in table.rules if rule.type in members]
+        content = choice_of([rule.content for rule in behind])
         # "Within that, types of one label form one set and are replaced by it. New sets are
         # numbered as met, left to right"
         groups = {}                   # label -> its types within the content, labels as met
@@ -633,7 +661,7 @@ def to_single_type(limits, table):
             return (TYPE, set_of_label[label_of[type_]])
 
         label = label_of[next(iter(members))]
-        rules.append(Rule(number, label, replaced(content, replacement)))
+        rules.append(Rule(number, label, replaced(content, replacement), any(rule.text for rule in behind)))
         if len(sets) > limits.rules:  # 14 whatever follows; there may be very many sets
             raise Refused(14)
     return Table(table.labels, starts, rules, None)
@@ -665,14 +693,14 @@ def tidy(content):
 
 
 def tidy_table(table):
-    rules = [Rule(rule.type, rule.label, tidy(rule.content)) for rule in table.rules]
+    rules = [rule._replace(content=tidy(rule.content)) for rule in table.rules]
     return Table(table.labels, table.starts, rules, None)
 
 
 def with_used_labels(table):
     """"The result's labels are those used, in label order; starts and rules ascend by type." """
     used = sorted({rule.label for rule in table.rules})
-    rules = [Rule(rule.type, used.index(rule.label), rule.content)
+    rules = [rule._replace(label=used.index(rule.label))
              for rule in sorted(table.rules, key=lambda rule: rule.type)]
     return Table([table.labels[label] for label in used], sorted(table.starts), rules, None)
 
@@ -729,7 +757,8 @@ def table_bytes(table):
     """"Table, in this order: labels, starts, rules, end" """
     fields = [field_bytes(LABEL, name) for name in table.labels]
     fields += [field_bytes(START, bytes([start])) for start in table.starts]
-    fields += [field_bytes(RULE, bytes([rule.type, rule.label]) + content_bytes(rule.content))
+    fields += [field_bytes(TEXT_RULE if rule.text else RULE,
+                           bytes([rule.type, rule.label]) + content_bytes(rule.content))
                for rule in table.rules]
     return b''.join(fields) + field_bytes(TABLE_END, b'')
 
@@ -909,8 +938,9 @@ def listing(old, document):
     for start in table.starts:
         lines.append('start t%d' % start)
     for rule in table.rules:
-        name = table.labels[rule.label].decode('ascii')
-        lines.append('t%d %s %s' % (rule.type, name, content_text(rule.content)))
+        # "The lister puts # after such a rule's content."
+        name, mark = table.labels[rule.label].decode('ascii'), '#' if rule.text else ''
+        lines.append('t%d %s %s%s' % (rule.type, name, content_text(rule.content), mark))
     return ''.join(line + '\n' for line in lines).encode('ascii')
 
 

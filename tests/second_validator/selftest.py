@@ -3,13 +3,14 @@
     python3 selftest.py [--rounds N]
 
 The paper's P1 to P8, its edges and the lister's example; the edges of the three sizes, those of the
-classes, those of letter case and those of runs, numbered by hand; that a larger set gives the same answer wherever a
+classes, those of letter case, those of runs and those of text marks, numbered by hand; that a larger set gives the same answer wherever a
 smaller one gives one, and so do classes with more letters; that inputs with letters in the other case give
-the same answers, with every name written in its first spelling; that widening by a document is widening by its
+the same answers, with every name written in its first spelling; that marks change no answer but letting in and, of what is written, no
+byte but the tags of rules; that widening by a document is widening by its
 sample, that both let it in, and that one more member of a run changes neither; that names of other letters, under classes
 that say so, give the answers of the names that they stand for; reading against bytes written; letting in against a listing of all
-derived documents; a sample's documents against what a run stands for, on all small trees; and widening against
-brute force on small tables: the result is of its kind, lets in what it must, and is least.
+derived documents; a sample's documents against what a run and a mark stand for, on all small trees; and widening against
+brute force on small tables, without marks and with: the result is of its kind, lets in what it must, and is least.
 """
 
 import argparse
@@ -21,7 +22,7 @@ sys.dont_write_bytecode = True
 sys.path.insert(0, os.path.dirname(os.path.abspath(__file__)))
 import generate as gen  # noqa: E402
 import reference as ref  # noqa: E402
-from generate import EMPTY, E, Numbers, any_of, choice, doc, seq, t, table, tree  # noqa: E402
+from generate import EMPTY, TEXT, E, Numbers, any_of, choice, doc, name_of, seq, t, table, text, tree  # noqa: E402
 
 L = ref.STANDARD        # "document 01's cases keep the second"
 C = ref.ASCII           # and "the old classes"
@@ -88,11 +89,12 @@ def paper():
 
 # ---------------------------------------------------------------- all derived documents, listed
 
-# Trees here are pairs of a name, in small letters, and a tuple of trees.
+# Trees here are pairs of a head, its name in small letters, and a tuple of trees.
 
-def derived_documents(read, most):
+def derived_documents(read, most, fewer_marks=True):
     """All trees of at most `most` nodes that the table lets in, listed by building them up: no
-    matching of children is tried here."""
+    matching of children is tried here. Or else only with text wherever there may be some; all others
+    are these with fewer marks."""
     trees = {}        # (type, nodes) -> set of trees
 
     def forests(content, nodes, known):
@@ -140,7 +142,8 @@ def derived_documents(read, most):
         known = {}
         for rule in read.rules:
             name = ref.folded(read.labels[rule.label]).decode('ascii')
-            made = {(name, forest) for forest in forests(rule.content, nodes - 1, known)}
+            heads = ([name + TEXT] if rule.text else []) + ([name] if fewer_marks or not rule.text else [])
+            made = {(head, forest) for head in heads for forest in forests(rule.content, nodes - 1, known)}
             trees.setdefault((rule.type, nodes), set()).update(made)
     return {one for start in read.starts for nodes in range(1, most + 1)
             for one in trees.get((start, nodes), ())}
@@ -150,7 +153,7 @@ ALL_TREES = {}
 
 
 def all_trees(names, nodes):
-    """All trees of exactly `nodes` nodes over the names."""
+    """All trees of exactly `nodes` nodes over the names, or heads."""
     key = (names, nodes)
     if key not in ALL_TREES:
         ALL_TREES[key] = [(name, forest) for name in names for forest in all_forests(names, nodes - 1)]
@@ -168,8 +171,14 @@ def trees_up_to(names, most):
     return [one for nodes in range(1, most + 1) for one in all_trees(names, nodes)]
 
 
+def with_text(names):
+    """The heads of the names, without text and with."""
+    return tuple(name + mark for mark in ('', TEXT) for name in names)
+
+
 def as_node(a_tree):
-    return ref.Node(a_tree[0].encode('ascii'), [as_node(child) for child in a_tree[1]])
+    head, children = a_tree
+    return ref.Node(name_of(head).encode('ascii'), [as_node(child) for child in children], gen.holds_text(head))
 
 
 def membership(rounds):
@@ -179,11 +188,13 @@ def membership(rounds):
         make = gen.rich_table if number % 2 else gen.random_table
         names = ('a', 'b', 'c')[:2 + number % 2]
         limits = ref.SETS[number % 3]
-        read = ref.read_table(limits, C, gen.respelled(numbers, make(numbers, list(names), 5, limits)))
-        most = 6 if len(names) == 2 else 4
-        listed = derived_documents(read, most)
-        for a_tree in trees_up_to(names, most):
-            check(ref.table_lets_in(read, as_node(a_tree)) == (a_tree in listed), read, a_tree)
+        made = gen.respelled(numbers, make(numbers, list(names), 5, limits))
+        marked = gen.with_other_marks(numbers, made, numbers.of((30, 60, 100)))
+        for data, heads, most in ((made, names, 8 - len(names)), (marked, with_text(names), 6 - len(names))):
+            read = ref.read_table(limits, C, data)
+            listed = derived_documents(read, most)
+            for a_tree in trees_up_to(heads, most):
+                check(ref.table_lets_in(read, as_node(a_tree)) == (a_tree in listed), read, a_tree)
     # Random contents over two leaves, against every word of at most five.
     words = [word for length in range(6) for word in itertools.product('ab', repeat=length)]
     for number in range(rounds * 4):
@@ -200,23 +211,26 @@ def membership(rounds):
 
 def pieces(a_tree, kind, above=()):
     """What a table of the kind cannot tell apart: at each node its name (local) or the path of
-    names to it (single-type), with the names of its children."""
-    path = above + (a_tree[0],)
-    here = path if kind == 'single-type' else (a_tree[0],)
-    yield ('node', here, tuple(child[0] for child in a_tree[1]))
+    names to it (single-type), with the names of its children, and apart from these that it holds
+    text."""
+    path = above + (name_of(a_tree[0]),)
+    here = path if kind == 'single-type' else path[-1:]
+    yield ('node', here, tuple(name_of(child[0]) for child in a_tree[1]))
+    if gen.holds_text(a_tree[0]):
+        yield ('text', here)
     for child in a_tree[1]:
         yield from pieces(child, kind, path)
 
 
 def seen_pieces(trees, kind):
-    found = {('root', a_tree[0]) for a_tree in trees}
+    found = {('root', name_of(a_tree[0])) for a_tree in trees}
     for a_tree in trees:
         found.update(pieces(a_tree, kind))
     return found
 
 
 def made_of(a_tree, found, kind):
-    return ('root', a_tree[0]) in found and all(piece in found for piece in pieces(a_tree, kind))
+    return ('root', name_of(a_tree[0])) in found and all(piece in found for piece in pieces(a_tree, kind))
 
 
 def rival_tables(kind):
@@ -248,22 +262,45 @@ def rival_tables(kind):
     return made
 
 
-def leastness(rounds):
+def marked_rivals(kind):
+    """The same with rules of both tags: of a share of the tables each mixture, of the others one."""
+    numbers, made = Numbers(4343), []
+    for place, one in enumerate(rival_tables(kind)):
+        parts = gen.fields_of(one)
+        rules = [number for number, part in enumerate(parts) if part[0] == 0x12]
+        for marked in itertools.product((0, 1), repeat=len(rules)):
+            if len(rules) > 2 and not numbers.chance(15) or len(rules) == 2 and place % 3:
+                continue
+            tags = {number: bytes([0x12 + mark]) for number, mark in zip(rules, marked)}
+            made.append(b''.join(tags.get(number, part[:1]) + part[1:] for number, part in enumerate(parts)))
+    for one in made:
+        check(FORMS[kind][2](L, C, one, W) == (0, 1, b''), kind, one)
+    return made
+
+
+def leastness(rounds, marks):
+    """With marks the trees are of one node less: there are twice as many heads."""
     names = ('a', 'b')
-    most = 5
-    small = [one for one in trees_up_to(names, 4)]
+    most = 4 if marks else 5
+    small = trees_up_to(with_text(names) if marks else names, 4)
     rivals = {kind: [(one, derived_documents(ref.read_table(L, C, one), most))
-                     for one in rival_tables(kind)] for kind in FORMS}
-    counts = {'widenings': 0, 'whole': 0, 'rivals compared': 0}
+                     for one in (marked_rivals if marks else rival_tables)(kind)] for kind in FORMS}
+    what = 'marked ' if marks else ''
+    counts = {what + count: 0 for count in ('widenings', 'whole', 'rivals compared')}
     for number in range(rounds):
-        numbers = Numbers(9000 + number)
-        make = (gen.random_table, gen.rich_table)
+        numbers = Numbers((9500 if marks else 9000) + number)
         limits = ref.SETS[number // 6 % 3]
-        old = gen.respelled(numbers, make[number % 2](numbers, list(names), 4, limits))
+
+        def made(make):
+            a_table = gen.respelled(numbers, make(numbers, list(names), 4, limits))
+            return gen.with_other_marks(numbers, a_table, numbers.of((0, 25, 50, 75))) if marks else a_table
+
+        make = (gen.random_table, gen.rich_table)
+        old = made(make[number % 2])
         old_trees = derived_documents(ref.read_table(limits, C, old), most + 1)
         one = numbers.of(small)
         if number % 3:
-            addition = through = gen.respelled(numbers, make[number // 2 % 2](numbers, list(names), 4, limits))
+            addition = through = made(make[number // 2 % 2])
         else:                           # a document, "added through its sample"
             addition = gen.respelled(numbers, gen.document(one))
             through = ref.sample(limits, C, addition, 33000, limits.words).written
@@ -274,7 +311,7 @@ def leastness(rounds):
             if answer.refusal:
                 check(answer.refusal == 13 and not old_trees and not added, kind, old, addition)
                 continue
-            counts['widenings'] += 1
+            counts[what + 'widenings'] += 1
             result = ref.read_table(limits, C, answer.written)
             # "Being of the kind, letting in the old and the added, and being least are one claim"; "The widened
             # table is then least over the old table's documents and all those of the sample table".
@@ -288,11 +325,11 @@ def leastness(rounds):
             narrow = {one for one in let_in if gen.node_count(one) <= 4}
             whole = all(made_of(one, found, kind) for one in narrow)
             if whole:
-                counts['whole'] += 1
+                counts[what + 'whole'] += 1
             else:
                 # The documents that show a piece may be larger; try again with more nodes.
                 for nodes in (9, 11, 13):
-                    wider = set().union(*(derived_documents(ref.read_table(limits, C, data), nodes) for data in (old, through)))
+                    wider = set().union(*(derived_documents(ref.read_table(limits, C, data), nodes, False) for data in (old, through)))
                     found = seen_pieces(wider, kind)
                     whole = all(made_of(one, found, kind) for one in narrow)
                     if whole:
@@ -309,7 +346,7 @@ def leastness(rounds):
             narrow = {one for one in narrow if made_of(one, found, kind)}
             for rival, rival_trees in rivals[kind]:
                 if must <= rival_trees:
-                    counts['rivals compared'] += 1
+                    counts[what + 'rivals compared'] += 1
                     check(narrow <= rival_trees, kind, old, addition, rival)
     return counts
 
@@ -418,7 +455,7 @@ def renamed_alike(rounds):
         answers = []
         for lent, names in ((C, small), (bytes(classes), pool)):
             same = Numbers(48000 + number)
-            old, addition = gen.random_table(same, names), gen.rich_table(same, names)
+            old, addition = gen.perhaps_marked(same, gen.random_table(same, names)), gen.perhaps_marked(same, gen.rich_table(same, names))
             a_document = gen.random_document(same, old, names)
             answers.append([ref.lets_in(L, lent, old, a_document, W), ref.label_name(L, lent, old, 1, W),
                             ref.is_local(L, lent, old, W), ref.is_single_type(L, lent, old, W),
@@ -454,7 +491,7 @@ def spellings_by_hand():
         first = {ref.folded(name): name for name in reversed(gen.names_in(old) + gen.names_in(addition))}
         as_old = gen.spelled(lambda name: first[ref.folded(name)], addition)
         for by_table, by_document, _ in FORMS.values():
-            by = by_document if addition[0] == 0x30 else by_table
+            by = by_document if addition[0] in (0x30, 0x32) else by_table
             check(by(L, C, old, addition, 500, W) == by(L, C, old, as_old, 500, W), old, addition)
     text = (b'local\nstart t0\nt0 list (t1*|t1)\nt1 card ((t2,t3?)|(t2,t4))\n'
             b't2 name ()\nt3 door ()\nt4 ZONE ()\n')
@@ -556,28 +593,104 @@ def added_through_samples():
     return counts
 
 
-def small_samples():
-    """A sample lets in just the trees whose children, at each path, are those of a node of the document there: in the same order, each
-    that stands alone there alone here too, each run there one or more here."""
-    def words(a_tree, above=()):
-        """Paths with their children in groups, a name and a number each."""
-        path = above + (a_tree[0],)
-        yield path, tuple((group[0][0], len(group)) for group in gen.neighbours(a_tree))
-        for child in a_tree[1]:
-            yield from words(child, path)
+def words_in(a_tree, above=()):
+    """Paths with their children in groups, a name and a number each."""
+    path = above + (name_of(a_tree[0]),)
+    yield path, tuple((name_of(group[0][0]), len(group)) for group in gen.neighbours(a_tree))
+    for child in a_tree[1]:
+        yield from words_in(child, path)
 
+
+def texts_in(a_tree, above=()):
+    """The paths with text."""
+    path = above + (name_of(a_tree[0]),)
+    here = {path} if gen.holds_text(a_tree[0]) else set()
+    return here.union(*(texts_in(child, path) for child in a_tree[1]))
+
+
+def small_samples(heads, most, share):
+    """A sample lets in just the trees whose children, at each path, are those of a node of the document there: in the same order, each
+    that stands alone there alone here too, each run there one or more here; and with text only at paths where the document has some."""
     def like(here, there):
         return len(here) == len(there) and all(one[0] == other[0] and (other[1] > 1 or one[1] == 1) for one, other in zip(here, there))
 
-    trees = [(one, list(words(one))) for one in trees_up_to(('a', 'b'), 5)]
-    for number, (one, seen) in enumerate(trees):
-        if gen.node_count(one) == 5 and number % 7:
+    trees = [(one, list(words_in(one)), texts_in(one)) for one in trees_up_to(heads, most)]
+    for number, (one, seen, texts) in enumerate(trees):
+        if gen.node_count(one) == most and number % share:
             continue
         sampled = ref.read_table(L, C, ref.sample(L, C, gen.document(one), 500, W).written)
-        listed = derived_documents(sampled, 5)
-        for other, asked in trees:
-            fits = all(any(path == there and like(groups, others) for there, others in seen) for path, groups in asked)
+        listed = derived_documents(sampled, most)
+        for other, asked, held in trees:
+            fits = held <= texts and all(any(path == there and like(groups, others) for there, others in seen) for path, groups in asked)
             check(fits == (other in listed), one, other)
+
+
+# ---------------------------------------------------------------- text marks
+
+def text_by_hand():
+    made = gen.Cases()
+    for told, call, first, second, options in gen.text_edges():
+        made.add(call, first, second, **options)
+        answer = gen.answer_of(made.all[-1])
+        check(answer == told, told, answer, call, first.hex(), second.hex(), options)
+    for call in gen.CALL_NAMES:
+        check({0, 4} <= {gen.answer_of(case).refusal for case in made.all if case.call == call}, call)
+    # In bytes: P1's rule for text, and P2's node with it.
+    marked, held = bytes.fromhex('10000161 110001 00 130003000001 1F0000'), bytes.fromhex('3200020061 3F0000')
+    check(marked == gen.with_all_marks(gen.P1) and held == gen.with_all_marks(gen.P2))
+    for a_table, a_document, value in ((gen.P1, gen.P2, 1), (gen.P1, held, 0), (marked, gen.P2, 1), (marked, held, 1)):
+        check(ref.lets_in(L, C, a_table, a_document, W) == (0, value, b''), a_table, a_document)
+    check(ref.sample(L, C, held, 100, W) == (0, 17, marked) and ref.sample(L, C, gen.P2, 100, W) == (0, 17, gen.P1))
+    for by_table, by_document, _ in FORMS.values():
+        for old, addition in ((gen.P1, marked), (marked, gen.P1), (marked, marked), (marked, E), (E, marked)):
+            check(by_table(L, C, old, addition, 100, W) == (0, 17, marked), old, addition)
+        for old, addition in ((gen.P1, held), (marked, gen.P2), (marked, held), (E, held)):
+            check(by_document(L, C, old, addition, 100, W) == (0, 17, marked), old, addition)
+        check(by_document(L, C, gen.P1, gen.P2, 100, W) == (0, 17, gen.P1))
+    lister_with_marks()
+
+
+def lister_with_marks():
+    """# directly after the content."""
+    text_ = (b'local\nstart t0\nt0 list (t1*|t1)\nt1 card ((t2,t3?)|(t2,t4))\n'
+             b't2 name ()#\nt3 door ()\nt4 zone ()#\n')
+    a_document = doc('list', tree('card', text('name'), text('zone')))
+    check(ref.listing(gen.LISTER_TABLE, a_document) == text_ and ref.listing(gen.NAME_TEXT, a_document) == text_, 'lister')
+    check(ref.listing(gen.NAME_TEXT, gen.LISTER_DOC) == text_.replace(b'zone ()#', b'zone ()'), 'lister')
+    contents = b'local\nstart t0\nt0 list (t1*|t1)#\nt1 card ((t2,t3?)|(t2,t4))#\nt2 name ()#\nt3 door ()#\nt4 zone ()\n'
+    check(ref.listing(gen.with_all_marks(gen.LISTER_TABLE), gen.LISTER_DOC) == contents, 'lister')
+    check(ref.listing(E, gen.document(text('a', text('b')))) == b'local\nstart t0\nt0 a t1#\nt1 b ()#\n', 'lister')
+    for operator, told in ((any_of(t(0)), b'(t0*|())#'), (gen.some_of(t(0)), b'(t0+|())#'), (gen.optional(t(0)), b'(t0?|())#')):
+        old = table([0], [(0, 'a', operator), (0, 'a', EMPTY, TEXT)])
+        check(ref.listing(old, doc('a')) == b'local\nstart t0\nt0 a ' + told + b'\n', 'lister')
+    foreign = gen.with_tags(gen.LISTER_TABLE, lambda tag: 0x32 if tag == 0x12 else tag)
+    check(ref.listing(foreign, a_document) == b'refused 4\n', 'lister')
+
+
+def marks_seen_by_letting_in_alone():
+    """Over all made cases, with other marks: the same refusal; of what is written the same bytes but for the tags of rules; the same value
+    but for letting in, which more marks in the table never make a no, and more in the document never a yes. With all of them it is as
+    with none, and so is what is written, all its rules for text."""
+    made = gen.Cases()
+    gen.made_cases(made)
+    for turn, case in enumerate(made.all):
+        numbers, plain = Numbers(54000, turn), gen.answer_of(with_marks(case, gen.without_marks))
+        marked = with_marks(case, lambda data: gen.with_other_marks(numbers, data, 50))
+        every, own, answer = gen.answer_of(with_marks(case, gen.with_all_marks)), gen.answer_of(case), gen.answer_of(marked)
+        check(every == plain._replace(written=gen.with_all_marks(plain.written)), case)
+        for found in (own, answer):
+            check(found.refusal == plain.refusal and gen.without_marks(found.written) == plain.written, case)
+            check(found.value == plain.value or case.call == gen.LETS_IN and found.value < plain.value, case)
+        if case.call == gen.LETS_IN:
+            first, second = marked.first, marked.second
+            for more in (marked._replace(first=gen.with_all_marks(first)), marked._replace(second=gen.without_marks(second))):
+                check(answer.value <= gen.answer_of(more).value, case)
+            for less in (marked._replace(first=gen.without_marks(first)), marked._replace(second=gen.with_all_marks(second))):
+                check(answer.value >= gen.answer_of(less).value, case)
+
+
+def with_marks(case, changed):
+    return case._replace(first=changed(case.first), second=changed(case.second))
 
 
 # ---------------------------------------------------------------- other facts
@@ -598,8 +711,9 @@ def other_facts(rounds):
         numbers = Numbers(31000 + number)
         limits = ref.SETS[number // 2 % 3]
         words = limits.words
-        old = (gen.rich_table if number % 2 else gen.random_table)(numbers, limits=limits)
-        addition = gen.respelled(numbers, (gen.random_table if number % 2 else gen.rich_table)(numbers, limits=limits))
+        old = gen.perhaps_marked(numbers, (gen.rich_table if number % 2 else gen.random_table)(numbers, limits=limits))
+        addition = (gen.random_table if number % 2 else gen.rich_table)(numbers, limits=limits)
+        addition = gen.respelled(numbers, gen.perhaps_marked(numbers, addition))
         if gen.has_a_name_twice(old):
             check(ref.table_reads(limits, C, old, words).refusal == 6)
             continue
@@ -646,12 +760,16 @@ def main():
     spellings_by_hand()
     respelled_alike()
     runs_by_hand()
+    text_by_hand()
+    marks_seen_by_letting_in_alone()
     counts = added_through_samples()
-    small_samples()
+    small_samples(('a', 'b'), 5, 7)
+    small_samples(with_text(('a', 'b')), 4, 5)
     numbers_by_hand()
     larger_sets_agree()
     membership(max(1, rounds // 5))
-    counts.update(leastness(rounds))
+    for marks in (False, True):
+        counts.update(leastness(rounds, marks))
     other_facts(rounds)
     renamed_alike(rounds)
     print('%d facts hold; %s' % (done[0], ', '.join('%s %d' % pair for pair in counts.items())))

@@ -27,7 +27,8 @@ __extension__ typedef unsigned __int128 type_set;
 enum { SET_WORDS = sizeof(type_set) / sizeof(uint32_t) };
 enum { MOST_LABELS = TYPES, MOST_STARTS = TYPES, MOST_RULES = TYPES };
 enum { CLASSES = 256, NAME_BYTES = 63, CONTENT_BYTES = 1024, NESTING = 32, MOST_CHILDREN = 200 };
-enum { LABEL_TAG = 0x10, START_TAG = 0x11, RULE_TAG = 0x12, TABLE_END = 0x1F, NODE_TAG = 0x30, DOCUMENT_END = 0x3F };
+enum { LABEL_TAG = 0x10, START_TAG = 0x11, RULE_TAG = 0x12, TEXT_RULE_TAG = 0x13, TABLE_END = 0x1F };
+enum { NODE_TAG = 0x30, TEXT_NODE_TAG = 0x32, DOCUMENT_END = 0x3F };
 enum { NONE, EMPTY, TYPE, SEQUENCE, CHOICE, ANY_NUMBER, ONE_OR_MORE, OPTIONAL };
 
 /* Keys of names, and what ends a chain: no label and no rule has this number. */
@@ -53,6 +54,7 @@ struct rule {
     uint16_t size;
     uint8_t type;
     uint8_t nullable; /* the content has the word of no types */
+    uint8_t text;     /* its nodes may hold text: 1, else 0 */
     uint8_t next;     /* the next rule of the same label */
 };
 
@@ -68,6 +70,7 @@ struct table {
 struct node {
     uint8_t label; /* NO_MORE for an unknown name */
     uint8_t children;
+    uint8_t text; /* it holds text: 1, else 0 */
 };
 
 /* A document while it is read. For each open level, outermost first, `coming` has how many nodes are still to come there. */
@@ -218,8 +221,8 @@ static unsigned read_rule(struct table *table, const struct field *field) {
     struct extent whole = read_expression(content, end);
     if (whole.next != end) return COGARRUNE_BAD_CONTENT;
     if (whole.nesting > NESTING) return COGARRUNE_NESTED_TOO_DEEP;
-    table->rule[table->rules] =
-        (struct rule){content, (uint16_t)(field->size - 2), (uint8_t)type, (uint8_t)whole.nullable, table->first_rule[label]};
+    table->rule[table->rules] = (struct rule){content, (uint16_t)(field->size - 2), (uint8_t)type, (uint8_t)whole.nullable,
+                                              field->tag == TEXT_RULE_TAG, table->first_rule[label]};
     table->first_rule[label] = (uint8_t)table->rules++;
     return 0;
 }
@@ -228,7 +231,8 @@ static unsigned read_table_field(struct table *table, const uint8_t *classes, co
     switch (field->tag) {
     case LABEL_TAG: return read_label(table, classes, field);
     case START_TAG: return read_start(table, field);
-    case RULE_TAG: return read_rule(table, field);
+    case RULE_TAG:
+    case TEXT_RULE_TAG: return read_rule(table, field);
     default: return COGARRUNE_BAD_FIELD;
     }
 }
@@ -253,13 +257,14 @@ static unsigned read_table(struct table *table, const uint8_t *classes, const ui
 }
 
 static unsigned read_node(struct document *document, const uint8_t *classes, const struct field *field, const struct table *table) {
-    if (field->tag != NODE_TAG || field->size < 2 || field->size > NAME_BYTES + 1) return COGARRUNE_BAD_FIELD;
+    unsigned text = field->tag == TEXT_NODE_TAG;
+    if ((field->tag != NODE_TAG && !text) || field->size < 2 || field->size > NAME_BYTES + 1) return COGARRUNE_BAD_FIELD;
     unsigned children = field->value[0];
     const uint8_t *name = field->value + 1;
     size_t size = field->size - 1, levels = document->levels;
     if (!is_name(classes, name, size)) return COGARRUNE_BAD_NAME;
     if (document->nodes == MOST_NODES || children > MOST_CHILDREN || levels > MOST_LEVELS || levels == 0) return COGARRUNE_BAD_TREE;
-    document->node[document->nodes++] = (struct node){(uint8_t)label_of(table, name, size), (uint8_t)children};
+    document->node[document->nodes++] = (struct node){(uint8_t)label_of(table, name, size), (uint8_t)children, (uint8_t)text};
     document->coming[levels - 1]--;
     if (children != 0)
         document->coming[levels++] = (uint8_t)children;
@@ -378,11 +383,12 @@ static uint32_t matches(const struct rule *rule, const uint32_t *sets, size_t ch
     return ends;
 }
 
-/* The types that derive a node, whose children's sets stand from `sets` on. */
+/* The types that derive a node, whose children's sets stand from `sets` on. A node with text takes rules for text alone. */
 static type_set types_of(const struct table *table, struct node node, const uint32_t *sets) {
     type_set types = 0;
     for (unsigned i = table->first_rule[node.label]; i != NO_MORE; i = table->rule[i].next) {
         const struct rule *rule = &table->rule[i];
+        if (node.text > rule->text) continue;
         type_set fits = node.children == 0 ? rule->nullable : matches(rule, sets, node.children);
         types |= fits << rule->type;
     }

@@ -10,7 +10,7 @@ use mathlib.Core.Path.{_≡_, sym, _∙_, ap, ap₂, subst}
 use lib.ListN.{length, getD, take, drop, length-take, length-drop}
 use lib.Seq.{getD-take, getD-drop}
 use Rattle.grammar.specs.Limits.{large, nestingLimit}
-use Rattle.grammar.specs.Content.{Content, none, nesting}
+use Rattle.grammar.specs.Content.{Content, nesting}
 use Rattle.grammar.specs.Table.{Rule, Table}
 use Rattle.grammar.specs.Unite.{shifted}
 use Rattle.grammar.specs.Normalise.{pairOf}
@@ -22,7 +22,7 @@ use Rattle.union.specs.declared.united.United.{United}
 use Rattle.union.specs.View.{SourceContent, FromAddition, Views, fromIn, toIn, firstIn}
 use Rattle.union.specs.Walks.{listOfType}
 use Rattle.union.specs.Rounds.{contentOfRule}
-use Rattle.union.specs.PairNumbers.{ruleNumbered}
+use Rattle.union.specs.PairNumbers.{ruleNumbered, noRule}
 use Rattle.union.proofs.ViewLaws.{content-is, seen}
 use Rattle.contents.specs.declared.joining.ResultTypes.{ResultTypes}
 use Rattle.contents.specs.declared.drafts.OperandRow.{OperandRow}
@@ -38,7 +38,7 @@ pub first-is : {old add : List ℕ} {v : United} {u : Table} → Views old add v
     → firstIn v i ≡ pairOf u (ruleNumbered u i)
 first-is {u = u} x i h =
     let s = seen x i h in
-    s .2 .first ∙ ap (pairOf u) (sym (at-else (u .rules) i (record { type = 0; label = 0; content = none }) (s .1)))
+    s .2 .first ∙ ap (pairOf u) (sym (at-else (u .rules) i noRule (s .1)))
 
 -- a content stands between equal places too
 source-as : {s : List ℕ} {from to from′ to′ : ℕ} {c : Content} → from ≡ from′ → to ≡ to′ → SourceContent s from′ to′ c

@@ -1,7 +1,6 @@
 -- Laws of lists for the forms by sets. Of what is kept, and of images:
 --   map-itself                        a function that leaves each element of a list
 --   keep-nothing                      nothing is kept where nothing passes the test
---   any-map                           some image passes a test
 --   in-kept                           a number is kept of a list that has it just where it passes the test
 -- Of lists by places: same-at, numbered, past-nothing; kept-below. Of distinct elements:
 --   first-itself     an element of the distinct ones stands at its own place
@@ -167,11 +166,6 @@ module _ {A : Type 0} where
       (λ e. not-both (any-of (same x) m e) (not-true (anyPass (same x) xs) (and-left new (allDistinct same xs) d))))))
 
 module _ {A B : Type 0} where
-  pub any-map : (f : A → B) (test : B → Bool) (xs : List A) → anyPass test (map f xs) ≡ anyPass (λ x. test (f x)) xs
-  unfolding anyPass
-  any-map f test [] = refl
-  any-map f test (x ∷ xs) = ap (λ (b : Bool). test (f x) || b) (any-map f test xs)
-
   -- equal elements may go before their images are told apart
   module _ (p : A → A → Bool) (p-decides : (x y : A) → (p x y ≡ true) ↔ (x ≡ y)) (q : B → B → Bool)
       (q-decides : (x y : B) → (q x y ≡ true) ↔ (x ≡ y)) (f : A → B) where

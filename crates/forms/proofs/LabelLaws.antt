@@ -12,7 +12,6 @@ use lib.ListN.{length, getD, length-append, List·getD-eq-default}
 use lib.Dec.{eqb, ltb}
 use borrow.Author.Tests.{ltb-true, ltb-false}
 use Rattle.grammar.specs.Lists.{keep, isIn, numbersBelow}
-use Rattle.grammar.specs.Content.{none}
 use Rattle.grammar.specs.ReadTable.{isEmpty}
 use Rattle.grammar.specs.Table.{Rule, Table}
 use Rattle.grammar.specs.SingleTypeForm.{TypeSet}
@@ -21,7 +20,7 @@ use Rattle.theory.proofs.lists.ListLaws.{at-else, mem-in, numbers-end}
 use Rattle.theory.proofs.lists.DistinctLaws.{keep-append}
 use Rattle.union.specs.declared.united.United.{United}
 use Rattle.union.specs.View.{Views, labelIn}
-use Rattle.union.specs.PairNumbers.{ruleNumbered}
+use Rattle.union.specs.PairNumbers.{ruleNumbered, noRule}
 use Rattle.union.proofs.ViewLaws.{seen}
 use Rattle.forms.specs.declared.set_words.Counted.{Counted}
 use Rattle.forms.specs.declared.set_words.Counted.the-variants.{TooMany, Count}
@@ -33,7 +32,7 @@ module _ {old add : List ℕ} {v : United} {u : Table} (x : Views old add v u) w
   pub label-at : (i : ℕ) → i < v .rules → labelIn v i ≡ ruleNumbered u i .label
   label-at i h =
       let s = seen x i h in
-      s .2 .label ∙ ap (λ (r : Rule). r .label) (sym (at-else (u .rules) i (record { type = 0; label = 0; content = none }) (s .1)))
+      s .2 .label ∙ ap (λ (r : Rule). r .label) (sym (at-else (u .rules) i noRule (s .1)))
 
   pub labelled-is : (pairs : ℕ → Bool) (l : ℕ)
       → keep (λ p. pairs p && eqb (labelIn v p) l) (numbersBelow (v .rules)) ≡ pairsLabelled u pairs l
@@ -60,7 +59,7 @@ module _ {old add : List ℕ} {v : United} {u : Table} (x : Views old add v u) w
   label-none [] e h = let z : _≡_ {A = ℕ} 0 1 = cc in absurd (omega arith)
   label-none (y ∷ s) e h =
       let past : length (u .rules) ≤ y = go (ltb y (v .rules)) refl in
-      ap (λ (r : Rule). r .label) (sym (List·getD-eq-default (u .rules) (record { type = 0; label = 0; content = none }) past))
+      ap (λ (r : Rule). r .label) (sym (List·getD-eq-default (u .rules) noRule past))
     where
       go : (b : Bool) → ltb y (v .rules) ≡ b → length (u .rules) ≤ y
       go true b = absurd (not-both (mem-in (List·Memᴰ·head {xs = s} refl)) (h y (ltb-true y (v .rules) b)))

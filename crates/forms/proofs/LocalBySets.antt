@@ -51,10 +51,11 @@ use Rattle.forms.specs.SetForms.{
   localStarts,
   localTable,
   tableBySets,
+  textBySet,
 }
 use Rattle.forms.proofs.KeptLists.{in-kept}
 use Rattle.forms.proofs.UnionFit.{UnionFit}
-use Rattle.forms.proofs.StandingPairs.{left-pair, left-label, rule-left, left-rule, set-contents}
+use Rattle.forms.proofs.StandingPairs.{left-pair, left-label, rule-left, left-rule, set-contents, text-of-pairs}
 use Rattle.forms.proofs.SetsFound.{
   SetOfLabel,
   set-of-label,
@@ -154,6 +155,18 @@ module _ (u : Table) where
         set-number
         (label-contents l)
 
+    text-of-label : (l : ℕ) → ruleOfLabel (reduce (normalise u)) l .text ≡ textBySet u (pairsLabelled u (isLeft u) l)
+    unfolding ruleOfLabel
+    text-of-label l =
+        text-of-pairs u (fit .labelled) (setOf l) (λ p m. labelled-pair u (isLeft u) l p .0 m .listed)
+        (λ (r : Rule). eqb (r .label) l)
+        (λ p e. (
+          λ t.
+              labelled-pair u (isLeft u) l p .1
+              (record { below = left-pair u p e .below; listed = e; label = eqb-true (ruleNumbered u p .label) l t }),
+          λ m. eq-eqb (ruleNumbered u p .label) l (labelled-pair u (isLeft u) l p .0 m .label),
+        ))
+
     pub local-form : FormOfSets u (labelSets u (isLeft u)) (λ s. isLeft u) (localForm (reduce (normalise u)))
     unfolding localForm ruleOfLabel typeOfLabel reduce withoutUnreached withoutUnfruitful normalise
     local-form =
@@ -183,6 +196,7 @@ module _ (u : Table) where
                     ap (λ (x : Rule). tidy (x .content)) (sym e)
                     ∙ content-of-label l
                     ∙ ap (contentBySet u (labelSets u (isLeft u)) (isLeft u)) set;
+                text = ap (λ (x : Rule). x .text) (sym e) ∙ text-of-label l ∙ ap (textBySet u) set;
               };
         }
 

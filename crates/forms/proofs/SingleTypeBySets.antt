@@ -13,7 +13,7 @@ use Rattle.grammar.specs.UsedLabels.{withUsedLabels}
 use Rattle.grammar.specs.Normalise.{pairsOf, normalise}
 use Rattle.grammar.specs.Reduce.{fruitful, withoutUnfruitful, withoutUnreached, reduce}
 use Rattle.grammar.specs.LocalForm.{labelOf}
-use Rattle.grammar.specs.SingleTypeForm.{TypeSet, ofLabel, typesMet, contentOfSet, ruleOfSet, singleTypeForm}
+use Rattle.grammar.specs.SingleTypeForm.{TypeSet, ofLabel, typesMet, contentOfSet, ruleOfSet, singleTypeForm, textOfSet, members}
 use Rattle.grammar.specs.Tidy.{tidy, tidyTable}
 use Rattle.theory.specs.Alternatives.{alts, oneContent, resultsOf}
 use Rattle.theory.proofs.lists.ListLaws.{at-mem, at-map, just-eq, in-mem, mem-in}
@@ -30,9 +30,19 @@ use Rattle.forms.specs.SetForms.{
   singleTypeSets,
   singleTypeTable,
   tableBySets,
+  textBySet,
 }
 use Rattle.forms.proofs.UnionFit.{UnionFit}
-use Rattle.forms.proofs.StandingPairs.{AllLeft, left-pair, left-label, label-set, contents-of-set, types-met, met-left}
+use Rattle.forms.proofs.StandingPairs.{
+  AllLeft,
+  left-pair,
+  left-label,
+  label-set,
+  contents-of-set,
+  types-met,
+  met-left,
+  text-of-pairs,
+}
 use Rattle.forms.proofs.SetsFound.{SetOfLabel, set-of-label, labelled-pair, start-sets, start-left, label-of-left}
 use Rattle.forms.proofs.TablesBySets.{FormOfSets, table-by-sets}
 
@@ -82,6 +92,14 @@ module _ {lim : Limits} (u : Table) (fit : UnionFit lim u) where
       ∙ label-set u (metIn u (λ q. isIn q s)) (met-left u s left) (labelLeft u p))))
       (contents-of-set u s left)
 
+  text-of-set : (s : TypeSet) → AllLeft u s → textOfSet (reduce (normalise u)) s ≡ textBySet u s
+  unfolding textOfSet members
+  text-of-set s left =
+      text-of-pairs u (fit .labelled) s left (λ (r : Rule). isIn (r .type) s)
+      (λ p e.
+      let first = left-pair u p e .first in
+      (λ t. in-mem p s (ap (λ (q : ℕ). isIn q s) (sym first) ∙ t), λ m. ap (λ (q : ℕ). isIn q s) first ∙ mem-in m))
+
   pub single-form : FormOfSets u (singleTypeSets lim u) (metWithin u) (singleTypeForm lim (reduce (normalise u)))
   unfolding singleTypeForm ruleOfSet setLabel reduce withoutUnreached withoutUnfruitful normalise
   single-form =
@@ -98,6 +116,7 @@ module _ {lim : Limits} (u : Table) (fit : UnionFit lim u) where
               type = single-type-form-place lim reduced (fit .reduced) i q;
               label = ap (λ (x : Rule). x .label) made ∙ label-of-left u (getD s 0 0) (h .left (getD s 0 0) (h .first));
               content = ap (λ (x : Rule). tidy (x .content)) made ∙ content-of-set (singleTypeSets lim u) s (h .left);
+              text = ap (λ (x : Rule). x .text) made ∙ text-of-set s (h .left);
             };
       }
 

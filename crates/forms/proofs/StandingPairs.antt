@@ -4,10 +4,12 @@
 --   left-label    the label of a type that is left; of another it is 0
 --   label-set     the types of a label among left pairs
 --   set-contents  the contents of standing pairs that pass a test
+--   text-of-pairs whether a rule left of some left pairs is for text
 --   types-met     the pairs met in a set of left pairs, and met-left: they are left
 use Prim.Native.Nat.{ℕ, _<_}
 use mathlib.Core.Bool.{Bool, true, false, _&&_}
 use mathlib.Core.List.{List, [], _∷_, map, map-map, List·Memᴰ, List·Memᴰ·head, List·Memᴰ·not-nil, Memᴰ·map, Memᴰ·of-map}
+use mathlib.Core.Logic.{_↔_}
 use mathlib.Core.Option.{none as nowhere, some as just, Option}
 use mathlib.Core.Path.{_≡_, refl, sym, _∙_, ap, ap₂, subst, fun-ext}
 use lib.ListN.{length, getElem?, List·getD-eq-default}
@@ -17,10 +19,11 @@ use Rattle.grammar.specs.Lists.{anyPass, keep, joinedOf, isIn, numbersBelow}
 use Rattle.grammar.specs.Content.{Content}
 use Rattle.grammar.specs.Table.{Rule, Table}
 use Rattle.grammar.specs.KindTests.{samePair}
-use Rattle.grammar.specs.Normalise.{pairOf, pairsOf, normalise}
+use Rattle.grammar.specs.Normalise.{pairOf, pairsOf, marks, normalise}
 use Rattle.grammar.specs.Reduce.{fruitful, reduce, withoutUnfruitful}
 use Rattle.grammar.specs.LocalForm.{labelOf}
 use Rattle.grammar.specs.SingleTypeForm.{TypeSet, ofLabel, typesMet}
+use Rattle.theory.specs.Conditions.{Labelled}
 use Rattle.theory.specs.Alternatives.{pairsMet}
 use Rattle.theory.proofs.lists.BoolLaws.{and-left, and-right, and-intro, same-test, not-both}
 use Rattle.theory.proofs.lists.ListLaws.{
@@ -47,13 +50,14 @@ use Rattle.theory.proofs.lists.DistinctLaws.{keep-within}
 use Rattle.theory.proofs.tables.KindTests.{same-pair-sym}
 use Rattle.theory.proofs.steps.NormaliseDocuments.{pair-refl, pair-same, same-pair, pairs-of}
 use Rattle.theory.proofs.emission.EmittedContent.{joined-map}
+use Rattle.theory.proofs.emission.MarkingRules.{marks-by-alts}
 use Rattle.theory.proofs.emission.EmittedRule.{firstRules, pairsStanding, pairContents, ruleLeft, left-rules, set-met}
 use Rattle.union.specs.Rounds.{contentOfRule}
-use Rattle.union.specs.PairNumbers.{ruleNumbered, fruitfulOf, isLeft, contentsOfPair, contentsIn, metIn}
-use Rattle.union.proofs.PairLists.{firsts-are, noRule}
+use Rattle.union.specs.PairNumbers.{noRule, ruleNumbered, fruitfulOf, isLeft, isMarking, isText, contentsOfPair, contentsIn, metIn}
+use Rattle.union.proofs.PairLists.{firsts-are}
 use Rattle.union.proofs.MetLaws.{met-hold}
 use Rattle.union.proofs.ReachedLaws.{start-pairs, met-reached, reached-set}
-use Rattle.forms.specs.SetForms.{pairsLabelled, labelLeft}
+use Rattle.forms.specs.SetForms.{pairsLabelled, labelLeft, textBySet}
 use Rattle.forms.proofs.KeptLists.{map-itself, numbered, first-itself}
 
 -- all of a set are left
@@ -264,6 +268,49 @@ module _ (u : Table) where
             same-pair u (ruleNumbered u q) (ruleNumbered u i) (record { of-table = l .there; numbered = l .first })
             (record { of-table = there; numbered = eqb-true (pairOf u (ruleNumbered u i)) q s }),
       )))
+
+  -- the text of a left pair
+  pair-text : Labelled u → (q : ℕ) → isLeft u q ≡ true → ruleLeft u (ruleNumbered u q) .text ≡ isText u q
+  unfolding isText isMarking
+  pair-text labelled q e =
+      let l = left-pair q e in
+      let like : (Rule → Bool) = samePair (ruleNumbered u q) in
+      let ofPair : (Rule → Bool) = λ r. eqb (pairOf u r) q && isMarking u r in
+      same-test (anyPass (marks u) (keep like (u .rules))) (anyPass ofPair (u .rules)) (
+        λ t.
+            let (r, m, marked) = any-found (marks u) (keep like (u .rules)) t in
+            let (there, s) = kept like (u .rules) m in
+            any-of ofPair there
+            (and-intro (eqb (pairOf u r) q) (isMarking u r)
+            (eq-eqb (pairOf u r) q (sym (pair-same u (ruleNumbered u q) r s) ∙ l .first))
+            (sym (marks-by-alts u labelled r) ∙ marked)),
+        λ t.
+            let (r, there, on) = any-found ofPair (u .rules) t in
+            let same = eqb-true (pairOf u r) q (and-left (eqb (pairOf u r) q) (isMarking u r) on) in
+            any-of (marks u)
+            (keep-mem like there
+            (same-pair u (ruleNumbered u q) r (record { of-table = l .there; numbered = l .first })
+            (record { of-table = there; numbered = same })))
+            (marks-by-alts u labelled r ∙ and-right (eqb (pairOf u r) q) (isMarking u r) on),
+      )
+
+  -- of the rules left that pass a test of left pairs, one is for text just where one of those pairs is
+  pub text-of-pairs : Labelled u → (s : TypeSet) → AllLeft u s → (test : Rule → Bool)
+      → ((p : ℕ) → isLeft u p ≡ true → (test (ruleLeft u (ruleNumbered u p)) ≡ true) ↔ List·Memᴰ p s)
+      → anyPass (λ (r : Rule). r .text) (keep test (reduce (normalise u) .rules)) ≡ textBySet u s
+  unfolding textBySet
+  text-of-pairs labelled s left test tests =
+      same-test (anyPass (λ (r : Rule). r .text) (keep test (reduce (normalise u) .rules))) (anyPass (isText u) s) (
+        λ t.
+            let (r, m, on) = any-found (λ (r : Rule). r .text) (keep test (reduce (normalise u) .rules)) t in
+            let (n, passes) = kept test (reduce (normalise u) .rules) m in
+            let (q, e, f) = rule-left r n in
+            any-of (isText u) (tests q e .0 (ap test f ∙ passes)) (sym (pair-text labelled q e) ∙ ap (λ (z : Rule). z .text) f ∙ on),
+        λ t.
+            let (p, m, on) = any-found (isText u) s t in
+            let e = left p m in
+            any-of (λ (r : Rule). r .text) (keep-mem test (left-rule p e) (tests p e .1 m)) (pair-text labelled p e ∙ on),
+      )
 
   -- the contents of the standing pairs that pass a test, where that is a test of left numbers
   pub set-contents : (test : ℕ → Bool) → ((p : ℕ) → test p ≡ true → isLeft u p ≡ true) → (ofRule : Rule → Bool)

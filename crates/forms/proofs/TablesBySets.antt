@@ -1,5 +1,5 @@
--- A form by sets: `table-by-sets`: a form whose i-th rule has type i, the label of the i-th set, and a content that tidied is that
--- by the set, is after the last two steps, used labels and tidying, the table by sets.
+-- A form by sets: `table-by-sets`: a form whose i-th rule has type i, the label and the text of the i-th set, and a content that tidied is
+-- that by the set, is after the last two steps, used labels and tidying, the table by sets.
 use Prim.Native.Nat.{ℕ, zero}
 use native.Mathlib.Omega.{arith}
 use mathlib.Core.Bool.{Bool}
@@ -15,9 +15,9 @@ use Rattle.grammar.specs.Table.{Rule, Table}
 use Rattle.grammar.specs.UsedLabels.{usedLabels, withUsedLabels}
 use Rattle.grammar.specs.SingleTypeForm.{TypeSet}
 use Rattle.grammar.specs.Tidy.{tidy, tidyTable}
-use Rattle.theory.proofs.lists.ListLaws.{at-map, at-else, at-below, below-at, numbers-at, numbers-length}
-use Rattle.forms.specs.SetForms.{setLabel, labelsOf, contentBySet, ruleBySet, tableBySets}
-use Rattle.forms.proofs.KeptLists.{same-at, any-map}
+use Rattle.theory.proofs.lists.ListLaws.{at-map, at-else, at-below, below-at, numbers-at, numbers-length, any-map}
+use Rattle.forms.specs.SetForms.{setLabel, labelsOf, contentBySet, ruleBySet, tableBySets, textBySet}
+use Rattle.forms.proofs.KeptLists.{same-at}
 
 -- the rule of a set, before the labels are numbered anew and its content is tidied
 pub record RuleOfSet (u : Table) (sets : List TypeSet) (pairs : TypeSet → ℕ → Bool) (i : ℕ) (s : TypeSet) (r : Rule)
@@ -25,6 +25,7 @@ pub record RuleOfSet (u : Table) (sets : List TypeSet) (pairs : TypeSet → ℕ 
   pub type : r .type ≡ i
   pub label : r .label ≡ setLabel u s
   pub content : tidy (r .content) ≡ contentBySet u sets (pairs s) s
+  pub text : r .text ≡ textBySet u s
 
 pub record FormOfSets (u : Table) (sets : List TypeSet) (pairs : TypeSet → ℕ → Bool) (form : Table) : Type 0 where
   pub labels : form .labels ≡ u .labels
@@ -54,28 +55,34 @@ module _ (u : Table) (sets : List TypeSet) (pairs : TypeSet → ℕ → Bool) (f
 
   -- a rule as the last two steps make it
   abbrev numbered : List ℕ → Rule → Rule
-  numbered used r = record { type = r .type; label = place eqb (r .label) used; content = r .content }
+  numbered used r = record { type = r .type; label = place eqb (r .label) used; content = r .content; text = r .text }
 
   abbrev tidied : Rule → Rule
-  tidied r = record { type = r .type; label = r .label; content = tidy (r .content) }
+  tidied r = record { type = r .type; label = r .label; content = tidy (r .content); text = r .text }
 
   abbrev finish : Rule → Rule
   finish r = tidied (numbered (labelsOf u sets) r)
 
   abbrev ruleBy : ℕ → TypeSet → Rule
-  ruleBy i s = record { type = i; label = place eqb (setLabel u s) (labelsOf u sets); content = contentBySet u sets (pairs s) s }
+  ruleBy i s =
+      record {
+        type = i;
+        label = place eqb (setLabel u s) (labelsOf u sets);
+        content = contentBySet u sets (pairs s) s;
+        text = textBySet u s;
+      }
 
   finished-rule : (i : ℕ) (s : TypeSet) (r : Rule) → getElem? sets i ≡ just s → getElem? (form .rules) i ≡ just r
       → finish r ≡ ruleBySet u sets pairs i
   unfolding ruleBySet
   finished-rule i s r p q =
       let h = f .rule i s r p q in
-      made (h .type) (ap (λ (l : ℕ). place eqb l (labelsOf u sets)) (h .label)) (h .content)
+      made (h .type) (ap (λ (l : ℕ). place eqb l (labelsOf u sets)) (h .label)) (h .content) (h .text)
       ∙ ap (ruleBy i) (sym (at-else sets i [] p))
     where
-      made : {a b c d : ℕ} {x y : Content} → a ≡ b → c ≡ d → x ≡ y
-          → _≡_ {A = Rule} (record { type = a; label = c; content = x }) (record { type = b; label = d; content = y })
-      made p q r = cc
+      made : {a b c d : ℕ} {x y : Content} {m n : Bool} → a ≡ b → c ≡ d → x ≡ y → m ≡ n
+          → _≡_ {A = Rule} (record { type = a; label = c; content = x; text = m }) (record { type = b; label = d; content = y; text = n })
+      made p q r s = cc
 
   finished-rules : map finish (form .rules) ≡ map (ruleBySet u sets pairs) (numbersBelow (length sets))
   unfolding numbersBelow

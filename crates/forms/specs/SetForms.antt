@@ -15,7 +15,7 @@ use Rattle.grammar.specs.Normalise.{pairsOf, normalise}
 use Rattle.grammar.specs.Reduce.{fruitful, withoutUnfruitful, reduce}
 use Rattle.grammar.specs.SingleTypeForm.{TypeSet, allSets}
 use Rattle.theory.specs.Alternatives.{alts, oneContent, resultsOf}
-use Rattle.union.specs.PairNumbers.{ruleNumbered, isLeft, isStart, contentsIn, metIn}
+use Rattle.union.specs.PairNumbers.{ruleNumbered, isLeft, isStart, isText, contentsIn, metIn}
 
 module _ (u : Table) where
   -- those of some pairs that have a label
@@ -52,11 +52,21 @@ module _ (u : Table) where
       oneContent
       (joinedOf (alts (resultsOf (pairsOf u) (fruitful (normalise u)) (setNumber sets pairs))) (contentsIn u (λ p. isIn p s)))
 
+  -- a set with a pair for text is for text
+  unfoldable pub textBySet : TypeSet → Bool
+  unfolding anyPass isText
+  textBySet s = anyPass (isText u) s
+
   unfoldable pub ruleBySet : List TypeSet → (TypeSet → ℕ → Bool) → ℕ → Rule
-  unfolding place setLabel labelsOf contentBySet
+  unfolding place setLabel labelsOf contentBySet textBySet
   ruleBySet sets pairs i =
       let s : TypeSet = getD sets i [] in
-      record { type = i; label = place eqb (setLabel s) (labelsOf sets); content = contentBySet sets (pairs s) s }
+      record {
+        type = i;
+        label = place eqb (setLabel s) (labelsOf sets);
+        content = contentBySet sets (pairs s) s;
+        text = textBySet s;
+      }
 
   unfoldable pub tableBySets : List TypeSet → (TypeSet → ℕ → Bool) → (starts : List ℕ) → Table
   unfolding labelsOf ruleBySet numbersBelow

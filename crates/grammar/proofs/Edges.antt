@@ -1,5 +1,6 @@
 -- The edges: the last that passes, and the first that is turned back.
 use Prim.Native.Nat.{ℕ, zero, suc}
+use mathlib.Core.Bool.{false}
 use mathlib.Core.List.{List, [], _∷_, _++_, map}
 use mathlib.Core.Path.{_≡_, refl}
 use lib.ListN.{replicate}
@@ -15,7 +16,7 @@ use Rattle.grammar.specs.ReadDocument.{Node, readNodes}
 use Rattle.grammar.specs.WriteTable.{tableBytes}
 use Rattle.grammar.specs.Listing.{typeText}
 use Rattle.grammar.specs.declared.Refusal.the-variants.{BadField, TooMany, OutOfRange, NestedTooDeep, BadTree}
-use Rattle.grammar.proofs.Builders.{rule, oneRule, nodeField, endOfDocument}
+use Rattle.grammar.proofs.Builders.{rule, oneRule, head, nodeField, endOfDocument}
 
 -- reading what is written
 abbrev readBack : Table → Outcome Table
@@ -95,8 +96,8 @@ unfolding joinedOf nodeField endOfDocument
 wide n = nodeField "a" n ++ joinedOf (λ k. nodeField "b" 0) (replicate n zero) ++ endOfDocument
 
 wideNodes : ℕ → List Node
-unfolding ascii
-wideNodes n = record { name = ascii "a"; children = n } ∷ replicate n (record { name = ascii "b"; children = 0 })
+unfolding head
+wideNodes n = record { head = head "a" false; children = n } ∷ replicate n (record { head = head "b" false; children = 0 })
 
 children-200 : readNodes standard asciiClasses (wide 200) ≡ given (wideNodes 200)
 unfolding readNodes standard asciiClasses wide wideNodes
@@ -112,8 +113,9 @@ unfolding joinedOf nodeField endOfDocument
 deep n = joinedOf (λ k. nodeField "a" 1) (replicate n zero) ++ nodeField "a" 0 ++ endOfDocument
 
 deepNodes : ℕ → List Node
-unfolding ascii
-deepNodes n = replicate n (record { name = ascii "a"; children = 1 }) ++ record { name = ascii "a"; children = 0 } ∷ []
+unfolding head
+deepNodes n =
+    replicate n (record { head = head "a" false; children = 1 }) ++ record { head = head "a" false; children = 0 } ∷ []
 
 levels-64 : readNodes standard asciiClasses (deep 63) ≡ given (deepNodes 63)
 unfolding readNodes standard asciiClasses deep deepNodes

@@ -99,9 +99,9 @@ unfolding sample mixed startingAt0
 mixed-sample = refl
 
 -- LIST(CARD, DOOR) added to list(card): the old spelling stays, a new name comes as it is spelled
-doors : Tree
+inCapitals : Tree
 unfolding tree
-doors = tree "LIST" (tree "CARD" [] ∷ tree "DOOR" [] ∷ [])
+inCapitals = tree "LIST" (tree "CARD" [] ∷ tree "DOOR" [] ∷ [])
 
 widened : Table
 unfolding startingAt0
@@ -109,12 +109,12 @@ widened =
     startingAt0 ("list" ∷ "card" ∷ "DOOR" ∷ [])
     (rule 0 0 (choice (type 1 ∷ᶜ sequence (type 1 ∷ᶜ type 2 ∷ᶜ []ᶜ) ∷ᶜ []ᶜ)) ∷ rule 1 1 empty ∷ rule 2 2 empty ∷ [])
 
-old-spelling-local : widen standard local cardTable (byDocument doors) ≡ given widened
-unfolding widen standard cardTable doors widened
+old-spelling-local : widen standard local cardTable (byDocument inCapitals) ≡ given widened
+unfolding widen standard cardTable inCapitals widened
 old-spelling-local = refl
 
-old-spelling-single-type : widen standard singleType cardTable (byDocument doors) ≡ given widened
-unfolding widen standard cardTable doors widened
+old-spelling-single-type : widen standard singleType cardTable (byDocument inCapitals) ≡ given widened
+unfolding widen standard cardTable inCapitals widened
 old-spelling-single-type = refl
 
 -- also where the old table has no rule of that label, or only one that goes: door has no rule, card one whose content is none
@@ -128,6 +128,6 @@ unusedWidened =
     startingAt0 ("list" ∷ "card" ∷ "door" ∷ [])
     (rule 0 0 (choice (empty ∷ᶜ sequence (type 1 ∷ᶜ type 2 ∷ᶜ []ᶜ) ∷ᶜ []ᶜ)) ∷ rule 1 1 empty ∷ rule 2 2 empty ∷ [])
 
-unused-spelling : widen standard local unusedTable (byDocument doors) ≡ given unusedWidened
-unfolding widen standard unusedTable doors unusedWidened
+unused-spelling : widen standard local unusedTable (byDocument inCapitals) ≡ given unusedWidened
+unfolding widen standard unusedTable inCapitals unusedWidened
 unused-spelling = refl

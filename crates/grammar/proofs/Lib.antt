@@ -6,6 +6,7 @@ pub mod Edges
 pub mod RefusalOrder
 pub mod ClassRules
 pub mod LetterCase
+pub mod TextMarks
 pub mod Mistakes
 pub mod WideningExamples
 pub mod SampleExamples

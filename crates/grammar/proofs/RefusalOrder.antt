@@ -1,5 +1,6 @@
 -- Where two refusals could apply, the order decides: for each two that meet, an input with both faults.
 use Prim.Native.Nat.{ℕ}
+use mathlib.Core.Bool.{false}
 use mathlib.Core.List.{List, [], _∷_, _++_}
 use mathlib.Core.Path.{_≡_, refl}
 use lib.ListN.{replicate}
@@ -50,7 +51,7 @@ start k = fieldBytes startTag (k ∷ [])
 
 ruleField : ℕ → ℕ → List ℕ → List ℕ
 unfolding fieldBytes
-ruleField k l content = fieldBytes ruleTag (k ∷ l ∷ content)
+ruleField k l content = fieldBytes (ruleTag false) (k ∷ l ∷ content)
 
 -- enough working words, all zero
 enough : List ℕ
@@ -176,7 +177,7 @@ document-before-output = refl
 wideDocument : List ℕ
 unfolding fieldBytes nodeField endOfDocument joinedOf numbersBelow typeText
 wideDocument =
-    nodeField "a" 64 ++ joinedOf (λ k. fieldBytes nodeTag (0 ∷ typeText k)) (numbersBelow 64) ++ endOfDocument
+    nodeField "a" 64 ++ joinedOf (λ k. fieldBytes (nodeTag false) (0 ∷ typeText k)) (numbersBelow 64) ++ endOfDocument
 
 -- 14 of the sample first, before 15
 sample-before-output : widened standard asciiClasses local aDocument eBytes wideDocument [] enough ≡ refused ResultTooLarge

@@ -1,6 +1,6 @@
 -- The lister's text: a table as lines of ASCII.
 use Prim.Native.Nat.{ℕ, zero, suc, _+_, _/_, _%_}
-use mathlib.Core.Bool.{true, false}
+use mathlib.Core.Bool.{Bool, true, false}
 use mathlib.Core.List.{List, [], _∷_, _++_}
 use lib.ListN.{getD}
 use lib.Dec.{ltb}
@@ -73,11 +73,22 @@ unfoldable pub startLine : ℕ → Text
 unfolding typeText ascii
 startLine k = ascii "start " ++ typeText k ++ ascii "\n"
 
+-- # directly after the content of a rule for text
+unfoldable pub textMark : Bool → Text
+unfolding ascii
+textMark text = elim text [ true ↦ ascii "#" | false ↦ [] ]
+
 -- type, name and content for each rule
 unfoldable pub ruleLine : Table → Rule → Text
-unfolding typeText contentText ascii
+unfolding typeText contentText textMark ascii
 ruleLine g r =
-    typeText (r .type) ++ ascii " " ++ getD (g .labels) (r .label) [] ++ ascii " " ++ contentText (r .content) ++ ascii "\n"
+    typeText (r .type)
+    ++ ascii " "
+    ++ getD (g .labels) (r .label) []
+    ++ ascii " "
+    ++ contentText (r .content)
+    ++ textMark (r .text)
+    ++ ascii "\n"
 
 -- a first line `local`, the starts, the rules
 unfoldable pub localText : Table → Text

@@ -18,9 +18,10 @@ unfoldable pub typeOfLabel : Table → ℕ → ℕ
 unfolding place usedLabels
 typeOfLabel g l = place eqb l (usedLabels g)
 
--- The content of a label is the choice of all contents of that label, in rule order, each type replaced by its label's type.
+-- The content of a label is the choice of all contents of that label, in rule order, each type replaced by its label's type. One rule for
+-- text makes it a rule for text; after Reduce no content is none.
 unfoldable pub ruleOfLabel : Table → ℕ → Rule
-unfolding typeOfLabel choiceOf replace labelOf keep
+unfolding typeOfLabel choiceOf replace labelOf keep anyPass
 ruleOfLabel g l =
     record {
       type = typeOfLabel g l;
@@ -29,6 +30,7 @@ ruleOfLabel g l =
           choiceOf
           (map (λ (r : Rule). replace (r .content) (λ k. type (typeOfLabel g (labelOf g k))))
           (keep (λ (r : Rule). eqb (r .label) l) (g .rules)));
+      text = anyPass (λ (r : Rule). r .text) (keep (λ (r : Rule). eqb (r .label) l) (g .rules));
     }
 
 -- Starts are replaced too, and ascend.

@@ -1,6 +1,6 @@
 -- Deciding whether a table lets in a document. (crates/theory proves that this is LetsIn.)
 use Prim.Native.Nat.{ℕ, zero, suc}
-use mathlib.Core.Bool.{Bool, true, false, _&&_, _||_}
+use mathlib.Core.Bool.{Bool, true, false, _&&_, _||_, not}
 use mathlib.Core.List.{List, [], _∷_, map}
 use mathlib.Core.Option.{none as nothing, some as just}
 use lib.ListN.{length, getElem?}
@@ -20,7 +20,7 @@ use Rattle.grammar.specs.Content.{
   []ᶜ,
   _∷ᶜ_,
 }
-use Rattle.grammar.specs.Tree.{Tree, node, Forest, []ᵗ, _∷ᵗ_}
+use Rattle.grammar.specs.Tree.{Head, Tree, node, Forest, []ᵗ, _∷ᵗ_}
 use Rattle.grammar.specs.Table.{Rule, Table}
 
 -- A test of children, each given by the types that derive it.
@@ -82,14 +82,19 @@ unfoldable pub isNamed : Table → ℕ → Name → Bool
 unfolding sameName
 isNamed g label n = elim (getElem? (g .labels) label) [ nothing ↦ false | just m ↦ sameName m n ]
 
+-- a rule 12 takes only nodes without text, a rule 13 nodes with and without
+unfoldable pub takesText : Rule → Head → Bool
+takesText r h = not (h .text) || r .text
+
 -- the types that derive a tree, with the children's types found first
 unfoldable mutual
-  unfolding keep isNamed matches
+  unfolding keep isNamed takesText matches
 
   pub typesOf : Table → Tree → List ℕ
-  typesOf g (node n ts) =
+  typesOf g (node h ts) =
       let children : List (List ℕ) = typesOfAll g ts in
-      map (λ (r : Rule). r .type) (keep (λ (r : Rule). isNamed g (r .label) n && matches (r .content) children) (g .rules))
+      map (λ (r : Rule). r .type)
+      (keep (λ (r : Rule). isNamed g (r .label) (h .name) && takesText r h && matches (r .content) children) (g .rules))
 
   pub typesOfAll : Table → Forest → List (List ℕ)
   typesOfAll g []ᵗ = []

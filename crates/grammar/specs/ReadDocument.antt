@@ -1,26 +1,31 @@
--- Document files: nodes (30) parent before children, left to right, then end (3F); and which refusal comes first.
+-- Document files: nodes (30, or 32 with text) parent before children, left to right, then end (3F); and which refusal comes first.
 use Prim.Native.Nat.{ℕ, zero, suc}
 use mathlib.Core.Bool.{Bool, true, false, _&&_, _||_, not}
 use mathlib.Core.List.{List, [], _∷_, _++_}
 use lib.ListN.{length}
 use lib.Dec.{eqb, leb, ltb}
 use Rattle.grammar.specs.Limits.{Limits}
-use Rattle.grammar.specs.Names.{Name, Classes, isName}
-use Rattle.grammar.specs.Tree.{Tree, node, Forest, []ᵗ, _∷ᵗ_}
+use Rattle.grammar.specs.Names.{Classes, isName}
+use Rattle.grammar.specs.Tree.{Head, Tree, node, Forest, []ᵗ, _∷ᵗ_}
 use Rattle.grammar.specs.Outcome.{Outcome, given, refused, _>>=_, _>>_, turnBack}
 use Rattle.grammar.specs.Fields.{Field, Fields, noBytes, pastEnd, _then_, fieldsOf}
 use Rattle.grammar.specs.ReadTable.{isEmpty, bytesLeft}
 use Rattle.grammar.specs.declared.Refusal.the-variants.{InputTooLong, FieldPastEnd, BadField, BadName, BadTree, BytesAfterEnd}
 
-abbrev pub nodeTag : ℕ
-nodeTag = 0x30
+-- a node without text, and one that holds text
+abbrev pub nodeTag : Bool → ℕ
+nodeTag false = 0x30
+nodeTag true = 0x32
 
 abbrev pub documentEndTag : ℕ
 documentEndTag = 0x3F
 
+unfoldable pub isNodeTag : ℕ → Bool
+isNodeTag tag = eqb tag (nodeTag false) || eqb tag (nodeTag true)
+
 -- a node as it stands in the file
 pub record Node : Type 0 where
-  pub name : Name
+  pub head : Head
   pub children : ℕ
 
 -- What is read so far: the nodes, and for each open level, innermost first, how many nodes are still to come there. A level with
@@ -56,17 +61,18 @@ badNode lim o n =
     || ltb (lim .levels) (length (o .toCome))
     || isEmpty (o .toCome)
 
--- A node: child count byte, then a name of at least one byte.
+-- A node: child count byte, then a name of at least one byte. Its tag tells whether it holds text.
 unfoldable pub readNode : Limits → Classes → Opened → Field → Outcome Opened
-unfolding isName badNode withNode
+unfolding isNodeTag isName badNode withNode
 readNode lim classes o f =
     elim (f .value) [
       | [] ↦ refused BadField
       | k ∷ name ↦ do
-        turnBack (not (eqb (f .tag) nodeTag && leb 1 (length name) && leb (length name) (lim .name))) BadField
+        let head : Head = record { name = name; text = eqb (f .tag) (nodeTag true) }
+        turnBack (not (isNodeTag (f .tag) && leb 1 (length name) && leb (length name) (lim .name))) BadField
         turnBack (not (isName classes name)) BadName
-        turnBack (badNode lim o (record { name = name; children = k })) BadTree
-        given (withNode o (record { name = name; children = k }))
+        turnBack (badNode lim o (record { head = head; children = k })) BadTree
+        given (withNode o (record { head = head; children = k }))
     ]
 
 -- the rest of a document, of which `o` is read
@@ -107,7 +113,7 @@ unfolding firstTrees otherTrees
 forestOf [] = []ᵗ
 forestOf (n ∷ ns) =
     let after : Forest = forestOf ns in
-    node (n .name) (firstTrees (n .children) after) ∷ᵗ otherTrees (n .children) after
+    node (n .head) (firstTrees (n .children) after) ∷ᵗ otherTrees (n .children) after
 
 -- the tree of nodes that are complete
 unfoldable pub treeOf : List Node → Outcome Tree

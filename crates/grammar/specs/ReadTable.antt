@@ -1,4 +1,4 @@
--- Table files: labels (10), starts (11), rules (12), end (1F), in this order; and which refusal comes first.
+-- Table files: labels (10), starts (11), rules (12, or 13 for text), end (1F), in this order; and which refusal comes first.
 use Prim.Native.Nat.{ℕ}
 use mathlib.Core.Bool.{Bool, true, false, _&&_, _||_, not}
 use mathlib.Core.List.{List, [], _∷_, _++_}
@@ -28,8 +28,10 @@ labelTag = 0x10
 abbrev pub startTag : ℕ
 startTag = 0x11
 
-abbrev pub ruleTag : ℕ
-ruleTag = 0x12
+-- a rule whose nodes hold no text, and one whose nodes may
+abbrev pub ruleTag : Bool → ℕ
+ruleTag false = 0x12
+ruleTag true = 0x13
 
 abbrev pub tableEndTag : ℕ
 tableEndTag = 0x1F
@@ -71,16 +73,16 @@ readStart lim g (k ∷ []) = do
 readStart lim g (k ∷ b ∷ rest) = refused BadField
 
 -- A rule: type byte, label byte, content of at least one byte.
-unfoldable pub readRule : Limits → Table → List ℕ → Outcome Table
+unfoldable pub readRule : Limits → Table → Bool → List ℕ → Outcome Table
 unfolding readContent
-readRule lim g [] = refused BadField
-readRule lim g (k ∷ []) = refused BadField
-readRule lim g (k ∷ l ∷ content) = do
+readRule lim g text [] = refused BadField
+readRule lim g text (k ∷ []) = refused BadField
+readRule lim g text (k ∷ l ∷ content) = do
   turnBack (not (leb 1 (length content) && leb (length content) (lim .content))) BadField
   turnBack (leb (lim .rules) (length (g .rules))) TooMany
   turnBack (leb (lim .types) k || leb (length (g .labels)) l) OutOfRange
   c ← readContent lim content
-  given (withRule g (record { type = k; label = l; content = c }))
+  given (withRule g (record { type = k; label = l; content = c; text = text }))
 
 unfoldable pub readTableField : Limits → Classes → Table → Field → Outcome Table
 unfolding readLabel readStart readRule
@@ -90,7 +92,11 @@ readTableField lim classes g f =
       | false ↦
           elim (eqb (f .tag) startTag) [
             | true ↦ readStart lim g (f .value)
-            | false ↦ elim (eqb (f .tag) ruleTag) [ true ↦ readRule lim g (f .value) | false ↦ refused BadField ]
+            | false ↦
+                elim (eqb (f .tag) (ruleTag false)) [
+                  | true ↦ readRule lim g false (f .value)
+                  | false ↦ elim (eqb (f .tag) (ruleTag true)) [ true ↦ readRule lim g true (f .value) | false ↦ refused BadField ]
+                ]
           ]
     ]
 

@@ -118,7 +118,7 @@ withoutUnfruitful g =
       labels = g .labels;
       starts = keep (λ k. isIn k known) (g .starts);
       rules =
-          map (λ (r : Rule). record { type = r .type; label = r .label; content = prune known (r .content) })
+          map (λ (r : Rule). record { type = r .type; label = r .label; content = prune known (r .content); text = r .text })
           (keep (λ (r : Rule). isIn (r .type) known) (g .rules));
     }
 

@@ -3,30 +3,32 @@ use Prim.Native.Nat.{ℕ, zero}
 use mathlib.Core.Bool.{Bool, true, false, _&&_}
 use mathlib.Core.List.{List, [], _∷_, _++_, map}
 use lib.Dec.{eqb}
-use Rattle.grammar.specs.Lists.{keep, distinct, place}
+use Rattle.grammar.specs.Lists.{anyPass, keep, distinct, place}
 use Rattle.grammar.specs.Names.{Name, sameName}
 use Rattle.grammar.specs.Content.{Content, empty, type, sequence, oneOrMore, choiceOf, operands}
 use Rattle.grammar.specs.Tree.{Tree, node, Forest, []ᵗ, _∷ᵗ_}
 use Rattle.grammar.specs.Table.{Rule, Table}
 use Rattle.grammar.specs.ReadContent.{sameContent}
 
--- a node with the path of names that leads to it, itself included, and its children's names
+-- a node: whether it holds text, the path of names that leads to it, itself included, and its children's names
 pub record Visit : Type 0 where
   pub name : Name
+  pub text : Bool
   pub path : List Name
   pub children : List Name
 
 unfoldable pub rootNames : Forest → List Name
 rootNames []ᵗ = []
-rootNames (node n ts ∷ᵗ more) = n ∷ rootNames more
+rootNames (node h ts ∷ᵗ more) = h .name ∷ rootNames more
 
 -- the nodes in the order of the file, parent before children, left to right
 unfoldable mutual
   unfolding rootNames
 
   pub visits : Tree → List Name → List Visit
-  visits (node n ts) above =
-      record { name = n; path = above ++ (n ∷ []); children = rootNames ts } ∷ visitsAll ts (above ++ (n ∷ []))
+  visits (node h ts) above =
+      let path : List Name = above ++ (h .name ∷ []) in
+      record { name = h .name; text = h .text; path = path; children = rootNames ts } ∷ visitsAll ts path
 
   pub visitsAll : Forest → List Name → List Visit
   visitsAll []ᵗ above = []
@@ -89,19 +91,30 @@ unfoldable pub childSequence : List Visit → Visit → Content
 unfolding place samePath pathsOf sequenceOf
 childSequence vs v = sequenceOf (map (λ n. place samePath (v .path ++ (n ∷ [])) (pathsOf vs)) (v .children))
 
+-- the nodes at a path
+unfoldable pub visitsAt : List Visit → List Name → List Visit
+unfolding keep samePath
+visitsAt vs path = keep (λ (v : Visit). samePath path (v .path)) vs
+
 -- the choice of the distinct child sequences seen at a path, by first sight; one sequence needs no choice
 unfoldable pub contentAt : List Visit → List Name → Content
-unfolding keep distinct samePath childSequence sameContent choiceOf
-contentAt vs path = choiceOf (distinct sameContent (map (childSequence vs) (keep (λ (v : Visit). samePath path (v .path)) vs)))
+unfolding visitsAt distinct childSequence sameContent choiceOf
+contentAt vs path = choiceOf (distinct sameContent (map (childSequence vs) (visitsAt vs path)))
+
+-- a path with any node that holds text is for text
+unfoldable pub textAt : List Visit → List Name → Bool
+unfolding visitsAt anyPass
+textAt vs path = anyPass (λ (v : Visit). v .text) (visitsAt vs path)
 
 -- the rule of the path of a visit
 unfoldable pub ruleAt : List Visit → Visit → Rule
-unfolding place samePath pathsOf sameName namesOf contentAt
+unfolding place samePath pathsOf sameName namesOf contentAt textAt
 ruleAt vs v =
     record {
       type = place samePath (v .path) (pathsOf vs);
       label = place sameName (v .name) (namesOf vs);
       content = contentAt vs (v .path);
+      text = textAt vs (v .path);
     }
 
 -- Types by first visit, root 0 and only start; labels by first visit; rules by type.

@@ -1,6 +1,6 @@
 -- Single-type: a result type is a set of types of one label.
 use Prim.Native.Nat.{ℕ, zero, suc}
-use mathlib.Core.Bool.{_&&_, not}
+use mathlib.Core.Bool.{Bool, _&&_, not}
 use mathlib.Core.List.{List, _++_, map}
 use mathlib.Core.Option.{none as nothing, some as just}
 use lib.ListN.{length, getElem?, getD}
@@ -66,10 +66,20 @@ contentOfSet g sets s =
     (λ (r : Rule). replace (r .content) (λ k. type (place sameNumbers (ofLabel g met (labelOf g k)) sets)))
     (members g s))
 
+-- One member's rule for text makes the set's rule one for text; after Reduce no content is none.
+unfoldable pub textOfSet : Table → TypeSet → Bool
+unfolding anyPass members
+textOfSet g s = anyPass (λ (r : Rule). r .text) (members g s)
+
 unfoldable pub ruleOfSet : Table → List TypeSet → TypeSet → Rule
-unfolding place sameNumbers labelOf contentOfSet
+unfolding place sameNumbers labelOf contentOfSet textOfSet
 ruleOfSet g sets s =
-    record { type = place sameNumbers s sets; label = labelOf g (getD s 0 0); content = contentOfSet g sets s }
+    record {
+      type = place sameNumbers s sets;
+      label = labelOf g (getD s 0 0);
+      content = contentOfSet g sets s;
+      text = textOfSet g s;
+    }
 
 unfoldable pub singleTypeForm : Limits → Table → Table
 unfolding allSets startSets ruleOfSet numbersBelow

@@ -1,5 +1,6 @@
 -- Tables: label names numbered from 0 as they come, start types, and rules.
 use Prim.Native.Nat.{ℕ}
+use mathlib.Core.Bool.{Bool}
 use mathlib.Core.List.{List, []}
 use mathlib.Core.Path.{_≡_}
 use mathlib.Core.Option.{some}
@@ -11,6 +12,7 @@ pub record Rule : Type 0 where
   pub type : ℕ
   pub label : ℕ
   pub content : Content
+  pub text : Bool  -- its nodes may hold text
 
 pub record Table : Type 0 where
   pub labels : List Name

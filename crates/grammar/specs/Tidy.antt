@@ -60,5 +60,8 @@ tidyTable g =
     record {
       labels = g .labels;
       starts = g .starts;
-      rules = map (λ (r : Rule). record { type = r .type; label = r .label; content = tidy (r .content) }) (g .rules);
+      rules =
+          map
+          (λ (r : Rule). record { type = r .type; label = r .label; content = tidy (r .content); text = r .text })
+          (g .rules);
     }

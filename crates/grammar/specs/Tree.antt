@@ -1,20 +1,28 @@
 -- Documents: finite trees of named nodes, of any size.
 use Prim.Native.Nat.{ℕ, zero, suc, max}
+use mathlib.Core.Bool.{Bool}
+use mathlib.Core.Path.{_≡_}
 use Rattle.grammar.specs.Names.{Name, SameName}
+
+-- what a node is by itself: its name, and whether it holds text
+pub record Head : Type 0 where
+  pub name : Name
+  pub text : Bool
 
 infixr 40 _∷ᵗ_
 mutual
   pub data Tree : Type 0 where
-    node : Name → Forest → Tree
+    node : Head → Forest → Tree
 
   pub data Forest : Type 0 where
     []ᵗ : Forest
     _∷ᵗ_ : Tree → Forest → Forest
 
--- Documents that are the same up to letter case: equal names in equal places.
+-- Documents that are the same up to letter case: equal names and the same text marks in equal places.
 mutual
   pub data SameTree : Tree → Tree → Type 0 where
-    same-node : {m n : Name} {ts us : Forest} → SameName m n → SameForest ts us → SameTree (node m ts) (node n us)
+    same-node : {h i : Head} {ts us : Forest} → SameName (h .name) (i .name) → h .text ≡ i .text → SameForest ts us
+        → SameTree (node h ts) (node i us)
 
   pub data SameForest : Forest → Forest → Type 0 where
     same-none : SameForest []ᵗ []ᵗ
@@ -28,7 +36,7 @@ trees (t ∷ᵗ ts) = suc (trees ts)
 -- how many levels a tree has: the root is level 1
 unfoldable mutual
   pub depth : Tree → ℕ
-  depth (node n ts) = suc (depthOf ts)
+  depth (node h ts) = suc (depthOf ts)
 
   pub depthOf : Forest → ℕ
   depthOf []ᵗ = zero

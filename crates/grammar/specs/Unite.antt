@@ -26,6 +26,7 @@ added lim old addition r =
       type = shifted lim (r .type);
       label = place sameName (getD (addition .labels) (r .label) []) (unitedLabels old addition);
       content = replace (r .content) (λ k. type (shifted lim k));
+      text = r .text;
     }
 
 -- Rules keep their order, old first.

@@ -18,5 +18,7 @@ withUsedLabels g =
       labels = map (λ l. getD (g .labels) l []) used;
       starts = g .starts;
       rules =
-          map (λ (r : Rule). record { type = r .type; label = place eqb (r .label) used; content = r .content }) (g .rules);
+          map
+          (λ (r : Rule). record { type = r .type; label = place eqb (r .label) used; content = r .content; text = r .text })
+          (g .rules);
     }

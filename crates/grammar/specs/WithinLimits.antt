@@ -42,7 +42,7 @@ pub record TableWithin (lim : Limits) (classes : Classes) (g : Table) : Type 0 w
   pub size : length (tableBytes g) ≤ lim .input
 
 pub record NodeWithin (lim : Limits) (classes : Classes) (n : Node) : Type 0 where
-  pub name : NameWithin lim classes (n .name)
+  pub name : NameWithin lim classes (n .head .name)
   pub children : n .children ≤ lim .children
 
 pub record DocumentWithin (lim : Limits) (classes : Classes) (d : Tree) : Type 0 where

@@ -11,7 +11,7 @@ unfoldable mutual
   unfolding trees
 
   pub nodesOf : Tree → List Node
-  nodesOf (node n ts) = record { name = n; children = trees ts } ∷ nodesOfAll ts
+  nodesOf (node h ts) = record { head = h; children = trees ts } ∷ nodesOfAll ts
 
   pub nodesOfAll : Forest → List Node
   nodesOfAll []ᵗ = []
@@ -19,7 +19,7 @@ unfoldable mutual
 
 unfoldable pub nodeBytes : Node → List ℕ
 unfolding fieldBytes
-nodeBytes n = fieldBytes nodeTag (n .children ∷ n .name)
+nodeBytes n = fieldBytes (nodeTag (n .head .text)) (n .children ∷ n .head .name)
 
 unfoldable pub documentBytes : Tree → List ℕ
 unfolding joinedOf nodesOf nodeBytes fieldBytes

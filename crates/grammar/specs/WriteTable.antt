@@ -11,10 +11,14 @@ unfoldable pub ruleBytes : Rule → List ℕ
 unfolding contentBytes
 ruleBytes r = r .type ∷ r .label ∷ contentBytes (r .content)
 
+unfoldable pub ruleField : Rule → List ℕ
+unfolding fieldBytes ruleBytes
+ruleField r = fieldBytes (ruleTag (r .text)) (ruleBytes r)
+
 unfoldable pub tableBytes : Table → List ℕ
-unfolding joinedOf fieldBytes ruleBytes
+unfolding joinedOf fieldBytes ruleField
 tableBytes g =
     joinedOf (fieldBytes labelTag) (g .labels)
     ++ joinedOf (λ k. fieldBytes startTag (k ∷ [])) (g .starts)
-    ++ joinedOf (λ r. fieldBytes ruleTag (ruleBytes r)) (g .rules)
+    ++ joinedOf ruleField (g .rules)
     ++ fieldBytes tableEndTag []

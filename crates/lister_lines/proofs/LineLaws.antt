@@ -2,20 +2,21 @@
 --   name-stands, name-size : a label's name ; content-stands, content-asks, content-put, content-size : a rule's content
 --   rule-type-is, rule-type-size, rule-label-is, line-joined : a rule's line ; start-line-size : a start's line
 --   starts-next, lines-next : one line more
+use mathlib.Core.Bool.{Bool, true, false}
 use Prim.Native.Nat.{ℕ, _+_, _-_, _≤_, _<_}
 use native.Mathlib.Omega.{arith}
 use native.Mathlib.Numerals.{add-one}
 use mathlib.Core.List.{List, [], _∷_, _++_}
+use mathlib.Core.Option.{some as just}
 use mathlib.Core.Path.{_≡_, sym, _∙_, ap, subst}
-use lib.ListN.{length, getD, take, length-append}
+use lib.ListN.{length, getD, take, length-append, getElem?}
 use lib.Seq.{take-suc}
 use Rattle.grammar.specs.Lists.{joinedOf}
 use Rattle.grammar.specs.Limits.{large}
-use Rattle.grammar.specs.Content.{none}
 use Rattle.grammar.specs.Table.{Rule, Table}
 use Rattle.grammar.specs.ReadContent.{contentBytes}
 use Rattle.grammar.specs.WithinLimits.{ContentWithin}
-use Rattle.grammar.specs.Listing.{Text, typeText, contentText, startLine, ruleLine}
+use Rattle.grammar.specs.Listing.{Text, typeText, contentText, startLine, ruleLine, textMark}
 use Rattle.theory.proofs.lists.ListLaws.{at-else, joined-end}
 use Rattle.reader.specs.ContentAt.{ContentAt}
 use Rattle.reader.specs.TableIndex.{
@@ -36,7 +37,7 @@ use Rattle.reader.specs.TableIndex.{
 use Rattle.reader.specs.Held.{SomeHeld}
 use Rattle.reader.proofs.TableIndexLaws.{start-at}
 use Rattle.reader.proofs.TableFoundLaws.{RuleFound, label-found-at, rule-found-at, content-in-part}
-use Rattle.union.specs.PairNumbers.{ruleNumbered}
+use Rattle.union.specs.PairNumbers.{ruleNumbered, noRule}
 use Rattle.writer.specs.Writing.{Put}
 use Rattle.lister_lines.specs.declared.content_text.Ends.{Ends}
 use Rattle.lister_lines.specs.Printing.{Printable, Printed}
@@ -79,7 +80,7 @@ module _ {s index : List ℕ} (f : SomeHeld large s index) where
     found = rule-found-at (f .held .indexes) (f .held .within) i h
 
     rule-is : found .rule ≡ ruleNumbered g i
-    rule-is = sym (at-else (g .rules) i (record { type = 0; label = 0; content = none }) (found .listed))
+    rule-is = sym (at-else (g .rules) i noRule (found .listed))
 
     rule-stands : RuleAt s index i (ruleNumbered g i)
     rule-stands = subst (RuleAt s index i) rule-is (found .at)
@@ -95,6 +96,9 @@ module _ {s index : List ℕ} (f : SomeHeld large s index) where
 
     pub rule-label-is : ruleLabel index i ≡ ruleNumbered g i .label
     rule-label-is = rule-stands .label
+
+    pub rule-mark-is : {b : Bool} → ((q : Rule) → getElem? (g .rules) i ≡ just q → b ≡ q .text) → b ≡ ruleNumbered g i .text
+    rule-mark-is told = told (found .rule) (found .listed) ∙ ap (λ (r : Rule). r .text) rule-is
 
     pub content-size : length (contentText (ruleNumbered g i .content)) ≤ 3071
     unfolding large
@@ -130,22 +134,31 @@ module _ {s index : List ℕ} (f : SomeHeld large s index) where
     pub lines-next : joinedOf (ruleLine g) (take i (g .rules)) ++ ruleLine g (ruleNumbered g i)
         ≡ joinedOf (ruleLine g) (take (i + 1) (g .rules))
     lines-next =
-        joined-place (ruleLine g) (g .rules) i (record { type = 0; label = 0; content = none }) (omega (arith, f .held .indexes .rules))
+        joined-place (ruleLine g) (g .rules) i noRule (omega (arith, f .held .indexes .rules))
+
+-- the mark of a rule for text, and of another
+pub marked : {b : Bool} (text : Bool) → b ≡ text → b ≡ true → textMark text ≡ 0x23 ∷ []
+unfolding textMark
+marked text e t = ap textMark (sym e ∙ t)
+
+pub unmarked : {b : Bool} (text : Bool) → b ≡ text → b ≡ false → textMark text ≡ []
+unfolding textMark
+unmarked text e t = ap textMark (sym e ∙ t)
 
 -- the parts of a rule's line
 pub line-joined : (g : Table) (x : Rule) (k l : ℕ) {before : List ℕ} {at : ℕ} {after : List ℕ} {end : ℕ} → k ≡ x .type → l ≡ x .label
     → Put before at
-    (typeText k ++ (0x20 ∷ []) ++ getD (g .labels) l [] ++ (0x20 ∷ []) ++ contentText (x .content) ++ (0x0A ∷ [])) after end
+    (typeText k ++ (0x20 ∷ []) ++ getD (g .labels) l [] ++ (0x20 ∷ []) ++ contentText (x .content) ++ textMark (x .text) ++ (0x0A ∷ [])) after end
     → Put before at (ruleLine g x) after end
 unfolding ruleLine
 line-joined g x k l {before} {at} {after} {end} p q w =
     subst
     (λ (m : ℕ). Put before at
-    (typeText m ++ (0x20 ∷ []) ++ getD (g .labels) (x .label) [] ++ (0x20 ∷ []) ++ contentText (x .content) ++ (0x0A ∷ [])) after end)
+    (typeText m ++ (0x20 ∷ []) ++ getD (g .labels) (x .label) [] ++ (0x20 ∷ []) ++ contentText (x .content) ++ textMark (x .text) ++ (0x0A ∷ [])) after end)
     p
     (subst
     (λ (m : ℕ). Put before at
-    (typeText k ++ (0x20 ∷ []) ++ getD (g .labels) m [] ++ (0x20 ∷ []) ++ contentText (x .content) ++ (0x0A ∷ [])) after end)
+    (typeText k ++ (0x20 ∷ []) ++ getD (g .labels) m [] ++ (0x20 ∷ []) ++ contentText (x .content) ++ textMark (x .text) ++ (0x0A ∷ [])) after end)
     q w)
 
 pub start-line-size : (k : ℕ) → k < 128 → length (startLine k) ≤ 11

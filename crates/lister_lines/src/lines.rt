@@ -19,6 +19,7 @@ use reader::index::start_count;
 use reader::index::start_type;
 use reader::limits::limits_of;
 use reader::refusals::number_of;
+use reader::rules::for_text;
 use reader::tables::read_table;
 ghost use Prim.Native.Nat.{_+_, _≤_, _<_};
 ghost use mathlib.Core.List.{[]};
@@ -28,7 +29,7 @@ ghost use Rattle.grammar.specs.Limits.{standard, large, nameLimit};
 ghost use Rattle.grammar.specs.Names.{Loads};
 ghost use Rattle.grammar.specs.Outcome.{refused};
 ghost use Rattle.grammar.specs.ReadTable.{readTable};
-ghost use Rattle.grammar.specs.Listing.{contentText, startLine, ruleLine, localText, outcomeText};
+ghost use Rattle.grammar.specs.Listing.{contentText, textMark, startLine, ruleLine, localText, outcomeText};
 ghost use Rattle.reader.specs.Held.{SomeHeld};
 ghost use Rattle.reader.specs.TableIndex.{labelCount, ruleCount};
 ghost use Rattle.union.specs.PairNumbers.{ruleNumbered};
@@ -59,17 +60,30 @@ fn put_rule_content(table: &[u8], index: &[u16; 899], i: usize, text: &mut [u8],
     ends.text
 }
 
+// # behind the content of a rule for text.
+fn put_rule_mark(table: &[u8], index: &[u16; 899], i: usize, text: &mut [u8], at: usize) -> usize
+    requires { ⌜ SomeHeld large (now table) (now index) × (i < ruleCount (now index)) × (at + 1 ≤ length (now text)) ⌝ }
+    ensures { λ r. ⌜ TextPut (now (table .entry)) (now (index .entry)) (λ g. textMark (ruleNumbered g i .text)) 1
+        (now (text .entry)) at (now (text .exit)) r ⌝ }
+{
+    if for_text(table, index, i) {
+        return put_byte(text, at, b'#');
+    }
+    at
+}
+
 // The line of a rule: type, name and content.
 fn put_rule_line(table: &[u8], index: &[u16; 899], i: usize, text: &mut [u8], at: usize) -> usize
-    requires { ⌜ SomeHeld large (now table) (now index) × (i < ruleCount (now index)) × (at + 3141 ≤ length (now text)) ⌝ }
-    ensures { λ r. ⌜ TextPut (now (table .entry)) (now (index .entry)) (λ g. ruleLine g (ruleNumbered g i)) 3141 (now (text .entry)) at
+    requires { ⌜ SomeHeld large (now table) (now index) × (i < ruleCount (now index)) × (at + 3142 ≤ length (now text)) ⌝ }
+    ensures { λ r. ⌜ TextPut (now (table .entry)) (now (index .entry)) (λ g. ruleLine g (ruleNumbered g i)) 3142 (now (text .entry)) at
         (now (text .exit)) r ⌝ }
 {
     let typed = put_type(text, at, rule_type(index, i));
     let name = put_byte(text, typed, b' ');
     let named = put_name(table, index, rule_label(index, i), text, name);
     let content = put_byte(text, named, b' ');
-    let end = put_rule_content(table, index, i, text, content);
+    let mark = put_rule_content(table, index, i, text, content);
+    let end = put_rule_mark(table, index, i, text, mark);
     put_byte(text, end, b'\n')
 }
 
@@ -101,8 +115,8 @@ fn put_starts(table: &[u8], index: &[u16; 899], text: &mut [u8], at: usize) -> u
 
 // The lines of the rules.
 fn put_rules(table: &[u8], index: &[u16; 899], text: &mut [u8], at: usize) -> usize
-    requires { ⌜ SomeHeld large (now table) (now index) × (at + 402048 ≤ length (now text)) ⌝ }
-    ensures { λ r. ⌜ TextPut (now (table .entry)) (now (index .entry)) (λ g. joinedOf (ruleLine g) (g .rules)) 402048
+    requires { ⌜ SomeHeld large (now table) (now index) × (at + 402176 ≤ length (now text)) ⌝ }
+    ensures { λ r. ⌜ TextPut (now (table .entry)) (now (index .entry)) (λ g. joinedOf (ruleLine g) (g .rules)) 402176
         (now (text .entry)) at (now (text .exit)) r ⌝ }
 {
     let rules = rule_count(index);

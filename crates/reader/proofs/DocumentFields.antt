@@ -14,6 +14,7 @@ use borrow.Author.Tests.{leb-true, leb-false, ltb-false, eqb-false, eq-eqb, ne-e
 use Rattle.grammar.specs.Limits.{Limits}
 use Rattle.grammar.specs.Names.{Classes, isName}
 use Rattle.grammar.specs.Fields.{Field, Fields, _then_, fieldsOf}
+use Rattle.grammar.specs.Tree.{Head}
 use Rattle.grammar.specs.Outcome.{Outcome, given, refused, _>>=_, _>>_, turnBack}
 use Rattle.grammar.specs.ReadTable.{isEmpty, bytesLeft}
 use Rattle.grammar.specs.ReadDocument.{
@@ -27,14 +28,16 @@ use Rattle.grammar.specs.ReadDocument.{
   readNode,
   readNodeFields,
   readNodes,
+  isNodeTag,
 }
 use Rattle.grammar.specs.declared.Refusal.the-variants.{InputTooLong, BadField, BadName, BadTree, BytesAfterEnd}
 use Rattle.grammar.specs.declared.Reading.the-variants.{Readable, Refused as Unreadable}
 use Rattle.theory.proofs.lists.BoolLaws.{or-false}
 use Rattle.theory.proofs.bytes.FieldBytes.{fields-empty, fields-tag, fields-half, fields-front, fields-past}
-use Rattle.reader.specs.DocumentNodes.{outcomeOf}
+use Rattle.reader.specs.DocumentNodes.{outcomeOf, headAt}
 use Rattle.reader.specs.DocumentSteps.{endAnswer, badCounts, Sized, restOf, restWith}
 use Rattle.reader.proofs.FieldReading.{slice-part}
+use Rattle.reader.specs.FieldAt.{TagBefore}
 
 -- a list is empty when its length is 0
 empty-length : {A : Type 0} (l : List A) → isEmpty l ≡ eqb (length l) 0
@@ -157,19 +160,19 @@ module _ (lim : Limits) (classes : Classes) (o : Opened) where
 
   module _ (tag k : ℕ) (name : List ℕ) where
     abbrev fits : Bool
-    fits = eqb tag nodeTag && leb 1 (length name) && leb (length name) (lim .name)
+    fits = isNodeTag tag && leb 1 (length name) && leb (length name) (lim .name)
 
     read-tried : readNode lim classes o (record { tag = tag; value = k ∷ name })
         ≡ tried
         fits
         (isName classes name)
         (badCounts lim (length (o .nodes)) k (length (o .toCome)))
-        (withNode o (record { name = name; children = k }))
+        (withNode o (record { head = record { name = name; text = eqb tag (nodeTag true) }; children = k }))
     unfolding readNode
     read-tried =
         ap
-        (λ (b : Bool). tried fits (isName classes name) b (withNode o (record { name = name; children = k })))
-        (bad-counts lim o (record { name = name; children = k }))
+        (λ (b : Bool). tried fits (isName classes name) b (withNode o (record { head = record { name = name; text = eqb tag (nodeTag true) }; children = k })))
+        (bad-counts lim o (record { head = record { name = name; text = eqb tag (nodeTag true) }; children = k }))
 
     read-misfit : fits ≡ false → readNode lim classes o (record { tag = tag; value = k ∷ name }) ≡ refused BadField
     read-misfit p =
@@ -180,22 +183,22 @@ module _ (lim : Limits) (classes : Classes) (o : Opened) where
         b
         (isName classes name)
         (badCounts lim (length (o .nodes)) k (length (o .toCome)))
-        (withNode o (record { name = name; children = k })))
+        (withNode o (record { head = record { name = name; text = eqb tag (nodeTag true) }; children = k })))
         p
 
-    module _ (tagged : tag ≡ nodeTag) (some : 1 ≤ length name) (short : length name ≤ lim .name) where
+    module _ (tagged : isNodeTag tag ≡ true) (some : 1 ≤ length name) (short : length name ≤ lim .name) where
       all-fits : fits ≡ true
       all-fits =
-          ap (λ (b : Bool). b && leb 1 (length name) && leb (length name) (lim .name)) (eq-eqb tag nodeTag tagged)
+          ap (λ (b : Bool). b && leb 1 (length name) && leb (length name) (lim .name)) tagged
           ∙ ap (λ (b : Bool). b && leb (length name) (lim .name)) (le-leb 1 (length name) some)
           ∙ le-leb (length name) (lim .name) short
 
       read-fits : (named : Bool) → isName classes name ≡ named → (bad : Bool)
           → badCounts lim (length (o .nodes)) k (length (o .toCome)) ≡ bad
           → readNode lim classes o (record { tag = tag; value = k ∷ name })
-          ≡ tried true named bad (withNode o (record { name = name; children = k }))
+          ≡ tried true named bad (withNode o (record { head = record { name = name; text = eqb tag (nodeTag true) }; children = k }))
       read-fits named p bad q =
-          let more = withNode o (record { name = name; children = k }) in
+          let more = withNode o (record { head = record { name = name; text = eqb tag (nodeTag true) }; children = k }) in
           let counts = badCounts lim (length (o .nodes)) k (length (o .toCome)) in
           read-tried
           ∙ ap (λ (b : Bool). tried b (isName classes name) counts more) all-fits
@@ -260,10 +263,10 @@ module _ (s : List ℕ) (from to : ℕ) (order : from ≤ to) (within : to ≤ l
             (refused BadField)
             (read-misfit lim classes o tag (getD s from 0) name (p some))
 
-    pub node-foreign : (tag ≡ nodeTag → ⊥) → restWith lim classes field rest o ≡ refused BadField
+    pub node-foreign : isNodeTag tag ≡ false → restWith lim classes field rest o ≡ refused BadField
     node-foreign p =
         node-misfit
-        (λ q. first-fails (eqb tag nodeTag) (leb 1 (length name)) (leb (length name) (lim .name)) (ne-eqb tag nodeTag p))
+        (λ q. first-fails (isNodeTag tag) (leb 1 (length name)) (leb (length name) (lim .name)) p)
 
     pub node-short : to - from < 2 → restWith lim classes field rest o ≡ refused BadField
     node-short p =
@@ -271,7 +274,7 @@ module _ (s : List ℕ) (from to : ℕ) (order : from ≤ to) (within : to ≤ l
         (λ q.
         let long = name-length q in
         second-fails
-        (eqb tag nodeTag)
+        (isNodeTag tag)
         (leb 1 (length name))
         (leb (length name) (lim .name))
         (lt-leb 1 (length name) (omega arith)))
@@ -282,29 +285,41 @@ module _ (s : List ℕ) (from to : ℕ) (order : from ≤ to) (within : to ≤ l
         (λ q.
         let long = name-length q in
         third-fails
-        (eqb tag nodeTag)
+        (isNodeTag tag)
         (leb 1 (length name))
         (leb (length name) (lim .name))
         (lt-leb (length name) (lim .name) (omega arith)))
 
-    module _ (tagged : tag ≡ nodeTag) (some : 2 ≤ to - from) (short : to - from - 1 ≤ lim .name) where
+    module _ (tagged : isNodeTag tag ≡ true) (some : 2 ≤ to - from) (short : to - from - 1 ≤ lim .name) where
+      abbrev head : Head
+      head = record { name = name; text = eqb tag (nodeTag true) }
+
       node-tried : (named : Bool) → isName classes name ≡ named → (bad : Bool)
           → badCounts lim (length (o .nodes)) (getD s from 0) (length (o .toCome)) ≡ bad
           → restWith lim classes field rest o
-          ≡ (tried true named bad (withNode o (record { name = name; children = getD s from 0 }))
+          ≡ (tried true named bad (withNode o (record { head = head; children = getD s from 0 }))
           >>= λ more. restOf lim classes more rest)
       node-tried named p bad q =
           let long = name-length (omega arith) in
           goes-on
           (getD s from 0 ∷ name)
           (first-and-name (omega arith))
-          (tried true named bad (withNode o (record { name = name; children = getD s from 0 })))
+          (tried true named bad (withNode o (record { head = head; children = getD s from 0 })))
           (read-fits lim classes o tag (getD s from 0) name tagged (omega arith) (omega arith) named p bad q)
 
       pub node-misnamed : isName classes name ≡ false → restWith lim classes field rest o ≡ refused BadName
       node-misnamed p = node-tried false p (badCounts lim (length (o .nodes)) (getD s from 0) (length (o .toCome))) refl
 
-      module _ (nodes depth children : ℕ) (counted : children ≡ getD s from 0) (sized : Sized o nodes depth) where
+      module _ (before : TagBefore s from tag) (nodes depth children : ℕ) (counted : children ≡ getD s from 0)
+          (sized : Sized o nodes depth) where
+        head-here : head ≡ headAt s (from + 1) (to - (from + 1))
+        head-here =
+            let behind = before .behind in
+            let at : from - 3 ≡ from + 1 - 4 = omega arith in
+            ap
+            (λ (t : ℕ). record { name = name; text = eqb t (nodeTag true) })
+            (sym (before .tagged) ∙ ap (λ (i : ℕ). getD s i 0) at)
+
         here : (bad : Bool) → badCounts lim nodes children depth ≡ bad
             → badCounts lim (length (o .nodes)) (getD s from 0) (length (o .toCome)) ≡ bad
         here bad e = rw (sized .read, sized .open-levels, ← counted) e
@@ -314,10 +329,14 @@ module _ (s : List ℕ) (from to : ℕ) (order : from ≤ to) (within : to ≤ l
         node-misplaced p q = node-tried true p true (here true q)
 
         pub node-here : isName classes name ≡ true → badCounts lim nodes children depth ≡ false
-            → restWith lim classes field rest o ≡ restOf lim classes (withNode o (record { name = name; children = children })) rest
+            → restWith lim classes field rest o
+            ≡ restOf lim classes (withNode o (record { head = headAt s (from + 1) (to - (from + 1)); children = children })) rest
         node-here p q =
             node-tried true p false (here false q)
-            ∙ ap (λ (k : ℕ). restOf lim classes (withNode o (record { name = name; children = k })) rest) (sym counted)
+            ∙ ap₂
+            (λ (h : Head) (k : ℕ). restOf lim classes (withNode o (record { head = h; children = k })) rest)
+            head-here
+            (sym counted)
 
 -- the length of the input comes first
 module _ (lim : Limits) (classes : Classes) (bytes : List ℕ) where

@@ -7,7 +7,7 @@ use mathlib.Core.Bool.{Bool, true, false}
 use mathlib.Core.List.{List, [], _∷_, _++_}
 use mathlib.Core.Path.{_≡_, refl, sym, _∙_, ap, ap₂, subst}
 use lib.Dec.{ltb}
-use lib.ListN.{length, getD, take, drop, set, length-set, length-append}
+use lib.ListN.{length, getD, drop, set, length-set, length-append}
 use lib.Seq.{getD-set-same, getD-set-other}
 use borrow.Author.Tests.{ltb-true, ltb-false}
 use Rattle.grammar.specs.Limits.{Limits}
@@ -18,7 +18,7 @@ use Rattle.grammar.specs.ReadDocument.{Node, Opened, nothingRead, withNode}
 use Rattle.grammar.specs.declared.Reading.{Reading}
 use Rattle.reader.specs.declared.documents.Step.{Step}
 use Rattle.reader.specs.declared.documents.Step.the-variants.{Node as NodeHere, Stop}
-use Rattle.reader.specs.DocumentNodes.{nodeAt, firstNodes, NodesIndexed, outcomeOf}
+use Rattle.reader.specs.DocumentNodes.{headAt, nodeAt, firstNodes, NodesIndexed, outcomeOf}
 use Rattle.reader.specs.DocumentSteps.{Sized, restOf, NodeStep, StepSays, openLevels, Open, LevelsAfter}
 use Rattle.reader.proofs.OpenLevels.{levels-length}
 use Rattle.reader.proofs.TableIndexLaws.{put}
@@ -51,13 +51,13 @@ module _ (s names sizes children : List ℕ) where
   -- one node more
   pub nodes-more : (n a b k : ℕ) → n < length names → n < length sizes → n < length children
       → firstNodes s (set names n a) (set sizes n b) (set children n k) (n + 1)
-      ≡ firstNodes s names sizes children n ++ (record { name = take b (drop a s); children = k } ∷ [])
+      ≡ firstNodes s names sizes children n ++ (record { head = headAt s a b; children = k } ∷ [])
   unfolding firstNodes
   nodes-more n a b k p q r =
       ap (firstNodes s (set names n a) (set sizes n b) (set children n k)) (add-one n)
       ∙ ap₂ (λ (l : List Node) (x : Node). l ++ (x ∷ [])) (nodes-kept n n a b k (omega arith)) node-stored
     where
-      node-stored : nodeAt s (set names n a) (set sizes n b) (set children n k) n ≡ record { name = take b (drop a s); children = k }
+      node-stored : nodeAt s (set names n a) (set sizes n b) (set children n k) n ≡ record { head = headAt s a b; children = k }
       node-stored = rw (getD-set-same names n a 0 p, getD-set-same sizes n b 0 q, getD-set-same children n k 0 r)
 
 pub record NodesSoFar (lim : Limits) (classes : Classes) (s names sizes children : List ℕ) (nodes at : ℕ) (coming : List ℕ) (depth : ℕ) : Type 0 where
@@ -90,7 +90,13 @@ module _ (lim : Limits) (classes : Classes) (room : lim .nodes ≤ 2048) (s name
         names-room = p;
         sizes-room = q;
         children-room = r;
-        indexed = record { few = omega arith; within = λ i h. absurd (omega arith); counts = λ i h. absurd (omega arith) };
+        indexed =
+            record {
+              few = omega arith;
+              behind = λ i h. absurd (omega arith);
+              within = λ i h. absurd (omega arith);
+              counts = λ i h. absurd (omega arith);
+            };
         levels-open = record { innermost = innermost };
         goes-on = ap (λ (k : ℕ). restOf lim classes (record { nodes = []; toCome = k ∷ [] }) (fieldsOf s)) (sym e);
       }
@@ -118,8 +124,25 @@ module _ (lim : Limits) (classes : Classes) (room : lim .nodes ≤ 2048) (s name
       indexed-more : NodesIndexed s (set names nodes from) (set sizes nodes (to - from)) (set children nodes k) (nodes + 1)
       indexed-more =
           let place = step .room in
-          record { few = omega arith; within = λ i h. within i h (ltb i nodes) refl; counts = λ i h. counts i h (ltb i nodes) refl }
+          record {
+            few = omega arith;
+            behind = λ i h. behind i h (ltb i nodes) refl;
+            within = λ i h. within i h (ltb i nodes) refl;
+            counts = λ i h. counts i h (ltb i nodes) refl;
+          }
         where
+          behind : (i : ℕ) → i < nodes + 1 → (b : Bool) → ltb i nodes ≡ b → 4 ≤ getD (set names nodes from) i 0
+          behind i h true e =
+              let p = ltb-true i nodes e in
+              let old = far .indexed .behind i p in
+              let a = getD-set-other names nodes i from 0 (λ e. omega arith) in
+              omega arith
+          behind i h false e =
+              let p = ltb-false i nodes e in
+              let place = step .room in
+              let a = put names nodes i from (omega (arith, far .names-room)) (omega arith) in
+              omega (arith, step .behind)
+
           within : (i : ℕ) → i < nodes + 1 → (b : Bool) → ltb i nodes ≡ b
               → getD (set names nodes from) i 0 + getD (set sizes nodes (to - from)) i 0 ≤ length s
           within i h true e =

@@ -59,6 +59,7 @@ pub says-also : (lim : Limits) (classes : Classes) (s : List ℕ) (at from nodes
 says-also lim classes s at from nodes depth whole whole′ (NodeHere f t k) h e n =
     record {
       forward = let p = n .forward in omega arith;
+      behind = n .behind;
       order = n .order;
       within = n .within;
       room = n .room;

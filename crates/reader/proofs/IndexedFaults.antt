@@ -1,7 +1,7 @@
 -- Which answer a label, a start or a rule has, by the places of its field and the counts of an index: the tests as the code makes them.
 use Prim.Native.Nat.{ℕ, _+_, _-_, _≤_, _<_}
 use native.Mathlib.Omega.{arith}
-use mathlib.Core.Bool.{true, false}
+use mathlib.Core.Bool.{true, false, Bool}
 use mathlib.Core.List.{List, [], _∷_}
 use mathlib.Core.Path.{_≡_, sym, _∙_, ap}
 use lib.ListN.{length, getD}
@@ -97,12 +97,12 @@ module _ (limits : SizeLimits) {s index : List ℕ} {g : Table} (x : Indexes s i
           start-reads e =
               readable _ (withStart g ty) (one-byte ∙ start-fine (limitsOf limits) g ty none new (omega (arith, x .starts)) e)
 
-  pub rule-small : to - from < 3 → reading (readRule (limitsOf limits) g (part s from to)) ≡ Unreadable BadField
-  rule-small e =
+  pub rule-small : (text : Bool) → to - from < 3 → reading (readRule (limitsOf limits) g text (part s from to)) ≡ Unreadable BadField
+  rule-small text e =
       let size = part-size s from to h in
-      unreadable _ BadField (rule-short (limitsOf limits) g (part s from to) (omega arith))
+      unreadable _ BadField (rule-short (limitsOf limits) g text (part s from to) (omega arith))
 
-  module _ (long : 3 ≤ to - from) where
+  module _ (text : Bool) (long : 3 ≤ to - from) where
     content : List ℕ
     content = part s (from + 2) to
 
@@ -110,14 +110,14 @@ module _ (limits : SizeLimits) {s index : List ℕ} {g : Table} (x : Indexes s i
     unfolding content
     content-size = let w = h .within in part-size s (from + 2) to (record { order = omega arith; within = w })
 
-    apart : readRule (limitsOf limits) g (part s from to) ≡ readRule (limitsOf limits) g (getD s from 0 ∷ getD s (from + 1) 0 ∷ content)
+    apart : readRule (limitsOf limits) g text (part s from to) ≡ readRule (limitsOf limits) g text (getD s from 0 ∷ getD s (from + 1) 0 ∷ content)
     unfolding content
-    apart = ap (readRule (limitsOf limits) g) (part-two s from to (omega arith) (h .within))
+    apart = ap (readRule (limitsOf limits) g text) (part-two s from to (omega arith) (h .within))
 
-    pub rule-large : 1026 < to - from → reading (readRule (limitsOf limits) g (part s from to)) ≡ Unreadable BadField
+    pub rule-large : 1026 < to - from → reading (readRule (limitsOf limits) g text (part s from to)) ≡ Unreadable BadField
     rule-large e =
         let size = content-size in
-        unreadable _ BadField (apart ∙ rule-long (limitsOf limits) g (getD s from 0) (getD s (from + 1) 0) content (omega arith))
+        unreadable _ BadField (apart ∙ rule-long (limitsOf limits) g text (getD s from 0) (getD s (from + 1) 0) content (omega arith))
 
     module _ (short : to - from ≤ 1026) where
       has : 1 ≤ length content
@@ -126,42 +126,42 @@ module _ (limits : SizeLimits) {s index : List ℕ} {g : Table} (x : Indexes s i
       fits : length content ≤ 1024
       fits = let size = content-size in omega arith
 
-      pub rule-one-too-many : limits .rules ≤ ruleCount index → reading (readRule (limitsOf limits) g (part s from to)) ≡ Unreadable TooMany
+      pub rule-one-too-many : limits .rules ≤ ruleCount index → reading (readRule (limitsOf limits) g text (part s from to)) ≡ Unreadable TooMany
       rule-one-too-many e =
           unreadable
           _
           TooMany
           (apart
-          ∙ rule-too-many (limitsOf limits) g (getD s from 0) (getD s (from + 1) 0) content has fits (omega (arith, x .rules)))
+          ∙ rule-too-many (limitsOf limits) g text (getD s from 0) (getD s (from + 1) 0) content has fits (omega (arith, x .rules)))
 
       module _ (few : ruleCount index < limits .rules) where
         room : length (g .rules) < limits .rules
         room = omega (arith, x .rules)
 
-        pub rule-type-out : limits .rules ≤ getD s from 0 → reading (readRule (limitsOf limits) g (part s from to)) ≡ Unreadable OutOfRange
+        pub rule-type-out : limits .rules ≤ getD s from 0 → reading (readRule (limitsOf limits) g text (part s from to)) ≡ Unreadable OutOfRange
         rule-type-out e =
             unreadable
             _
             OutOfRange
-            (apart ∙ rule-type-unknown (limitsOf limits) g (getD s from 0) (getD s (from + 1) 0) content has fits room e)
+            (apart ∙ rule-type-unknown (limitsOf limits) g text (getD s from 0) (getD s (from + 1) 0) content has fits room e)
 
-        pub rule-label-out : labelCount index ≤ getD s (from + 1) 0 → reading (readRule (limitsOf limits) g (part s from to)) ≡ Unreadable OutOfRange
+        pub rule-label-out : labelCount index ≤ getD s (from + 1) 0 → reading (readRule (limitsOf limits) g text (part s from to)) ≡ Unreadable OutOfRange
         rule-label-out e =
             unreadable
             _
             OutOfRange
             (apart
-            ∙ rule-label-unknown (limitsOf limits) g (getD s from 0) (getD s (from + 1) 0) content has fits room (omega (arith, x .labels)))
+            ∙ rule-label-unknown (limitsOf limits) g text (getD s from 0) (getD s (from + 1) 0) content has fits room (omega (arith, x .labels)))
 
         module _ (type-in : getD s from 0 < limits .rules) (label-in : getD s (from + 1) 0 < labelCount index) where
-          by-content : readRule (limitsOf limits) g (part s from to)
-              ≡ (readContent (limitsOf limits) content >>= (λ c. given (withRule g (record { type = getD s from 0; label = getD s (from + 1) 0; content = c }))))
+          by-content : readRule (limitsOf limits) g text (part s from to)
+              ≡ (readContent (limitsOf limits) content >>= (λ c. given (withRule g (record { type = getD s from 0; label = getD s (from + 1) 0; content = c; text = text }))))
           by-content =
               apart
-              ∙ rule-content (limitsOf limits) g (getD s from 0) (getD s (from + 1) 0) content has fits room type-in (omega (arith, x .labels))
+              ∙ rule-content (limitsOf limits) g text (getD s from 0) (getD s (from + 1) 0) content has fits room type-in (omega (arith, x .labels))
 
           pub rule-by-content : (r : Refusal) → contentAnswer (readContent (limitsOf limits) (part s (from + 2) to)) ≡ Unfit r
-              → reading (readRule (limitsOf limits) g (part s from to)) ≡ Unreadable r
+              → reading (readRule (limitsOf limits) g text (part s from to)) ≡ Unreadable r
           unfolding content
           rule-by-content r e =
               unreadable
@@ -169,18 +169,18 @@ module _ (limits : SizeLimits) {s index : List ℕ} {g : Table} (x : Indexes s i
               r
               (by-content
               ∙ ap
-              (λ (o : Outcome Content). o >>= (λ c. given (withRule g (record { type = getD s from 0; label = getD s (from + 1) 0; content = c }))))
+              (λ (o : Outcome Content). o >>= (λ c. given (withRule g (record { type = getD s from 0; label = getD s (from + 1) 0; content = c; text = text }))))
               (refused-so (readContent (limitsOf limits) (part s (from + 2) to)) r e))
 
           pub rule-reads : contentAnswer (readContent (limitsOf limits) (part s (from + 2) to)) ≡ Fine
-              → reading (readRule (limitsOf limits) g (part s from to)) ≡ Readable
+              → reading (readRule (limitsOf limits) g text (part s from to)) ≡ Readable
           unfolding content
           rule-reads e =
               let f = fine-given (readContent (limitsOf limits) (part s (from + 2) to)) e in
               readable
               _
-              (withRule g (record { type = getD s from 0; label = getD s (from + 1) 0; content = f .0 }))
+              (withRule g (record { type = getD s from 0; label = getD s (from + 1) 0; content = f .0; text = text }))
               (by-content
               ∙ ap
-              (λ (o : Outcome Content). o >>= (λ c. given (withRule g (record { type = getD s from 0; label = getD s (from + 1) 0; content = c }))))
+              (λ (o : Outcome Content). o >>= (λ c. given (withRule g (record { type = getD s from 0; label = getD s (from + 1) 0; content = c; text = text }))))
               (f .1))

@@ -17,8 +17,8 @@ use Rattle.grammar.specs.Names.{Name, Classes, loads, Loads}
 use Rattle.grammar.specs.Table.{Table}
 use Rattle.grammar.specs.Outcome.{Outcome, given, refused, _>>=_, _>>_, turnBack}
 use Rattle.grammar.specs.Fields.{fieldBytes}
-use Rattle.grammar.specs.ReadTable.{labelTag, startTag, ruleTag, tableEndTag, readTable}
-use Rattle.grammar.specs.WriteTable.{ruleBytes, tableBytes}
+use Rattle.grammar.specs.ReadTable.{labelTag, startTag, tableEndTag, readTable}
+use Rattle.grammar.specs.WriteTable.{tableBytes, ruleField}
 use Rattle.grammar.specs.Calls.{partBytes, partOfLabel}
 use Rattle.grammar.specs.declared.Refusal.{Refusal}
 use Rattle.grammar.specs.declared.Refusal.the-variants.{BadClasses, OutOfRange}
@@ -56,7 +56,7 @@ module _ (lim : Limits) (classes : Classes) (s : List ℕ) (g : Table) (small : 
   labels-first =
       let labels = joinedOf (fieldBytes labelTag) (g .labels) in
       let starts = joinedOf (λ k. fieldBytes startTag (k ∷ [])) (g .starts) in
-      let rules = joinedOf (λ r. fieldBytes ruleTag (ruleBytes r)) (g .rules) in
+      let rules = joinedOf ruleField (g .rules) in
       let end = fieldBytes tableEndTag [] in
       (starts ++ (rules ++ end), sym (read-was lim classes s g read small) ∙ apart labels starts rules end)
     where

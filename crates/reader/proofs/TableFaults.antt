@@ -156,18 +156,18 @@ module _ (lim : Limits) (g : Table) where
               ∙ no-fault _ TooMany _ (lt-leb (lim .starts) (length (g .starts)) few)
               ∙ no-fault _ OutOfRange _ (lt-leb (lim .types) k e)
 
-  pub rule-short : (value : List ℕ) → length value < 3 → readRule lim g value ≡ refused BadField
+  pub rule-short : (text : Bool) (value : List ℕ) → length value < 3 → readRule lim g text value ≡ refused BadField
   unfolding readRule
-  rule-short [] h = refl
-  rule-short (k ∷ []) h = refl
-  rule-short (k ∷ l ∷ []) h = refl
-  rule-short (k ∷ l ∷ b ∷ rest) h = absurd (omega arith)
+  rule-short text [] h = refl
+  rule-short text (k ∷ []) h = refl
+  rule-short text (k ∷ l ∷ []) h = refl
+  rule-short text (k ∷ l ∷ b ∷ rest) h = absurd (omega arith)
 
-  module _ (k l : ℕ) (content : List ℕ) where
+  module _ (text : Bool) (k l : ℕ) (content : List ℕ) where
     sized : Bool
     sized = leb 1 (length content) && leb (length content) (lim .content)
 
-    pub rule-long : lim .content < length content → readRule lim g (k ∷ l ∷ content) ≡ refused BadField
+    pub rule-long : lim .content < length content → readRule lim g text (k ∷ l ∷ content) ≡ refused BadField
     unfolding readRule sized
     rule-long h =
         fault _ BadField _ (ap not (false-of sized (λ e. let q = leb-true (length content) (lim .content) (and-right (leb 1 (length content)) _ e) in omega arith)))
@@ -178,7 +178,7 @@ module _ (lim : Limits) (g : Table) where
       right-size next =
           no-fault (not sized) BadField next (ap not (and-intro (leb 1 (length content)) _ (le-leb 1 (length content) has) (le-leb (length content) (lim .content) size)))
 
-      pub rule-too-many : lim .rules ≤ length (g .rules) → readRule lim g (k ∷ l ∷ content) ≡ refused TooMany
+      pub rule-too-many : lim .rules ≤ length (g .rules) → readRule lim g text (k ∷ l ∷ content) ≡ refused TooMany
       unfolding readRule sized
       rule-too-many e = right-size _ ∙ fault _ TooMany _ (le-leb (lim .rules) (length (g .rules)) e)
 
@@ -186,20 +186,20 @@ module _ (lim : Limits) (g : Table) where
         room-left : {B : Type 0} (next : Outcome B) → (turnBack (leb (lim .rules) (length (g .rules))) TooMany >> next) ≡ next
         room-left next = no-fault _ TooMany next (lt-leb (lim .rules) (length (g .rules)) few)
 
-        pub rule-type-unknown : lim .types ≤ k → readRule lim g (k ∷ l ∷ content) ≡ refused OutOfRange
+        pub rule-type-unknown : lim .types ≤ k → readRule lim g text (k ∷ l ∷ content) ≡ refused OutOfRange
         unfolding readRule sized
         rule-type-unknown e =
             right-size _ ∙ room-left _ ∙ fault _ OutOfRange _ (or-left _ _ (le-leb (lim .types) k e))
 
-        pub rule-label-unknown : length (g .labels) ≤ l → readRule lim g (k ∷ l ∷ content) ≡ refused OutOfRange
+        pub rule-label-unknown : length (g .labels) ≤ l → readRule lim g text (k ∷ l ∷ content) ≡ refused OutOfRange
         unfolding readRule sized
         rule-label-unknown e =
             right-size _ ∙ room-left _ ∙ fault _ OutOfRange _ (or-right (leb (lim .types) k) _ (le-leb (length (g .labels)) l e))
 
         -- what is left is the content's answer
         pub rule-content : k < lim .types → l < length (g .labels)
-            → readRule lim g (k ∷ l ∷ content)
-            ≡ (readContent lim content >>= (λ c. given (withRule g (record { type = k; label = l; content = c }))))
+            → readRule lim g text (k ∷ l ∷ content)
+            ≡ (readContent lim content >>= (λ c. given (withRule g (record { type = k; label = l; content = c; text = text }))))
         unfolding readRule sized
         rule-content p q =
             right-size _

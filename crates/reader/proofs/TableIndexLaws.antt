@@ -1,15 +1,17 @@
 -- Laws of indexes: what stands at each number, and the index after one label, start or rule more.
-use Prim.Native.Nat.{ℕ, zero, suc, _+_, _≤_, _<_}
+use mathlib.Core.Bool.{true, Bool, false}
+use lib.Dec.{eqb}
+use Prim.Native.Nat.{ℕ, zero, suc, _+_, _≤_, _<_, _-_}
 use native.Mathlib.Omega.{arith}
 use mathlib.Core.List.{List, [], _∷_, _++_}
 use mathlib.Core.Logic.{_⊎_, inl, inr, ⊎-elim}
 use mathlib.Core.Option.{some as just}
-use mathlib.Core.Path.{_≡_, refl, sym, _∙_, ap}
+use mathlib.Core.Path.{_≡_, refl, sym, _∙_, ap, subst}
 use lib.ListN.{length, getD, getElem?, set, length-append, length-set}
 use lib.Seq.{getD-set-same, getD-set-other}
 use Rattle.grammar.specs.Names.{Name}
 use Rattle.grammar.specs.Table.{Rule, Table, emptyTable}
-use Rattle.grammar.specs.ReadTable.{withLabel, withStart, withRule}
+use Rattle.grammar.specs.ReadTable.{withLabel, withStart, withRule, ruleTag}
 use Rattle.grammar.specs.ReadContent.{contentBytes}
 use Rattle.theory.proofs.lists.ListLaws.{below-at, at-below, just-eq}
 use Rattle.reader.specs.TableIndex.{
@@ -33,6 +35,7 @@ use Rattle.reader.specs.TableIndex.{
   RuleAt,
   Indexes,
 }
+use Rattle.reader.specs.FieldAt.{TagBefore}
 
 -- one element more at the end: it is one of the others, or the last
 module _ {A : Type 0} where
@@ -59,8 +62,25 @@ stands-so w p q r = rw (p, q, ← r) w
 rule-so : {s index index′ : List ℕ} {i : ℕ} {r : Rule} → RuleAt s index i r → ruleType index′ i ≡ ruleType index i
     → ruleLabel index′ i ≡ ruleLabel index i → contentFrom index′ i ≡ contentFrom index i → contentTo index′ i ≡ contentTo index i
     → RuleAt s index′ i r
-rule-so w p q f t =
-    record { type = p ∙ w .type; label = q ∙ w .label; content = stands-so (w .content) f t refl }
+rule-so {s = s} {r = r} w p q f t =
+    record {
+      type = p ∙ w .type;
+      label = q ∙ w .label;
+      content = stands-so (w .content) f t refl;
+      tag = subst (λ (n : ℕ). TagBefore s (n - 2) (ruleTag (r .text))) (sym f) (w .tag);
+    }
+
+-- a rule's tag, five bytes before its content, tells whether it is for text
+pub tag-tells : {s : List ℕ} {from : ℕ} (text : Bool) → TagBefore s (from - 2) (ruleTag text)
+    → (5 ≤ from) × (eqb (getD s (from - 5) 0) (ruleTag true) ≡ text)
+tag-tells {s} {from} text x =
+    let behind = x .behind in
+    let at : from - 5 ≡ from - 2 - 3 = omega arith in
+    (omega arith, ap (λ (j : ℕ). eqb (getD s j 0) (ruleTag true)) at ∙ ap (λ (t : ℕ). eqb t (ruleTag true)) (x .tagged) ∙ tells text)
+  where
+    tells : (text : Bool) → eqb (ruleTag text) (ruleTag true) ≡ text
+    tells true = refl
+    tells false = refl
 
 module _ {s index : List ℕ} {g : Table} (x : Indexes s index g) where
   -- at each number below the count
@@ -79,6 +99,17 @@ module _ {s index : List ℕ} {g : Table} (x : Indexes s index g) where
   rule-at i h =
       let p = below-at (g .rules) i (omega (arith, x .rules)) in
       (p .0, p .1, x .rule i (p .0) (p .1))
+
+  -- the tag of a rule's field tells whether it is for text
+  pub text-at : (i : ℕ) (r : Rule) → getElem? (g .rules) i ≡ just r
+      → (5 ≤ contentFrom index i) × (contentFrom index i - 5 < length s)
+      × (eqb (getD s (contentFrom index i - 5) 0) (ruleTag true) ≡ r .text)
+  text-at i r e =
+      let w = x .rule i r e in
+      let (behind, told) = tag-tells (r .text) (w .tag) in
+      let order = w .content .inside .order in
+      let within = w .content .inside .within in
+      (behind, omega arith, told)
 
   one-more : {A : Type 0} (n m : ℕ) (xs : List A) (y : A) → m ≡ n + 1 → n ≡ length xs → m ≡ length (xs ++ (y ∷ []))
   one-more n m xs y e f = let l = length-append xs (y ∷ []) in omega arith
@@ -312,9 +343,9 @@ module _ {s index : List ℕ} {g : Table} (x : Indexes s index g) where
         )
 
     pub rule-added : (r : Rule) → k ≡ r .type → l ≡ r .label → BytesStand s from to (contentBytes (r .content))
-        → Indexes s (withRuleAt index k l from to) (withRule g r)
+        → TagBefore s (from - 2) (ruleTag (r .text)) → Indexes s (withRuleAt index k l from to) (withRule g r)
     unfolding last typed labelled begun ended longest
-    rule-added r is-type is-label h =
+    rule-added r is-type is-label h tag =
         record {
           labels = other 896 (omega arith) (omega arith) ∙ x .labels;
           few-labels = let e = other 896 (omega arith) (omega arith) in let few = x .few-labels in omega arith;
@@ -367,6 +398,9 @@ module _ {s index : List ℕ} {g : Table} (x : Indexes s index g) where
               type = w .0 ∙ is-type ∙ ap (λ (z : Rule). z .type) (p .1);
               label = w .1 ∙ is-label ∙ ap (λ (z : Rule). z .label) (p .1);
               content = stands-so h (w .2) (w .3) (ap (λ (z : Rule). contentBytes (z .content)) (p .1));
+              tag =
+                  subst (λ (z : Rule). TagBefore s (contentFrom longest i - 2) (ruleTag (z .text))) (p .1)
+                  (subst (λ (n : ℕ). TagBefore s (n - 2) (ruleTag (r .text))) (sym (w .2)) tag);
             }
 
 -- an index with no labels, starts or rules is that of the empty table

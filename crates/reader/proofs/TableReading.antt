@@ -1,12 +1,12 @@
 -- Reading a table field by field: how far reading came, and where each field leads.
-use Prim.Native.Nat.{ℕ, _≤_, _<_}
+use Prim.Native.Nat.{ℕ, _≤_, _<_, _-_}
 use native.Mathlib.Omega.{arith}
-use mathlib.Core.Bool.{true, not}
+use mathlib.Core.Bool.{true, not, Bool, false}
 use mathlib.Core.List.{List}
 use mathlib.Core.Logic.{_⊎_, ⊎-elim}
 use mathlib.Core.Path.{_≡_, refl, sym, _∙_, ap, subst}
 use lib.Dec.{ltb}
-use lib.ListN.{length, drop, length-drop, drop-of-length-le}
+use lib.ListN.{length, drop, length-drop, drop-of-length-le, getD}
 use borrow.Author.Tests.{eq-eqb, ne-eqb, lt-ltb, le-ltb}
 use Rattle.grammar.specs.Limits.{inputLimit}
 use Rattle.grammar.specs.LimitSets.{limitsOf}
@@ -23,9 +23,9 @@ use Rattle.grammar.specs.declared.Reading.{Reading}
 use Rattle.grammar.specs.declared.Reading.the-variants.{Readable, Refused as Unreadable}
 use Rattle.theory.proofs.bytes.OutcomeLaws.{given-then, no-fault, had-no-fault, given-eq}
 use Rattle.theory.proofs.bytes.FieldBytes.{fields-empty, fields-none}
-use Rattle.theory.proofs.bytes.ReadSteps.{end-field, next-field}
+use Rattle.theory.proofs.bytes.ReadSteps.{rule-field as rule-by-tag, end-field, next-field}
 use Rattle.reader.specs.declared.fields.FieldAt.the-variants.{NoBytes, PastEnd}
-use Rattle.reader.specs.FieldAt.{fieldAt}
+use Rattle.reader.specs.FieldAt.{fieldAt, TagBefore}
 use Rattle.reader.specs.TableIndex.{part, Inside, Indexes, TableIndexed, Reads, endOutcome}
 use Rattle.reader.proofs.AnswerLaws.{fault, readable, unreadable, was-readable, was-unreadable, never-given}
 use Rattle.reader.proofs.FieldReading.{FoundField, field-none, field-past}
@@ -43,15 +43,23 @@ module _ (limits : SizeLimits) (classes : Classes) (g : Table) (tag : ℕ) (valu
   unfolding readTableField
   start-field n e = rw (ne-eqb tag labelTag n, eq-eqb tag startTag e, readTableField)
 
-  pub rule-field : (tag ≡ labelTag → ⊥) → (tag ≡ startTag → ⊥) → tag ≡ ruleTag
-      → readTableField (limitsOf limits) classes g (record { tag = tag; value = value }) ≡ readRule (limitsOf limits) g value
-  unfolding readTableField
-  rule-field n m e = rw (ne-eqb tag labelTag n, ne-eqb tag startTag m, eq-eqb tag ruleTag e, readTableField)
+  pub rule-field : (text : Bool) → tag ≡ ruleTag text
+      → readTableField (limitsOf limits) classes g (record { tag = tag; value = value }) ≡ readRule (limitsOf limits) g text value
+  rule-field text e =
+      ap (λ (t : ℕ). readTableField (limitsOf limits) classes g (record { tag = t; value = value })) e
+      ∙ rule-by-tag (limitsOf limits) classes g text value
 
-  pub foreign-field : (tag ≡ labelTag → ⊥) → (tag ≡ startTag → ⊥) → (tag ≡ ruleTag → ⊥)
+  pub foreign-field : (tag ≡ labelTag → ⊥) → (tag ≡ startTag → ⊥) → (tag ≡ ruleTag false → ⊥) → (tag ≡ ruleTag true → ⊥)
       → readTableField (limitsOf limits) classes g (record { tag = tag; value = value }) ≡ refused BadField
   unfolding readTableField
-  foreign-field n m k = rw (ne-eqb tag labelTag n, ne-eqb tag startTag m, ne-eqb tag ruleTag k, readTableField)
+  foreign-field n m k l =
+      rw (
+        ne-eqb tag labelTag n,
+        ne-eqb tag startTag m,
+        ne-eqb tag (ruleTag false) k,
+        ne-eqb tag (ruleTag true) l,
+        readTableField,
+      )
 
 -- the table's fields as a whole
 abbrev pub wholeTable : SizeLimits → Classes → List ℕ → Outcome Table
@@ -66,6 +74,12 @@ pub record TableReached (limits : SizeLimits) (classes : Classes) (s : List ℕ)
 
 pub reached-none : (limits : SizeLimits) (classes : Classes) (s index : List ℕ) → Indexes s index emptyTable → TableReached limits classes s 0 index
 reached-none limits classes s index x = record { table = emptyTable; indexes = x; inside = omega arith; rest = refl }
+
+pub found-tag : {s : List ℕ} {at tag from to : ℕ} → FoundField s at tag from to → TagBefore s from tag
+found-tag {s} {at} {tag} {from} {to} w =
+    let begins = w .begins in
+    let place : from - 3 ≡ at = omega arith in
+    record { behind = omega arith; tagged = ap (λ (i : ℕ). getD s i 0) place ∙ sym (w .tagged) }
 
 pub found-inside : {s : List ℕ} {at tag from to : ℕ} → FoundField s at tag from to → Inside s from to
 found-inside w = record { order = w .order; within = w .within }

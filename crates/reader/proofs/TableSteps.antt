@@ -1,4 +1,5 @@
 -- What a label, a start or a rule that is read adds to the index.
+use mathlib.Core.Bool.{Bool}
 use Prim.Native.Nat.{ℕ, _+_, _-_, _≤_, _<_}
 use native.Mathlib.Omega.{arith}
 use mathlib.Core.List.{List, [], _∷_}
@@ -11,7 +12,7 @@ use Rattle.grammar.specs.Outcome.{Outcome, given}
 use Rattle.grammar.specs.Answers.{reading}
 use Rattle.grammar.specs.ReadContent.{contentBytes}
 use Rattle.grammar.specs.WriteTable.{ruleBytes}
-use Rattle.grammar.specs.ReadTable.{withLabel, withStart, withRule, readLabel, readStart, readRule}
+use Rattle.grammar.specs.ReadTable.{withLabel, withStart, withRule, readLabel, readStart, readRule, ruleTag}
 use Rattle.grammar.specs.declared.SizeLimits.{SizeLimits}
 use Rattle.grammar.specs.declared.Refusal.{Refusal}
 use Rattle.grammar.specs.declared.Reading.{Reading}
@@ -34,6 +35,7 @@ use Rattle.reader.specs.TableIndex.{
 use Rattle.reader.proofs.AnswerLaws.{readable, was-readable, was-unreadable, never-given}
 use Rattle.reader.proofs.TableFaults.{part-size, part-one, part-two}
 use Rattle.reader.proofs.TableIndexLaws.{label-added, start-added, rule-added}
+use Rattle.reader.specs.FieldAt.{TagBefore}
 
 -- a refusal leaves nothing to say of the index
 pub refused-reads : (s : List ℕ) (o : Outcome Table) (r : Refusal) (index : List ℕ) → reading o ≡ Unreadable r
@@ -94,11 +96,11 @@ module _ (limits : SizeLimits) (room : Within limits) {s index : List ℕ} {g : 
         same-one : {a b : ℕ} → _≡_ {A = List ℕ} (a ∷ []) (b ∷ []) → a ≡ b
         same-one e = cc
 
-  module _ (read : reading (readRule (limitsOf limits) g (part s from to)) ≡ Readable) where
-    rule-found : (more : Table) × (readRule (limitsOf limits) g (part s from to) ≡ given more) × RuleRead (limitsOf limits) g (part s from to) more
+  module _ (text : Bool) (read : reading (readRule (limitsOf limits) g text (part s from to)) ≡ Readable) where
+    rule-found : (more : Table) × (readRule (limitsOf limits) g text (part s from to) ≡ given more) × RuleRead (limitsOf limits) g text (part s from to) more
     rule-found =
-        let r = was-readable (readRule (limitsOf limits) g (part s from to)) read in
-        (r .0, r .1, rule-was (limitsOf limits) g (part s from to) (r .0) (r .1))
+        let r = was-readable (readRule (limitsOf limits) g text (part s from to)) read in
+        (r .0, r .1, rule-was (limitsOf limits) g text (part s from to) (r .0) (r .1))
 
     rule-size : from + 2 ≤ to
     unfolding ruleBytes
@@ -122,18 +124,23 @@ module _ (limits : SizeLimits) (room : Within limits) {s index : List ℕ} {g : 
         two : {a b c d : ℕ} {l m : List ℕ} → _≡_ {A = List ℕ} (a ∷ b ∷ l) (c ∷ d ∷ m) → (a ≡ c) × (b ≡ d) × (m ≡ l)
         two e = (cc, cc, cc)
 
-    pub rule-step : Reads s (readRule (limitsOf limits) g (part s from to)) Readable
+    pub rule-step : TagBefore s from (ruleTag text) → Reads s (readRule (limitsOf limits) g text (part s from to)) Readable
         (withRuleAt index (getD s from 0) (getD s (from + 1) 0) (from + 2) to)
-    rule-step =
+    rule-step tag =
         let w = rule-found .2 in
         let r = w .rule in
         let b = rule-bytes in
         let stands : BytesStand s (from + 2) to (contentBytes (r .content)) =
         record { inside = record { order = rule-size; within = h .within }; bytes-are = b .2 } in
+        let behind = tag .behind in
+        let tag-behind : 3 ≤ from + 2 - 2 = omega arith in
+        let at : from + 2 - 2 - 3 ≡ from - 3 = omega arith in
+        let tag-is = ap (λ (i : ℕ). getD s i 0) at ∙ tag .tagged ∙ ap ruleTag (sym (w .marked)) in
         given-reads
         s
-        (readRule (limitsOf limits) g (part s from to))
+        (readRule (limitsOf limits) g text (part s from to))
         (withRule g r)
         (withRuleAt index (getD s from 0) (getD s (from + 1) 0) (from + 2) to)
         (rule-found .1 ∙ ap given (sym (w .result)))
-        (rule-added x (getD s from 0) (getD s (from + 1) 0) (from + 2) to (rule-room .0) r (sym (b .0)) (sym (b .1)) stands)
+        (rule-added x (getD s from 0) (getD s (from + 1) 0) (from + 2) to (rule-room .0) r (sym (b .0)) (sym (b .1)) stands
+        (record { behind = tag-behind; tagged = tag-is }))

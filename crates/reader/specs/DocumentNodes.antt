@@ -1,22 +1,28 @@
 -- What reading a document found: the nodes that the index holds, and whether they are the document's.
-use Prim.Native.Nat.{ℕ, zero, suc, _+_, _≤_, _<_}
+use Prim.Native.Nat.{ℕ, zero, suc, _+_, _-_, _≤_, _<_}
+use mathlib.Core.Bool.{true}
 use mathlib.Core.List.{List, [], _∷_, _++_}
 use mathlib.Core.Path.{_≡_}
+use lib.Dec.{eqb}
 use lib.ListN.{length, getD, take, drop}
 use Rattle.grammar.specs.Limits.{Limits, childLimit}
 use Rattle.grammar.specs.Names.{Classes}
+use Rattle.grammar.specs.Tree.{Head}
 use Rattle.grammar.specs.Outcome.{Outcome, given, refused}
-use Rattle.grammar.specs.ReadDocument.{Node, readNodes}
+use Rattle.grammar.specs.ReadDocument.{nodeTag, Node, readNodes}
 use Rattle.grammar.specs.declared.Reading.{Reading}
 use Rattle.grammar.specs.declared.Reading.the-variants.{Readable, Refused as Unreadable}
 use Rattle.reader.specs.declared.documents.DocumentIndex.{DocumentIndex}
 use Rattle.reader.specs.declared.documents.DocumentRead.{DocumentRead}
 use Rattle.reader.specs.declared.documents.NodesRead.{NodesRead}
 
--- the node at a place: its name is the part of the input that the arrays say, its child count the array's
+-- the head of a node whose name stands at a place: its tag, four bytes before, tells whether it holds text
+abbrev pub headAt : (s : List ℕ) → (from size : ℕ) → Head
+headAt s from size = record { name = take size (drop from s); text = eqb (getD s (from - 4) 0) (nodeTag true) }
+
+-- the node at a place: its head is where the arrays say, its child count the array's
 abbrev pub nodeAt : (s names sizes children : List ℕ) → ℕ → Node
-nodeAt s names sizes children i =
-    record { name = take (getD sizes i 0) (drop (getD names i 0) s); children = getD children i 0 }
+nodeAt s names sizes children i = record { head = headAt s (getD names i 0) (getD sizes i 0); children = getD children i 0 }
 
 -- the first nodes, in file order
 unfoldable pub firstNodes : (s names sizes children : List ℕ) → ℕ → List Node
@@ -32,9 +38,10 @@ abbrev pub outcomeOf : Reading → List Node → Outcome (List Node)
 outcomeOf Readable ns = given ns
 outcomeOf (Unreadable r) ns = refused r
 
--- the arrays up to a count: each name lies within the input, and each child count is within the limit
+-- the arrays up to a count: each name lies within the input behind its field's tag, and each child count is within the limit
 pub record NodesIndexed (s names sizes children : List ℕ) (nodes : ℕ) : Type 0 where
   pub few : nodes ≤ 2048
+  pub behind : (i : ℕ) → i < nodes → 4 ≤ getD names i 0
   pub within : (i : ℕ) → i < nodes → getD names i 0 + getD sizes i 0 ≤ length s
   pub counts : (i : ℕ) → i < nodes → getD children i 0 ≤ childLimit
 

@@ -4,7 +4,7 @@ use mathlib.Core.Bool.{Bool, true, false, _||_}
 use mathlib.Core.List.{List, [], _∷_}
 use mathlib.Core.Path.{_≡_}
 use lib.Dec.{eqb, leb, ltb}
-use lib.ListN.{length, getD, take, drop}
+use lib.ListN.{length, getD, drop}
 use Rattle.grammar.specs.Limits.{Limits, childLimit}
 use Rattle.grammar.specs.Names.{Classes}
 use Rattle.grammar.specs.Fields.{Field, Fields, fieldsOf}
@@ -15,7 +15,7 @@ use Rattle.grammar.specs.declared.Reading.{Reading}
 use Rattle.grammar.specs.declared.Reading.the-variants.{Readable, Refused as Unreadable}
 use Rattle.reader.specs.declared.documents.Step.{Step}
 use Rattle.reader.specs.declared.documents.Step.the-variants.{Node as NodeHere, Stop}
-use Rattle.reader.specs.DocumentNodes.{outcomeOf}
+use Rattle.reader.specs.DocumentNodes.{headAt, outcomeOf}
 
 -- what an end field says: the size of its value, how many levels are open, how many bytes are left after it
 unfoldable pub endAnswer : ℕ → ℕ → ℕ → Reading
@@ -50,6 +50,7 @@ restWith lim classes f rest o = readNode lim classes o f >>= λ more. restOf lim
 pub record NodeStep (lim : Limits) (classes : Classes) (s : List ℕ) (at nodes depth : ℕ) (whole : Opened → Outcome (List Node))
     (from to children : ℕ) : Type 0 where
   pub forward : at < from
+  pub behind : 4 ≤ from
   pub order : from ≤ to
   pub within : to ≤ length s
   pub room : nodes < lim .nodes
@@ -58,7 +59,7 @@ pub record NodeStep (lim : Limits) (classes : Classes) (s : List ℕ) (at nodes 
   pub few : children ≤ childLimit
   pub goes : (o : Opened) → Sized o nodes depth
       → whole o
-      ≡ restOf lim classes (withNode o (record { name = take (to - from) (drop from s); children = children })) (fieldsOf (drop to s))
+      ≡ restOf lim classes (withNode o (record { head = headAt s from (to - from); children = children })) (fieldsOf (drop to s))
 
 -- what a step says of the rest of a document, `whole`, whatever was read before it
 abbrev pub StepSays : Limits → Classes → List ℕ → ℕ → ℕ → ℕ → (Opened → Outcome (List Node)) → Step → Type 0

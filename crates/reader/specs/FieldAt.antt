@@ -1,7 +1,8 @@
 -- The field at a place of an input, as places: its tag, where its value begins and where it ends.
-use Prim.Native.Nat.{ℕ, _+_, _*_}
+use Prim.Native.Nat.{ℕ, _+_, _*_, _-_, _≤_}
 use mathlib.Core.Bool.{true, false}
 use mathlib.Core.List.{List}
+use mathlib.Core.Path.{_≡_}
 use lib.Dec.{leb}
 use lib.ListN.{length, getD}
 use Rattle.reader.specs.declared.fields.FieldAt.{FieldAt}
@@ -21,3 +22,8 @@ fieldAt s at =
             | false ↦ PastEnd
           ]
     ]
+
+-- The value of a field with this tag begins here: the tag stands three bytes before.
+pub record TagBefore (s : List ℕ) (from tag : ℕ) : Type 0 where
+  pub behind : 3 ≤ from
+  pub tagged : getD s (from - 3) 0 ≡ tag

@@ -11,11 +11,12 @@ use Rattle.grammar.specs.Names.{Name}
 use Rattle.grammar.specs.Table.{Rule, Table}
 use Rattle.grammar.specs.Outcome.{Outcome, given, _>>_, turnBack}
 use Rattle.grammar.specs.Fields.{Fields}
-use Rattle.grammar.specs.ReadTable.{isEmpty, bytesLeft}
+use Rattle.grammar.specs.ReadTable.{isEmpty, bytesLeft, ruleTag}
 use Rattle.grammar.specs.declared.Reading.{Reading}
 use Rattle.grammar.specs.declared.Refusal.the-variants.{BadField, BytesAfterEnd}
 use Rattle.grammar.specs.Answers.{reading}
 use Rattle.grammar.specs.ReadContent.{contentBytes}
+use Rattle.reader.specs.FieldAt.{TagBefore}
 
 -- what the index says of the label, start or rule of a number
 abbrev pub labelFrom : List ℕ → ℕ → ℕ
@@ -83,6 +84,7 @@ pub record RuleAt (s index : List ℕ) (i : ℕ) (r : Rule) : Type 0 where
   pub type : ruleType index i ≡ r .type
   pub label : ruleLabel index i ≡ r .label
   pub content : BytesStand s (contentFrom index i) (contentTo index i) (contentBytes (r .content))
+  pub tag : TagBefore s (contentFrom index i - 2) (ruleTag (r .text))  -- type and label stand before the content
 
 -- The index says where the labels, starts and rules of this table stand. There is room for 128 of each.
 pub record Indexes (s index : List ℕ) (g : Table) : Type 0 where

@@ -6,9 +6,10 @@ ghost use lib.Seq.{slice};
 ghost use Rattle.grammar.specs.Limits.{inputLimit};
 ghost use Rattle.grammar.specs.LimitSets.{limitsOf, Within};
 ghost use Rattle.grammar.specs.Fields.{fieldsOf};
-ghost use Rattle.grammar.specs.ReadDocument.{nothingRead};
+ghost use Rattle.grammar.specs.ReadDocument.{nothingRead, isNodeTag};
 ghost use Rattle.reader.specs.DocumentNodes.{firstNodes, outcomeOf, NodesIndexed, NodesFound, DocumentReads};
 ghost use Rattle.reader.specs.DocumentSteps.{endAnswer, badCounts, restOf, restWith, StepSays, Open, Closed, LevelsAfter};
+ghost use Rattle.reader.specs.FieldAt.{TagBefore};
 use crate::fields::FieldAt;
 use crate::fields::field_at;
 use crate::limits::CHILDREN;
@@ -18,6 +19,7 @@ use crate::names::is_name;
 use crate::numbers::wide;
 use crate::tags::DOCUMENT_END_TAG;
 use crate::tags::NODE_TAG;
+use crate::tags::TEXT_NODE_TAG;
 use grammar::Reading;
 use grammar::Refusal;
 use grammar::SizeLimits;
@@ -82,6 +84,16 @@ fn bad_node(limits: SizeLimits, nodes: usize, children: usize, depth: usize) -> 
     depth == 0
 }
 
+// A node's tag, without or with text.
+fn is_node_tag(tag: u8) -> bool
+    ensures { λ r. ⌜ r ≡ isNodeTag tag ⌝ }
+{
+    if tag == NODE_TAG {
+        return true;
+    }
+    tag == TEXT_NODE_TAG
+}
+
 // What a field other than the end says.
 fn node_of(
     limits: SizeLimits,
@@ -94,13 +106,14 @@ fn node_of(
     depth: usize,
 ) -> Step
     requires { ⌜ 256 ≤ length (now classes) ⌝ }
+    requires { ⌜ TagBefore (now s) from tag ⌝ }
     requires { ⌜ (from ≤ to) × (to ≤ length (now s)) ⌝ }
     ensures { λ r. ⌜ StepSays (limitsOf limits) (now (classes .entry)) (now (s .entry)) from nodes depth
         (restWith (limitsOf limits) (now (classes .entry)) (record { tag = tag; value = slice from to (now (s .entry)) })
         (fieldsOf (drop to (now (s .entry))))) r ⌝ }
 {
     let size = to - from;
-    if tag != NODE_TAG {
+    if !is_node_tag(tag) {
         return Step::Stop(Reading::Refused(Refusal::BadField));
     }
     if size < 2 {

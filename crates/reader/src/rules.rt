@@ -1,23 +1,32 @@
 // Rules of a table: type byte, label byte, content of 1 to 1,024 bytes.
 ghost use Rattle.grammar.specs.LimitSets.{limitsOf, Within};
-ghost use Rattle.grammar.specs.ReadTable.{readRule};
-ghost use Rattle.reader.specs.TableIndex.{part, ValueAt, AnswersFor, ReadsFor};
+ghost use mathlib.Core.Bool.{Bool};
+ghost use Rattle.grammar.specs.ReadTable.{ruleTag, readRule};
+ghost use Rattle.reader.specs.FieldAt.{TagBefore};
+ghost use Rattle.reader.specs.TableIndex.{part, ruleCount, Indexes, TableIndexed, ValueAt, AnswersFor, ReadsFor};
+ghost use Prim.Native.Nat.{_<_};
+ghost use mathlib.Core.Option.{some as just};
+ghost use mathlib.Core.Path.{_≡_};
+ghost use lib.ListN.{getElem?};
+ghost use Rattle.grammar.specs.Table.{Rule, Table};
 use crate::expressions::ContentAnswer;
 use crate::expressions::content_refusal;
 use crate::index::add_rule;
+use crate::index::content_from;
 use crate::index::label_count;
 use crate::index::rule_count;
 use crate::limits::CONTENT;
 use crate::numbers::wide;
+use crate::tags::TEXT_RULE_TAG;
 use grammar::Reading;
 use grammar::Refusal;
 use grammar::SizeLimits;
 
-// Why a rule is turned back, if it is.
+// Why a rule is turned back, if it is. Whether it is for text makes no difference.
 fn rule_answer(limits: SizeLimits, s: &[u8], from: usize, to: usize, index: &[u16; 899]) -> Reading
     requires { ⌜ ValueAt (now s) from to (now index) ⌝ }
-    ensures { λ r. ⌜ AnswersFor (now (s .entry)) (now (index .entry))
-        (λ g. readRule (limitsOf limits) g (part (now (s .entry)) from to)) r ⌝ }
+    ensures { λ r. ⌜ ((text : Bool) → AnswersFor (now (s .entry)) (now (index .entry))
+        (λ g. readRule (limitsOf limits) g text (part (now (s .entry)) from to)) r) ⌝ }
 {
     let size = to - from;
     if size < 3 {
@@ -44,7 +53,7 @@ fn rule_answer(limits: SizeLimits, s: &[u8], from: usize, to: usize, index: &[u1
     }
 }
 
-// Reads a rule into the index.
+// Reads a rule into the index. Its tag stands before its value, so the index does not keep whether it is for text.
 pub fn after_rule(
     limits: SizeLimits,
     s: &[u8],
@@ -54,8 +63,8 @@ pub fn after_rule(
 ) -> Reading
     requires { ⌜ Within limits ⌝ }
     requires { ⌜ ValueAt (now s) from to (now index) ⌝ }
-    ensures { λ r. ⌜ ReadsFor (now (s .entry)) (now (index .entry)) (λ g. readRule (limitsOf limits) g (part (now (s .entry)) from to)) r
-        (now (index .exit)) ⌝ }
+    ensures { λ r. ⌜ ((text : Bool) → TagBefore (now (s .entry)) from (ruleTag text) → ReadsFor (now (s .entry)) (now (index .entry))
+        (λ g. readRule (limitsOf limits) g text (part (now (s .entry)) from to)) r (now (index .exit))) ⌝ }
 {
     match rule_answer(limits, s, from, to, index) {
         Reading::Refused(r) => Reading::Refused(r),
@@ -64,4 +73,14 @@ pub fn after_rule(
             Reading::Readable
         }
     }
+}
+
+// Whether the rule of a number is for text: its tag stands five bytes before its content.
+pub fn for_text(table: &[u8], index: &[u16; 899], rule: usize) -> bool
+    requires { ⌜ (TableIndexed (now table) (now index)) × (rule < ruleCount (now index)) ⌝ }
+    ensures { λ r. ⌜ ((g : Table) (q : Rule) → Indexes (now (table .entry)) (now (index .entry)) g → getElem? (g .rules) rule ≡ just q
+        → r ≡ q .text) ⌝ }
+{
+    let from = content_from(index, rule);
+    table[from - 5] == TEXT_RULE_TAG
 }

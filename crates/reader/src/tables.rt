@@ -8,6 +8,7 @@ ghost use Rattle.grammar.specs.Table.{Table, emptyTable};
 ghost use Rattle.grammar.specs.Answers.{reading};
 ghost use Rattle.grammar.specs.Fields.{fieldsOf};
 ghost use Rattle.grammar.specs.ReadTable.{readTableField, readTableFields, readTable};
+ghost use Rattle.reader.specs.FieldAt.{TagBefore};
 ghost use Rattle.reader.specs.TableIndex.{part, Inside, ValueAt, Reads, ReadsFor, endOutcome};
 use crate::fields::FieldAt;
 use crate::fields::field_at;
@@ -20,6 +21,7 @@ use crate::tags::LABEL_TAG;
 use crate::tags::RULE_TAG;
 use crate::tags::START_TAG;
 use crate::tags::TABLE_END_TAG;
+use crate::tags::TEXT_RULE_TAG;
 use grammar::Reading;
 use grammar::Refusal;
 use grammar::SizeLimits;
@@ -36,6 +38,7 @@ fn after_field(
 ) -> Reading
     requires { ⌜ 256 ≤ length (now classes) ⌝ }
     requires { ⌜ Within limits ⌝ }
+    requires { ⌜ TagBefore (now s) from tag ⌝ }
     requires { ⌜ ValueAt (now s) from to (now index) ⌝ }
     ensures { λ r. ⌜ ReadsFor (now (s .entry)) (now (index .entry))
         (λ g. readTableField (limitsOf limits) (now (classes .entry)) g (record { tag = tag; value = part (now (s .entry)) from to })) r
@@ -48,6 +51,9 @@ fn after_field(
         return after_start(limits, s, from, to, index);
     }
     if tag == RULE_TAG {
+        return after_rule(limits, s, from, to, index);
+    }
+    if tag == TEXT_RULE_TAG {
         return after_rule(limits, s, from, to, index);
     }
     Reading::Refused(Refusal::BadField)

@@ -17,7 +17,6 @@ use lib.Dec.{eqb, ltb}
 use borrow.Author.Tests.{eqb-true, eqb-false, eq-eqb, ne-eqb, ltb-true, ltb-false}
 use Rattle.grammar.specs.Lists.{keep, distinct, isIn, numbersBelow}
 use Rattle.grammar.specs.Limits.{large}
-use Rattle.grammar.specs.Content.{none}
 use Rattle.grammar.specs.Table.{Rule, Table}
 use Rattle.grammar.specs.ReadTable.{isEmpty}
 use Rattle.grammar.specs.Unite.{shifted}
@@ -44,7 +43,7 @@ use Rattle.union.specs.View.{Views, typeIn, firstIn}
 use Rattle.union.specs.Rounds.{puts}
 use Rattle.union.specs.TypeLists.{ListsOf}
 use Rattle.union.specs.Walks.{listOfType, Once}
-use Rattle.union.specs.PairNumbers.{ruleNumbered, fruitfulOf}
+use Rattle.union.specs.PairNumbers.{ruleNumbered, fruitfulOf, noRule}
 use Rattle.union.proofs.OnceLaws.{new-room, adds-new, adds-once}
 use Rattle.union.proofs.MetLaws.{some-listed}
 use Rattle.union.proofs.PutsLaws.{puts-was, puts-has}
@@ -325,7 +324,7 @@ module _ {old add : List ℕ} {v : United} {u : Table} (x : Views old add v u) w
       → (typeIn v i ≡ ruleNumbered u i .type) × (firstIn v i ≡ pairOf u (ruleNumbered u i))
   rule-at i h =
       let s = seen x i h in
-      let e = at-else (u .rules) i (record { type = 0; label = 0; content = none }) (s .1) in
+      let e = at-else (u .rules) i noRule (s .1) in
       (s .2 .type ∙ ap (λ (r : Rule). r .type) (sym e), s .2 .first ∙ ap (pairOf u) (sym e))
 
   pub pairs-fruitful : (known : ℕ → Bool) → known ≡ (λ p. isIn p (fruitful (normalise u))) → (k : ℕ)

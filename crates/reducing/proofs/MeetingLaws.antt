@@ -55,7 +55,7 @@ use Rattle.union.specs.declared.met.MetOne.{MetOne}
 use Rattle.union.specs.View.{SourceContent, Views, firstIn, fromIn, toIn}
 use Rattle.union.specs.Walks.{listOfType, Once, Adds, MetAsks, MetFinds}
 use Rattle.union.specs.Rounds.{contentOfRule}
-use Rattle.union.specs.PairNumbers.{ruleNumbered, fruitfulOf, contentsOfPair, contentsIn, metIn}
+use Rattle.union.specs.PairNumbers.{ruleNumbered, fruitfulOf, contentsOfPair, contentsIn, metIn, noRule}
 use Rattle.union.proofs.ViewLaws.{content-is, seen, source-so}
 use Rattle.union.proofs.MetLaws.{finds-adds, finds-once}
 use Rattle.union.proofs.OnceLaws.{part-more, adds-none, adds-join, adds-same}
@@ -255,7 +255,7 @@ module _ (u : Table) (set : ℕ → Bool) (p : ℕ) where
       let q = joined-from (contentsOfPair u) (keep set rules) (c .1) in
       let i = Memᴰ·of-map (contentOfRule u) (keep (λ i. eqb (pairOf u (ruleNumbered u i)) (q .0)) rules) (q .2) in
       let k = kept (λ i. eqb (pairOf u (ruleNumbered u i)) (q .0)) rules (i .1) in
-      let at = at-or-else (u .rules) (i .0) (record { type = 0; label = 0; content = none }) (numbers-below (length (u .rules)) (i .0) .0 (k .0)) in
+      let at = at-or-else (u .rules) (i .0) noRule (numbers-below (length (u .rules)) (i .0) .0 (k .0)) in
       record {
         rule = ruleNumbered u (i .0);
         of-table = at-mem (u .rules) (i .0) at;
@@ -274,7 +274,7 @@ module _ (u : Table) (set : ℕ → Bool) (p : ℕ) where
       let f = place-found samePair (w .rule) (u .rules) (any-of (samePair (w .rule)) (w .of-table) (pair-refl (w .rule))) in
       let first = keep-mem set (numbers-below (length (u .rules)) q .1 (at-below (u .rules) q (f .1))) (w .of-set) in
       let a = mem-at (w .of-table) in
-      let e = at-else (u .rules) (a .0) (record { type = 0; label = 0; content = none }) (a .1) in
+      let e = at-else (u .rules) (a .0) noRule (a .1) in
       let i = keep-mem (λ i. eqb (pairOf u (ruleNumbered u i)) q) (numbers-below (length (u .rules)) (a .0) .1 (at-below (u .rules) (a .0) (a .1)))
       (eq-eqb (pairOf u (ruleNumbered u (a .0))) q (ap (pairOf u) e)) in
       let c = Memᴰ·map (contentOfRule u) i in

@@ -6,3 +6,4 @@ pub mod WidenLaws
 pub mod StartTypes
 pub mod ReducedLaws
 pub mod UnionLaws
+pub mod TextLaws

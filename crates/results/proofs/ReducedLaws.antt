@@ -23,14 +23,15 @@ use Rattle.theory.specs.Conditions.{Regular, allLetters}
 use Rattle.theory.proofs.lists.ListLaws.{mem-at, at-below}
 use Rattle.theory.proofs.tables.RoomierLimits.{within-large, table-roomier}
 use Rattle.reader.specs.TableIndex.{labelCount}
-use Rattle.sets.specs.Sets.{setOfEightAt, nothing, KeptAround}
+use Rattle.sets.specs.declared.eight.Set8.{Set8}
+use Rattle.sets.specs.Sets.{member, setOfEightAt, nothing, KeptAround}
 use Rattle.sets.proofs.SetLaws.{eight-before, eight-after}
 use Rattle.union.specs.declared.lists.TypeLists.{TypeLists}
 use Rattle.union.specs.declared.united.Union.{Union}
 use Rattle.union.specs.View.{labelIn}
 use Rattle.union.specs.Places.{setsEnd, startsAt, leftAt, startTypesAt}
 use Rattle.union.specs.Rounds.{puts}
-use Rattle.union.specs.PairNumbers.{isStart, isLeft}
+use Rattle.union.specs.PairNumbers.{isStart, isLeft, isText}
 use Rattle.writer.specs.declared.writing.Drafted.{Drafted}
 use Rattle.writer.specs.Tables.{TablePut}
 use Rattle.contents.proofs.AgreeLaws.{union-shallow}
@@ -188,16 +189,18 @@ module _ (l : SizeLimits) (within : Within l) {old add index : List ℕ} {union 
     pub last-held : SetsHeld last (by-sets.setsOf lim (kindOf asked) u)
     last-held = let a = last-room in types-stay kept (omega arith) (sets-held words room front same held)
 
-    abbrev pub result-after : (labels : ℕ) → labels ≡ length (u .labels)
-        → ResultFrom old add (record { union = union .rules; labels = labels; lists = lists; count = count; kind = asked })
+    abbrev pub result-after : (labels : ℕ) → labels ≡ length (u .labels) → (text : Set8) → member (text .words) 0 ≡ isText u
+        → ResultFrom old add
+        (record { union = union .rules; labels = labels; lists = lists; text = text; count = count; kind = asked })
         index (union .«new_names») last
-    result-after labels labels-are =
+    result-after labels labels-are text text-is =
         record {
           rules =
               record {
                 in-words = sets-in (kindOf asked) last count last-held many few;
                 labels-are = labels-are;
                 lists-are = r .lists-are;
+                text-is = text-is;
                 room = last-room;
                 left-is = types-left kept ∙ reduced-stay room front same .left-are;
                 shallow = union-shallow allLetters g h (table-roomier (within-large within) (r .old-held .within)) (table-roomier (within-large within) (r .second-within));

@@ -19,7 +19,7 @@ use Rattle.grammar.specs.Table.{Table}
 use Rattle.grammar.specs.Kinds.{Kind}
 use Rattle.grammar.specs.Fields.{fieldBytes}
 use Rattle.grammar.specs.Unite.{unite}
-use Rattle.grammar.specs.WriteTable.{ruleBytes, tableBytes}
+use Rattle.grammar.specs.WriteTable.{ruleBytes, tableBytes, ruleField}
 use Rattle.grammar.specs.Size.{contentTooLarge}
 use Rattle.grammar.specs.SingleTypeForm.{TypeSet}
 use Rattle.theory.specs.Alternatives.{onlyIf}
@@ -90,12 +90,13 @@ module _ {old add olds : List ℕ} {news : Names} (q : LabelsIn old add olds new
       ∙ ap (λ (n : ℕ). joinedOf (λ l. fieldBytes 0x10 (getD (q .first ++ q .second) l [])) (keep on (numbersBelow n))) e
 
 -- the value of a rule's field
-pub rule-value : (scratch made rest : List ℕ) (k l end : ℕ) (c : Content) → 2 ≤ length scratch → Stored made c end
-    → take (end + 2 - 0) (set (set (take 2 scratch ++ (made ++ rest)) 0 k) 1 l) ≡ ruleBytes (record { type = k; label = l; content = c })
+pub rule-value : (scratch made rest : List ℕ) (k l end : ℕ) (c : Content) (text : Bool) → 2 ≤ length scratch → Stored made c end
+    → take (end + 2 - 0) (set (set (take 2 scratch ++ (made ++ rest)) 0 k) 1 l)
+    ≡ ruleBytes (record { type = k; label = l; content = c; text = text })
 unfolding ruleBytes
-rule-value [] made rest k l end c h s = absurd (omega arith)
-rule-value (x ∷ []) made rest k l end c h s = absurd (omega arith)
-rule-value (x ∷ y ∷ more) made rest k l end c h s =
+rule-value [] made rest k l end c text h s = absurd (omega arith)
+rule-value (x ∷ []) made rest k l end c text h s = absurd (omega arith)
+rule-value (x ∷ y ∷ more) made rest k l end c text h s =
     let z : end + 2 - 0 ≡ suc (suc end) = omega arith in
     ap (λ (n : ℕ). take n (k ∷ l ∷ (made ++ rest))) z
     ∙ ap (λ (b : List ℕ). k ∷ l ∷ b) (take-append-le end made rest (s .inside) ∙ s .bytes)
@@ -119,8 +120,8 @@ table-bytes u sets kind count names on starts e n o =
     ap (λ (ns : List Name). labelsBytes ns on) (sym e)
     ∙ ap (labelsBytes (u .labels)) o
     ∙ sym (joined-map (fieldBytes 0x10) (λ l. getD (u .labels) l []) (labelsOf u sets)) in
-    let last : rulesBytes rule count ≡ joinedOf (λ r. fieldBytes 0x12 (ruleBytes r)) (map rule (numbersBelow (length sets))) =
-    ap (rulesBytes rule) n ∙ sym (joined-map (λ r. fieldBytes 0x12 (ruleBytes r)) rule (numbersBelow (length sets))) in
+    let last : rulesBytes rule count ≡ joinedOf ruleField (map rule (numbersBelow (length sets))) =
+    ap (rulesBytes rule) n ∙ sym (joined-map ruleField rule (numbersBelow (length sets))) in
     regroup (labelsBytes names on) s (rulesBytes rule count) end
     ∙ ap (λ (x : List ℕ). x ++ s ++ rulesBytes rule count ++ end) first
     ∙ ap (λ (x : List ℕ). joinedOf (fieldBytes 0x10) (map (λ l. getD (u .labels) l []) (labelsOf u sets)) ++ s ++ x ++ end) last

@@ -1,5 +1,5 @@
--- What the table of a result is written from: the union of two tables, its fruitful pairs by type, the pairs left, and the sets of
--- pairs that are the types of the result.
+-- What the table of a result is written from: the union of two tables, its fruitful pairs by type, its pairs for text, the pairs left, and
+-- the sets of pairs that are the types of the result.
 use Prim.Native.Nat.{ℕ, _≤_, _<_}
 use mathlib.Core.Bool.{Bool}
 use mathlib.Core.List.{List, [], _∷_, _++_, List·Memᴰ}
@@ -14,13 +14,13 @@ use Rattle.grammar.specs.ReadTable.{labelTag, startTag}
 use Rattle.grammar.specs.Kinds.{Kind}
 use Rattle.grammar.specs.SingleTypeForm.{TypeSet}
 use Rattle.theory.specs.Conditions.{Labelled, Regular}
-use Rattle.sets.specs.Sets.{setOfEightAt}
+use Rattle.sets.specs.Sets.{member, setOfEightAt}
 use Rattle.union.specs.declared.labels.Names.{Names}
 use Rattle.union.specs.declared.united.United.{United}
 use Rattle.union.specs.View.{Views}
 use Rattle.union.specs.TypeLists.{ListsOf}
 use Rattle.union.specs.Places.{leftAt, usedAt}
-use Rattle.union.specs.PairNumbers.{fruitfulOf, isLeft}
+use Rattle.union.specs.PairNumbers.{fruitfulOf, isLeft, isText}
 use Rattle.reader.specs.NamePlaces.{NamesAt}
 use Rattle.reader.specs.TableIndex.{labelCount}
 use Rattle.union.specs.UnitedLabels.{NamesHeld}
@@ -63,6 +63,7 @@ pub record RulesFrom (old add : List ℕ) (plan : Plan) (words : List ℕ) : Typ
   pub in-words : SetsIn old add (plan .union) words (plan .count)
   pub labels-are : plan .labels ≡ length (in-words .table .labels)
   pub lists-are : ListsOf (fruitfulOf (in-words .table)) (plan .lists)
+  pub text-is : member (plan .text .words) 0 ≡ isText (in-words .table)
   pub room : 12288 ≤ length words
   pub left-is : setOfEightAt words leftAt ≡ isLeft (in-words .table)
   pub shallow : Shallow (in-words .table)

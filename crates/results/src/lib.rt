@@ -5,4 +5,5 @@ pub mod result;
 pub mod rules;
 pub mod start_types;
 pub mod starts;
+pub mod text_pairs;
 pub mod widen;

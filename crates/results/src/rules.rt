@@ -1,6 +1,7 @@
 // The rules of a result: one for each set of pairs, in the order of the sets.
 use crate::labels_used::label_place;
 use crate::plan::Plan;
+use crate::text_pairs::has_text;
 use crate::widen::Kind;
 use contents::completing::ContentMade;
 use contents::joining::ResultTypes;
@@ -9,7 +10,6 @@ use contents::limits::DRAFT;
 use forms::label_sets::label_numbers;
 use forms::label_sets::set_label;
 use forms::set_numbers::result_lists;
-use reader::tags::RULE_TAG;
 use reader::tags::TABLE_END_TAG;
 use reducing::meeting::met_set;
 use reducing::type_lists::types_listed;
@@ -19,6 +19,7 @@ use union::places::LEFT;
 use union::places::USED;
 use writer::writing::Drafted;
 use writer::writing::put_field;
+use writer::writing::rule_tag;
 ghost use Prim.Native.Nat.{_+_, _*_, _≤_, _<_};
 ghost use mathlib.Core.Path.{_≡_};
 ghost use lib.ListN.{length};
@@ -104,7 +105,9 @@ fn put_rule(
             scratch[0] = i as u8;
             scratch[1] = label as u8;
             let stop = end + 2;
-            put_field(draft, at, RULE_TAG, &scratch[0..stop])
+            let v = plan.union;
+            let tag = rule_tag(has_text(set, plan.text, v.rules));
+            put_field(draft, at, tag, &scratch[0..stop])
         }
     }
 }

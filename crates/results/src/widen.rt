@@ -5,6 +5,7 @@ use crate::result::put_result;
 use crate::rules::SCRATCH;
 use crate::start_types::first_numbers;
 use crate::start_types::start_numbers;
+use crate::text_pairs::text_pairs;
 use forms::label_sets::label_numbers;
 use forms::label_sets::label_sets;
 use forms::set_words::Counted;
@@ -91,6 +92,7 @@ fn widen_local(
                 union: v,
                 labels,
                 lists,
+                text: text_pairs(old, add, v, lists),
                 count,
                 kind: Kind::Local,
             };
@@ -132,6 +134,7 @@ fn widen_from_starts(
                 union: v,
                 labels,
                 lists,
+                text: text_pairs(old, add, v, lists),
                 count,
                 kind: Kind::SingleType,
             };

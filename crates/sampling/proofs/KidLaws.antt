@@ -15,7 +15,7 @@ use Rattle.grammar.specs.Limits.{childLimit}
 use Rattle.grammar.specs.Lists.{keep, numbersFrom}
 use Rattle.theory.proofs.lists.ListLaws.{keep-yes, keep-no, numbers-joined}
 use Rattle.theory.proofs.lists.DistinctLaws.{keep-append}
-use Rattle.sampling.specs.SampleContents.{kidTypes, Kids}
+use Rattle.sampling.specs.SampleContents.{kidTypes, NodesHeld}
 
 module _ (parents types : List ℕ) (i : ℕ) where
   isKid : ℕ → Bool
@@ -87,10 +87,9 @@ pub record KidsFound (parents types : List ℕ) (n i : ℕ) (of : List ℕ) (cou
   pub counted : count ≡ length (kidTypes parents types j i)
   pub long : length of ≡ childLimit
 
-module _ {parents types : List ℕ} {n i kids : ℕ} (k : Kids parents types n i kids) where
+module _ {parents types : List ℕ} {n i : ℕ} (k : NodesHeld parents types n) (here : i < n) where
   pub found-none : (of : List ℕ) → length of ≡ childLimit → KidsFound parents types n i of 0 (i + 1)
   found-none of all =
-      let h = k .here in
       let none = kids-none parents types i in
       let long = ap length none in
       record { from = omega arith; to = omega arith; found = sym none; counted = omega arith; long = all }
@@ -116,19 +115,18 @@ module _ {parents types : List ℕ} {n i kids : ℕ} (k : Kids parents types n i
           let c = so-far .counted in
           omega arith
 
-      pub kid-fits : count < kids
+      pub kid-fits : count < childLimit
       kid-fits =
           let f = so-far .from in
           let a = kids-fewer parents types i (j + 1) n (omega arith) (omega arith) in
           let b = one-more in
-          let c = k .many in
+          let c = k .few i here in
           omega arith
 
       pub found-one : KidsFound parents types n i (set of count (getD types j 0)) (count + 1) (j + 1)
       found-one =
           let f = so-far .from in
           let fits = kid-fits in
-          let few = k .few in
           let all = so-far .long in
           record {
             from = omega arith;
@@ -143,9 +141,19 @@ module _ {parents types : List ℕ} {n i kids : ℕ} (k : Kids parents types n i
           }
 
   -- all nodes are passed
-  pub found-all : {of : List ℕ} {count j : ℕ} → KidsFound parents types n i of count j → n ≤ j → take kids of ≡ kidTypes parents types n i
-  found-all {of} {count} {j} all h =
-      let t = all .to in
-      let z : j ≡ n = omega arith in
-      let c : count ≡ kids = all .counted ∙ ap (λ (m : ℕ). length (kidTypes parents types m i)) z ∙ k .many in
-      ap (λ (m : ℕ). take m of) (sym c) ∙ all .found ∙ ap (λ (m : ℕ). kidTypes parents types m i) z
+  module _ {of : List ℕ} {count j : ℕ} (all : KidsFound parents types n i of count j) (h : n ≤ j) where
+    same-kids : kidTypes parents types j i ≡ kidTypes parents types n i
+    same-kids =
+        let t = all .to in
+        let z : j ≡ n = omega arith in
+        ap (λ (m : ℕ). kidTypes parents types m i) z
+
+    pub found-all : take count of ≡ kidTypes parents types n i
+    found-all = all .found ∙ same-kids
+
+    pub found-few : count ≤ childLimit
+    found-few =
+        let c = all .counted in
+        let s = ap length same-kids in
+        let f = k .few i here in
+        omega arith

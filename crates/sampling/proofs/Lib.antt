@@ -8,6 +8,7 @@ pub mod KidLaws
 pub mod RunLaws
 pub mod SequenceLaws
 pub mod FlatLaws
+pub mod TextLaws
 pub mod RuleLaws
 pub mod SampleWritten
 pub mod SampleIndexed

@@ -3,6 +3,7 @@
 use Prim.Native.Nat.{ℕ, zero, suc, _+_, _-_, _≤_, _<_}
 use native.Mathlib.Omega.{arith}
 use native.Mathlib.Numerals.{add-one}
+use mathlib.Core.Bool.{false}
 use mathlib.Core.List.{List, [], _∷_, _++_, map, append-assoc, append-nil}
 use mathlib.Core.Path.{_≡_, sym, _∙_, ap, subst}
 use lib.ListN.{length, length-drop, length-append, List·getD-map, getD, set, take, drop, replicate, drop-of-length-le}
@@ -50,7 +51,7 @@ module _ (ns : List Node) (children : List ℕ) (counts : map (λ (m : Node). m 
 
   first-left : FirstLeft
   first-left =
-      let none : Node = record { name = []; children = 0 } in
+      let none : Node = record { head = record { name = []; text = false }; children = 0 } in
       record {
         node = getD ns i none;
         split = drop-cons ns i none h;

@@ -2,28 +2,59 @@
 --   visits-at    : the visits are those to the nodes 0, 1, ..
 --   same-path    : two nodes have one path iff their parents have one type (both or none have one), and they have equal names
 --   sample-nodes : the sample, with a rule for the first node of each path
+--   first-type   : the first node of a path has the type that its place says
 use Prim.Native.Nat.{ℕ, zero, suc, _+_, _-_, _≤_, _<_}
 use native.Mathlib.Omega.{arith}
 use mathlib.Core.Bool.{Bool, true, false, _&&_, false≢true}
 use mathlib.Core.List.{List, [], _∷_, _++_, map, List·Memᴰ, Memᴰ·map, map-map}
 use mathlib.Core.Logic.{_↔_}
+use mathlib.Core.Option.{some as just}
 use mathlib.Core.Path.{_≡_, refl, sym, _∙_, ap, subst}
 use lib.Dec.{eqb, ltb}
-use lib.ListN.{length, length-map, length-drop, List·getD-map, List·getD-eq-default, getD, drop, replicate}
+use lib.ListN.{length, length-map, length-drop, List·getD-map, List·getD-eq-default, getElem?, getD, drop, replicate}
 use lib.Seq.{getD-drop}
 use borrow.Author.Tests.{eq-eqb, eqb-true, ltb-true, ltb-false}
-use Rattle.grammar.specs.Lists.{keep, distinct, place, numbersFrom, numbersBelow}
+use Rattle.grammar.specs.Lists.{anyPass, keep, distinct, place, numbersFrom, numbersBelow}
 use Rattle.grammar.specs.Names.{Name, sameName, SameName}
 use Rattle.grammar.specs.Content.{Content, choiceOf}
 use Rattle.grammar.specs.ReadContent.{sameContent}
 use Rattle.grammar.specs.Outcome.{given}
 use Rattle.grammar.specs.Tree.{Tree}
 use Rattle.grammar.specs.ReadDocument.{Node, forestOf, treeOf}
-use Rattle.grammar.specs.Sample.{Visit, visits, samePath, pathsOf, namesOf, sequenceOf, childSequence, contentAt, ruleAt, sample}
+use Rattle.grammar.specs.Sample.{
+  Visit,
+  visits,
+  samePath,
+  pathsOf,
+  namesOf,
+  sequenceOf,
+  childSequence,
+  visitsAt,
+  contentAt,
+  textAt,
+  ruleAt,
+  sample,
+}
 use Rattle.theory.specs.SamplePaths.{pathType}
 use Rattle.theory.proofs.lists.BoolLaws.{and-left, and-right, and-intro, same-test}
-use Rattle.theory.proofs.lists.ListLaws.{keep-map, kept, distinct-map, distinct-was, numbers-below, keep-on, map-on, listed-from, numbers-within, numbers-split}
+use Rattle.theory.proofs.lists.ListLaws.{
+  any-of,
+  any-map,
+  at-mem,
+  keep-map,
+  kept,
+  distinct-map,
+  distinct-was,
+  numbers-below,
+  keep-on,
+  map-on,
+  listed-from,
+  numbers-within,
+  numbers-split,
+}
+use Rattle.theory.proofs.lists.PlaceLaws.{place-found}
 use Rattle.theory.proofs.lists.DistinctLaws.{distinct-finer}
+use Rattle.theory.proofs.lists.NoTwo.{no-two-distinct}
 use Rattle.theory.proofs.trees.NameLaws.{name-refl, name-sym, name-trans}
 use Rattle.theory.proofs.trees.PathLaws.{SamePath, path-refl, path-sym, path-trans, path-parts, path-append}
 use Rattle.theory.proofs.sample.SampleRules.{path-types}
@@ -35,8 +66,10 @@ use Rattle.sampling.specs.SampleNodes.{
   pathsIn,
   childrenIn,
   namesIn,
+  marksIn,
   visitsFound,
   nameAt,
+  markAt,
   pathAt,
   parentAt,
   visitAt,
@@ -50,11 +83,26 @@ use Rattle.sampling.specs.SampleNodes.{
   sequenceAt,
   ofType,
   contentOfType,
+  textOfType,
   ruleOfNode,
   sampleOfNodes,
 }
 use Rattle.sampling.proofs.NumberingLaws.{place-map, number-stays}
-use Rattle.sampling.proofs.VisitedNodes.{visits-nodes, visit-names, visit-counts, parents-many, path-step, handed-many, handed-below, map-handed, pick, pick-own, pick-roots, child-names}
+use Rattle.sampling.proofs.VisitedNodes.{
+  visits-nodes,
+  visit-names,
+  visit-marks,
+  visit-counts,
+  parents-many,
+  path-step,
+  handed-many,
+  handed-below,
+  map-handed,
+  pick,
+  pick-own,
+  pick-roots,
+  child-names,
+}
 
 -- lists by places
 pick-keep : {A : Type 0} (f : ℕ → ℕ) (g : ℕ → A) (q a m : ℕ)
@@ -115,7 +163,7 @@ children-picked (m ∷ ms) e f zero h =
     sym (pick-own k zero [] (forestOf ms) (λ q n. elim n [ ])) ∙ sym (pick-roots 1 zero (replicate k zero ++ []) ms (omega arith))
 children-picked (m ∷ ms) e f (suc j) h =
     let k = m .children in
-    let a = m .name ∷ [] in
+    let a = m .head .name ∷ [] in
     let z : 1 + j ≡ suc j = omega arith in
     child-names 1 (replicate k zero ++ []) (replicate k a ++ []) ms
     (handed-many k zero [] (treeCount ms) (sym e) (f .0))
@@ -132,9 +180,12 @@ module _ (ns : List Node) (one : treeCount ns ≡ 1) (enough : Enough ns) where
   found-names : map (λ (v : Visit). v .name) (visitsFound ns) ≡ namesIn ns
   found-names = visit-names ns ([] ∷ []) (omega arith) enough
 
+  found-marks : map (λ (v : Visit). v .text) (visitsFound ns) ≡ marksIn ns
+  found-marks = visit-marks ns ([] ∷ []) (omega arith) enough
+
   found-many : length (visitsFound ns) ≡ length ns
   found-many =
-      sym (length-map (visitsFound ns) (λ (v : Visit). v .name)) ∙ ap length found-names ∙ length-map ns (λ (n : Node). n .name)
+      sym (length-map (visitsFound ns) (λ (v : Visit). v .name)) ∙ ap length found-names ∙ length-map ns (λ (n : Node). n .head .name)
 
   parents-long : length (parentsOf ns) ≡ length ns
   unfolding parentsOf
@@ -148,22 +199,25 @@ module _ (ns : List Node) (one : treeCount ns ≡ 1) (enough : Enough ns) where
       ∙ ap (λ (m : ℕ). map (visitAt ns) (numbersFrom zero m)) found-many
     where
       none-visit : Visit
-      none-visit = record { name = []; path = []; children = [] }
+      none-visit = record { name = []; text = false; path = []; children = [] }
 
       same : (i : ℕ) → getD (visitsFound ns) i none-visit ≡ visitAt ns i
       same i =
           let a : getD (visitsFound ns) i none-visit .name ≡ nameAt ns i =
           sym (List·getD-map (λ (v : Visit). v .name) (visitsFound ns) i none-visit) ∙ ap (λ (l : List Name). getD l i []) found-names in
+          let m : getD (visitsFound ns) i none-visit .text ≡ markAt ns i =
+          sym (List·getD-map (λ (v : Visit). v .text) (visitsFound ns) i none-visit)
+          ∙ ap (λ (l : List Bool). getD l i false) found-marks in
           let b : getD (visitsFound ns) i none-visit .path ≡ pathAt ns i = sym (List·getD-map (λ (v : Visit). v .path) (visitsFound ns) i none-visit) in
           let c : getD (visitsFound ns) i none-visit .children ≡ getD (childrenIn (visitsFound ns)) i [] =
           sym (List·getD-map (λ (v : Visit). v .children) (visitsFound ns) i none-visit) in
-          λ k. record { name = a k; path = b k; children = c k }
+          λ k. record { name = a k; text = m k; path = b k; children = c k }
 
   -- a visit's children are the names of the node's children
   pub kids-names : (i : ℕ) → i < length ns → visitAt ns i .children ≡ map (nameAt ns) (kidsOf ns i)
   kids-names i h =
       let a = parents-long in
-      let b = length-map ns (λ (n : Node). n .name) in
+      let b = length-map ns (λ (n : Node). n .head .name) in
       let m = length ns - suc i in
       children-picked ns one enough i h
       ∙ ap (λ (l : List ℕ). pick i l (drop (suc i) (namesIn ns)))
@@ -175,7 +229,6 @@ module _ (ns : List Node) (one : treeCount ns ≡ 1) (enough : Enough ns) where
   -- a node has as many children as it says
   pub kids-count : (i : ℕ) → i < length ns → length (kidsOf ns i) ≡ getD (map (λ (n : Node). n .children) ns) i 0
   kids-count i h =
-      let none-visit : Visit = record { name = []; path = []; children = [] } in
       sym (length-map (kidsOf ns i) (nameAt ns))
       ∙ ap length (sym (kids-names i h))
       ∙ sym (List·getD-map length (childrenIn (visitsFound ns)) i [])
@@ -283,7 +336,7 @@ module _ (ns : List Node) (one : treeCount ns ≡ 1) (enough : Enough ns) (d : T
           List·getD-eq-default (pathsIn (visitsFound ns)) [] (omega arith)
 
       no-name : (k : ℕ) → length ns ≤ k → nameAt ns k ≡ []
-      no-name k h = let m = length-map ns (λ (n : Node). n .name) in List·getD-eq-default (namesIn ns) [] (omega arith)
+      no-name k h = let m = length-map ns (λ (n : Node). n .head .name) in List·getD-eq-default (namesIn ns) [] (omega arith)
 
       apart : (k l : ℕ) → k < length ns → length ns ≤ l → SamePath (pathAt ns k) (pathAt ns l) → ⊥
       apart k l h o f =
@@ -329,21 +382,33 @@ module _ (ns : List Node) (one : treeCount ns ≡ 1) (enough : Enough ns) (d : T
       ∙ map-map (λ n. pathType d (pathAt ns j ++ (n ∷ []))) (nameAt ns) (kidsOf ns j)
       ∙ map-on (λ m. pathType d (pathAt ns j ++ (nameAt ns m ∷ []))) (typeAt ns d) (kidsOf ns j) (λ m o. kid-type j m h o))
 
+  -- the visits at a node's path are those to the nodes of its type
+  here-are : (i : ℕ) → i < length ns → visitsAt (visits d []) (pathAt ns i) ≡ map (visitAt ns) (ofType ns d (typeAt ns d i))
+  unfolding visitsAt
+  here-are i h =
+      let idx = numbersBelow (length ns) in
+      let here : (Visit → Bool) = λ v. samePath (pathAt ns i) (v .path) in
+      ap (keep here) visits-at
+      ∙ keep-map (visitAt ns) here idx
+      ∙ ap (map (visitAt ns)) (keep-on (λ j. sameAt ns d i j) (λ j. eqb (typeAt ns d j) (typeAt ns d i)) idx
+      (λ j m. same-type i j h (numbers-below (length ns) j .0 m)))
+
   content-is : (i : ℕ) → i < length ns → contentAt (visits d []) (pathAt ns i) ≡ contentOfType ns d (typeAt ns d i)
   unfolding contentAt
   content-is i h =
-      let idx = numbersBelow (length ns) in
-      let here : (Visit → Bool) = λ v. samePath (pathAt ns i) (v .path) in
       ap (λ (l : List Content). choiceOf (distinct sameContent l))
-      (ap (λ (l : List Visit). map (childSequence (visits d [])) (keep here l)) visits-at
-      ∙ ap (map (childSequence (visits d [])))
-      (keep-map (visitAt ns) here idx
-      ∙ ap (map (visitAt ns)) (keep-on (λ j. sameAt ns d i j) (λ j. eqb (typeAt ns d j) (typeAt ns d i)) idx
-      (λ j m. same-type i j h (numbers-below (length ns) j .0 m))))
+      (ap (map (childSequence (visits d []))) (here-are i h)
       ∙ map-map (childSequence (visits d [])) (visitAt ns) (ofType ns d (typeAt ns d i))
       ∙ map-on (λ j. childSequence (visits d []) (visitAt ns j)) (sequenceAt ns d) (ofType ns d (typeAt ns d i))
       (λ j m.
-      sequence-is j (numbers-below (length ns) j .0 (kept (λ k. eqb (typeAt ns d k) (typeAt ns d i)) idx m .0))))
+      sequence-is j
+      (numbers-below (length ns) j .0 (kept (λ k. eqb (typeAt ns d k) (typeAt ns d i)) (numbersBelow (length ns)) m .0))))
+
+  text-is : (i : ℕ) → i < length ns → textAt (visits d []) (pathAt ns i) ≡ textOfType ns d (typeAt ns d i)
+  unfolding textAt
+  text-is i h =
+      ap (anyPass (λ (v : Visit). v .text)) (here-are i h)
+      ∙ any-map (visitAt ns) (λ (v : Visit). v .text) (ofType ns d (typeAt ns d i))
 
   rule-is : (i : ℕ) → i < length ns → ruleAt (visits d []) (visitAt ns i) ≡ ruleOfNode ns d i
   unfolding ruleAt
@@ -351,7 +416,8 @@ module _ (ns : List Node) (one : treeCount ns ≡ 1) (enough : Enough ns) (d : T
       let l : place sameName (nameAt ns i) (namesOf (visits d [])) ≡ place (sameNamed ns d) i (labelNodes ns d) =
       ap (place sameName (nameAt ns i)) labels-are ∙ place-map (nameAt ns) sameName i (labelNodes ns d) in
       let c = content-is i h in
-      λ k. record { type = typeAt ns d i; label = l k; content = c k }
+      let t = text-is i h in
+      λ k. record { type = typeAt ns d i; label = l k; content = c k; text = t k }
 
   pub sample-nodes : sample d ≡ sampleOfNodes ns d
   unfolding sample
@@ -373,6 +439,18 @@ module _ (ns : List Node) (one : treeCount ns ≡ 1) (enough : Enough ns) (d : T
       ap (λ (l : List Visit). distinct samePath (map (λ (v : Visit). v .path) l)) visits-at
       ∙ ap (distinct samePath) (map-map (λ (v : Visit). v .path) (visitAt ns) (numbersBelow (length ns)))
       ∙ distinct-map (pathAt ns) samePath (numbersBelow (length ns))
+
+  -- the first node of a path has the type that its place says
+  pub first-type : (t i : ℕ) → getElem? (firstsOf ns d) t ≡ just i → typeAt ns d i ≡ t
+  first-type t i at =
+      let found =
+      place-found (sameAt ns d) i (firstsOf ns d) (any-of (sameAt ns d i) (at-mem (firstsOf ns d) t at) (path-refl (pathAt ns i))) in
+      ap (place samePath (pathAt ns i)) paths-are
+      ∙ place-map (pathAt ns) samePath i (firstsOf ns d)
+      ∙ sym
+      (no-two-distinct (sameAt ns d) (λ x y. path-sym (pathAt ns x) (pathAt ns y)) (numbersBelow (length ns)) t _ i (found .0) at
+      (found .1)
+      (found .2))
 
   -- a node's type is its place among the first nodes of the paths before it
   pub type-place : (i : ℕ) → i < length ns → typeAt ns d i ≡ place (sameAt ns d) i (distinct (sameAt ns d) (numbersBelow i))

@@ -1,6 +1,7 @@
 -- What an index of a document holds: the nodes of its tree, for the sample.
 use Prim.Native.Nat.{ℕ, _≤_, _<_}
 use native.Mathlib.Omega.{arith}
+use mathlib.Core.Bool.{false}
 use mathlib.Core.List.{List, [], map}
 use mathlib.Core.Path.{_≡_, sym, _∙_, ap}
 use lib.ListN.{length, length-map, List·getD-map, getD, take}
@@ -15,8 +16,9 @@ use Rattle.reader.specs.DocumentNodes.{nodeAt, nodesIn}
 use Rattle.reader.specs.NodeTrees.{treeCount, Enough}
 use Rattle.reader.proofs.DocumentAnswers.{nodes-count, node-held, document-tree}
 use Rattle.reader.proofs.DocumentTrees.{complete}
-use Rattle.sampling.specs.SampleNodes.{CountedTree, Whole, TypedTo, nameIn, nameAt, parentsOf}
+use Rattle.sampling.specs.SampleNodes.{CountedTree, Whole, TypedTo, nameIn, nameAt, markIn, markAt, parentsOf}
 use Rattle.sampling.specs.SampleTable.{HoldsNodes, SampleHeld, SampleReady}
+use Rattle.sampling.proofs.SampleByNodes.{kids-count}
 
 module _ (lim : Limits) (s : List ℕ) (ix : DocumentIndex) (x : HoldsNodes lim s ix) where
   abbrev ns : List Node
@@ -26,7 +28,7 @@ module _ (lim : Limits) (s : List ℕ) (ix : DocumentIndex) (x : HoldsNodes lim 
   one-tree = complete lim (x .classes) s ns (x .reads)
 
   abbrev none : Node
-  none = record { name = []; children = 0 }
+  none = record { head = record { name = []; text = false }; children = 0 }
 
   node-is : (i : ℕ) → i < ix .nodes → getD ns i none ≡ nodeAt s (ix .names) (ix .sizes) (ix .children) i
   node-is i h = at-else ns i none (node-held s ix i h)
@@ -36,7 +38,10 @@ module _ (lim : Limits) (s : List ℕ) (ix : DocumentIndex) (x : HoldsNodes lim 
       sym (List·getD-map (λ (m : Node). m .children) ns i none ∙ ap (λ (m : Node). m .children) (node-is i h))
 
   pub name-is : (i : ℕ) → i < ix .nodes → nameIn s (ix .names) (ix .sizes) i ≡ nameAt ns i
-  name-is i h = sym (List·getD-map (λ (m : Node). m .name) ns i none ∙ ap (λ (m : Node). m .name) (node-is i h))
+  name-is i h = sym (List·getD-map (λ (m : Node). m .head .name) ns i none ∙ ap (λ (m : Node). m .head .name) (node-is i h))
+
+  pub mark-is : (i : ℕ) → i < ix .nodes → markIn s (ix .names) i ≡ markAt ns i
+  mark-is i h = sym (List·getD-map (λ (m : Node). m .head .text) ns i none ∙ ap (λ (m : Node). m .head .text) (node-is i h))
 
   abbrev pub index-counted : ix .nodes ≤ length (ix .children) → CountedTree (ix .children) (ix .nodes)
   index-counted h =
@@ -68,7 +73,9 @@ module _ (lim : Limits) (s : List ℕ) (ix : DocumentIndex) (x : HoldsNodes lim 
           enough = one-tree .1;
           many = nodes-count s ix;
           names-are = name-is;
+          marks-are = mark-is;
           parents-are = ps;
+          behind = x .indexed .behind;
           within = x .indexed .within;
           few = x .indexed .few;
           names-held = let f = x .indexed .few in omega arith;
@@ -87,11 +94,15 @@ module _ (lim : Limits) (s : List ℕ) (ix : DocumentIndex) (x : HoldsNodes lim 
             firsts-held = let f = x .indexed .few in let g = t (index-whole d e) .few in omega arith;
           }
 
-      pub index-ready : ix .nodes ≤ length (ix .children) → SampleReady s (ix .names) (ix .sizes) (ix .children) parents types firsts (ix .nodes) count
-      index-ready h =
+      pub index-ready : SampleReady s (ix .names) (ix .sizes) parents types firsts (ix .nodes) count
+      index-ready =
           record {
             held = index-held (index-tree .0) (index-tree .1);
-            counts-held = h;
-            counts-are = count-is;
-            counts-few = x .indexed .counts;
+            kids-few =
+                λ i h.
+                let m = nodes-count s ix in
+                let few = x .indexed .counts i h in
+                let same = kids-count ns (one-tree .0) (one-tree .1) i (omega arith) in
+                let held = count-is i h in
+                omega arith;
           }

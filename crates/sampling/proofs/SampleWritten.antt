@@ -1,17 +1,18 @@
 -- What the arrays hold is the sample:
---   content-same, rule-same : the content and the rule of a type
+--   content-same, text-same, rule-same : the content of a type, whether it is for text, and its rule
 --   table-same : the bytes written are the sample's
 --   sample-drafted : so the sample is written, or is too large ; sample-wide : too many types
 use Prim.Native.Nat.{ℕ, suc, _+_, _-_, _≤_, _<_}
 use native.Mathlib.Omega.{arith}
-use mathlib.Core.Bool.{true, false}
+use mathlib.Core.Bool.{Bool, true, false}
 use mathlib.Core.List.{List, [], _∷_, _++_, map, append-assoc, append-nil, List·Memᴰ, Memᴰ·map, Memᴰ·of-map}
 use mathlib.Core.Logic.{⊎-elim}
+use mathlib.Core.Option.{Option, some as just}
 use mathlib.Core.Path.{_≡_, sym, _∙_, ap, subst}
 use lib.Dec.{eqb}
-use lib.ListN.{length, length-map, getD, take, drop}
+use lib.ListN.{length, length-map, getElem?, getD, take, drop}
 use lib.Seq.{length-take-le, getD-take}
-use Rattle.grammar.specs.Lists.{keep, distinct, place, joinedOf, numbersFrom, numbersBelow}
+use Rattle.grammar.specs.Lists.{anyPass, keep, distinct, place, joinedOf, numbersFrom, numbersBelow}
 use Rattle.grammar.specs.Limits.{large}
 use Rattle.grammar.specs.LimitSets.{limitsOf}
 use Rattle.grammar.specs.Names.{Name, sameName}
@@ -22,7 +23,7 @@ use Rattle.grammar.specs.Tree.{Tree}
 use Rattle.grammar.specs.Table.{Rule, Table}
 use Rattle.grammar.specs.Fields.{fieldBytes}
 use Rattle.grammar.specs.ReadDocument.{Node}
-use Rattle.grammar.specs.WriteTable.{ruleBytes, tableBytes}
+use Rattle.grammar.specs.WriteTable.{ruleField, tableBytes}
 use Rattle.grammar.specs.Size.{contentTooLarge, tooLarge}
 use Rattle.grammar.specs.Sample.{sample, sequenceOf}
 use Rattle.grammar.specs.Widen.{sampleTable}
@@ -31,12 +32,14 @@ use Rattle.grammar.specs.declared.SizeLimits.{SizeLimits}
 use Rattle.theory.specs.Alternatives.{gathered}
 use Rattle.theory.proofs.lists.ListLaws.{
   at-else,
+  at-or-else,
   mem-at,
   at-below,
   distinct-was,
   kept,
   numbers-below,
   keep-on,
+  any-map,
   map-on,
   joined-on,
   taken-mem,
@@ -47,10 +50,21 @@ use Rattle.theory.proofs.lists.DistinctLaws.{distinct-on}
 use Rattle.theory.proofs.emission.EmittedContent.{joined-map}
 use Rattle.writer.specs.declared.writing.Drafted.{Drafted}
 use Rattle.writer.specs.declared.writing.Drafted.the-variants.{Length, TooLarge}
-use Rattle.sampling.specs.SampleContents.{kidTypes, sequenceIn, sequencesAmong}
-use Rattle.writer.specs.Tables.{ruleField, rulesBytes, TablePut}
+use Rattle.sampling.specs.SampleContents.{kidTypes, NodesHeld, sequenceIn, sequencesAmong}
+use Rattle.writer.specs.Tables.{numberedField, rulesBytes, TablePut}
 use Rattle.writer.proofs.TableSize.{size-over, size-fits, types-over, content-over, bytes-over, all-fit}
-use Rattle.sampling.specs.SampleTable.{contentIn, ruleIn, labelField, startBytes, SampleHeld, SampleReady, NodesHeld, RulesHeld, SampleDrafted}
+use Rattle.sampling.specs.SampleTable.{
+  contentIn,
+  textIn,
+  ruleIn,
+  labelField,
+  startBytes,
+  SampleHeld,
+  SampleReady,
+  MarksHeld,
+  RulesHeld,
+  SampleDrafted,
+}
 use Rattle.sampling.specs.SampleNodes.{
   KeyAt,
   KeysAt,
@@ -58,6 +72,8 @@ use Rattle.sampling.specs.SampleNodes.{
   nameIn,
   sameNameIn,
   nameAt,
+  markIn,
+  markAt,
   parentAt,
   kidsOf,
   typeAt,
@@ -68,11 +84,12 @@ use Rattle.sampling.specs.SampleNodes.{
   sequenceAt,
   ofType,
   contentOfType,
+  textOfType,
   ruleOfNode,
   sampleOfNodes,
 }
 use Rattle.sampling.proofs.NumberingLaws.{place-agree}
-use Rattle.sampling.proofs.SampleByNodes.{sample-nodes, kids-count}
+use Rattle.sampling.proofs.SampleByNodes.{sample-nodes, first-type}
 
 -- lists by places
 taken-at : (l : List ℕ) (c : ℕ) → c ≤ length l → take c l ≡ map (λ (t : ℕ). getD l t 0) (numbersBelow c)
@@ -82,6 +99,9 @@ taken-at l c h =
     listed-from (λ (t : ℕ). getD l t 0) 0 (take c l) 0
     (λ j b. let z : 0 + j ≡ j = omega arith in ap (λ (t : ℕ). getD l t 0) z ∙ sym (getD-take c l j 0 (omega arith)))
     ∙ ap (λ (m : ℕ). map (λ (t : ℕ). getD l t 0) (numbersFrom 0 m)) k
+
+any-on : {A : Type 0} (f g : A → Bool) (xs : List A) → ((x : A) → List·Memᴰ x xs → f x ≡ g x) → anyPass f xs ≡ anyPass g xs
+any-on f g xs h = sym (any-map f (λ b. b) xs) ∙ ap (anyPass (λ b. b)) (map-on f g xs h) ∙ any-map g (λ b. b) xs
 
 joined-at : (f : ℕ → List ℕ) (l : List ℕ) (c : ℕ) → c ≤ length l → joinedOf (λ t. f (getD l t 0)) (numbersBelow c) ≡ joinedOf f (take c l)
 joined-at f l c h = sym (ap (joinedOf f) (taken-at l c h) ∙ joined-map f (λ (t : ℕ). getD l t 0) (numbersBelow c))
@@ -123,23 +143,40 @@ module _ {s names sizes parents types firsts : List ℕ} {n count : ℕ} (q : Sa
       (keep-on (λ (j : ℕ). eqb (getD parents j 0) i) (λ j. eqb (parentAt ns j) i) later (λ j m. ap (λ (x : ℕ). eqb x i) (parent-same j (below j m)))
       ∙ ap (λ (m : ℕ). keep (λ j. eqb (parentAt ns j) i) (numbersFrom (suc i) (m - suc i))) (sym (q .whole .many)))
 
+  of-type-same : (k : ℕ) → keep (λ (j : ℕ). eqb (getD types j 0) k) (numbersBelow n) ≡ ofType ns d k
+  of-type-same k =
+      keep-on (λ (j : ℕ). eqb (getD types j 0) k) (λ j. eqb (typeAt ns d j) k) (numbersBelow n)
+      (λ j m. ap (λ (x : ℕ). eqb x k) (q .typed .types-are j (numbers-below n j .0 m)))
+      ∙ ap (λ (m : ℕ). keep (λ j. eqb (typeAt ns d j) k) (numbersBelow m)) (sym (q .whole .many))
+
   among-same : (k : ℕ) → sequencesAmong parents types n k (numbersBelow n) ≡ map (sequenceAt ns d) (ofType ns d k)
   among-same k =
       map-on (sequenceIn parents types n) (sequenceAt ns d) (keep (λ (j : ℕ). eqb (getD types j 0) k) (numbersBelow n))
       (λ i m. ap sequenceOf (kids-same i))
-      ∙ ap (map (sequenceAt ns d))
-      (keep-on (λ (j : ℕ). eqb (getD types j 0) k) (λ j. eqb (typeAt ns d j) k) (numbersBelow n)
-      (λ j m. ap (λ (x : ℕ). eqb x k) (q .typed .types-are j (numbers-below n j .0 m)))
-      ∙ ap (λ (m : ℕ). keep (λ j. eqb (typeAt ns d j) k) (numbersBelow m)) (sym (q .whole .many)))
+      ∙ ap (map (sequenceAt ns d)) (of-type-same k)
 
   content-same : (k : ℕ) → contentIn parents types n k ≡ contentOfType ns d k
   unfolding gathered
   content-same k = ap (λ (l : List Content). choiceOf (distinct sameContent l)) (among-same k)
 
+  text-same : (k : ℕ) → textIn s names types n k ≡ textOfType ns d k
+  text-same k =
+      any-on (markIn s names) (markAt ns) (keep (λ (j : ℕ). eqb (getD types j 0) k) (numbersBelow n))
+      (λ i m. q .whole .marks-are i (numbers-below n i .0 (kept (λ (j : ℕ). eqb (getD types j 0) k) (numbersBelow n) m .0)))
+      ∙ ap (anyPass (markAt ns)) (of-type-same k)
+
   names-same : (i j : ℕ) → i < n → j < n → sameNameIn s names sizes i j ≡ sameNamed ns d i j
   names-same i j h k =
       ap (λ (x : Name). sameName x (nameIn s names sizes j)) (q .whole .names-are i h)
       ∙ ap (sameName (nameAt ns i)) (q .whole .names-are j k)
+
+  type-of-first : (t : ℕ) → t < count → typeAt ns d (getD firsts t 0) ≡ t
+  type-of-first t h =
+      let k = length-take-le count firsts (q .firsts-held) in
+      first-type ns (q .whole .one) (q .whole .enough) d (q .whole .is-tree) t (getD firsts t 0)
+      (ap (λ (l : List ℕ). getElem? l t) (sym firsts-same)
+      ∙ at-or-else (take count firsts) t 0 (omega arith)
+      ∙ ap {B = Option ℕ} just (getD-take count firsts t 0 h))
 
   taken-below : (x : ℕ) → List·Memᴰ x (take count firsts) → x < n
   taken-below x m = let (t, h, e) = taken-place firsts count (q .firsts-held) m in subst (λ (y : ℕ). y < n) e (first-below t h)
@@ -179,19 +216,20 @@ module _ {s names sizes parents types firsts : List ℕ} {n count : ℕ} (q : Sa
         taken-below x (subst (List·Memᴰ x) (sym firsts-same) (distinct-was (sameNamed ns d) (firstsOf ns d) m))
 
     abbrev rule : ℕ → Rule
-    rule = ruleIn parents types firsts labels n
+    rule = ruleIn s names parents types labels n
 
     rule-same : (t : ℕ) → t < count → rule t ≡ ruleOfNode ns d (getD firsts t 0)
     rule-same t h =
         let i = getD firsts t 0 in
         let b = first-below t h in
-        let a : getD types i 0 ≡ typeAt ns d i = q .typed .types-are i b in
+        let a : t ≡ typeAt ns d i = sym (type-of-first t h) in
         let e : getD labels t 0 ≡ place (sameNamed ns d) i (labelNodes ns d) =
         l .labels-are t h
         ∙ ap (place (sameNameIn s names sizes) i) labels-distinct
         ∙ place-agree (sameNameIn s names sizes) (sameNamed ns d) i (labelNodes ns d) (λ y m. names-same i y b (labelled-below y m)) in
-        let c : contentIn parents types n (getD types i 0) ≡ contentOfType ns d (typeAt ns d i) = content-same (getD types i 0) ∙ ap (contentOfType ns d) a in
-        λ k. record { type = a k; label = e k; content = c k }
+        let c : contentIn parents types n t ≡ contentOfType ns d (typeAt ns d i) = content-same t ∙ ap (contentOfType ns d) a in
+        let m : textIn s names types n t ≡ textOfType ns d (typeAt ns d i) = text-same t ∙ ap (textOfType ns d) a in
+        λ k. record { type = a k; label = e k; content = c k; text = m k }
 
     labels-same : joinedOf (labelField s names sizes lfirsts) (numbersBelow lcount) ≡ joinedOf (fieldBytes 0x10) (map (nameAt ns) (labelNodes ns d))
     labels-same =
@@ -201,13 +239,13 @@ module _ {s names sizes parents types firsts : List ℕ} {n count : ℕ} (q : Sa
         (λ i m. ap (fieldBytes 0x10) (q .whole .names-are i (labelled-below i m)))
         ∙ sym (joined-map (fieldBytes 0x10) (nameAt ns) (labelNodes ns d))
 
-    rules-same : rulesBytes rule count ≡ joinedOf (λ r. fieldBytes 0x12 (ruleBytes r)) (map (ruleOfNode ns d) (firstsOf ns d))
+    rules-same : rulesBytes rule count ≡ joinedOf ruleField (map (ruleOfNode ns d) (firstsOf ns d))
     rules-same =
-        joined-on (ruleField rule) (λ t. fieldBytes 0x12 (ruleBytes (ruleOfNode ns d (getD firsts t 0)))) (numbersBelow count)
-        (λ t m. ap (λ (r : Rule). fieldBytes 0x12 (ruleBytes r)) (rule-same t (numbers-below count t .0 m)))
-        ∙ joined-at (λ i. fieldBytes 0x12 (ruleBytes (ruleOfNode ns d i))) firsts count (q .firsts-held)
-        ∙ ap (joinedOf (λ i. fieldBytes 0x12 (ruleBytes (ruleOfNode ns d i)))) firsts-same
-        ∙ sym (joined-map (λ r. fieldBytes 0x12 (ruleBytes r)) (ruleOfNode ns d) (firstsOf ns d))
+        joined-on (numberedField rule) (λ t. ruleField (ruleOfNode ns d (getD firsts t 0))) (numbersBelow count)
+        (λ t m. ap ruleField (rule-same t (numbers-below count t .0 m)))
+        ∙ joined-at (λ i. ruleField (ruleOfNode ns d i)) firsts count (q .firsts-held)
+        ∙ ap (joinedOf (λ i. ruleField (ruleOfNode ns d i))) firsts-same
+        ∙ sym (joined-map ruleField (ruleOfNode ns d) (firstsOf ns d))
 
     abbrev bytes : List ℕ
     bytes = joinedOf (labelField s names sizes lfirsts) (numbersBelow lcount) ++ startBytes rule count
@@ -218,7 +256,7 @@ module _ {s names sizes parents types firsts : List ℕ} {n count : ℕ} (q : Sa
     table-same =
         let a = joinedOf (fieldBytes 0x10) (map (nameAt ns) (labelNodes ns d)) in
         let b = fieldBytes 0x11 (0 ∷ []) in
-        let r = joinedOf (λ r. fieldBytes 0x12 (ruleBytes r)) (map (ruleOfNode ns d) (firstsOf ns d)) in
+        let r = joinedOf ruleField (map (ruleOfNode ns d) (firstsOf ns d)) in
         let z = fieldBytes 0x1F [] in
         ap (λ (x : List ℕ). x ++ startBytes rule count) labels-same
         ∙ ap (λ (x : List ℕ). a ++ (b ++ (x ++ z))) rules-same
@@ -265,30 +303,34 @@ module _ {s names sizes parents types firsts : List ℕ} {n count : ℕ} (q : Sa
         o
 
 -- what the writing asks of the arrays
-module _ {s names sizes children parents types firsts : List ℕ} {n count : ℕ}
-    (r : SampleReady s names sizes children parents types firsts n count) (few : count ≤ 128) where
-  pub nodes-held : NodesHeld parents types children n
+module _ {s names sizes parents types firsts : List ℕ} {n count : ℕ} (r : SampleReady s names sizes parents types firsts n count)
+    (few : count ≤ 128) where
+  nodes-held : NodesHeld parents types n
   nodes-held =
+      let w = r .held .whole in
+      let f = w .few in
       record {
-        counts-held = r .counts-held;
-        each =
+        few =
             λ i h.
-            let w = r .held .whole in
-            let m = w .many in
-            let f = w .few in
-            record {
-              few = r .counts-few i h;
-              many =
-                  ap length (kids-same (r .held) i)
-                  ∙ length-map (kidsOf (w .list) i) (typeAt (w .list) (w .tree))
-                  ∙ kids-count (w .list) (w .one) (w .enough) i (omega arith)
-                  ∙ sym (r .counts-are i h);
-              here = h;
-              parents-held = w .parents-held;
-              types-held = r .held .types-held;
-              fits = omega arith;
-              bytes = λ j k. let b = r .held .typed .small j k in omega arith;
-            };
+            let k = r .kids-few i h in
+            let a = ap length (kids-same (r .held) i) in
+            let b = length-map (kidsOf (w .list) i) (typeAt (w .list) (w .tree)) in
+            omega arith;
+        parents-held = w .parents-held;
+        types-held = r .held .types-held;
+        fits = omega arith;
+        bytes = λ j k. let b = r .held .typed .small j k in omega arith;
+      }
+
+  marks-held : MarksHeld s names types n
+  marks-held =
+      let w = r .held .whole in
+      record {
+        few = w .few;
+        names-held = w .names-held;
+        types-held = r .held .types-held;
+        behind = w .behind;
+        within = λ i h. let b = w .within i h in omega arith;
       }
 
   keys-held : {keys : List ℕ} → 2048 ≤ length keys → (i : ℕ) → i < n → KeyAt s names sizes keys i
@@ -302,6 +344,9 @@ module _ {s names sizes children parents types firsts : List ℕ} {n count : ℕ
   pub firsts-keys : {keys : List ℕ} → 2048 ≤ length keys → KeysAt s names sizes keys firsts count
   firsts-keys long = record { few = r .held .firsts-held; each = λ t h. keys-held long (getD firsts t 0) (first-below (r .held) t h) }
 
+  pub rules-held : {labels : List ℕ} → count ≤ length labels → RulesHeld s names parents types labels n count
+  rules-held held = record { nodes = nodes-held; marks = marks-held; few = few; labels-held = held }
+
   module _ {labels lfirsts : List ℕ} {lcount : ℕ} (l : LabelledTo s names sizes firsts labels lfirsts lcount count) where
     pub labels-keys : {keys : List ℕ} → 2048 ≤ length keys → lcount ≤ length lfirsts → KeysAt s names sizes keys lfirsts lcount
     labels-keys long held =
@@ -313,17 +358,4 @@ module _ {s names sizes children parents types firsts : List ℕ} {n count : ℕ
               (taken-below (r .held) (getD lfirsts t 0)
               (distinct-was (sameNameIn s names sizes) (take count firsts)
               (subst (List·Memᴰ (getD lfirsts t 0)) (l .firsts-are) (taken-mem lfirsts t lcount h (omega arith)))));
-        }
-
-    pub rules-held : count ≤ length labels → RulesHeld types firsts labels n count
-    rules-held held =
-        let w = r .held .whole in
-        record {
-          few = few;
-          firsts-held = r .held .firsts-held;
-          labels-held = held;
-          types-held = r .held .types-held;
-          nodes-few = w .few;
-          first-nodes = first-below (r .held);
-          type-bytes = λ t h. let b = r .held .typed .small (getD firsts t 0) (first-below (r .held) t h) in omega arith;
         }

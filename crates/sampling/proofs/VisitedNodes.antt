@@ -1,6 +1,6 @@
 -- The visits of a document, node by node:
 --   visits-nodes  : the visits of the tree of some nodes are the visits to these nodes in file order
---   visit-names, visits-many : one visit for each node, with its name
+--   visit-names, visit-marks : one visit for each node, with its name and whether it holds text
 --   visit-paths   : a path is the parent's path and the node's name, and the parent comes before
 --   visit-children : a visit's children are the later nodes of which it is the parent
 use Prim.Native.Nat.{ℕ, zero, suc, _+_, _-_, _≤_, _<_}
@@ -20,7 +20,7 @@ use Rattle.grammar.specs.Sample.{Visit, rootNames, visits, visitsAll}
 use Rattle.theory.proofs.bytes.OutcomeLaws.{given-eq}
 use Rattle.reader.specs.NodeTrees.{treeCount, Enough}
 use Rattle.reader.proofs.DocumentTrees.{forest-trees}
-use Rattle.sampling.specs.SampleNodes.{parentsFrom, visitsFrom, pathsIn, childrenIn, namesIn}
+use Rattle.sampling.specs.SampleNodes.{parentsFrom, visitsFrom, pathsIn, childrenIn, namesIn, marksIn}
 
 -- the visits of trees, each with its own path above
 visitsPer : Forest → List (List Name) → List Visit
@@ -48,15 +48,20 @@ unfolding visitsPer visits forestOf visitsFrom
 per-nodes [] tops = refl
 per-nodes (n ∷ ns) [] = refl
 per-nodes (n ∷ ns) (a ∷ tops) =
-    ap (λ (l : List Visit). record { name = n .name; path = a ++ (n .name ∷ []); children = rootNames (firstTrees (n .children) (forestOf ns)) } ∷ l)
-    (sym (per-same (n .children) (a ++ (n .name ∷ [])) tops (forestOf ns))
-    ∙ per-nodes ns (replicate (n .children) (a ++ (n .name ∷ [])) ++ tops))
+    ap (λ (l : List Visit). record {
+      name = n .head .name;
+      text = n .head .text;
+      path = a ++ (n .head .name ∷ []);
+      children = rootNames (firstTrees (n .children) (forestOf ns));
+    } ∷ l)
+    (sym (per-same (n .children) (a ++ (n .head .name ∷ [])) tops (forestOf ns))
+    ∙ per-nodes ns (replicate (n .children) (a ++ (n .head .name ∷ [])) ++ tops))
 
 pub visits-nodes : (ns : List Node) (d : Tree) → treeOf ns ≡ given d → visits d [] ≡ visitsFrom ([] ∷ []) ns
 unfolding treeOf visitsPer
 visits-nodes [] d e = let z : _≡_ {A = ℕ} 0 1 = cc in absurd (omega arith)
 visits-nodes (n ∷ ns) d e =
-    let root : Tree = node (n .name) (firstTrees (n .children) (forestOf ns)) in
+    let root : Tree = node (n .head) (firstTrees (n .children) (forestOf ns)) in
     let later : Forest = otherTrees (n .children) (forestOf ns) in
     let same : root ≡ d = given-eq e in
     ap (λ (t : Tree). visits t []) (sym same)
@@ -76,9 +81,19 @@ unfolding visitsFrom treeCount
 visit-names [] tops e h = refl
 visit-names (n ∷ ns) [] e h = absurd (omega arith)
 visit-names (n ∷ ns) (a ∷ tops) e h =
-    ap (λ (l : List Name). n .name ∷ l)
-    (visit-names ns (replicate (n .children) (a ++ (n .name ∷ [])) ++ tops)
-    (handed-many (n .children) (a ++ (n .name ∷ [])) tops (treeCount ns) e (h .0)) (h .1))
+    ap (λ (l : List Name). n .head .name ∷ l)
+    (visit-names ns (replicate (n .children) (a ++ (n .head .name ∷ [])) ++ tops)
+    (handed-many (n .children) (a ++ (n .head .name ∷ [])) tops (treeCount ns) e (h .0)) (h .1))
+
+pub visit-marks : (ns : List Node) (tops : List (List Name)) → length tops ≡ treeCount ns → Enough ns
+    → map (λ (v : Visit). v .text) (visitsFrom tops ns) ≡ marksIn ns
+unfolding visitsFrom treeCount
+visit-marks [] tops e h = refl
+visit-marks (n ∷ ns) [] e h = absurd (omega arith)
+visit-marks (n ∷ ns) (a ∷ tops) e h =
+    ap (λ (l : List Bool). n .head .text ∷ l)
+    (visit-marks ns (replicate (n .children) (a ++ (n .head .name ∷ [])) ++ tops)
+    (handed-many (n .children) (a ++ (n .head .name ∷ [])) tops (treeCount ns) e (h .0)) (h .1))
 
 pub parents-many : (i : ℕ) (ns : List Node) (ps : List ℕ) → length ps ≡ treeCount ns → Enough ns → length (parentsFrom i ps ns) ≡ length ns
 unfolding parentsFrom treeCount
@@ -116,8 +131,8 @@ path-step f i (p ∷ ps) (n ∷ ns) e h b g zero l = (g zero l, let q = b p (Lis
 path-step f i (p ∷ ps) (n ∷ ns) e h b g (suc j) l =
     let k = n .children in
     let z : i + 0 ≡ i = omega arith in
-    let here : f i ≡ f p ++ (n .name ∷ []) = ap f (sym z) ∙ g zero (omega arith) in
-    let handed : map f (replicate k i ++ ps) ≡ replicate k (f p ++ (n .name ∷ [])) ++ map f ps =
+    let here : f i ≡ f p ++ (n .head .name ∷ []) = ap f (sym z) ∙ g zero (omega arith) in
+    let handed : map f (replicate k i ++ ps) ≡ replicate k (f p ++ (n .head .name ∷ [])) ++ map f ps =
     map-handed f k i ps ∙ ap (λ (a : List Name). replicate k a ++ map f ps) here in
     let on : (m : ℕ) → suc i + m ≡ i + suc m = λ m. omega arith in
     let r =
@@ -143,8 +158,8 @@ pick-others : (k q i : ℕ) (ps : List ℕ) (f : Forest) → eqb i q ≡ false
 unfolding pick rootNames otherTrees
 pick-others zero q i ps f e = refl
 pick-others (suc k) q i ps []ᵗ e = refl
-pick-others (suc k) q i ps (node n ts ∷ᵗ us) e =
-    ap (λ (b : Bool). picked b n (pick q (replicate k i ++ ps) (rootNames us))) e ∙ pick-others k q i ps us e
+pick-others (suc k) q i ps (node h ts ∷ᵗ us) e =
+    ap (λ (b : Bool). picked b (h .name) (pick q (replicate k i ++ ps) (rootNames us))) e ∙ pick-others k q i ps us e
 
 pick-none : {A : Type 0} (i : ℕ) (ps : List ℕ) (xs : List A) → Below i ps → pick i ps xs ≡ []
 unfolding pick
@@ -158,9 +173,9 @@ pub pick-own : (k i : ℕ) (ps : List ℕ) (f : Forest) → Below i ps → pick 
 unfolding pick rootNames firstTrees
 pick-own zero i ps f b = pick-none i ps (rootNames f) b
 pick-own (suc k) i ps []ᵗ b = refl
-pick-own (suc k) i ps (node n ts ∷ᵗ us) b =
-    ap (λ (c : Bool). picked c n (pick i (replicate k i ++ ps) (rootNames us))) (eq-eqb i i refl)
-    ∙ ap (λ (l : List Name). n ∷ l) (pick-own k i ps us b)
+pick-own (suc k) i ps (node h ts ∷ᵗ us) b =
+    ap (λ (c : Bool). picked c (h .name) (pick i (replicate k i ++ ps) (rootNames us))) (eq-eqb i i refl)
+    ∙ ap (λ (l : List Name). h .name ∷ l) (pick-own k i ps us b)
 
 -- among the nodes, those of a parent before them are roots that were left to it
 pub pick-roots : (i q : ℕ) (ps : List ℕ) (ns : List Node) → q < i
@@ -169,7 +184,7 @@ unfolding pick rootNames forestOf parentsFrom
 pick-roots i q ps [] l = refl
 pick-roots i q [] (n ∷ ns) l = refl
 pick-roots i q (p ∷ ps) (n ∷ ns) l =
-    ap (picked (eqb p q) (n .name))
+    ap (picked (eqb p q) (n .head .name))
     (pick-roots (suc i) q (replicate (n .children) i ++ ps) ns (omega arith)
     ∙ pick-others (n .children) q i ps (forestOf ns) (ne-eqb i q (omega arith)))
 
@@ -189,9 +204,9 @@ child-names i (p ∷ ps) (a ∷ tops) (n ∷ ns) e f h b zero l =
 child-names i (p ∷ ps) (a ∷ tops) (n ∷ ns) e f h b (suc j) l =
     let k = n .children in
     let z : suc i + j ≡ i + suc j = omega arith in
-    child-names (suc i) (replicate k i ++ ps) (replicate k (a ++ (n .name ∷ [])) ++ tops) ns
+    child-names (suc i) (replicate k i ++ ps) (replicate k (a ++ (n .head .name ∷ [])) ++ tops) ns
     (handed-many k i ps (treeCount ns) e (h .0))
-    (handed-many k (a ++ (n .name ∷ [])) tops (treeCount ns) f (h .0))
+    (handed-many k (a ++ (n .head .name ∷ [])) tops (treeCount ns) f (h .0))
     (h .1)
     (handed-below k i ps (λ q m. b q (List·Memᴰ·tail m)))
     j
@@ -205,7 +220,7 @@ first-many : (k : ℕ) (f : Forest) → k ≤ trees f → length (rootNames (fir
 unfolding rootNames firstTrees trees
 first-many zero f h = refl
 first-many (suc k) []ᵗ h = absurd (omega arith)
-first-many (suc k) (node n ts ∷ᵗ us) h = ap suc (first-many k us (omega arith))
+first-many (suc k) (node i ts ∷ᵗ us) h = ap suc (first-many k us (omega arith))
 
 pub visit-counts : (ns : List Node) (tops : List (List Name)) → length tops ≡ treeCount ns → Enough ns
     → map (λ (v : Visit). length (v .children)) (visitsFrom tops ns) ≡ map (λ (n : Node). n .children) ns
@@ -215,8 +230,10 @@ visit-counts (n ∷ ns) [] e h = absurd (omega arith)
 visit-counts (n ∷ ns) (a ∷ tops) e h =
     let t = forest-trees ns in
     let k = h .0 in
-    ap (λ (m : ℕ). m ∷ map (λ (v : Visit). length (v .children)) (visitsFrom (replicate (n .children) (a ++ (n .name ∷ [])) ++ tops) ns))
+    ap
+    (λ (m : ℕ).
+    m ∷ map (λ (v : Visit). length (v .children)) (visitsFrom (replicate (n .children) (a ++ (n .head .name ∷ [])) ++ tops) ns))
     (first-many (n .children) (forestOf ns) (omega arith))
     ∙ ap (λ (l : List ℕ). n .children ∷ l)
-    (visit-counts ns (replicate (n .children) (a ++ (n .name ∷ [])) ++ tops)
-    (handed-many (n .children) (a ++ (n .name ∷ [])) tops (treeCount ns) e (h .0)) (h .1))
+    (visit-counts ns (replicate (n .children) (a ++ (n .head .name ∷ [])) ++ tops)
+    (handed-many (n .children) (a ++ (n .head .name ∷ [])) tops (treeCount ns) e (h .0)) (h .1))

@@ -2,7 +2,6 @@
 use Prim.Native.Nat.{ℕ, suc, _+_, _-_, _≤_, _<_}
 use mathlib.Core.Bool.{Bool, _&&_}
 use mathlib.Core.List.{List, map}
-use mathlib.Core.Path.{_≡_}
 use lib.Dec.{eqb, ltb}
 use lib.ListN.{length, getD}
 use Rattle.grammar.specs.Limits.{contentLimit, childLimit}
@@ -38,11 +37,9 @@ run k several = record { type = k; several = several }
 abbrev pub runsBytes : List Run → List ℕ
 runsBytes rs = operandBytes (operands (map runContent rs))
 
--- the arrays hold the children of a node: so many, with types that are bytes
-pub record Kids (parents types : List ℕ) (n i kids : ℕ) : Type 0 where
-  pub few : kids ≤ childLimit
-  pub many : length (kidTypes parents types n i) ≡ kids
-  pub here : i < n
+-- the arrays hold the parents and types of nodes, of which none has too many children, and the types are bytes
+pub record NodesHeld (parents types : List ℕ) (n : ℕ) : Type 0 where
+  pub few : (i : ℕ) → i < n → length (kidTypes parents types n i) ≤ childLimit
   pub parents-held : n ≤ length parents
   pub types-held : n ≤ length types
   pub fits : n < 65536

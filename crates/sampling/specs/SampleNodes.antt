@@ -1,19 +1,19 @@
 -- A document's nodes in file order: the parent of each, and the visit that comes to each. The nodes still to come are told apart by
 -- what their parents left for them, nearest first: a node takes what stands first, and leaves its own, once for each child.
 use Prim.Native.Nat.{ℕ, zero, suc, _+_, _-_, _≤_, _<_}
-use mathlib.Core.Bool.{Bool, _&&_}
+use mathlib.Core.Bool.{Bool, true, false, _&&_}
 use mathlib.Core.List.{List, [], _∷_, _++_, map}
 use mathlib.Core.Path.{_≡_}
 use lib.Dec.{eqb}
 use lib.ListN.{length, getD, take, drop, replicate}
-use Rattle.grammar.specs.Lists.{keep, distinct, place, numbersFrom, numbersBelow}
+use Rattle.grammar.specs.Lists.{anyPass, keep, distinct, place, numbersFrom, numbersBelow}
 use Rattle.grammar.specs.Names.{Name, sameName}
 use Rattle.grammar.specs.Content.{Content, choiceOf}
 use Rattle.grammar.specs.ReadContent.{sameContent}
 use Rattle.grammar.specs.Outcome.{given}
 use Rattle.grammar.specs.Tree.{Tree}
 use Rattle.grammar.specs.Table.{Rule, Table}
-use Rattle.grammar.specs.ReadDocument.{Node, forestOf, firstTrees, treeOf}
+use Rattle.grammar.specs.ReadDocument.{nodeTag, Node, forestOf, firstTrees, treeOf}
 use Rattle.grammar.specs.Sample.{Visit, rootNames, samePath, sequenceOf}
 use Rattle.theory.specs.SamplePaths.{pathType}
 use Rattle.reader.specs.NodeTrees.{treeCount, Enough}
@@ -34,8 +34,13 @@ unfoldable pub visitsFrom : List (List Name) → List Node → List Visit
 visitsFrom tops [] = []
 visitsFrom [] (n ∷ ns) = []
 visitsFrom (a ∷ tops) (n ∷ ns) =
-    record { name = n .name; path = a ++ (n .name ∷ []); children = rootNames (firstTrees (n .children) (forestOf ns)) }
-    ∷ visitsFrom (replicate (n .children) (a ++ (n .name ∷ [])) ++ tops) ns
+    record {
+      name = n .head .name;
+      text = n .head .text;
+      path = a ++ (n .head .name ∷ []);
+      children = rootNames (firstTrees (n .children) (forestOf ns));
+    }
+    ∷ visitsFrom (replicate (n .children) (a ++ (n .head .name ∷ [])) ++ tops) ns
 
 -- what a list of visits or nodes says at a place
 abbrev pub pathsIn : List Visit → List (List Name)
@@ -45,15 +50,21 @@ abbrev pub childrenIn : List Visit → List (List Name)
 childrenIn vs = map (λ (v : Visit). v .children) vs
 
 abbrev pub namesIn : List Node → List Name
-namesIn ns = map (λ (n : Node). n .name) ns
+namesIn ns = map (λ (n : Node). n .head .name) ns
+
+abbrev pub marksIn : List Node → List Bool
+marksIn ns = map (λ (n : Node). n .head .text) ns
 
 module _ (ns : List Node) where
   abbrev pub visitsFound : List Visit
   visitsFound = visitsFrom ([] ∷ []) ns
 
-  -- the name, the path, the parent and the visit of a node
+  -- the name, whether it holds text, the path, the parent and the visit of a node
   abbrev pub nameAt : ℕ → Name
   nameAt i = getD (namesIn ns) i []
+
+  abbrev pub markAt : ℕ → Bool
+  markAt i = getD (marksIn ns) i false
 
   abbrev pub pathAt : ℕ → List Name
   pathAt i = getD (pathsIn visitsFound) i []
@@ -62,7 +73,7 @@ module _ (ns : List Node) where
   parentAt i = getD (parentsOf ns) i 0
 
   abbrev pub visitAt : ℕ → Visit
-  visitAt i = record { name = nameAt i; path = pathAt i; children = getD (childrenIn visitsFound) i [] }
+  visitAt i = record { name = nameAt i; text = markAt i; path = pathAt i; children = getD (childrenIn visitsFound) i [] }
 
   -- the children of a node: the later nodes of which it is the parent
   abbrev pub kidsOf : ℕ → List ℕ
@@ -100,8 +111,18 @@ module _ (ns : List Node) (d : Tree) where
   abbrev pub contentOfType : ℕ → Content
   contentOfType k = choiceOf (distinct sameContent (map sequenceAt (ofType k)))
 
+  -- a type is for text if any node of it holds text
+  abbrev pub textOfType : ℕ → Bool
+  textOfType k = anyPass (markAt ns) (ofType k)
+
   abbrev pub ruleOfNode : ℕ → Rule
-  ruleOfNode i = record { type = typeAt i; label = place sameNamed i labelNodes; content = contentOfType (typeAt i) }
+  ruleOfNode i =
+      record {
+        type = typeAt i;
+        label = place sameNamed i labelNodes;
+        content = contentOfType (typeAt i);
+        text = textOfType (typeAt i);
+      }
 
   abbrev pub sampleOfNodes : Table
   sampleOfNodes = record { labels = map (nameAt ns) labelNodes; starts = zero ∷ []; rules = map ruleOfNode firstsOf }
@@ -117,6 +138,10 @@ pub record CountedTree (children : List ℕ) (n : ℕ) : Type 0 where
 -- a node's name, where the arrays say
 abbrev pub nameIn : (s names sizes : List ℕ) → ℕ → Name
 nameIn s names sizes i = take (getD sizes i 0) (drop (getD names i 0) s)
+
+-- whether a node holds text: its tag, four bytes before its name, tells
+abbrev pub markIn : (s names : List ℕ) → ℕ → Bool
+markIn s names i = eqb (getD s (getD names i 0 - 4) 0) (nodeTag true)
 
 -- equal keys and equal names
 abbrev pub sameKey : (s names sizes keys : List ℕ) → ℕ → ℕ → Bool
@@ -134,7 +159,7 @@ pub record KeysAt (s names sizes keys firsts : List ℕ) (count : ℕ) : Type 0 
   pub few : count ≤ length firsts
   pub each : (t : ℕ) → t < count → KeyAt s names sizes keys (getD firsts t 0)
 
--- The nodes that arrays hold are those of one tree: where the names stand, and what the parents are.
+-- The nodes that arrays hold are those of one tree: where the names stand, behind the nodes' tags, and what the parents are.
 pub record Whole (s names sizes parents : List ℕ) (n : ℕ) : Type 0 where
   pub list : List Node
   pub tree : Tree
@@ -143,7 +168,9 @@ pub record Whole (s names sizes parents : List ℕ) (n : ℕ) : Type 0 where
   pub enough : Enough list
   pub many : length list ≡ n
   pub names-are : (i : ℕ) → i < n → nameIn s names sizes i ≡ nameAt list i
+  pub marks-are : (i : ℕ) → i < n → markIn s names i ≡ markAt list i
   pub parents-are : take n parents ≡ parentsOf list
+  pub behind : (i : ℕ) → i < n → 4 ≤ getD names i 0
   pub within : (i : ℕ) → i < n → getD names i 0 + getD sizes i 0 ≤ length s
   pub few : n ≤ 2048
   pub names-held : n ≤ length names

@@ -1,11 +1,12 @@
 -- The table of a sample, by arrays: the rule of each type, and whether it is written.
-use Prim.Native.Nat.{ℕ, _+_, _≤_, _<_}
-use mathlib.Core.Bool.{true, false}
-use mathlib.Core.List.{List, [], _∷_, _++_, map}
+use Prim.Native.Nat.{ℕ, _≤_, _<_}
+use mathlib.Core.Bool.{Bool, true, false}
+use mathlib.Core.List.{List, [], _∷_, _++_}
 use mathlib.Core.Option.{some as just}
 use mathlib.Core.Path.{_≡_}
+use lib.Dec.{eqb}
 use lib.ListN.{length, getD, drop}
-use Rattle.grammar.specs.Lists.{numbersBelow}
+use Rattle.grammar.specs.Lists.{anyPass, keep, numbersBelow}
 use Rattle.grammar.specs.Limits.{Limits, large, inputLimit, childLimit}
 use Rattle.grammar.specs.Content.{Content, choiceOf}
 use Rattle.grammar.specs.Table.{Rule}
@@ -16,7 +17,7 @@ use Rattle.grammar.specs.Size.{contentTooLarge}
 use Rattle.grammar.specs.Names.{Classes}
 use Rattle.grammar.specs.Outcome.{given, refused}
 use Rattle.grammar.specs.Tree.{Tree}
-use Rattle.grammar.specs.ReadDocument.{Node, readNodes}
+use Rattle.grammar.specs.ReadDocument.{readNodes}
 use Rattle.grammar.specs.Sample.{sample}
 use Rattle.grammar.specs.Widen.{sampleTable}
 use Rattle.grammar.specs.declared.Refusal.the-variants.{ResultTooLarge}
@@ -27,19 +28,23 @@ use Rattle.reader.specs.DocumentNodes.{nodesIn, NodesIndexed}
 use Rattle.writer.specs.declared.writing.Drafted.{Drafted}
 use Rattle.writer.specs.declared.writing.Drafted.the-variants.{Length, TooLarge}
 use Rattle.writer.specs.Tables.{restBytes}
-use Rattle.sampling.specs.SampleNodes.{nameIn, Whole, TypedTo}
-use Rattle.sampling.specs.SampleContents.{Kids, sequencesAmong, ruleEnd}
+use Rattle.sampling.specs.SampleNodes.{nameIn, markIn, kidsOf, Whole, TypedTo}
+use Rattle.sampling.specs.SampleContents.{NodesHeld, sequencesAmong, ruleEnd}
 
--- the content of a type, and its rule
+-- the content of a type, whether any node of it holds text, and its rule
 abbrev pub contentIn : (parents types : List ℕ) → ℕ → ℕ → Content
 contentIn parents types n k = choiceOf (gathered [] (sequencesAmong parents types n k (numbersBelow n)))
 
-abbrev pub ruleIn : (parents types firsts labels : List ℕ) → ℕ → ℕ → Rule
-ruleIn parents types firsts labels n t =
+abbrev pub textIn : (s names types : List ℕ) → ℕ → ℕ → Bool
+textIn s names types n k = anyPass (markIn s names) (keep (λ (j : ℕ). eqb (getD types j 0) k) (numbersBelow n))
+
+abbrev pub ruleIn : (s names parents types labels : List ℕ) → ℕ → ℕ → Rule
+ruleIn s names parents types labels n k =
     record {
-      type = getD types (getD firsts t 0) 0;
-      label = getD labels t 0;
-      content = contentIn parents types n (getD types (getD firsts t 0) 0);
+      type = k;
+      label = getD labels k 0;
+      content = contentIn parents types n k;
+      text = textIn s names types n k;
     }
 
 -- the content stands in a draft from the second place on; or it is too large
@@ -48,10 +53,13 @@ ContentMade draft c (Length stop) =
     (exprAt draft 2 ≡ just (c upTo stop)) × (stop ≤ ruleEnd) × (contentTooLarge large c ≡ false)
 ContentMade draft c TooLarge = contentTooLarge large c ≡ true
 
--- what the nodes' arrays hold
-pub record NodesHeld (parents types children : List ℕ) (n : ℕ) : Type 0 where
-  pub counts-held : n ≤ length children
-  pub each : (i : ℕ) → i < n → Kids parents types n i (getD children i 0)
+-- the arrays hold the types of nodes, and where their tags stand
+pub record MarksHeld (s names types : List ℕ) (n : ℕ) : Type 0 where
+  pub few : n ≤ 2048
+  pub names-held : n ≤ length names
+  pub types-held : n ≤ length types
+  pub behind : (i : ℕ) → i < n → 4 ≤ getD names i 0
+  pub within : (i : ℕ) → i < n → getD names i 0 ≤ length s
 
 -- the field of a label, by number
 abbrev pub labelField : (s names sizes firsts : List ℕ) → ℕ → List ℕ
@@ -61,15 +69,12 @@ labelField s names sizes firsts l = fieldBytes labelTag (nameIn s names sizes (g
 abbrev pub startBytes : (ℕ → Rule) → ℕ → List ℕ
 startBytes rule count = fieldBytes startTag (0 ∷ []) ++ restBytes rule count
 
--- the arrays hold the first node and the label of each type
-pub record RulesHeld (types firsts labels : List ℕ) (n count : ℕ) : Type 0 where
+-- the arrays hold what the rules are made of: the nodes, and the label of each type
+pub record RulesHeld (s names parents types labels : List ℕ) (n count : ℕ) : Type 0 where
+  pub nodes : NodesHeld parents types n
+  pub marks : MarksHeld s names types n
   pub few : count ≤ 128
-  pub firsts-held : count ≤ length firsts
   pub labels-held : count ≤ length labels
-  pub types-held : n ≤ length types
-  pub nodes-few : n ≤ 2048
-  pub first-nodes : (t : ℕ) → t < count → getD firsts t 0 < n
-  pub type-bytes : (t : ℕ) → t < count → getD types (getD firsts t 0) 0 < 256
 
 -- the arrays hold the nodes of a tree and their types
 pub record SampleHeld (s names sizes parents types firsts : List ℕ) (n count : ℕ) : Type 0 where
@@ -93,9 +98,7 @@ pub record HoldsNodes (lim : Limits) (s : List ℕ) (ix : DocumentIndex) : Type 
   pub reads : readNodes lim classes s ≡ given (nodesIn s ix)
   pub indexed : NodesIndexed s (ix .names) (ix .sizes) (ix .children) (ix .nodes)
 
--- and the child counts
-pub record SampleReady (s names sizes children parents types firsts : List ℕ) (n count : ℕ) : Type 0 where
+-- the arrays hold the nodes of a tree and their types, and no node has too many children
+pub record SampleReady (s names sizes parents types firsts : List ℕ) (n count : ℕ) : Type 0 where
   pub held : SampleHeld s names sizes parents types firsts n count
-  pub counts-held : n ≤ length children
-  pub counts-are : (i : ℕ) → i < n → getD children i 0 ≡ getD (map (λ (m : Node). m .children) (held .whole .list)) i 0
-  pub counts-few : (i : ℕ) → i < n → getD children i 0 ≤ childLimit
+  pub kids-few : (i : ℕ) → i < n → length (kidsOf (held .whole .list) i) ≤ childLimit

@@ -9,26 +9,18 @@ use contents::drafts::finish;
 use contents::drafts::settle;
 use contents::limits::OPERANDS;
 use writer::writing::Drafted;
-ghost use Prim.Native.Nat.{ℕ, _≤_, _<_};
+ghost use Prim.Native.Nat.{_≤_};
 ghost use mathlib.Core.List.{[]};
-ghost use lib.ListN.{length, getD};
+ghost use lib.ListN.{length};
 ghost use Rattle.grammar.specs.Lists.{numbersBelow};
 ghost use Rattle.theory.specs.Alternatives.{gathered};
 ghost use Rattle.contents.specs.Drafts.{GathersIn};
-ghost use Rattle.sampling.specs.SampleTable.{contentIn, ContentMade, NodesHeld};
-ghost use Rattle.sampling.specs.SampleContents.{Kids, sequencesAmong, noSequences, scratchBytes};
+ghost use Rattle.sampling.specs.SampleTable.{contentIn, ContentMade};
+ghost use Rattle.sampling.specs.SampleContents.{NodesHeld, sequencesAmong, noSequences, scratchBytes};
 
 // Gathers the child sequences of the nodes of a type.
-fn gather(
-    scratch: &mut [u8],
-    parents: &[u16],
-    types: &[u16],
-    children: &[u16],
-    nodes: usize,
-    k: usize,
-) -> Gathering
-    requires { ⌜ (scratchBytes ≤ length (now scratch)) × (nodes ≤ length (now children))
-        × ((i : ℕ) → i < nodes → Kids (now parents) (now types) nodes i (getD (now children) i 0)) ⌝ }
+fn gather(scratch: &mut [u8], parents: &[u16], types: &[u16], nodes: usize, k: usize) -> Gathering
+    requires { ⌜ (scratchBytes ≤ length (now scratch)) × NodesHeld (now parents) (now types) nodes ⌝ }
     ensures { λ r. ⌜ GathersIn (now (scratch .exit)) noSequences
         (gathered [] (sequencesAmong (now (parents .entry)) (now (types .entry)) nodes k (numbersBelow nodes))) r ⌝ }
 {
@@ -41,8 +33,7 @@ fn gather(
             i += 1;
             continue;
         }
-        let kids = children[i] as usize;
-        let fresh = put_sequence(scratch, end, parents, types, nodes, i, kids);
+        let fresh = put_sequence(scratch, end, parents, types, nodes, i);
         let row = OperandRow {
             base: OPERANDS_FROM,
             count,
@@ -76,14 +67,13 @@ pub fn make_content(
     scratch: &mut [u8],
     parents: &[u16],
     types: &[u16],
-    children: &[u16],
     nodes: usize,
     k: usize,
 ) -> Drafted
-    requires { ⌜ (scratchBytes ≤ length (now scratch)) × NodesHeld (now parents) (now types) (now children) nodes ⌝ }
+    requires { ⌜ (scratchBytes ≤ length (now scratch)) × NodesHeld (now parents) (now types) nodes ⌝ }
     ensures { λ r. ⌜ ContentMade (now (scratch .exit)) (contentIn (now (parents .entry)) (now (types .entry)) nodes k) r ⌝ }
 {
-    match gather(scratch, parents, types, children, nodes, k) {
+    match gather(scratch, parents, types, nodes, k) {
         Gathering::TooLarge => Drafted::TooLarge,
         Gathering::Upto { next, count, end } => {
             let stop = finish(scratch, 2, count, end);

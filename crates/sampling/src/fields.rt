@@ -12,7 +12,7 @@ ghost use Rattle.grammar.specs.Lists.{joinedOf, numbersBelow};
 ghost use Rattle.writer.specs.Writing.{Puts};
 ghost use Rattle.sampling.specs.SampleContents.{scratchBytes};
 ghost use Rattle.writer.specs.Tables.{TablePut, restBytes};
-ghost use Rattle.sampling.specs.SampleTable.{ruleIn, NodesHeld, labelField, RulesHeld, startBytes};
+ghost use Rattle.sampling.specs.SampleTable.{ruleIn, labelField, RulesHeld, startBytes};
 ghost use Rattle.sampling.specs.SampleNodes.{KeysAt};
 
 // Writes the labels: each first node's name.
@@ -55,30 +55,31 @@ fn put_rest(
     draft: &mut [u8],
     at: usize,
     scratch: &mut [u8],
+    s: &[u8],
+    names: &[u16],
     parents: &[u16],
     types: &[u16],
-    children: &[u16],
     nodes: usize,
-    firsts: &[u16],
     labels: &[u8],
     count: usize,
 ) -> Drafted
     requires { ⌜ (at ≤ inputLimit) × (inputLimit ≤ length (now draft)) × (scratchBytes ≤ length (now scratch))
-        × NodesHeld (now parents) (now types) (now children) nodes × RulesHeld (now types) (now firsts) (now labels) nodes count ⌝ }
+        × RulesHeld (now s) (now names) (now parents) (now types) (now labels) nodes count ⌝ }
     ensures { λ r. ⌜ TablePut (now (draft .entry)) at
-        (ruleIn (now (parents .entry)) (now (types .entry)) (now (firsts .entry)) (now (labels .entry)) nodes) count
-        (restBytes (ruleIn (now (parents .entry)) (now (types .entry)) (now (firsts .entry)) (now (labels .entry)) nodes) count)
+        (ruleIn (now (s .entry)) (now (names .entry)) (now (parents .entry)) (now (types .entry)) (now (labels .entry)) nodes) count
+        (restBytes
+        (ruleIn (now (s .entry)) (now (names .entry)) (now (parents .entry)) (now (types .entry)) (now (labels .entry)) nodes) count)
         (now (draft .exit)) r ⌝ }
 {
     match put_rules(
         draft,
         at,
         scratch,
+        s,
+        names,
         parents,
         types,
-        children,
         nodes,
-        firsts,
         labels,
         count,
     ) {
@@ -92,19 +93,20 @@ pub fn put_start(
     draft: &mut [u8],
     at: usize,
     scratch: &mut [u8],
+    s: &[u8],
+    names: &[u16],
     parents: &[u16],
     types: &[u16],
-    children: &[u16],
     nodes: usize,
-    firsts: &[u16],
     labels: &[u8],
     count: usize,
 ) -> Drafted
     requires { ⌜ (at ≤ inputLimit) × (inputLimit ≤ length (now draft)) × (scratchBytes ≤ length (now scratch))
-        × NodesHeld (now parents) (now types) (now children) nodes × RulesHeld (now types) (now firsts) (now labels) nodes count ⌝ }
+        × RulesHeld (now s) (now names) (now parents) (now types) (now labels) nodes count ⌝ }
     ensures { λ r. ⌜ TablePut (now (draft .entry)) at
-        (ruleIn (now (parents .entry)) (now (types .entry)) (now (firsts .entry)) (now (labels .entry)) nodes) count
-        (startBytes (ruleIn (now (parents .entry)) (now (types .entry)) (now (firsts .entry)) (now (labels .entry)) nodes) count)
+        (ruleIn (now (s .entry)) (now (names .entry)) (now (parents .entry)) (now (types .entry)) (now (labels .entry)) nodes) count
+        (startBytes
+        (ruleIn (now (s .entry)) (now (names .entry)) (now (parents .entry)) (now (types .entry)) (now (labels .entry)) nodes) count)
         (now (draft .exit)) r ⌝ }
 {
     let root = [0u8; 1];
@@ -114,11 +116,11 @@ pub fn put_start(
             draft,
             end,
             scratch,
+            s,
+            names,
             parents,
             types,
-            children,
             nodes,
-            firsts,
             labels,
             count,
         ),

@@ -8,8 +8,9 @@ mod numbering;
 mod parents;
 mod paths;
 
-// The bytes: child sequences, contents, rules, and all fields.
+// The bytes: child sequences, contents, marks for text, rules, and all fields.
 mod choices;
 mod fields;
 mod rules;
 mod sequences;
+mod texts;

@@ -1,14 +1,15 @@
 // The rules of a sample, in the order of the types.
 use crate::choices::make_content;
-use reader::tags::RULE_TAG;
+use crate::texts::type_text;
 use writer::writing::Drafted;
 use writer::writing::put_field;
+use writer::writing::rule_tag;
 ghost use Prim.Native.Nat.{_≤_, _<_};
 ghost use lib.ListN.{length};
 ghost use Rattle.grammar.specs.Limits.{inputLimit};
-ghost use Rattle.sampling.specs.SampleContents.{scratchBytes};
+ghost use Rattle.sampling.specs.SampleContents.{NodesHeld, scratchBytes};
 ghost use Rattle.writer.specs.Tables.{RulePuts, RulesPut};
-ghost use Rattle.sampling.specs.SampleTable.{contentIn, ruleIn, NodesHeld, RulesHeld};
+ghost use Rattle.sampling.specs.SampleTable.{contentIn, ruleIn, RulesHeld};
 
 // Writes the rule of a type.
 fn put_rule(
@@ -17,23 +18,23 @@ fn put_rule(
     scratch: &mut [u8],
     parents: &[u16],
     types: &[u16],
-    children: &[u16],
     nodes: usize,
     k: usize,
     label: u8,
+    text: bool,
 ) -> Drafted
     requires { ⌜ (at ≤ inputLimit) × (inputLimit ≤ length (now draft)) × (scratchBytes ≤ length (now scratch)) × (k < 256)
-        × NodesHeld (now parents) (now types) (now children) nodes ⌝ }
+        × NodesHeld (now parents) (now types) nodes ⌝ }
     ensures { λ r. ⌜ RulePuts (now (draft .entry)) at
-        (record { type = k; label = label; content = contentIn (now (parents .entry)) (now (types .entry)) nodes k })
+        (record { type = k; label = label; content = contentIn (now (parents .entry)) (now (types .entry)) nodes k; text = text })
         (now (draft .exit)) r ⌝ }
 {
-    match make_content(scratch, parents, types, children, nodes, k) {
+    match make_content(scratch, parents, types, nodes, k) {
         Drafted::TooLarge => Drafted::TooLarge,
         Drafted::Length(stop) => {
             scratch[0] = k as u8;
             scratch[1] = label;
-            put_field(draft, at, RULE_TAG, &scratch[0..stop])
+            put_field(draft, at, rule_tag(text), &scratch[0..stop])
         }
     }
 }
@@ -43,27 +44,26 @@ pub fn put_rules(
     draft: &mut [u8],
     at: usize,
     scratch: &mut [u8],
+    s: &[u8],
+    names: &[u16],
     parents: &[u16],
     types: &[u16],
-    children: &[u16],
     nodes: usize,
-    firsts: &[u16],
     labels: &[u8],
     count: usize,
 ) -> Drafted
     requires { ⌜ (at ≤ inputLimit) × (inputLimit ≤ length (now draft)) × (scratchBytes ≤ length (now scratch))
-        × NodesHeld (now parents) (now types) (now children) nodes × RulesHeld (now types) (now firsts) (now labels) nodes count ⌝ }
+        × RulesHeld (now s) (now names) (now parents) (now types) (now labels) nodes count ⌝ }
     ensures { λ r. ⌜ RulesPut (now (draft .entry)) at
-        (ruleIn (now (parents .entry)) (now (types .entry)) (now (firsts .entry)) (now (labels .entry)) nodes) count
+        (ruleIn (now (s .entry)) (now (names .entry)) (now (parents .entry)) (now (types .entry)) (now (labels .entry)) nodes) count
         (now (draft .exit)) r ⌝ }
 {
     let mut end = at;
-    let mut t: usize = 0;
-    while t < count {
-        let i = firsts[t] as usize;
-        let k = types[i] as usize;
-        let l = labels[t];
-        match put_rule(draft, end, scratch, parents, types, children, nodes, k, l) {
+    let mut k: usize = 0;
+    while k < count {
+        let l = labels[k];
+        let text = type_text(s, names, types, nodes, k);
+        match put_rule(draft, end, scratch, parents, types, nodes, k, l, text) {
             Drafted::TooLarge => {
                 return Drafted::TooLarge;
             }
@@ -71,7 +71,7 @@ pub fn put_rules(
                 end = more;
             }
         }
-        t += 1;
+        k += 1;
     }
     Drafted::Length(end)
 }

@@ -27,7 +27,6 @@ fn write_sample(
     s: &[u8],
     names: &[u16],
     sizes: &[u16],
-    children: &[u16],
     parents: &[u16],
     types: &[u16],
     firsts: &[u16],
@@ -39,7 +38,7 @@ fn write_sample(
     requires { ⌜ Within limits ⌝ }
     requires { ⌜ (inputLimit ≤ length (now draft)) × (scratchBytes ≤ length (now scratch)) × (2048 ≤ length (now keys))
         × ((i : ℕ) → getD (now keys) i 0 ≡ 0)
-        × SampleReady (now s) (now names) (now sizes) (now children) (now parents) (now types) (now firsts) nodes count ⌝ }
+        × SampleReady (now s) (now names) (now sizes) (now parents) (now types) (now firsts) nodes count ⌝ }
     ensures { λ r. ⌜ ((q : SampleHeld (now (s .entry)) (now (names .entry)) (now (sizes .entry)) (now (parents .entry))
         (now (types .entry)) (now (firsts .entry)) nodes count)
         → SampleDrafted (limitsOf limits) (q .whole .tree) (now (draft .entry)) (now (draft .exit)) r) ⌝ }
@@ -56,11 +55,11 @@ fn write_sample(
             draft,
             end,
             scratch,
+            s,
+            names,
             parents,
             types,
-            children,
             nodes,
-            firsts,
             &labels,
             count,
         ),
@@ -95,7 +94,6 @@ pub fn sample_table(
         document,
         &names,
         &sizes,
-        &children,
         &parents,
         &of,
         &firsts,

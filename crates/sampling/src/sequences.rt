@@ -13,12 +13,19 @@ ghost use Rattle.grammar.specs.ReadContent.{contentBytes};
 ghost use Rattle.grammar.specs.Sample.{runsOf, runContent, sequenceOf};
 ghost use Rattle.theory.specs.Alternatives.{onlyIf};
 ghost use Rattle.writer.specs.Writing.{Put};
-ghost use Rattle.sampling.specs.SampleContents.{kidTypes, goesOn, run, runsBytes, Kids, sequenceIn};
+ghost use Rattle.sampling.specs.SampleContents.{kidTypes, goesOn, run, runsBytes, NodesHeld, sequenceIn};
 
-// The types of a node's children, in order.
-fn kid_types(parents: &[u16], types: &[u16], nodes: usize, i: usize, kids: usize) -> [u8; CHILDREN]
-    requires { ⌜ Kids (now parents) (now types) nodes i kids ⌝ }
-    ensures { λ r. ⌜ take kids r ≡ kidTypes (now (parents .entry)) (now (types .entry)) nodes i ⌝ }
+// The types of a node's children, in order, and how many there are.
+struct Kids {
+    of: [u8; CHILDREN],
+    count: usize,
+}
+
+// A node's children are the later nodes of which it is the parent.
+fn kid_types(parents: &[u16], types: &[u16], nodes: usize, i: usize) -> Kids
+    requires { ⌜ NodesHeld (now parents) (now types) nodes × (i < nodes) ⌝ }
+    ensures found { λ r. ⌜ take (r .count) (r .of) ≡ kidTypes (now (parents .entry)) (now (types .entry)) nodes i ⌝ }
+    ensures few { λ r. ⌜ r .count ≤ childLimit ⌝ }
 {
     let mut of = [0u8; CHILDREN];
     let mut count: usize = 0;
@@ -32,7 +39,10 @@ fn kid_types(parents: &[u16], types: &[u16], nodes: usize, i: usize, kids: usize
         count += 1;
         j += 1;
     }
-    of
+    Kids {
+        of: of,
+        count: count,
+    }
 }
 
 // Whether the next child is of the same type.
@@ -126,12 +136,13 @@ pub fn put_sequence(
     types: &[u16],
     nodes: usize,
     i: usize,
-    kids: usize,
 ) -> usize
-    requires { ⌜ Kids (now parents) (now types) nodes i kids × (at + 2 + 2 * kids ≤ length (now scratch)) ⌝ }
+    requires { ⌜ NodesHeld (now parents) (now types) nodes × (i < nodes) × (at + 2 + 2 * childLimit ≤ length (now scratch)) ⌝ }
     ensures { λ r. ⌜ Put (now (scratch .entry)) at (contentBytes (sequenceIn (now (parents .entry)) (now (types .entry)) nodes i))
         (now (scratch .exit)) r ⌝ }
 {
-    let kinds = kid_types(parents, types, nodes, i, kids);
-    put_in_turn(scratch, at, &kinds[0..kids])
+    let kids = kid_types(parents, types, nodes, i);
+    let kinds = kids.of;
+    let count = kids.count;
+    put_in_turn(scratch, at, &kinds[0..count])
 }

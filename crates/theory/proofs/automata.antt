@@ -5,3 +5,4 @@ pub mod LeastLocal
 pub mod LeastSingleType
 pub mod TableAutomaton
 pub mod ReducedAutomaton
+pub mod PairAutomaton

@@ -4,3 +4,4 @@ pub mod ChoiceLaws
 pub mod EmittedContent
 pub mod MetPairs
 pub mod EmittedRule
+pub mod MarkingRules

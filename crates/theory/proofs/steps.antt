@@ -1,8 +1,10 @@
 pub mod UniteDocuments
-pub mod NormaliseDocuments
-pub mod ShiftedTypes
 pub mod Rounds
 pub mod Fruitful
+pub mod NormaliseDocuments
+pub mod RenamedTypes
+pub mod ShiftedTypes
+pub mod JoinLeast
 pub mod Reached
 pub mod ReduceDocuments
 pub mod ReducedUnion

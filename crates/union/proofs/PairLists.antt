@@ -8,7 +8,6 @@ use lib.ListN.{length, getD}
 use lib.Dec.{eqb}
 use borrow.Author.Tests.{eqb-true, eq-eqb, ne-eqb, not-true}
 use Rattle.grammar.specs.Lists.{keep, distinct, place, numbersFrom, numbersBelow}
-use Rattle.grammar.specs.Content.{none}
 use Rattle.grammar.specs.Table.{Rule, Table}
 use Rattle.grammar.specs.KindTests.{samePair}
 use Rattle.grammar.specs.Normalise.{pairOf, pairsOf}
@@ -17,6 +16,7 @@ use Rattle.theory.proofs.lists.ListLaws.{keep-yes, keep-no, kept, keep-map, kee
 use Rattle.theory.proofs.lists.PlaceLaws.{place-yes, place-no}
 use Rattle.theory.proofs.steps.NormaliseDocuments.{pair-refl}
 use Rattle.theory.proofs.tables.KindTests.{same-pair-sym}
+use Rattle.union.specs.PairNumbers.{noRule}
 
 numbers-suc : (from n : ℕ) → numbersFrom (suc from) n ≡ map suc (numbersFrom from n)
 unfolding numbersFrom
@@ -107,10 +107,6 @@ module _ {A : Type 0} (same : A → A → Bool) (same-refl : (x : A) → same x 
           ap (map (λ y. place same y (x ∷ xs))) (keep-no P x (keep unlike (distinct same xs)) e)
           ∙ rest ih
           ∙ sym (keep-no test 0 (numbersFrom 1 (length xs)) (here false e))
-
--- what stands where there is no rule
-abbrev pub noRule : Rule
-noRule = record { type = 0; label = 0; content = none }
 
 -- so the pairs of a type
 pub pairs-are : (u : Table) (k : ℕ)

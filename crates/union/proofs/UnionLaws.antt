@@ -33,7 +33,7 @@ use Rattle.union.specs.declared.labels.Names.{Names}
 use Rattle.union.specs.declared.united.United.{United}
 use Rattle.union.specs.View.{SourceContent, typeIn, labelIn, RuleSeen, Views, rulesOnly, NextRule, AddingTo}
 use Rattle.union.specs.UnitedLabels.{newNames, unitedNames}
-use Rattle.union.proofs.ViewLaws.{source-so}
+use Rattle.union.proofs.ViewLaws.{source-so, tag-so}
 
 -- the place of a pair
 module _ {old add : List ℕ} {v : United} {rs : List Rule} (w : Views old add v (rulesOnly rs)) {ty label : ℕ} (x : Rule)
@@ -124,6 +124,8 @@ module _ {old add : List ℕ} {v : United} {rs : List Rule} (w : Views old add v
                         source-so (sym (other (v .«content_from») i from b)) (sym (other (v .«content_to») i to b)) (f .stands);
                     same = f .same;
                   };
+              tag-old = λ p. tag-so (sym (other (v .«content_from») i from b)) (s .tag-old p);
+              tag-addition = λ p. tag-so (sym (other (v .«content_from») i from b)) (s .tag-addition p);
             })
             (λ q.
             let at : i ≡ v .rules = q .0 ∙ sym c in
@@ -152,6 +154,14 @@ module _ {old add : List ℕ} {v : United} {rs : List Rule} (w : Views old add v
                         (f .1);
                     same = f .2;
                   };
+              tag-old =
+                  λ p.
+                  tag-so (sym (own (v .«content_from») i from (rooms .content-from) room at))
+                  (n .tag-old (subst (λ (k : ℕ). k < v .«old_rules») at p));
+              tag-addition =
+                  λ p.
+                  tag-so (sym (own (v .«content_from») i from (rooms .content-from) room at))
+                  (n .tag-addition (subst (λ (k : ℕ). v .«old_rules» ≤ k) at p));
             }))
             (at-end rs x i r e);
       }
@@ -173,6 +183,8 @@ views-same {old} {add} {v} {u} {t} e w =
             first = s .first ∙ ap (place samePair r) e;
             in-old = s .in-old;
             in-addition = s .in-addition;
+            tag-old = s .tag-old;
+            tag-addition = s .tag-addition;
           };
     }
 
@@ -221,6 +233,8 @@ module _ {old add : List ℕ} {v : United} {index : List ℕ} {g : Table} (t : H
           label-is = l ∙ r .at .label;
           in-old = λ p. source-so (sym f) (sym e) (source-of (r .at .content) (r .within .content .proper));
           in-addition = λ p. absurd (omega arith);
+          tag-old = λ p. tag-so (sym f) (r .at .tag);
+          tag-addition = λ p. absurd (omega arith);
         },
       )
 
@@ -259,6 +273,8 @@ module _ {old olds add adds : List ℕ} {v : United} {fresh : Names} {g h : Tabl
           in-old = λ p. absurd (omega arith);
           in-addition =
               λ p. (y .content, source-so (sym f) (sym d) (source-of (r .at .content) (r .within .content .proper)), refl);
+          tag-old = λ p. absurd (omega arith);
+          tag-addition = λ p. tag-so (sym f) (r .at .tag);
         },
       )
 

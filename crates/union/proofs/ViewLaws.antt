@@ -1,6 +1,6 @@
 -- Laws of the united view: the rule of a number (`seen`), its content (`content-seen`), that the view's numbers are small
--- (`views-sized`), where a rule of the table stands (`rule-seen`), and a content in its source (`source-so`, `source-there`,
--- `source-has`, `addition-has`).
+-- (`views-sized`), where a rule of the table stands (`rule-seen`), a content in its source (`source-so`, `source-there`,
+-- `source-has`, `addition-has`), and its tag (`tag-so`).
 use Prim.Native.Nat.{ℕ, _+_, _-_, _/_, _%_, _<_}
 use native.Mathlib.Omega.{arith}
 use mathlib.Core.Bool.{Bool}
@@ -21,6 +21,7 @@ use Rattle.theory.proofs.lists.PlaceLaws.{place-found}
 use Rattle.theory.proofs.steps.NormaliseDocuments.{pair-refl}
 use Rattle.theory.proofs.emission.AlternativeLaws.{has-renamed}
 use Rattle.sets.specs.Sets.{bitOf, member}
+use Rattle.reader.specs.FieldAt.{TagBefore}
 use Rattle.reader.specs.ExprAt.{_upTo_, exprAt}
 use Rattle.union.specs.declared.united.United.{United}
 use Rattle.reader.specs.ContentAt.{ContentAt}
@@ -68,6 +69,10 @@ pub source-so : {s : List ℕ} {from from′ to to′ : ℕ} {c : Content} → f
     → SourceContent s from′ to′ c
 source-so {s} {from} {from′} {to} {to′} {c} p q x =
     subst (λ (t : ℕ). SourceContent s from′ t c) q (subst (λ (f : ℕ). SourceContent s f to c) p x)
+
+-- a rule's tag before its content
+pub tag-so : {s : List ℕ} {from from′ tag : ℕ} → from ≡ from′ → TagBefore s (from - 2) tag → TagBefore s (from′ - 2) tag
+tag-so {s} {tag = tag} p x = subst (λ (f : ℕ). TagBefore s (f - 2) tag) p x
 
 module _ {s : List ℕ} {from to : ℕ} {c : Content} (x : SourceContent s from to c) where
   pub source-there : ContentAt large (take (to - from) (drop from s)) 0

@@ -1,5 +1,5 @@
 -- The united view of two tables: what a program keeps of their union. Each rule of the union stands by its number, old rules first;
--- its content stands in the bytes of its own table, with that table's own types.
+-- its content stands in the bytes of its own table, with that table's own types, and behind its tag, which tells whether it is for text.
 use Prim.Native.Nat.{ℕ, _+_, _-_, _≤_, _<_}
 use mathlib.Core.Bool.{true}
 use mathlib.Core.List.{List, []}
@@ -12,6 +12,8 @@ use Rattle.grammar.specs.Table.{Rule, Table}
 use Rattle.grammar.specs.ReadContent.{isProper}
 use Rattle.grammar.specs.Unite.{shifted, unitedLabels, unite}
 use Rattle.grammar.specs.Normalise.{pairOf}
+use Rattle.grammar.specs.ReadTable.{ruleTag}
+use Rattle.reader.specs.FieldAt.{TagBefore}
 use Rattle.reader.specs.ExprAt.{_upTo_, exprAt}
 use Rattle.reader.specs.Held.{Held}
 use Rattle.reader.specs.TableIndex.{Indexes}
@@ -59,6 +61,8 @@ pub record RuleSeen (old add : List ℕ) (v : United) (u : Table) (i : ℕ) (r :
   pub first : firstIn v i ≡ pairOf u r
   pub in-old : i < v .«old_rules» → SourceContent old (fromIn v i) (toIn v i) (r .content)
   pub in-addition : v .«old_rules» ≤ i → FromAddition add v i (r .content)
+  pub tag-old : i < v .«old_rules» → TagBefore old (fromIn v i - 2) (ruleTag (r .text))
+  pub tag-addition : v .«old_rules» ≤ i → TagBefore add (fromIn v i - 2) (ruleTag (r .text))
 
 pub record ViewRooms (v : United) : Type 0 where
   pub types : length (v .types) ≡ 256
@@ -96,6 +100,8 @@ pub record NextRule (old add : List ℕ) (v : United) (ty label from to : ℕ) (
   pub label-is : label ≡ x .label
   pub in-old : v .rules < v .«old_rules» → SourceContent old from to (x .content)
   pub in-addition : v .«old_rules» ≤ v .rules → (c : Content) × SourceContent add from to c × (x .content ≡ shiftedContent c)
+  pub tag-old : v .rules < v .«old_rules» → TagBefore old (from - 2) (ruleTag (x .text))
+  pub tag-addition : v .«old_rules» ≤ v .rules → TagBefore add (from - 2) (ruleTag (x .text))
 
 pub record Grown (v more : United) : Type 0 where
   pub one : more .rules ≡ v .rules + 1

@@ -20,7 +20,7 @@ ghost use Rattle.union.specs.Places.{knownAt};
 ghost use Rattle.union.specs.Rounds.{putIf, contentOfRule, typesWith, afterRound};
 
 // Whether the content of a rule has alternatives, over a set of types of the union.
-fn rule_has(old: &[u8], add: &[u8], v: United, i: usize, types: Set8) -> bool
+pub fn rule_has(old: &[u8], add: &[u8], v: United, i: usize, types: Set8) -> bool
     requires { ⌜ (Viewed (now old) (now add) v) × (i < v .rules) × (length (types .words) ≡ 8) ⌝ }
     ensures { λ r. ⌜ ((u : Table) → Views (now (old .entry)) (now (add .entry)) v u
         → r ≡ hasAlts (member (types .words) 0) (contentOfRule u i)) ⌝ }

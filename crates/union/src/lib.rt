@@ -5,4 +5,5 @@ pub mod lists;
 pub mod met;
 pub mod places;
 pub mod productive;
+pub mod text;
 pub mod united;

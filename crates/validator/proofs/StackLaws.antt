@@ -11,12 +11,11 @@ use mathlib.Core.Path.{_≡_, refl, sym, _∙_, ap, ap₂, subst, fun-ext}
 use lib.ListN.{length, getD, set, getElem?, take, drop, length-drop, drop-of-length-le}
 use lib.Seq.{drop-cons, drop-drop, getD-set-other}
 use Rattle.grammar.specs.Lists.{keep}
-use Rattle.grammar.specs.Names.{Name}
 use Rattle.grammar.specs.Outcome.{given}
 use Rattle.grammar.specs.Table.{Rule, Table}
-use Rattle.grammar.specs.Tree.{Tree, node, Forest, []ᵗ, _∷ᵗ_}
+use Rattle.grammar.specs.Tree.{Head, Tree, node, Forest, []ᵗ, _∷ᵗ_}
 use Rattle.grammar.specs.ReadDocument.{Node, firstTrees, otherTrees, forestOf, treeOf}
-use Rattle.grammar.specs.Membership.{isNamed, typesOf, typesOfAll}
+use Rattle.grammar.specs.Membership.{isNamed, takesText, typesOf, typesOfAll}
 use Rattle.theory.specs.Marked.{holds}
 use Rattle.theory.proofs.lists.ListLaws.{at-below, at-else, take-map, drop-map}
 use Rattle.theory.proofs.matching.MarkedRun.{run-matches}
@@ -24,7 +23,7 @@ use Rattle.sets.specs.Sets.{member, wordsAt, storeAt}
 use Rattle.sets.proofs.FourWords.{four-stored}
 use Rattle.sets.proofs.SetLaws.{length-words, word-of, words-store, drop-store}
 use Rattle.reader.proofs.DocumentAnswers.{nodes-count, node-held}
-use Rattle.reader.specs.DocumentNodes.{nodeAt, nodesIn}
+use Rattle.reader.specs.DocumentNodes.{headAt, nodeAt, nodesIn}
 use Rattle.reader.specs.declared.documents.DocumentIndex.{DocumentIndex}
 use Rattle.reader.specs.NodeTrees.{treeCount}
 use Rattle.reader.proofs.DocumentTrees.{trees-few, enough-at}
@@ -81,12 +80,12 @@ module _ (g : Table) where
   types-other (suc k) (t ∷ᵗ ts) = types-other k ts
 
   -- the types of a node by its children's types
-  types-node : (n : Name) (ts : Forest) → typesOf g (node n ts) ≡ typesFor g n (map holds (typesOfAll g ts)) (g .rules)
+  types-node : (h : Head) (ts : Forest) → typesOf g (node h ts) ≡ typesFor g h (map holds (typesOfAll g ts)) (g .rules)
   unfolding typesOf typesFor
-  types-node n ts =
+  types-node h ts =
       ap (λ (test : Rule → Bool). map (λ (r : Rule). r .type) (keep test (g .rules)))
       (fun-ext (λ (r : Rule).
-      ap (λ (b : Bool). isNamed g (r .label) n && b) (sym (run-matches (r .content) (typesOfAll g ts)))))
+      ap (λ (b : Bool). isNamed g (r .label) (h .name) && takesText r h && b) (sym (run-matches (r .content) (typesOfAll g ts)))))
 
 -- set by set, the types of the trees of some nodes
 abbrev pub Stacked : Table → List Node → List ℕ → ℕ → Type 0
@@ -115,14 +114,14 @@ module _ (g : Table) (n : Node) (ns : List Node) (words : List ℕ) (top : ℕ) 
       ∙ ap (map holds) (sym (types-other g (n .children) (forestOf ns)))
 
   pub stack-next : (after : List ℕ) (at : ℕ) → at + 4 ≡ top + 4 * n .children
-      → setAt after at ≡ holds (typesFor g (n .name) (testsAt words top (n .children)) (g .rules))
+      → setAt after at ≡ holds (typesFor g (n .head) (testsAt words top (n .children)) (g .rules))
       → drop (at + 4) after ≡ drop (at + 4) words → Stacked g (n ∷ ns) after at
   unfolding treeCount forestOf typesOf testsAt
   stack-next after at place types kept =
       ap₂ (λ (p : ℕ → Bool) (ts : List (ℕ → Bool)). p ∷ ts)
       (types
-      ∙ ap holds (ap (λ (ts : List (ℕ → Bool)). typesFor g (n .name) ts (g .rules)) stack-children
-      ∙ sym (types-node g (n .name) (firstTrees (n .children) (forestOf ns)))))
+      ∙ ap holds (ap (λ (ts : List (ℕ → Bool)). typesFor g (n .head) ts (g .rules)) stack-children
+      ∙ sym (types-node g (n .head) (firstTrees (n .children) (forestOf ns)))))
       (tests-behind words after (at + 4) kept (treeCount ns - n .children) (at + 4) (omega arith)
       ∙ ap (λ (k : ℕ). testsAt words k (treeCount ns - n .children)) place
       ∙ stack-others)
@@ -178,19 +177,20 @@ module _ (d : List ℕ) (nodes : DocumentIndex) (known : KnownNodes d nodes) (i 
       omega arith
 
   -- the node's set was made before its children's, and then brought to its place
-  pub round-stacked : (g : Table) (words made after name : List ℕ) (top base to : ℕ)
-      → name ≡ take (getD (nodes .sizes) at 0) (drop (getD (nodes .names) at 0) d)
+  pub round-stacked : (g : Table) (words made after : List ℕ) (top base to : ℕ)
       → Stacked g (drop i (nodesIn d nodes)) words top → base + 4 ≡ top → to ≡ base + 4 * getD (nodes .children) at 0
-      → setAt made base ≡ holds (typesFor g name (testsAt words (base + 4) (getD (nodes .children) at 0)) (g .rules))
+      → setAt made base
+      ≡ holds (typesFor g (headAt d (getD (nodes .names) at 0) (getD (nodes .sizes) at 0))
+      (testsAt words (base + 4) (getD (nodes .children) at 0)) (g .rules))
       → drop (base + 4) made ≡ drop (base + 4) words
       → Brought made base to after → Stacked g (drop at (nodesIn d nodes)) after to
   unfolding round-node
-  round-stacked g words made after name top base to same stacked place there types kept brought =
+  round-stacked g words made after top base to stacked place there types kept brought =
       subst (λ (l : List Node). Stacked g l after to) (sym round-drop)
       (stack-next g round-node (drop i (nodesIn d nodes)) words top round-enough stacked after to (omega arith)
       (brought .there
       ∙ types
-      ∙ ap₂ (λ (n : Name) (k : ℕ). holds (typesFor g n (testsAt words k (getD (nodes .children) at 0)) (g .rules))) same place)
+      ∙ ap (λ (k : ℕ). holds (typesFor g (round-node .head) (testsAt words k (getD (nodes .children) at 0)) (g .rules))) place)
       (brought .behind ∙ drop-behind words made (base + 4) kept (to + 4) (omega arith)))
 
 -- there is room for the set of the node before a place, before its children's sets and at its place

@@ -1,12 +1,12 @@
 -- The types of a node, rule by rule. A rule is named as the node exactly if its label is the place of the node's name (`named-by-place`),
--- so what the code asks of a rule is what the table says of it (`asked-is`, `not-asked`). A set that has the types of the first rules has,
--- with the next rule's if it fits, those of one rule more (`types-step`), and those of all rules up to the next one of the label
--- (`types-passed`).
+-- so what the code asks of a rule is what the table says of it: its label (`asked-named`, `not-asked`), then its text (`takes-plain`,
+-- `takes-marked`), then its content (`fits-walked`, `fits-not`). A set that has the types of the first rules has, with the next rule's
+-- if it fits, those of one rule more (`types-step`), and those of all rules up to the next one of the label (`types-passed`).
 use Prim.Native.Nat.{ℕ, zero, suc, _+_, _-_, _/_, _%_, _^_, _≤_, _<_}
 use native.Mathlib.Omega.{arith}
 use native.Mathlib.Nat.{zero-add}
 use native.Mathlib.Numerals.{add-one}
-use mathlib.Core.Bool.{Bool, true, false, _&&_, _||_, or-comm, or-false}
+use mathlib.Core.Bool.{Bool, true, false, not, _&&_, _||_, and-false, or-comm, or-false}
 use mathlib.Core.List.{List, [], _∷_, _++_, map, append-nil, map-append}
 use mathlib.Core.Option.{some as just}
 use mathlib.Core.Path.{_≡_, refl, sym, _∙_, ap, ap₂, subst, fun-ext}
@@ -20,9 +20,10 @@ use Rattle.grammar.specs.Lists.{anyPass, keep, isIn, allDistinct, place}
 use Rattle.grammar.specs.Limits.{large, contentLimit}
 use Rattle.grammar.specs.Names.{Name, sameName}
 use Rattle.grammar.specs.Table.{Rule, Table}
-use Rattle.grammar.specs.Membership.{isNamed}
-use Rattle.theory.specs.Marked.{holds}
-use Rattle.theory.proofs.lists.BoolLaws.{same-test}
+use Rattle.grammar.specs.Tree.{Head}
+use Rattle.grammar.specs.Membership.{isNamed, takesText}
+use Rattle.theory.specs.Marked.{run, holds}
+use Rattle.theory.proofs.lists.BoolLaws.{and-intro, same-test}
 use Rattle.theory.proofs.lists.ListLaws.{
   any-of,
   at-mem,
@@ -74,6 +75,15 @@ named-by-place g differ l n below =
           (just-eq (sym at ∙ subst (λ (k : ℕ). getElem? (g .labels) k ≡ just y) (sym p) there)) same),
     )
 
+-- a rule takes a node without text, and one that holds text if it is for text
+pub takes-plain : (r : Rule) (h : Head) → h .text ≡ false → true ≡ takesText r h
+unfolding takesText
+takes-plain r h e = sym (ap (λ (b : Bool). not b || r .text) e)
+
+pub takes-marked : (r : Rule) (h : Head) → h .text ≡ true → r .text ≡ takesText r h
+unfolding takesText
+takes-marked r h e = sym (ap (λ (b : Bool). not b || r .text) e)
+
 -- A rule of a table that is known.
 module _ {s index : List ℕ} {g : Table} (known : Held large s index g) (i : ℕ) (below : i < ruleCount index) where
   abbrev pub known-rule : RuleFound s index g i
@@ -122,29 +132,37 @@ module _ {s index : List ℕ} {g : Table} (known : Held large s index g) (i : �
       named-by-place g (known .within .labels-differ) (known-rule .rule .label) n (known-rule .within .label)
       ∙ ap (λ (l : ℕ). eqb l (place sameName n (g .labels))) (sym (known-rule .at .label))
 
-  -- at a node whose name has this label, the rule's content is asked if the rule has the label too
-  module _ (n : Name) (tests : List (ℕ → Bool)) (label : ℕ) (e : label ≡ place sameName n (g .labels)) where
-    rule-fits-is : ruleFits g n tests (known-rule .rule)
-        ≡ (eqb (ruleLabel index i) label && runAt (part s (contentFrom index i) (contentTo index i)) tests)
+  -- at a node whose name has this label, the rule is named as the node exactly if it has the label too
+  module _ (h : Head) (label : ℕ) (e : label ≡ place sameName (h .name) (g .labels)) where
+    named-is : isNamed g (known-rule .rule .label) (h .name) ≡ eqb (ruleLabel index i) label
+    named-is = rule-named (h .name) ∙ ap (eqb (ruleLabel index i)) (sym e)
+
+    pub asked-named : ruleLabel index i ≡ label → isNamed g (known-rule .rule .label) (h .name) ≡ true
+    asked-named so = named-is ∙ eq-eqb (ruleLabel index i) label so
+
+    not-asked : (tests : List (ℕ → Bool)) → (ruleLabel index i ≡ label → ⊥) → ruleFits g h tests (known-rule .rule) ≡ false
     unfolding ruleFits
-    rule-fits-is =
-        ap₂ _&&_ (rule-named n ∙ ap (eqb (ruleLabel index i)) (sym e))
-        (sym
-        (run-at (part s (contentFrom index i) (contentTo index i)) (known-rule .rule .content) (contentTo index i - contentFrom index i)
-        tests rule-stands))
+    not-asked tests other =
+        ap (λ (b : Bool). b && takesText (known-rule .rule) h && run (known-rule .rule .content) tests)
+        (named-is ∙ ne-eqb (ruleLabel index i) label other)
 
-    pub asked-is : ruleLabel index i ≡ label
-        → runAt (part s (contentFrom index i) (contentTo index i)) tests ≡ ruleFits g n tests (known-rule .rule)
-    asked-is h =
-        sym
-        (rule-fits-is
-        ∙ ap (λ (b : Bool). b && runAt (part s (contentFrom index i) (contentTo index i)) tests) (eq-eqb (ruleLabel index i) label h))
+  -- a rule that is named as the node and takes its text fits if a walk over its content passes; one that does not take it does not fit
+  module _ (r : Rule) (listed : getElem? (g .rules) i ≡ just r) (h : Head) (tests : List (ℕ → Bool)) where
+    pub fits-walked : takesText r h ≡ true → isNamed g (r .label) (h .name) ≡ true
+        → runAt (part s (contentFrom index i) (contentTo index i)) tests ≡ ruleFits g h tests r
+    unfolding ruleFits
+    fits-walked taken named =
+        run-at (part s (contentFrom index i) (contentTo index i)) (known-rule .rule .content) (contentTo index i - contentFrom index i)
+        tests rule-stands
+        ∙ ap (λ (q : Rule). run (q .content) tests) (just-eq (sym listed ∙ known-rule .listed))
+        ∙ sym (ap (λ (b : Bool). b && run (r .content) tests)
+        (and-intro (isNamed g (r .label) (h .name)) (takesText r h) named taken))
 
-    not-asked : (ruleLabel index i ≡ label → ⊥) → false ≡ ruleFits g n tests (known-rule .rule)
-    not-asked h =
-        sym
-        (rule-fits-is
-        ∙ ap (λ (b : Bool). b && runAt (part s (contentFrom index i) (contentTo index i)) tests) (ne-eqb (ruleLabel index i) label h))
+    pub fits-not : takesText r h ≡ false → false ≡ ruleFits g h tests r
+    unfolding ruleFits
+    fits-not fails =
+        sym (ap (λ (b : Bool). b && run (r .content) tests)
+        (ap (λ (b : Bool). isNamed g (r .label) (h .name) && b) fails ∙ and-false (isNamed g (r .label) (h .name))))
 
 -- Labels of a table that is known are few enough to be keys.
 module _ {s index : List ℕ} {g : Table} (known : Held large s index g) where
@@ -184,78 +202,78 @@ holds-end ks k =
     fun-ext (λ j. in-append j ks (k ∷ []) ∙ ap (λ (b : Bool). anyPass (eqb j) ks || b) (or-false (eqb j k))
     ∙ or-comm (anyPass (eqb j) ks) (eqb j k))
 
-module _ (g : Table) (n : Name) (tests : List (ℕ → Bool)) where
-  pub types-none : holds (typesFor g n tests (take 0 (g .rules))) ≡ sets.nothing
+module _ (g : Table) (h : Head) (tests : List (ℕ → Bool)) where
+  pub types-none : holds (typesFor g h tests (take 0 (g .rules))) ≡ sets.nothing
   unfolding typesFor isIn
   types-none = refl
 
   types-more : (i : ℕ) (r : Rule) → getElem? (g .rules) i ≡ just r
-      → typesFor g n tests (take (i + 1) (g .rules))
-      ≡ typesFor g n tests (take i (g .rules)) ++ typesFor g n tests (r ∷ [])
+      → typesFor g h tests (take (i + 1) (g .rules))
+      ≡ typesFor g h tests (take i (g .rules)) ++ typesFor g h tests (r ∷ [])
   unfolding typesFor
   types-more i r e =
-      ap (λ (rs : List Rule). typesFor g n tests rs)
+      ap (λ (rs : List Rule). typesFor g h tests rs)
       (ap (λ (k : ℕ). take k (g .rules)) (add-one i)
       ∙ take-suc (g .rules) i r (at-below (g .rules) i e)
       ∙ ap (λ (x : Rule). take i (g .rules) ++ (x ∷ [])) (at-else (g .rules) i r e))
-      ∙ ap (map (λ (r : Rule). r .type)) (keep-append (ruleFits g n tests) (take i (g .rules)) (r ∷ []))
-      ∙ map-append (λ (r : Rule). r .type) (keep (ruleFits g n tests) (take i (g .rules))) (keep (ruleFits g n tests) (r ∷ []))
+      ∙ ap (map (λ (r : Rule). r .type)) (keep-append (ruleFits g h tests) (take i (g .rules)) (r ∷ []))
+      ∙ map-append (λ (r : Rule). r .type) (keep (ruleFits g h tests) (take i (g .rules))) (keep (ruleFits g h tests) (r ∷ []))
 
-  types-one : (r : Rule) → ruleFits g n tests r ≡ true → typesFor g n tests (r ∷ []) ≡ r .type ∷ []
+  types-one : (r : Rule) → ruleFits g h tests r ≡ true → typesFor g h tests (r ∷ []) ≡ r .type ∷ []
   unfolding typesFor keep
-  types-one r e = ap (map (λ (r : Rule). r .type)) (keep-yes (ruleFits g n tests) r [] e)
+  types-one r e = ap (map (λ (r : Rule). r .type)) (keep-yes (ruleFits g h tests) r [] e)
 
-  types-not : (r : Rule) → ruleFits g n tests r ≡ false → typesFor g n tests (r ∷ []) ≡ []
+  types-not : (r : Rule) → ruleFits g h tests r ≡ false → typesFor g h tests (r ∷ []) ≡ []
   unfolding typesFor keep
-  types-not r e = ap (map (λ (r : Rule). r .type)) (keep-no (ruleFits g n tests) r [] e)
+  types-not r e = ap (map (λ (r : Rule). r .type)) (keep-no (ruleFits g h tests) r [] e)
 
-  pub types-all : (i : ℕ) → length (g .rules) ≤ i → typesFor g n tests (take i (g .rules)) ≡ typesFor g n tests (g .rules)
-  types-all i h = ap (typesFor g n tests) (take-all i (g .rules) h)
+  pub types-all : (i : ℕ) → length (g .rules) ≤ i → typesFor g h tests (take i (g .rules)) ≡ typesFor g h tests (g .rules)
+  types-all i all = ap (typesFor g h tests) (take-all i (g .rules) all)
 
   -- one rule more
   pub types-step : (i : ℕ) (r : Rule) → getElem? (g .rules) i ≡ just r → (words after : List ℕ) (base : ℕ) (fits : Bool) (k : ℕ)
-      → fits ≡ ruleFits g n tests r → k ≡ r .type → PutIf words base fits k after
-      → setAt words base ≡ holds (typesFor g n tests (take i (g .rules)))
-      → setAt after base ≡ holds (typesFor g n tests (take (i + 1) (g .rules)))
+      → fits ≡ ruleFits g h tests r → k ≡ r .type → PutIf words base fits k after
+      → setAt words base ≡ holds (typesFor g h tests (take i (g .rules)))
+      → setAt after base ≡ holds (typesFor g h tests (take (i + 1) (g .rules)))
   types-step i r e words after base fits k f q w o = go fits refl
     where
-      go : (b : Bool) → fits ≡ b → setAt after base ≡ holds (typesFor g n tests (take (i + 1) (g .rules)))
+      go : (b : Bool) → fits ≡ b → setAt after base ≡ holds (typesFor g h tests (take (i + 1) (g .rules)))
       go true p =
           w .members
           ∙ ap (λ (b : Bool). elim b as (λ f. ℕ → Bool) [ true ↦ add k (setAt words base) | false ↦ setAt words base ]) p
           ∙ ap₂ add q o
-          ∙ sym (ap holds (types-more i r e ∙ ap (λ (l : List ℕ). typesFor g n tests (take i (g .rules)) ++ l) (types-one r (sym f ∙ p)))
-          ∙ holds-end (typesFor g n tests (take i (g .rules))) (r .type))
+          ∙ sym (ap holds (types-more i r e ∙ ap (λ (l : List ℕ). typesFor g h tests (take i (g .rules)) ++ l) (types-one r (sym f ∙ p)))
+          ∙ holds-end (typesFor g h tests (take i (g .rules))) (r .type))
       go false p =
           w .members
           ∙ ap (λ (b : Bool). elim b as (λ f. ℕ → Bool) [ true ↦ add k (setAt words base) | false ↦ setAt words base ]) p
           ∙ o
-          ∙ sym (ap holds (types-more i r e ∙ ap (λ (l : List ℕ). typesFor g n tests (take i (g .rules)) ++ l) (types-not r (sym f ∙ p))
-          ∙ append-nil (typesFor g n tests (take i (g .rules)))))
+          ∙ sym (ap holds (types-more i r e ∙ ap (λ (l : List ℕ). typesFor g h tests (take i (g .rules)) ++ l) (types-not r (sym f ∙ p))
+          ∙ append-nil (typesFor g h tests (take i (g .rules)))))
 
 -- the rules up to the next one of the node's label, too: they have other labels, so none of them fits
-module _ {s index : List ℕ} {g : Table} (known : Held large s index g) (n : Name) (tests : List (ℕ → Bool)) (label : ℕ)
-    (named : label ≡ place sameName n (g .labels)) where
+module _ {s index : List ℕ} {g : Table} (known : Held large s index g) (h : Head) (tests : List (ℕ → Bool)) (label : ℕ)
+    (named : label ≡ place sameName (h .name) (g .labels)) where
   abbrev of-first : ℕ → List ℕ
-  of-first i = typesFor g n tests (take i (g .rules))
+  of-first i = typesFor g h tests (take i (g .rules))
 
   rule-passed : (i : ℕ) → i < ruleCount index → (ruleLabel index i ≡ label → ⊥) → of-first (i + 1) ≡ of-first i
   rule-passed i below other =
       let rule = known-rule known i below in
-      types-more g n tests i (rule .rule) (rule .listed)
-      ∙ ap (λ (l : List ℕ). of-first i ++ l) (types-not g n tests (rule .rule) (sym (not-asked known i below n tests label named other)))
+      types-more g h tests i (rule .rule) (rule .listed)
+      ∙ ap (λ (l : List ℕ). of-first i ++ l) (types-not g h tests (rule .rule) (not-asked known i below h label named tests other))
       ∙ append-nil (of-first i)
 
   pub types-passed : (set : ℕ → Bool) (from at : ℕ) → PlaceFrom (ruleLabel index) (ruleCount index) label from at
-      → set ≡ holds (typesFor g n tests (take from (g .rules))) → set ≡ holds (typesFor g n tests (take at (g .rules)))
+      → set ≡ holds (typesFor g h tests (take from (g .rules))) → set ≡ holds (typesFor g h tests (take at (g .rules)))
   types-passed set from at p so =
       let order = p .onward in
       let whole : from + (at - from) ≡ at = omega arith in
       so ∙ ap holds (sym (go (at - from) (omega arith)) ∙ ap of-first whole)
     where
       go : (more : ℕ) → from + more ≤ at → of-first (from + more) ≡ of-first from
-      go zero h = let e : from + 0 ≡ from = omega arith in ap of-first e
-      go (suc more) h =
+      go zero short = let e : from + 0 ≡ from = omega arith in ap of-first e
+      go (suc more) short =
           let within = p .within in
           let e : from + suc more ≡ from + more + 1 = omega arith in
           ap of-first e

@@ -14,36 +14,40 @@ use reader::index::start_type;
 use reader::limits::CONTENT;
 use reader::numbers::wide;
 use reader::numbers::wider;
+use reader::rules::for_text;
+use reader::tags::TEXT_NODE_TAG;
 use sets::four::Set4;
 use sets::words::has;
 use sets::words::put;
 use sets::words::store;
 use walks::matching::matches;
 ghost use mathlib.Core.List.{List, []};
+ghost use mathlib.Core.Option.{some as just};
 ghost use mathlib.Core.Path.{_≡_};
 ghost use Prim.Native.Nat.{ℕ, _+_, _*_, _<_, _≤_};
-ghost use lib.ListN.{length};
+ghost use lib.ListN.{length, getElem?};
 ghost use Rattle.grammar.specs.Limits.{large, contentLimit};
 ghost use Rattle.grammar.specs.Lists.{anyPass};
-ghost use Rattle.grammar.specs.Membership.{letsIn};
+ghost use Rattle.grammar.specs.Membership.{takesText, letsIn};
 ghost use Rattle.grammar.specs.Outcome.{given};
 ghost use Rattle.grammar.specs.ReadDocument.{treeOf};
-ghost use Rattle.grammar.specs.Table.{Table};
-ghost use Rattle.grammar.specs.Tree.{Tree};
+ghost use Rattle.grammar.specs.Table.{Rule, Table};
+ghost use Rattle.grammar.specs.Tree.{Head, Tree};
 ghost use Rattle.reader.specs.DocumentNodes.{nodesIn};
 ghost use Rattle.reader.specs.Held.{Held, SomeHeld};
-ghost use Rattle.reader.specs.TableIndex.{Indexes};
+ghost use Rattle.reader.specs.TableIndex.{part, contentFrom, contentTo, ruleCount, Indexes, TableIndexed};
 ghost use Rattle.kinds.specs.RulesAt.{TypesBelow};
 ghost use Rattle.walks.specs.TypeSets.{setAt, testsAt};
 ghost use Rattle.walks.specs.WalkAt.{runAt, WholeAt, WalkRoom};
 ghost use Rattle.validator.specs.Chains.{RulesChained};
 ghost use Rattle.validator.specs.KnownDocument.{indexOf, KnownNodes, Brought, RootTypes};
-ghost use Rattle.validator.specs.NodeTypes.{NullableAre, PutIf, TypesAre};
+ghost use Rattle.validator.specs.NodeTypes.{NullableAre, FitsIfNamed, PutIf, TypesAre};
 
-// Where the set of a node stands in the lent words; behind it stand those of so many children.
+// Where the set of a node stands in the lent words; behind it stand those of so many children. And whether the node holds text.
 struct NodeSets {
     at: usize,
     children: usize,
+    text: bool,
 }
 
 // Whether the content of each rule matches no children.
@@ -87,6 +91,44 @@ fn content_fits(
     matches(content, marks, words, top, count)
 }
 
+// Whether a rule takes a node with this mark of text: one that holds text is taken only by a rule for text.
+fn takes_text(table: &[u8], index: &[u16; 899], rule: usize, text: bool) -> bool
+    requires { ⌜ (TableIndexed (now table) (now index)) × (rule < ruleCount (now index)) ⌝ }
+    ensures { λ r. ⌜ ((g : Table) (q : Rule) → Indexes (now (table .entry)) (now (index .entry)) g → getElem? (g .rules) rule ≡ just q
+        → (h : Head) → h .text ≡ text → r ≡ takesText q h) ⌝ }
+{
+    if text {
+        return for_text(table, index, rule);
+    }
+    true
+}
+
+// Whether a rule fits a node that has its label: it takes the node's text, and its content matches the children.
+fn rule_fits(
+    table: &[u8],
+    index: &[u16; 899],
+    rule: usize,
+    nullable: bool,
+    marks: &mut [u8],
+    words: &[u32],
+    node: NodeSets,
+) -> bool
+    requires { ⌜ (SomeHeld large (now table) (now index)) × (rule < ruleCount (now index))
+        × (nullable ≡ runAt (part (now table) (contentFrom (now index) rule) (contentTo (now index) rule)) [])
+        × (contentLimit ≤ length (now marks)) × (node .at + 4 + 4 * node .children ≤ length (now words)) ⌝ }
+    ensures { λ r. ⌜ FitsIfNamed (now (table .entry)) (now (index .entry)) rule (node .text)
+        (testsAt (now (words .entry)) (node .at + 4) (node .children)) r ⌝ }
+{
+    let text = node.text;
+    if !takes_text(table, index, rule, text) {
+        return false;
+    }
+    let top = node.at + 4;
+    let from = content_from(index, rule);
+    let to = content_to(index, rule);
+    content_fits(&table[from..to], nullable, marks, words, top, node.children)
+}
+
 // Puts a type into the set at a word, if the rule fits.
 fn put_if(words: &mut [u32], base: usize, fits: bool, k: usize)
     requires { ⌜ (k < 128) × (base + 4 ≤ length (now words)) ⌝ }
@@ -111,18 +153,15 @@ fn put_types(
     requires { ⌜ (SomeHeld large (now table) (now index)) × (RulesChained (now index) (now «by_label»))
         × (NullableAre (now table) (now index) (now nullable)) × (label ≤ 128) × (contentLimit ≤ length (now marks))
         × (node .at + 4 + 4 * node .children ≤ length (now words)) ⌝ }
-    ensures { λ r. ⌜ TypesAre (now (table .entry)) (now (index .entry)) label (now (words .entry)) (node .at) (node .children)
-        (now (words .exit)) ⌝ }
+    ensures { λ r. ⌜ TypesAre (now (table .entry)) (now (index .entry)) label (node .text) (now (words .entry)) (node .at)
+        (node .children) (now (words .exit)) ⌝ }
 {
     let base = node.at;
-    let count = node.children;
     let rules = rule_count(index);
     store(words, base, Set4::empty());
     let mut i = wide(by_label[128 + label]);
     while i < rules {
-        let from = content_from(index, i);
-        let to = content_to(index, i);
-        let fits = content_fits(&table[from..to], nullable[i], marks, words, base + 4, count);
+        let fits = rule_fits(table, index, i, nullable[i], marks, words, node);
         put_if(words, base, fits, rule_type(index, i));
         i = wide(by_label[i]);
     }
@@ -141,7 +180,8 @@ fn bring(words: &mut [u32], from: usize, to: usize)
     }
 }
 
-// Goes through the nodes from the last to the first, and answers where the root's set then stands.
+// Goes through the nodes from the last to the first, and answers where the root's set then stands. A node's tag, four bytes before its
+// name, tells whether it holds text.
 fn root_types(
     table: &[u8],
     index: &[u16; 899],
@@ -168,11 +208,13 @@ fn root_types(
         let from = wider(names[at]);
         let to = from + wider(sizes[at]);
         let count = wider(children[at]);
+        let text = document[from - 4] == TEXT_NODE_TAG;
         let label = label_of(&document[from..to], table, index, &by_key);
         let base = top - 4;
         let node = NodeSets {
             at: base,
             children: count,
+            text,
         };
         put_types(
             table,

@@ -9,7 +9,7 @@ use native.Mathlib.Numerals.{add-one}
 use mathlib.Core.Bool.{Bool, true, false}
 use mathlib.Core.List.{List, _++_}
 use mathlib.Core.Logic.{inl, inr, ⊎-elim}
-use mathlib.Core.Path.{_≡_, refl, sym, _∙_, ap, subst}
+use mathlib.Core.Path.{_≡_, refl, sym, _∙_, ap, subst, ap₂}
 use lib.Dec.{ltb}
 use borrow.Author.Tests.{ltb-true, ltb-false}
 use lib.ListN.{length, length-append}
@@ -18,13 +18,13 @@ use Rattle.grammar.specs.Limits.{large, inputLimit}
 use Rattle.grammar.specs.Table.{Rule}
 use Rattle.grammar.specs.Fields.{fieldBytes}
 use Rattle.grammar.specs.ReadTable.{ruleTag}
-use Rattle.grammar.specs.WriteTable.{ruleBytes}
+use Rattle.grammar.specs.WriteTable.{ruleBytes, ruleField}
 use Rattle.grammar.specs.Size.{contentTooLarge}
 use Rattle.theory.proofs.lists.ListLaws.{joined-next}
 use Rattle.writer.specs.declared.writing.Drafted.{Drafted}
 use Rattle.writer.specs.declared.writing.Drafted.the-variants.{Length, TooLarge}
 use Rattle.writer.specs.Writing.{Put, Puts}
-use Rattle.writer.specs.Tables.{RulePuts, ruleField, RulesPut, TablePut}
+use Rattle.writer.specs.Tables.{RulePuts, numberedField, RulesPut, TablePut}
 use Rattle.writer.proofs.PutLaws.{put-none, put-join}
 
 module _ (f : ℕ → List ℕ) where
@@ -67,24 +67,27 @@ module _ (f : ℕ → List ℕ) where
           let x = subst (λ (x : Drafted). Puts draft end bytes after x) e g in
           (up-more (subst (λ (l : List ℕ). Put draft end l after m) same (x .0)), x .1)
 
-pub rule-puts : (before after : List ℕ) (at : ℕ) (value : List ℕ) (rule : Rule) (r : Drafted) → value ≡ ruleBytes rule
-    → contentTooLarge large (rule .content) ≡ false → Puts before at (fieldBytes ruleTag value) after r → RulePuts before at rule after r
-rule-puts before after at value rule (Length n) e f p =
-    (subst (λ (v : List ℕ). Put before at (fieldBytes ruleTag v) after n) e (p .0), p .1, f)
-rule-puts before after at value rule TooLarge e f p = inr (subst (λ (v : List ℕ). inputLimit < at + length (fieldBytes ruleTag v)) e p)
+pub rule-puts : (before after : List ℕ) (at tag : ℕ) (value : List ℕ) (rule : Rule) (r : Drafted) → tag ≡ ruleTag (rule .text)
+    → value ≡ ruleBytes rule → contentTooLarge large (rule .content) ≡ false → Puts before at (fieldBytes tag value) after r
+    → RulePuts before at rule after r
+unfolding ruleField
+rule-puts before after at tag value rule (Length n) t e f p =
+    (subst (λ (v : List ℕ). Put before at v after n) (ap₂ fieldBytes t e) (p .0), p .1, f)
+rule-puts before after at tag value rule TooLarge t e f p =
+    inr (subst (λ (v : List ℕ). inputLimit < at + length v) (ap₂ fieldBytes t e) p)
 
 -- one rule more
 module _ (rule : ℕ → Rule) (t : ℕ) {before : List ℕ} {at : ℕ} {draft : List ℕ} {end : ℕ}
-    (p : Put before at (joinedOf (ruleField rule) (numbersBelow t)) draft end) (after : List ℕ) (r : Drafted) (g : RulePuts draft end (rule t) after r) where
+    (p : Put before at (joinedOf (numberedField rule) (numbersBelow t)) draft end) (after : List ℕ) (r : Drafted) (g : RulePuts draft end (rule t) after r) where
   pub rules-stop : r ≡ TooLarge → (n : ℕ) → t < n → RulesPut before at rule n after TooLarge
   rules-stop e n h =
-      ⊎-elim (λ x. inl (t, h, x)) (λ x. inr (up-stop (ruleField rule) t p n x h)) (subst (λ (x : Drafted). RulePuts draft end (rule t) after x) e g)
+      ⊎-elim (λ x. inl (t, h, x)) (λ x. inr (up-stop (numberedField rule) t p n x h)) (subst (λ (x : Drafted). RulePuts draft end (rule t) after x) e g)
 
   pub rules-more : {m : ℕ} → r ≡ Length m
-      → Put before at (joinedOf (ruleField rule) (numbersBelow (t + 1))) after m × (m ≤ inputLimit) × (contentTooLarge large (rule t .content) ≡ false)
+      → Put before at (joinedOf (numberedField rule) (numbersBelow (t + 1))) after m × (m ≤ inputLimit) × (contentTooLarge large (rule t .content) ≡ false)
   rules-more {m} e =
       let x = subst (λ (x : Drafted). RulePuts draft end (rule t) after x) e g in
-      (up-more (ruleField rule) t p (x .0), x .1, x .2)
+      (up-more (numberedField rule) t p (x .0), x .1, x .2)
 
 -- one part of a table after another
 module _ (before : List ℕ) (at : ℕ) (rule : ℕ → Rule) (count : ℕ) (xs ys mid after : List ℕ) (r : Drafted) where

@@ -9,8 +9,8 @@ use Rattle.grammar.specs.Lists.{joinedOf, numbersBelow}
 use Rattle.grammar.specs.Limits.{large, inputLimit}
 use Rattle.grammar.specs.Table.{Rule}
 use Rattle.grammar.specs.Fields.{fieldBytes}
-use Rattle.grammar.specs.ReadTable.{ruleTag, tableEndTag}
-use Rattle.grammar.specs.WriteTable.{ruleBytes}
+use Rattle.grammar.specs.ReadTable.{tableEndTag}
+use Rattle.grammar.specs.WriteTable.{ruleField}
 use Rattle.grammar.specs.Size.{contentTooLarge}
 use Rattle.writer.specs.declared.writing.Drafted.{Drafted}
 use Rattle.writer.specs.declared.writing.Drafted.the-variants.{Length, TooLarge}
@@ -19,13 +19,13 @@ use Rattle.writer.specs.Writing.{Put}
 -- a rule is written; or its content, or the whole, is too large
 abbrev pub RulePuts : List ℕ → ℕ → Rule → List ℕ → Drafted → Type 0
 RulePuts before at r after (Length n) =
-    Put before at (fieldBytes ruleTag (ruleBytes r)) after n × (n ≤ inputLimit) × (contentTooLarge large (r .content) ≡ false)
+    Put before at (ruleField r) after n × (n ≤ inputLimit) × (contentTooLarge large (r .content) ≡ false)
 RulePuts before at r after TooLarge =
-    (contentTooLarge large (r .content) ≡ true) ⊎ (inputLimit < at + length (fieldBytes ruleTag (ruleBytes r)))
+    (contentTooLarge large (r .content) ≡ true) ⊎ (inputLimit < at + length (ruleField r))
 
 -- the field of a rule, by number
-abbrev pub ruleField : (ℕ → Rule) → ℕ → List ℕ
-ruleField rule t = fieldBytes ruleTag (ruleBytes (rule t))
+abbrev pub numberedField : (ℕ → Rule) → ℕ → List ℕ
+numberedField rule t = ruleField (rule t)
 
 -- these bytes are written, and the rules' contents are not too large; or one of them, or the whole, is
 abbrev pub TablePut : List ℕ → ℕ → (ℕ → Rule) → ℕ → List ℕ → List ℕ → Drafted → Type 0
@@ -35,7 +35,7 @@ TablePut before at rule count bytes after TooLarge =
     ((t : ℕ) × (t < count) × (contentTooLarge large (rule t .content) ≡ true)) ⊎ (inputLimit < at + length bytes)
 
 abbrev pub rulesBytes : (ℕ → Rule) → ℕ → List ℕ
-rulesBytes rule count = joinedOf (ruleField rule) (numbersBelow count)
+rulesBytes rule count = joinedOf (numberedField rule) (numbersBelow count)
 
 abbrev pub RulesPut : List ℕ → ℕ → (ℕ → Rule) → ℕ → List ℕ → Drafted → Type 0
 RulesPut before at rule count after r = TablePut before at rule count (rulesBytes rule count) after r

@@ -1,11 +1,14 @@
 // Writing fields of a table into a draft.
 use reader::limits::INPUT;
+use reader::tags::RULE_TAG;
+use reader::tags::TEXT_RULE_TAG;
 ghost use Prim.Native.Nat.{_+_, _≤_, _<_};
 ghost use mathlib.Core.Path.{_≡_};
 ghost use lib.ListN.{length};
 ghost use lib.Seq.{paste};
 ghost use Rattle.grammar.specs.Limits.{inputLimit};
 ghost use Rattle.grammar.specs.Fields.{fieldBytes};
+ghost use Rattle.grammar.specs.ReadTable.{ruleTag};
 ghost use Rattle.writer.specs.Writing.{Puts};
 
 // How far a draft is written; or it does not fit a file.
@@ -24,6 +27,16 @@ pub fn copy(draft: &mut [u8], at: usize, value: &[u8])
         draft[at + i] = value[i];
         i += 1;
     }
+}
+
+// The tag of a rule, for text or not.
+pub fn rule_tag(text: bool) -> u8
+    ensures { λ r. ⌜ r ≡ ruleTag text ⌝ }
+{
+    if text {
+        return TEXT_RULE_TAG;
+    }
+    RULE_TAG
 }
 
 // One field after what is written.

@@ -39,11 +39,20 @@ pub fn some(operand: &[u8]) -> Vec<u8> {
     [&[6], operand].concat()
 }
 
+/// After a rule's name in `table`: the rule is for text. After a node's in `node`: it holds some. In no name of the tests.
+pub const TEXT: char = '†';
+
+/// The tag, which is the other one for a name with text, and the name.
+fn tagged(plain: u8, for_text: u8, name: &str) -> (u8, &str) {
+    name.strip_suffix(TEXT).map_or((plain, name), |name| (for_text, name))
+}
+
 /// A table with these starts and rules; labels are numbered as they first appear.
 pub fn table(starts: &[u8], rules: &[(u8, &str, &[u8])]) -> Vec<u8> {
     let mut labels: Vec<&str> = Vec::new();
     for (_, name, _) in rules {
-        if !labels.contains(name) {
+        let (_, name) = tagged(0x12, 0x13, name);
+        if !labels.contains(&name) {
             labels.push(name);
         }
     }
@@ -55,8 +64,9 @@ pub fn table(starts: &[u8], rules: &[(u8, &str, &[u8])]) -> Vec<u8> {
         bytes.extend(field(0x11, &[*start]));
     }
     for (number, name, content) in rules {
-        let label = labels.iter().position(|other| other == name).unwrap() as u8;
-        bytes.extend(field(0x12, &[&[*number, label], *content].concat()));
+        let (tag, name) = tagged(0x12, 0x13, name);
+        let label = labels.iter().position(|other| *other == name).unwrap() as u8;
+        bytes.extend(field(tag, &[&[*number, label], *content].concat()));
     }
     bytes.extend(E);
     bytes
@@ -64,7 +74,8 @@ pub fn table(starts: &[u8], rules: &[(u8, &str, &[u8])]) -> Vec<u8> {
 
 /// The fields of a node and its children.
 pub fn node(name: &str, children: &[Vec<u8>]) -> Vec<u8> {
-    let mut bytes = field(0x30, &[&[children.len() as u8], name.as_bytes()].concat());
+    let (tag, name) = tagged(0x30, 0x32, name);
+    let mut bytes = field(tag, &[&[children.len() as u8], name.as_bytes()].concat());
     bytes.extend(children.concat());
     bytes
 }

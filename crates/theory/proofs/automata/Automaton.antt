@@ -1,23 +1,24 @@
--- Automata on trees, over any states. A state has a name and steps to lists of states. It accepts a node with its name whose
--- children are accepted, in order, by the states of one of its steps.
+-- Automata on trees, over any states. A state has a name and steps to lists of states, some for nodes with text and some for nodes
+-- without. It accepts a node with its name whose children are accepted, in order, by the states of one of its steps for such nodes.
 --     fill       states that are alive accept some trees, in order
 --     fill-at    and so that a given tree stands at the place of one of them
+use mathlib.Core.Bool.{Bool}
 use mathlib.Core.List.{List, [], _∷_, List·Memᴰ, List·Memᴰ·head, List·Memᴰ·tail}
 use mathlib.Core.Path.{refl, subst}
 use Rattle.grammar.specs.Names.{Name, SameName}
-use Rattle.grammar.specs.Tree.{Tree, node, Forest, []ᵗ, _∷ᵗ_}
+use Rattle.grammar.specs.Tree.{Head, Tree, node, Forest, []ᵗ, _∷ᵗ_}
 use Rattle.theory.proofs.trees.TreeParts.{treesOf}
 
 pub record Automaton (State : Type 0) : Type 1 where
   pub name : State → Name
-  pub Step : State → List State → Type 0
+  pub Step : State → Bool → List State → Type 0  -- true for a node with text
   pub Start : State → Type 0
 
 module _ {State : Type 0} where
   mutual
     pub data Accepts (A : Automaton State) : State → Tree → Type 0 where
-      accepts : {s : State} {n : Name} {ts : Forest} {u : List State} → SameName (A .name s) n → A .Step s u → AcceptsAll A u ts
-          → Accepts A s (node n ts)
+      accepts : {s : State} {h : Head} {ts : Forest} {u : List State} → SameName (A .name s) (h .name) → A .Step s (h .text) u
+          → AcceptsAll A u ts → Accepts A s (node h ts)
 
     pub data AcceptsAll (A : Automaton State) : List State → Forest → Type 0 where
       accepts-none : AcceptsAll A [] []ᵗ

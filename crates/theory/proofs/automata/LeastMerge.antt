@@ -3,16 +3,17 @@
 --                    states accept (Tells), lets in all that the merge lets in
 -- Its types cover the merged types: they derive all that the members accept.
 use Prim.Native.Nat.{ℕ}
+use mathlib.Core.Bool.{true, false}
 use mathlib.Core.List.{List, List·Memᴰ, List·Memᴰ·head, List·Memᴰ·tail, Forall₂, Forall₂·nil, Forall₂·cons, List·Memᴰ·cases-cons}
 use mathlib.Core.Path.{_≡_, refl, sym, subst}
-use Rattle.grammar.specs.Names.{Name, SameName}
-use Rattle.grammar.specs.Tree.{Tree, node, Forest}
-use Rattle.grammar.specs.Table.{Table, DistinctNames}
+use Rattle.grammar.specs.Names.{SameName}
+use Rattle.grammar.specs.Tree.{Head, Tree, node, Forest}
+use Rattle.grammar.specs.Table.{Rule, Table, DistinctNames}
 use Rattle.grammar.specs.Derivation.{Fits, Derives, derives, DerivesAll, derives-none, derives-next, LetsIn}
 use Rattle.grammar.specs.Kinds.{Competing}
 use Rattle.grammar.specs.Least.{LetsInAll}
 use mathlib.Core.Logic.{⊎-elim}
-use Rattle.theory.proofs.trees.NameLaws.{name-sym, name-trans}
+use Rattle.theory.proofs.trees.NameLaws.{name-refl, name-sym, name-trans}
 use Rattle.theory.proofs.automata.Automaton.{
   Automaton,
   Accepts,
@@ -28,6 +29,7 @@ use Rattle.theory.proofs.automata.Merge.{Merge}
 use Rattle.theory.proofs.tables.Covering.{StartCover, WordCover, covered-let-in}
 use Rattle.theory.proofs.trees.TreeParts.{treesOf}
 use Rattle.theory.proofs.tables.NamedLabels.{one-label}
+use Rattle.theory.proofs.tables.KindLaws.{OneRuleAPair, one-fitting}
 
 -- a type of the word that derives the tree
 pub record DerivedIn (H : Table) (w : List ℕ) (t : Tree) : Type 0 where
@@ -69,23 +71,23 @@ module _ {State : Type 0} (A : Automaton State) (G : Table) (Member : ℕ → St
 
   -- Labels tell start types of H apart, and the types of a word of a type that covers.
   pub record Tells (H : Table) : Type 0 where
-    pub start-member : (k : ℕ) (n : Name) (w : List ℕ) → List·Memᴰ k (G .starts) → Fits G k n w → StartMember k
+    pub start-member : (k : ℕ) (h : Head) (w : List ℕ) → List·Memᴰ k (G .starts) → Fits G k h w → StartMember k
     pub start-sole : (k j : ℕ) → List·Memᴰ k (G .starts) → List·Memᴰ j (H .starts) → AllSole H k j
-    pub word-sole : (k j : ℕ) (n : Name) (w v : List ℕ) → Covers H k j → Fits G k n w → Fits H j n v → (l i : ℕ) → List·Memᴰ l w
+    pub word-sole : (k j : ℕ) (h : Head) (w v : List ℕ) → Covers H k j → Fits G k h w → Fits H j h v → (l i : ℕ) → List·Memᴰ l w
         → List·Memᴰ i v → AllSole H l i
 
 module _ {State : Type 0} {A : Automaton State} {G : Table} {Member : ℕ → State → Type 0} (merge : Merge A G Member) where
   -- The members of a type have its rules' names.
-  pub member-named : {k : ℕ} {n : Name} {w : List ℕ} {s : State} → Fits G k n w → Member k s → SameName (A .name s) n
-  member-named {k} {n} {w} {s} f m =
-      let b = merge .backward k n w f in
-      name-trans (A .name s) (A .name (b .state)) n (merge .one-name k s (b .state) m (b .member)) (b .named)
+  pub member-named : {k : ℕ} {h : Head} {w : List ℕ} {s : State} → Fits G k h w → Member k s → SameName (A .name s) (h .name)
+  member-named {k} {h} {w} {s} f m =
+      let b = merge .backward k h w f in
+      name-trans (A .name s) (A .name (b .state)) (h .name) (merge .one-name k s (b .state) m (b .member)) (b .named)
 
   module _ (H : Table) (names : DistinctNames H) where
     -- Types that derive what states of one name accept have rules with one label.
     competing : {j l : ℕ} {r s : State} {t u : Tree} → SameName (A .name r) (A .name s) → Accepts A r t → Accepts A s u → Derives H j t
         → Derives H l u → Competing H j l
-    competing {r = r} {s = s} e (accepts {n = m} p step all) (accepts {n = n} q step′ all′) (derives f ds) (derives f′ ds′) =
+    competing {r = r} {s = s} e (accepts {h = h} p step all) (accepts {h = i} q step′ all′) (derives f ds) (derives f′ ds′) =
         record {
           rule₁ = f .rule;
           rule₂ = f′ .rule;
@@ -95,7 +97,9 @@ module _ {State : Type 0} {A : Automaton State} {G : Table} {Member : ℕ → St
           of-type₂ = f′ .of-type;
           one-label =
               one-label H names (f .of-name) (f′ .of-name)
-              (name-trans m (A .name s) n (name-trans m (A .name r) (A .name s) (name-sym (A .name r) m p) e) q);
+              (name-trans (h .name) (A .name s) (i .name)
+              (name-trans (h .name) (A .name r) (A .name s) (name-sym (A .name r) (h .name) p) e)
+              q);
         }
 
     -- A type that derives one tree of a merged type covers it, if each of the trees has its sole type.
@@ -113,13 +117,27 @@ module _ {State : Type 0} {A : Automaton State} {G : Table} {Member : ℕ → St
         (covers m a d (sole k j (List·Memᴰ·head refl) (List·Memᴰ·head refl)))
         (covers-all ms all ds (λ l i p q. sole l i (List·Memᴰ·tail p) (List·Memᴰ·tail q)))
 
-    pub least-merge : LetsInAll H (AcceptsDocument A) → Tells A G Member H → LetsInAll H (LetsIn G)
-    least-merge keeps tells = covered-let-in (record { starts = start-covers; words = word-covers })
+    -- Where a type is for text, so is the one rule of its name in a type that covers it: a step for text, filled with trees, is a node
+    -- with text that a member accepts.
+    text-covered : OneRuleAPair H → {k j : ℕ} {h i : Head} {w v : List ℕ} → Covers A G Member H k j → Fits G k h w → h .text ≡ true
+        → (f : Fits H j i v) → SameName (h .name) (i .name) → f .rule .text ≡ true
+    text-covered one-each {k} {j} {h} {i} {w} c g-fits e f same =
+        let s = merge .textual k h w g-fits e in
+        let filled = fill A (s .next) (s .alive) in
+        go (c (s .state) (s .member) (node (record { name = h .name; text = true }) (filled .trees))
+        (accepts (member-named g-fits (s .member)) (s .step) (filled .accepted)))
       where
-        start-covers : (k : ℕ) (n : Name) (w : List ℕ) → List·Memᴰ k (G .starts) → Fits G k n w
+        go : {ts : Forest} → Derives H j (node (record { name = h .name; text = true }) ts) → f .rule .text ≡ true
+        go (derives f′ ds) =
+            subst (λ (r : Rule). r .text ≡ true) (one-fitting H names one-each f′ f same) (f′ .of-text refl)
+
+    pub least-merge : OneRuleAPair H → LetsInAll H (AcceptsDocument A) → Tells A G Member H → LetsInAll H (LetsIn G)
+    least-merge one-each keeps tells = covered-let-in (record { starts = start-covers; words = word-covers })
+      where
+        start-covers : (k : ℕ) (h : Head) (w : List ℕ) → List·Memᴰ k (G .starts) → Fits G k h w
             → StartCover G H (Covers A G Member H) k
-        start-covers k n w m f =
-            let s = tells .start-member k n w m f in
+        start-covers k h w m f =
+            let s = tells .start-member k h w m f in
             let a = s .alive .accepted in
             let l = keeps (s .alive .tree) (record { start = s .state; of-automaton = s .start; accepted = a }) in
             record {
@@ -128,15 +146,26 @@ module _ {State : Type 0} {A : Automaton State} {G : Table} {Member : ℕ → St
               covers = covers (s .member) a (l .derived) (tells .start-sole k (l .start) m (l .of-table));
             }
 
-        word-covers : (k j : ℕ) (n : Name) (w : List ℕ) → Covers A G Member H k j → Fits G k n w
-            → WordCover G H (Covers A G Member H) j n w
-        word-covers k j n w c f =
-            let b = merge .backward k n w f in
+        word-covers : (k j : ℕ) (h : Head) (w : List ℕ) → Covers A G Member H k j → Fits G k h w
+            → WordCover G H (Covers A G Member H) j h w
+        word-covers k j h w c f =
+            let b = merge .backward k h w f in
             let filled = fill A (b .next) (b .alive) in
             go (b .members) (filled .accepted)
-            (c (b .state) (b .member) (node n (filled .trees)) (accepts (b .named) (b .step) (filled .accepted)))
+            (c (b .state) (b .member) (node (record { name = h .name; text = false }) (filled .trees))
+            (accepts (b .named) (b .step) (filled .accepted)))
           where
-            go : {u : List State} {ts : Forest} → Forall₂ Member w u → AcceptsAll A u ts → Derives H j (node n ts)
-                → WordCover G H (Covers A G Member H) j n w
+            go : {u : List State} {ts : Forest} → Forall₂ Member w u → AcceptsAll A u ts
+                → Derives H j (node (record { name = h .name; text = false }) ts) → WordCover G H (Covers A G Member H) j h w
             go ms all (derives {w = v} f′ ds) =
-                record { word = v; fits = f′; covers = covers-all ms all ds (tells .word-sole k j n w v c f f′) }
+                let fits : Fits H j h v =
+                record {
+                  rule = f′ .rule;
+                  of-table = f′ .of-table;
+                  of-type = f′ .of-type;
+                  of-name = f′ .of-name;
+                  of-text = λ e. text-covered one-each c f e f′ (name-refl (h .name));
+                  word = f′ .word;
+                }
+                in
+                record { word = v; fits = fits; covers = covers-all ms all ds (tells .word-sole k j h w v c f fits) }

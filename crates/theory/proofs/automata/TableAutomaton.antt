@@ -1,11 +1,11 @@
 -- The automaton of a table in which each type has at most one rule, with a label among the labels: its states are the types, and a
--- type steps to the words of its rule's content.
+-- type steps to the words of its rule's content, for a node with text if its rule is for text.
 --     label-rule       the label of a type is that of its rule
 --     type-accepts     a type accepts just what it derives
 --     table-accepts    the automaton accepts just what the table lets in
 --     table-kept       so a table that lets in all that this one lets in lets in all that the automaton accepts
 use Prim.Native.Nat.{ℕ}
-use mathlib.Core.Bool.{Bool}
+use mathlib.Core.Bool.{Bool, true}
 use mathlib.Core.List.{List, [], _∷_, List·Memᴰ, List·Memᴰ·head, List·Memᴰ·not-nil}
 use mathlib.Core.Logic.{_↔_}
 use mathlib.Core.Option.{some as just}
@@ -16,7 +16,7 @@ use borrow.Author.Tests.{eqb-true, eq-eqb}
 use Rattle.grammar.specs.Lists.{keep}
 use Rattle.grammar.specs.Names.{Name, SameName}
 use Rattle.grammar.specs.Content.{Word}
-use Rattle.grammar.specs.Tree.{Tree, Forest}
+use Rattle.grammar.specs.Tree.{Head, Tree, Forest}
 use Rattle.grammar.specs.Table.{Rule, Table}
 use Rattle.grammar.specs.Derivation.{Fits, Derives, derives, DerivesAll, derives-none, derives-next, LetsIn}
 use Rattle.grammar.specs.Least.{LetsInAll}
@@ -39,11 +39,12 @@ use Rattle.theory.proofs.tables.TableConditions.{OneRuleEach, HasRule}
 unfoldable pub typeName : Table → ℕ → Name
 typeName g k = getD (g .labels) (labelOf g k) []
 
--- a word of the content of a rule of the type
-pub record Steps (g : Table) (k : ℕ) (w : List ℕ) : Type 0 where
+-- a word of the content of a rule of the type, which is for text if the node holds some
+pub record Steps (g : Table) (k : ℕ) (text : Bool) (w : List ℕ) : Type 0 where
   pub rule : Rule
   pub of-table : List·Memᴰ rule (g .rules)
   pub of-type : rule .type ≡ k
+  pub of-text : text ≡ true → rule .text ≡ true
   pub word : Word (rule .content) w
 
 abbrev pub tableAutomaton : Table → Automaton ℕ
@@ -74,17 +75,20 @@ module _ (g : Table) (one-each : OneRuleEach g) where
 
   module _ (labelled : Labelled g) where
     -- A word that fits a type and a name is a step of the type, and the name the type's.
-    pub fits-steps : (k : ℕ) (n : Name) (w : List ℕ) → Fits g k n w ↔ (SameName (typeName g k) n × Steps g k w)
-    fits-steps k n w = (there, λ p. back (p .0) (p .1))
+    pub fits-steps : (k : ℕ) (h : Head) (w : List ℕ) → Fits g k h w ↔ (SameName (typeName g k) (h .name) × Steps g k (h .text) w)
+    fits-steps k h w = (there, λ p. back (p .0) (p .1))
       where
-        there : Fits g k n w → SameName (typeName g k) n × Steps g k w
+        n : Name
+        n = h .name
+
+        there : Fits g k h w → SameName (typeName g k) n × Steps g k (h .text) w
         there f = (
           subst (λ (j : ℕ). SameName (typeName g j) n) (f .of-type)
               (subst (λ (m : Name). SameName m n) (sym (type-name (f .rule) (f .of-table) (f .of-name .listed))) (f .of-name .same)),
-          record { rule = f .rule; of-table = f .of-table; of-type = f .of-type; word = f .word },
+          record { rule = f .rule; of-table = f .of-table; of-type = f .of-type; of-text = f .of-text; word = f .word },
         )
 
-        back : SameName (typeName g k) n → Steps g k w → Fits g k n w
+        back : SameName (typeName g k) n → Steps g k (h .text) w → Fits g k h w
         back e s =
             let at = below-at (g .labels) (s .rule .label) (labelled (s .rule) (s .of-table)) in
             let e′ = subst (λ (j : ℕ). SameName (typeName g j) n) (sym (s .of-type)) e in
@@ -98,13 +102,14 @@ module _ (g : Table) (one-each : OneRuleEach g) where
                     listed = at .1;
                     same = subst (λ (m : Name). SameName m n) (type-name (s .rule) (s .of-table) (at .1)) e′;
                   };
+              of-text = s .of-text;
               word = s .word;
             }
 
     mutual
       accepted-derived : {k : ℕ} {t : Tree} → Accepts (tableAutomaton g) k t → Derives g k t
-      accepted-derived (accepts {s = k} {n = n} {u = w} e step all) =
-          derives (fits-steps k n w .1 (e, step)) (accepted-derived-all all)
+      accepted-derived (accepts {s = k} {h = h} {u = w} e step all) =
+          derives (fits-steps k h w .1 (e, step)) (accepted-derived-all all)
 
       accepted-derived-all : {w : List ℕ} {ts : Forest} → AcceptsAll (tableAutomaton g) w ts → DerivesAll g w ts
       accepted-derived-all accepts-none = derives-none
@@ -112,8 +117,8 @@ module _ (g : Table) (one-each : OneRuleEach g) where
 
     mutual
       derived-accepted : {k : ℕ} {t : Tree} → Derives g k t → Accepts (tableAutomaton g) k t
-      derived-accepted (derives {k = k} {n = n} {w = w} f all) =
-          let p = fits-steps k n w .0 f in
+      derived-accepted (derives {k = k} {h = h} {w = w} f all) =
+          let p = fits-steps k h w .0 f in
           accepts (p .0) (p .1) (derived-accepted-all all)
 
       derived-accepted-all : {w : List ℕ} {ts : Forest} → DerivesAll g w ts → AcceptsAll (tableAutomaton g) w ts

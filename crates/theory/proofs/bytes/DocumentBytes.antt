@@ -48,14 +48,14 @@ use Rattle.grammar.specs.WithinLimits.{NodeWithin, DocumentWithin}
 use Rattle.theory.proofs.lists.ListLaws.{Each, joined-append}
 use Rattle.theory.proofs.bytes.OutcomeLaws.{given-then, no-fault}
 use Rattle.theory.proofs.bytes.FieldBytes.{fields-of, fields-empty}
-use Rattle.theory.proofs.bytes.NodeSteps.{node-read, next-field}
+use Rattle.theory.proofs.bytes.NodeSteps.{node-not-end, node-read, next-field}
 
 -- The trees of nodes: those of a tree's nodes are the tree and what the nodes behind them make.
 mutual
   unfolding nodesOf nodesOfAll forestOf firstTrees otherTrees trees
 
   tree-first : (t : Tree) (ms : List Node) → forestOf (nodesOf t ++ ms) ≡ t ∷ᵗ forestOf ms
-  tree-first (node n ts) ms = ap₂ (λ (us vs : Forest). node n us ∷ᵗ vs) (children-first ts ms) (others-after ts ms)
+  tree-first (node h ts) ms = ap₂ (λ (us vs : Forest). node h us ∷ᵗ vs) (children-first ts ms) (others-after ts ms)
 
   children-first : (ts : Forest) (ms : List Node) → firstTrees (trees ts) (forestOf (nodesOfAll ts ++ ms)) ≡ ts
   children-first []ᵗ ms = refl
@@ -92,11 +92,12 @@ module _ (lim : Limits) (classes : Classes) where
       ≡ readOn (opened (ns ++ (it ∷ [])) (closed (it .children ∷ n ∷ outer))) rest
   unfolding nodeBytes withNode
   node-step it ns n outer within room level rest =
-      let f : Field = record { tag = nodeTag; value = it .children ∷ it .name } in
+      let tag = nodeTag (it .head .text) in
+      let f : Field = record { tag = tag; value = it .children ∷ it .head .name } in
       let now = opened ns (suc n ∷ outer) in
       let more = opened (ns ++ (it ∷ [])) (closed (it .children ∷ n ∷ outer)) in
-      ap (readNodeFields lim classes now) (fields-of nodeTag (it .children ∷ it .name) rest)
-      ∙ next-field lim classes now f (fieldsOf rest) refl
+      ap (readNodeFields lim classes now) (fields-of tag (it .children ∷ it .head .name) rest)
+      ∙ next-field lim classes now f (fieldsOf rest) (node-not-end (it .head .text))
       ∙ given-then _ more (λ o. readNodeFields lim classes o (fieldsOf rest))
       (node-read lim classes now f more
       (record {
@@ -118,8 +119,8 @@ module _ (lim : Limits) (classes : Classes) where
         → length ns + length (nodesOf t) ≤ lim .nodes → depth t + length outer ≤ lim .levels → (rest : List ℕ)
         → readOn (opened ns (suc n ∷ outer)) (joinedOf nodeBytes (nodesOf t) ++ rest)
         ≡ readOn (opened (ns ++ nodesOf t) (closed (n ∷ outer))) rest
-    tree-read (node name ts) ns n outer each few shallow rest =
-        let here : Node = record { name = name; children = trees ts } in
+    tree-read (node h ts) ns n outer each few shallow rest =
+        let here : Node = record { head = h; children = trees ts } in
         let below = joinedOf nodeBytes (nodesOfAll ts) in
         let l = length-append ns (here ∷ []) in
         ap (readOn (opened ns (suc n ∷ outer))) (append-assoc (nodeBytes here) below rest)

@@ -60,21 +60,21 @@ use Rattle.theory.proofs.bytes.DocumentBytes.{tree-of-nodes}
 
 -- the node that a visit comes to
 abbrev pub nodeOfVisit : Visit → Node
-nodeOfVisit v = record { name = v .name; children = length (v .children) }
+nodeOfVisit v = record { head = record { name = v .name; text = v .text }; children = length (v .children) }
 
 roots-count : (ts : Forest) → length (rootNames ts) ≡ trees ts
 unfolding rootNames trees
 roots-count []ᵗ = refl
-roots-count (node n us ∷ᵗ ts) = ap suc (roots-count ts)
+roots-count (node h us ∷ᵗ ts) = ap suc (roots-count ts)
 
 mutual
   unfolding visits visitsAll nodesOf nodesOfAll
 
   pub visit-node : (t : Tree) (above : List Name) (v : Visit) → List·Memᴰ v (visits t above) → List·Memᴰ (nodeOfVisit v) (nodesOf t)
-  visit-node (node n ts) above v m =
+  visit-node (node h ts) above v m =
       ⊎-elim
-      (λ e. List·Memᴰ·head (ap nodeOfVisit e ∙ ap (λ (k : ℕ). record { name = n; children = k }) (roots-count ts)))
-      (λ q. List·Memᴰ·tail (visit-node-of ts (above ++ (n ∷ [])) v q))
+      (λ e. List·Memᴰ·head (ap nodeOfVisit e ∙ ap (λ (k : ℕ). record { head = h; children = k }) (roots-count ts)))
+      (λ q. List·Memᴰ·tail (visit-node-of ts (above ++ (h .name ∷ [])) v q))
       (List·Memᴰ·cases-cons m)
 
   visit-node-of : (ts : Forest) (above : List Name) (v : Visit) → List·Memᴰ v (visitsAll ts above)
@@ -147,12 +147,12 @@ module _ (lim : Limits) (classes : Classes) where
       go (cs ∷ []) e q s = let z : _≡_ {A = ℕ} 0 1 = cc in absurd (omega arith)
       go (cs ∷ ts ∷ fs) e q s =
           let few : it .children ≡ trees cs = cc in
-          let here : it ≡ record { name = it .name; children = trees cs } =
-          ap (λ (c : ℕ). record { name = it .name; children = c }) few in
+          let here : it ≡ record { head = it .head; children = trees cs } =
+          ap (λ (c : ℕ). record { head = it .head; children = c }) few in
           let below = s .0 in
           let beside = s .1 .0 in
           record {
-            forests = (node (it .name) cs ∷ᵗ ts) ∷ fs;
+            forests = (node (it .head) cs ∷ᵗ ts) ∷ fs;
             counts = cc;
             nodes =
                 ap₂ (λ (n : Node) (ns : List Node). n ∷ ns) here

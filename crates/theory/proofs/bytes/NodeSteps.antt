@@ -2,8 +2,9 @@
 -- (`node-read`, `node-was`).
 use Prim.Native.Nat.{ℕ, _≤_, _<_}
 use native.Mathlib.Omega.{arith}
-use mathlib.Core.Bool.{true, false, not, _&&_, _||_}
+use mathlib.Core.Bool.{Bool, true, false, not, _&&_, _||_}
 use mathlib.Core.List.{List, [], _∷_}
+use mathlib.Core.Logic.{⊎-elim}
 use mathlib.Core.Path.{_≡_, refl, _∙_, ap, ap₂}
 use lib.ListN.{length}
 use lib.Dec.{eqb, leb, ltb}
@@ -16,6 +17,7 @@ use Rattle.grammar.specs.Fields.{Field, Fields, _then_}
 use Rattle.grammar.specs.ReadTable.{isEmpty, bytesLeft}
 use Rattle.grammar.specs.ReadDocument.{
   nodeTag,
+  isNodeTag,
   documentEndTag,
   Node,
   Opened,
@@ -25,15 +27,41 @@ use Rattle.grammar.specs.ReadDocument.{
   readNodeFields,
 }
 use Rattle.grammar.specs.WithinLimits.{NodeWithin}
-use Rattle.theory.proofs.lists.BoolLaws.{and-left, and-right, and-intro, or-false, or-none}
+use Rattle.theory.proofs.lists.BoolLaws.{and-left, and-right, and-intro, or-cases, or-false, or-none, not-both}
 use Rattle.theory.proofs.bytes.OutcomeLaws.{no-fault, had-no-fault, given-eq}
 use Rattle.theory.proofs.bytes.ReadSteps.{name-has-bytes}
+
+-- A node's tag tells whether it holds text, and is not that of the end.
+pub tag-of-node : (text : Bool) → isNodeTag (nodeTag text) ≡ true
+unfolding isNodeTag
+tag-of-node true = refl
+tag-of-node false = refl
+
+pub tag-tells : (text : Bool) → eqb (nodeTag text) (nodeTag true) ≡ text
+tag-tells true = refl
+tag-tells false = refl
+
+pub node-not-end : (text : Bool) → eqb (nodeTag text) documentEndTag ≡ false
+node-not-end true = refl
+node-not-end false = refl
+
+pub told-by-tag : (tag : ℕ) → isNodeTag tag ≡ true → tag ≡ nodeTag (eqb tag (nodeTag true))
+unfolding isNodeTag
+told-by-tag tag e = go (eqb tag (nodeTag true)) refl
+  where
+    go : (b : Bool) → eqb tag (nodeTag true) ≡ b → tag ≡ nodeTag b
+    go true q = eqb-true tag (nodeTag true) q
+    go false q =
+        ⊎-elim
+        (λ p. eqb-true tag (nodeTag false) p)
+        (λ p. absurd (not-both p q))
+        (or-cases (eqb tag (nodeTag false)) (eqb tag (nodeTag true)) e)
 
 module _ (lim : Limits) (classes : Classes) where
   pub record NodeRead (o : Opened) (f : Field) (more : Opened) : Type 0 where
     pub it : Node
-    pub tagged : f .tag ≡ nodeTag
-    pub bytes : f .value ≡ it .children ∷ it .name
+    pub tagged : f .tag ≡ nodeTag (it .head .text)
+    pub bytes : f .value ≡ it .children ∷ it .head .name
     pub within : NodeWithin lim classes it
     pub room : length (o .nodes) < lim .nodes
     pub level : length (o .toCome) ≤ lim .levels
@@ -48,8 +76,8 @@ module _ (lim : Limits) (classes : Classes) where
       go [] q = let w = rw (q, readNode) at e in let z : _≡_ {A = ℕ} 0 1 = cc in absurd (omega arith)
       go (k ∷ name) q =
           let w = rw (q, readNode) at e in
-          let n : Node = record { name = name; children = k } in
-          let tag = eqb (f .tag) nodeTag in
+          let n : Node = record { head = record { name = name; text = eqb (f .tag) (nodeTag true) }; children = k } in
+          let tag = isNodeTag (f .tag) in
           let long = leb 1 (length name) in
           let short = leb (length name) (lim .name) in
           let full = leb (lim .nodes) (length (o .nodes)) in
@@ -64,7 +92,7 @@ module _ (lim : Limits) (classes : Classes) where
           let few = or-false full many (shallow .0) in
           record {
             it = n;
-            tagged = eqb-true (f .tag) nodeTag (and-left tag long (and-left (tag && long) short shape));
+            tagged = told-by-tag (f .tag) (and-left tag long (and-left (tag && long) short shape));
             bytes = q;
             within =
                 record {
@@ -85,23 +113,26 @@ module _ (lim : Limits) (classes : Classes) where
   unfolding readNode badNode
   node-read o f more w =
       let k = w .it .children in
-      let name = w .it .name in
+      let name = w .it .head .name in
+      let text = w .it .head .text in
       let h = w .within in
       let full = leb (lim .nodes) (length (o .nodes)) in
       let many = ltb (lim .children) k in
       let deep = ltb (lim .levels) (length (o .toCome)) in
       let long = leb 1 (length name) in
       let short = leb (length name) (lim .name) in
+      let tag = isNodeTag (nodeTag text) in
       let longer = le-leb 1 (length name) (name-has-bytes classes name (h .name .rule)) in
       let shorter = le-leb (length name) (lim .name) (h .name .size) in
       let roomy = lt-leb (lim .nodes) (length (o .nodes)) (w .room) in
       let few = le-ltb (lim .children) k (h .children) in
       let shallow = le-ltb (lim .levels) (length (o .toCome)) (w .level) in
       ap₂ (λ (t : ℕ) (v : List ℕ). readNode lim classes o (record { tag = t; value = v })) (w .tagged) (w .bytes)
-      ∙ no-fault _ BadField _ (ap not (and-intro long short longer shorter))
+      ∙ no-fault _ BadField _ (ap not (and-intro (tag && long) short (and-intro tag long (tag-of-node text) longer) shorter))
       ∙ no-fault _ BadName _ (ap not (h .name .rule))
       ∙ no-fault _ BadTree _
       (or-none (full || many || deep) (isEmpty (o .toCome)) (or-none (full || many) deep (or-none full many roomy few) shallow) (w .to-come))
+      ∙ ap (λ (b : Bool). given (withNode o (record { head = record { name = name; text = b }; children = k }))) (tag-tells text)
       ∙ ap given (w .result)
 
   -- the end field, and any other

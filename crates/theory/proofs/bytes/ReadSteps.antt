@@ -4,10 +4,10 @@
 --   content-was : readContent lim bytes ≡ given c → (bytes ≡ contentBytes c) × (isProper lim c ≡ true) × (nesting c ≤ lim .nesting)
 use Prim.Native.Nat.{ℕ, _≤_, _<_}
 use native.Mathlib.Omega.{arith}
-use mathlib.Core.Bool.{true, false, not, _&&_}
+use mathlib.Core.Bool.{Bool, true, false, not, _&&_}
 use mathlib.Core.List.{List, [], _∷_, append-nil}
 use mathlib.Core.Option.{none as nothing, some as just}
-use mathlib.Core.Path.{_≡_, refl, sym, _∙_, ap, subst}
+use mathlib.Core.Path.{_≡_, refl, sym, _∙_, ap, subst, ap₂}
 use lib.ListN.{length}
 use lib.Dec.{eqb, leb, ltb}
 use borrow.Author.Tests.{le-leb, lt-leb, le-ltb, leb-true, leb-false, ltb-false, not-false}
@@ -41,6 +41,7 @@ use Rattle.grammar.specs.ReadTable.{
   readTableField,
   bytesLeft,
   readTableFields,
+  ruleTag,
 }
 use Rattle.grammar.specs.WriteTable.{ruleBytes}
 use Rattle.grammar.specs.WithinLimits.{NameWithin, RuleWithin}
@@ -130,18 +131,20 @@ module _ (lim : Limits) where
       ∙ ap given (w .result)
 
   -- a rule
-  pub record RuleRead (g : Table) (value : List ℕ) (more : Table) : Type 0 where
+  pub record RuleRead (g : Table) (text : Bool) (value : List ℕ) (more : Table) : Type 0 where
     pub rule : Rule
+    pub marked : rule .text ≡ text
     pub bytes : value ≡ ruleBytes rule
     pub within : RuleWithin lim (length (g .labels)) rule
     pub room : length (g .rules) < lim .rules
     pub result : withRule g rule ≡ more
 
-  pub rule-was : (g : Table) (value : List ℕ) (more : Table) → readRule lim g value ≡ given more → RuleRead g value more
+  pub rule-was : (g : Table) (text : Bool) (value : List ℕ) (more : Table) → readRule lim g text value ≡ given more
+      → RuleRead g text value more
   unfolding readRule ruleBytes
-  rule-was g [] more e = let z : _≡_ {A = ℕ} 0 1 = cc in absurd (omega arith)
-  rule-was g (k ∷ []) more e = let z : _≡_ {A = ℕ} 0 1 = cc in absurd (omega arith)
-  rule-was g (k ∷ l ∷ content) more e =
+  rule-was g text [] more e = let z : _≡_ {A = ℕ} 0 1 = cc in absurd (omega arith)
+  rule-was g text (k ∷ []) more e = let z : _≡_ {A = ℕ} 0 1 = cc in absurd (omega arith)
+  rule-was g text (k ∷ l ∷ content) more e =
       let long = leb 1 (length content) in
       let short = leb (length content) (lim .content) in
       let a = had-no-fault _ BadField _ more e in
@@ -152,7 +155,8 @@ module _ (lim : Limits) where
       let was = content-was lim content (d .0) (d .1) in
       let size = leb-true (length content) (lim .content) (and-right long short (not-false (long && short) (a .0))) in
       record {
-        rule = record { type = k; label = l; content = d .0 };
+        rule = record { type = k; label = l; content = d .0; text = text };
+        marked = refl;
         bytes = ap (λ (bs : List ℕ). k ∷ l ∷ bs) (was .0);
         within =
             record {
@@ -165,9 +169,10 @@ module _ (lim : Limits) where
         result = given-eq (d .2);
       }
 
-  pub rule-read : (g : Table) (value : List ℕ) (more : Table) → RuleRead g value more → readRule lim g value ≡ given more
+  pub rule-read : (g : Table) (text : Bool) (value : List ℕ) (more : Table) → RuleRead g text value more
+      → readRule lim g text value ≡ given more
   unfolding readRule ruleBytes
-  rule-read g value more w =
+  rule-read g text value more w =
       let r = w .rule in
       let h = w .within in
       let c = contentBytes (r .content) in
@@ -175,12 +180,16 @@ module _ (lim : Limits) where
       let shorter = le-leb (length c) (lim .content) (h .content .size) in
       let type-known = lt-leb (lim .types) (r .type) (h .type) in
       let label-known = lt-leb (length (g .labels)) (r .label) (h .label) in
-      ap (readRule lim g) (w .bytes)
+      ap₂ (readRule lim g) (sym (w .marked)) (w .bytes)
       ∙ no-fault _ BadField _ (ap not (and-intro (leb 1 (length c)) (leb (length c) (lim .content)) longer shorter))
       ∙ no-fault _ TooMany _ (lt-leb (lim .rules) (length (g .rules)) (w .room))
       ∙ no-fault _ OutOfRange _ (or-none (leb (lim .types) (r .type)) (leb (length (g .labels)) (r .label)) type-known label-known)
       ∙ given-then (readContent lim c) (r .content) _ (content-read lim (r .content) (h .content .proper) (h .content .nests))
       ∙ ap given (w .result)
+
+pub rule-not-end : (text : Bool) → eqb (ruleTag text) tableEndTag ≡ false
+rule-not-end true = refl
+rule-not-end false = refl
 
 module _ (lim : Limits) (classes : Classes) where
   -- a label
@@ -233,6 +242,13 @@ module _ (lim : Limits) (classes : Classes) where
       ∙ no-fault _ Repeated _ (w .new)
       ∙ no-fault _ TooMany _ (lt-leb (lim .labels) (length (g .labels)) (w .room))
       ∙ ap given (w .result)
+
+  -- a rule's field is read as a rule, with its mark
+  pub rule-field : (g : Table) (text : Bool) (value : List ℕ)
+      → readTableField lim classes g (record { tag = ruleTag text; value = value }) ≡ readRule lim g text value
+  unfolding readTableField
+  rule-field g true value = refl
+  rule-field g false value = refl
 
   -- the end field, and any other
   pub end-field : (g : Table) (f : Field) (rest : Fields) → eqb (f .tag) tableEndTag ≡ true

@@ -31,7 +31,7 @@ use Rattle.grammar.specs.ReadTable.{
   readTableFields,
   readTable,
 }
-use Rattle.grammar.specs.WriteTable.{ruleBytes, tableBytes}
+use Rattle.grammar.specs.WriteTable.{ruleField, tableBytes}
 use Rattle.grammar.specs.WithinLimits.{NameWithin, RuleWithin, TableWithin}
 use Rattle.theory.proofs.lists.ListLaws.{distinct-end, each-end, joined-end, eqb-sym}
 use Rattle.theory.proofs.trees.NameLaws.{name-sym}
@@ -56,7 +56,7 @@ fieldsBytes : Table → List ℕ
 fieldsBytes g =
     joinedOf (fieldBytes labelTag) (g .labels)
     ++ joinedOf (λ k. fieldBytes startTag (k ∷ [])) (g .starts)
-    ++ joinedOf (λ r. fieldBytes ruleTag (ruleBytes r)) (g .rules)
+    ++ joinedOf ruleField (g .rules)
 
 module _ (lim : Limits) (classes : Classes) where
   record FieldsFit (g : Table) : Type 0 where
@@ -120,12 +120,14 @@ module _ (lim : Limits) (classes : Classes) where
             rules = h .rules;
           }
 
-  rule-adds : (g : Table) (value : List ℕ) (more : Table) → RuleRead lim g value more → FieldAdds g ruleTag value more
-  unfolding fieldsBytes joinedOf
-  rule-adds g value more w = subst (λ (t : Table). FieldAdds g ruleTag value t) (w .result) (record { bytes = added; fits = fitting })
+  rule-adds : (g : Table) (text : Bool) (value : List ℕ) (more : Table) → RuleRead lim g text value more
+      → FieldAdds g (ruleTag text) value more
+  unfolding fieldsBytes joinedOf ruleField
+  rule-adds g text value more w =
+      subst (λ (t : Table). FieldAdds g (ruleTag text) value t) (w .result) (record { bytes = added; fits = fitting })
     where
-      added : fieldsBytes (withRule g (w .rule)) ≡ fieldsBytes g ++ fieldBytes ruleTag value
-      added = rw (w .bytes) (simp (joined-end (λ r. fieldBytes ruleTag (ruleBytes r)) (g .rules) (w .rule), append-assoc))
+      added : fieldsBytes (withRule g (w .rule)) ≡ fieldsBytes g ++ fieldBytes (ruleTag text) value
+      added = rw (w .bytes, ← w .marked) (simp (joined-end ruleField (g .rules) (w .rule), append-assoc))
 
       fitting : FieldsFit g → FieldsFit (withRule g (w .rule))
       fitting h =
@@ -144,24 +146,28 @@ module _ (lim : Limits) (classes : Classes) where
   field-adds : (g : Table) (f : Field) (more : Table) → readTableField lim classes g f ≡ given more
       → FieldAdds g (f .tag) (f .value) more
   unfolding readTableField
-  field-adds g f more e = go (eqb (f .tag) labelTag) (eqb (f .tag) startTag) (eqb (f .tag) ruleTag) refl refl refl
+  field-adds g f more e =
+      go (eqb (f .tag) labelTag) (eqb (f .tag) startTag) (eqb (f .tag) (ruleTag false)) (eqb (f .tag) (ruleTag true)) refl refl refl refl
     where
       of-tag : (tag : ℕ) → eqb (f .tag) tag ≡ true → FieldAdds g tag (f .value) more → FieldAdds g (f .tag) (f .value) more
       of-tag tag q a = rw (eqb-true (f .tag) tag q) a
 
-      go : (a b c : Bool) → eqb (f .tag) labelTag ≡ a → eqb (f .tag) startTag ≡ b → eqb (f .tag) ruleTag ≡ c
-          → FieldAdds g (f .tag) (f .value) more
-      go true b c p q r =
+      go : (a b c d : Bool) → eqb (f .tag) labelTag ≡ a → eqb (f .tag) startTag ≡ b → eqb (f .tag) (ruleTag false) ≡ c
+          → eqb (f .tag) (ruleTag true) ≡ d → FieldAdds g (f .tag) (f .value) more
+      go true b c d p q r s =
           let read = rw (p, readTableField) at e in
           of-tag labelTag p (label-adds g (f .value) more (label-was lim classes g (f .value) more read))
-      go false true c p q r =
+      go false true c d p q r s =
           let read = rw (p, q, readTableField) at e in
           of-tag startTag q (start-adds g (f .value) more (start-was lim g (f .value) more read))
-      go false false true p q r =
+      go false false true d p q r s =
           let read = rw (p, q, r, readTableField) at e in
-          of-tag ruleTag r (rule-adds g (f .value) more (rule-was lim g (f .value) more read))
-      go false false false p q r =
-          let w = rw (p, q, r, readTableField) at e in
+          of-tag (ruleTag false) r (rule-adds g false (f .value) more (rule-was lim g false (f .value) more read))
+      go false false false true p q r s =
+          let read = rw (p, q, r, s, readTableField) at e in
+          of-tag (ruleTag true) s (rule-adds g true (f .value) more (rule-was lim g true (f .value) more read))
+      go false false false false p q r s =
+          let w = rw (p, q, r, s, readTableField) at e in
           let z : _≡_ {A = ℕ} 0 1 = cc in
           absurd (omega arith)
 

@@ -17,13 +17,13 @@ use Rattle.grammar.specs.Outcome.{Outcome, given}
 use Rattle.grammar.specs.declared.Refusal.the-variants.{InputTooLong}
 use Rattle.grammar.specs.Fields.{Fields, _then_, fieldsOf, fieldBytes}
 use Rattle.grammar.specs.ReadTable.{labelTag, startTag, ruleTag, tableEndTag, readTableField, readTableFields, readTable}
-use Rattle.grammar.specs.WriteTable.{ruleBytes, tableBytes}
+use Rattle.grammar.specs.WriteTable.{ruleBytes, ruleField, tableBytes}
 use Rattle.grammar.specs.WithinLimits.{NameWithin, RuleWithin, TableWithin}
 use Rattle.theory.proofs.lists.ListLaws.{distinct-new, eqb-sym}
 use Rattle.theory.proofs.trees.NameLaws.{name-sym}
 use Rattle.theory.proofs.bytes.OutcomeLaws.{given-then, no-fault}
 use Rattle.theory.proofs.bytes.FieldBytes.{fields-of, fields-empty}
-use Rattle.theory.proofs.bytes.ReadSteps.{label-read, start-read, rule-read, next-field}
+use Rattle.theory.proofs.bytes.ReadSteps.{label-read, start-read, rule-read, rule-not-end, rule-field, next-field}
 
 -- labels, starts and rules that a file can hold
 pub record LabelsFit (lim : Limits) (classes : Classes) (names : List Name) : Type 0 where
@@ -125,22 +125,24 @@ module _ (lim : Limits) (classes : Classes) where
 
   rule-step : (names : List Name) (types : List ℕ) (done : List Rule) (r : Rule) (todo : List Rule)
       → RulesFit lim (length names) (done ++ r ∷ todo) → (rest : List ℕ)
-      → readOn (ruled names types done) (fieldBytes ruleTag (ruleBytes r) ++ rest) ≡ readOn (ruled names types (done ++ (r ∷ []))) rest
-  unfolding readTableField
+      → readOn (ruled names types done) (ruleField r ++ rest) ≡ readOn (ruled names types (done ++ (r ∷ []))) rest
+  unfolding ruleField
   rule-step names types done r todo fit =
       let few = fit .few in
       let l = length-append done (r ∷ todo) in
       let now = ruled names types done in
       let more = ruled names types (done ++ (r ∷ [])) in
       let read =
-      rule-read lim now (ruleBytes r) more (record {
+      rule-read lim now (r .text) (ruleBytes r) more (record {
         rule = r;
+        marked = refl;
         bytes = refl;
         within = fit .each r (Memᴰ·append-right done (List·Memᴰ·head refl));
         room = omega arith;
         result = refl;
       }) in
-      field-read ruleTag (ruleBytes r) now more refl read
+      let tag = ruleTag (r .text) in
+      field-read tag (ruleBytes r) now more (rule-not-end (r .text)) (rule-field lim classes now (r .text) (ruleBytes r) ∙ read)
 
   end-step : (g : Table) → readOn g (fieldBytes tableEndTag []) ≡ given g
   unfolding readTableFields
@@ -155,7 +157,7 @@ module _ (lim : Limits) (classes : Classes) where
   fields-read-back g ls ss rs =
       let labels = joinedOf (fieldBytes labelTag) (g .labels) in
       let starts = joinedOf (λ k. fieldBytes startTag (k ∷ [])) (g .starts) in
-      let rules = joinedOf (λ r. fieldBytes ruleTag (ruleBytes r)) (g .rules) in
+      let rules = joinedOf ruleField (g .rules) in
       let end = fieldBytes tableEndTag [] in
       ap (readOn emptyTable) (append-assoc (labels ++ starts) rules end ∙ append-assoc labels starts (rules ++ end))
       ∙ all-read (fieldBytes labelTag) labelled (LabelsFit lim classes) label-step [] (g .labels) ls (starts ++ (rules ++ end))
@@ -169,7 +171,7 @@ module _ (lim : Limits) (classes : Classes) where
       ss
       (rules ++ end)
       ∙ all-read
-      (λ r. fieldBytes ruleTag (ruleBytes r))
+      ruleField
       (ruled (g .labels) (g .starts))
       (RulesFit lim (length (g .labels)))
       (rule-step (g .labels) (g .starts))

@@ -3,7 +3,7 @@
 --   document-bytes-small : BytesAgree lim classes → DocumentWithin lim classes d → AreBytes (documentBytes d)
 use Prim.Native.Nat.{ℕ, _/_, _%_, _≤_, _<_}
 use native.Mathlib.Omega.{arith}
-use mathlib.Core.Bool.{true}
+use mathlib.Core.Bool.{Bool, false, true}
 use mathlib.Core.List.{
   List,
   [],
@@ -40,12 +40,12 @@ use Rattle.grammar.specs.Content.{
   operandCount,
 }
 use Rattle.grammar.specs.Tree.{Tree}
-use Rattle.grammar.specs.Table.{Table}
+use Rattle.grammar.specs.Table.{Rule, Table}
 use Rattle.grammar.specs.Fields.{fieldBytes}
 use Rattle.grammar.specs.ReadContent.{contentBytes, operandBytes, isProper, areProper}
 use Rattle.grammar.specs.ReadTable.{labelTag, startTag, ruleTag, tableEndTag}
 use Rattle.grammar.specs.ReadDocument.{nodeTag, documentEndTag, Node}
-use Rattle.grammar.specs.WriteTable.{ruleBytes, tableBytes}
+use Rattle.grammar.specs.WriteTable.{ruleBytes, ruleField, tableBytes}
 use Rattle.grammar.specs.WriteDocument.{nodesOf, nodeBytes, documentBytes}
 use Rattle.grammar.specs.WithinLimits.{TableWithin, DocumentWithin}
 use Rattle.theory.proofs.lists.BoolLaws.{and-left, and-right}
@@ -107,6 +107,14 @@ unfolding fieldBytes
 field-small tag value t l h =
     small-cons tag _ t (small-cons (length value / 256) _ (omega arith) (small-cons (length value % 256) value (omega arith) h))
 
+rule-tag-small : (text : Bool) → ruleTag text < 256
+rule-tag-small true = omega arith
+rule-tag-small false = omega arith
+
+node-tag-small : (text : Bool) → nodeTag text < 256
+node-tag-small true = omega arith
+node-tag-small false = omega arith
+
 -- a field is longer than its value
 field-long : (tag : ℕ) (value : List ℕ) → length value ≤ length (fieldBytes tag value)
 unfolding fieldBytes
@@ -144,23 +152,23 @@ module _ (lim : Limits) (classes : Classes) (agree : BytesAgree lim classes) whe
         (operands-small cs (and-right (isProper lim c) (areProper lim cs) e))
 
   -- fields of one sort, of which the bytes in all are within the input
-  fields-small : {A : Type 0} (tag : ℕ) (value : A → List ℕ) (xs : List A) → tag < 256
-      → length (joinedOf (λ x. fieldBytes tag (value x)) xs) ≤ lim .input → ((x : A) → List·Memᴰ x xs → AreBytes (value x))
-      → AreBytes (joinedOf (λ x. fieldBytes tag (value x)) xs)
+  fields-small : {A : Type 0} (tag : A → ℕ) (value : A → List ℕ) (xs : List A) → ((x : A) → tag x < 256)
+      → length (joinedOf (λ x. fieldBytes (tag x) (value x)) xs) ≤ lim .input → ((x : A) → List·Memᴰ x xs → AreBytes (value x))
+      → AreBytes (joinedOf (λ x. fieldBytes (tag x) (value x)) xs)
   fields-small tag value xs t l h =
-      small-joined (λ x. fieldBytes tag (value x)) xs
+      small-joined (λ x. fieldBytes (tag x) (value x)) xs
       (λ x m.
       let b = agree .input in
-      let one = joined-long (λ x. fieldBytes tag (value x)) m in
-      let short = field-long tag (value x) in
-      field-small tag (value x) t (omega arith) (h x m))
+      let one = joined-long (λ x. fieldBytes (tag x) (value x)) m in
+      let short = field-long (tag x) (value x) in
+      field-small (tag x) (value x) (t x) (omega arith) (h x m))
 
   pub table-bytes-small : (g : Table) → TableWithin lim classes g → AreBytes (tableBytes g)
-  unfolding tableBytes ruleBytes
+  unfolding tableBytes ruleField ruleBytes
   table-bytes-small g within =
       let labels = joinedOf (fieldBytes labelTag) (g .labels) in
       let starts = joinedOf (λ k. fieldBytes startTag (k ∷ [])) (g .starts) in
-      let rules = joinedOf (λ r. fieldBytes ruleTag (ruleBytes r)) (g .rules) in
+      let rules = joinedOf ruleField (g .rules) in
       let end = fieldBytes tableEndTag [] in
       let size = within .size in
       let l₁ = length-append labels starts in
@@ -169,14 +177,14 @@ module _ (lim : Limits) (classes : Classes) (agree : BytesAgree lim classes) whe
       small-append (labels ++ starts ++ rules) end
       (small-append (labels ++ starts) rules
       (small-append labels starts
-      (fields-small labelTag (λ n. n) (g .labels) (omega arith) (omega arith)
+      (fields-small (λ n. labelTag) (λ n. n) (g .labels) (λ n. omega arith) (omega arith)
       (λ n m. name-small classes n (agree .name-bytes) (within .names n m .rule)))
-      (fields-small startTag (λ k. k ∷ []) (g .starts) (omega arith) (omega arith)
+      (fields-small (λ k. startTag) (λ k. k ∷ []) (g .starts) (λ k. omega arith) (omega arith)
       (λ k m.
       let a = agree .types in
       let b = within .start-types k m in
       small-cons k [] (omega arith) small-none)))
-      (fields-small ruleTag ruleBytes (g .rules) (omega arith) (omega arith)
+      (fields-small (λ (r : Rule). ruleTag (r .text)) ruleBytes (g .rules) (λ r. rule-tag-small (r .text)) (omega arith)
       (λ r m.
       let w = within .each-rule r m in
       let a = agree .types in
@@ -196,10 +204,12 @@ module _ (lim : Limits) (classes : Classes) (agree : BytesAgree lim classes) whe
       let size = within .size in
       let l = length-append nodes end in
       small-append nodes end
-      (fields-small nodeTag (λ (n : Node). n .children ∷ n .name) (nodesOf d) (omega arith) (omega arith)
+      (fields-small (λ (n : Node). nodeTag (n .head .text)) (λ (n : Node). n .children ∷ n .head .name) (nodesOf d)
+      (λ n. node-tag-small (n .head .text)) (omega arith)
       (λ n m.
       let w = within .each-node n m in
       let a = agree .children in
       let b = w .children in
-      small-cons (n .children) (n .name) (omega arith) (name-small classes (n .name) (agree .name-bytes) (w .name .rule))))
+      small-cons (n .children) (n .head .name) (omega arith)
+      (name-small classes (n .head .name) (agree .name-bytes) (w .name .rule))))
       (field-small documentEndTag [] (omega arith) (omega arith) small-none)

@@ -2,6 +2,7 @@
 --     is-none           what isNone tells
 --     simplify-words    Word (simplify c) w ↔ Word c w
 --     prune-words       Word (prune known c) w ↔ Word c w, and every type of w is known
+--     prune-some        what is pruned is not none just where the content has a word of known types
 --     simplify-clean    simplify c is none, or it is clean
 --     clean-word        a clean content has a word
 --     clean-standing    every type that stands in a clean content stands in a word of it (all types of a word of a content stand
@@ -355,3 +356,18 @@ module _ (k : ℕ) where
       go (inr p) =
           let v = clean-standing p m in
           (v, prune-words known c (v .0) .0 (v .1) .1 k (v .2))
+
+pub prune-some : (known : List ℕ) (c : Content) → (not (isNone (prune known c)) ≡ true) ↔ ((w : List ℕ) × Word c w × AllIn known w)
+prune-some known c = (there, back)
+  where
+    there : not (isNone (prune known c)) ≡ true → (w : List ℕ) × Word c w × AllIn known w
+    there e =
+        let v = clean-word (cleaned (prune known c) (prune-clean known c) (not-true (isNone (prune known c)) e)) in
+        let p = prune-words known c (v .0) .0 (v .1) in
+        (v .0, p .0, p .1)
+
+    back : (w : List ℕ) × Word c w × AllIn known w → not (isNone (prune known c)) ≡ true
+    back p =
+        ap not
+        (false-of (isNone (prune known c))
+        (λ e. subst (λ (d : Content). Word d (p .0)) (is-none (prune known c) e) (prune-words known c (p .0) .1 (p .1, p .2))))

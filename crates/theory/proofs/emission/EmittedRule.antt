@@ -18,7 +18,7 @@ use Rattle.grammar.specs.Tree.{Tree}
 use Rattle.grammar.specs.Table.{Rule, Table}
 use Rattle.grammar.specs.Derivation.{Derives, derives}
 use Rattle.grammar.specs.KindTests.{samePair}
-use Rattle.grammar.specs.Normalise.{pairOf, pairsOf, inPairs, ruleOfPair, normalise}
+use Rattle.grammar.specs.Normalise.{pairOf, pairsOf, inPairs, marks, ruleOfPair, normalise}
 use Rattle.grammar.specs.Reduce.{
   hasWord,
   notKnown,
@@ -38,7 +38,7 @@ use Rattle.theory.specs.Conditions.{Labelled}
 use Rattle.theory.specs.Alternatives.{oneContent, alts, hasAlts, pairsMet, pairsLeft, hasLeft, resultsOf}
 use Rattle.theory.proofs.lists.ListLaws.{any-of, keep-mem, kept, keep-map, distinct-was, in-mem}
 use Rattle.theory.proofs.steps.Fruitful.{has-word, forest-fruitful, fruitful-is}
-use Rattle.theory.proofs.steps.NormaliseDocuments.{OfPair, same-pair, pair-words, pair-fits, normalise-labelled}
+use Rattle.theory.proofs.steps.NormaliseDocuments.{OfPair, same-pair, pair-words, fits-pair, normalise-labelled}
 use Rattle.theory.proofs.emission.AlternativeLaws.{inPairsOf, retyped}
 use Rattle.theory.proofs.emission.EmittedContent.{emitted-rule, joined-map}
 use Rattle.theory.proofs.emission.MetPairs.{met-in-pairs, word-met, word-met-in-pair}
@@ -80,6 +80,7 @@ module _ (u : Table) where
         type = pairOf u s;
         label = s .label;
         content = prune (fruitful (normalise u)) (choiceOf (map (inPairsOf (pairsOf u)) (pairContents s)));
+        text = anyPass (marks u) (keep (samePair s) (u .rules));
       }
 
   pub fruitful-rules : withoutUnfruitful (normalise u) .rules ≡ map ruleLeft fruitfulPairs
@@ -90,10 +91,17 @@ module _ (u : Table) where
       ∙ ap (λ f. map f fruitfulPairs) (fun-ext (λ s. ap (withContent s) (rule-content s)))
     where
       pruned : Rule → Rule
-      pruned r = record { type = r .type; label = r .label; content = prune (fruitful (normalise u)) (r .content) }
+      pruned r =
+          record { type = r .type; label = r .label; content = prune (fruitful (normalise u)) (r .content); text = r .text }
 
       withContent : Rule → Content → Rule
-      withContent s c = record { type = pairOf u s; label = s .label; content = prune (fruitful (normalise u)) c }
+      withContent s c =
+          record {
+            type = pairOf u s;
+            label = s .label;
+            content = prune (fruitful (normalise u)) c;
+            text = anyPass (marks u) (keep (samePair s) (u .rules));
+          }
 
   pub left-rules : reduce (normalise u) .rules ≡ map ruleLeft pairsStanding
   unfolding reduce withoutUnreached
@@ -119,9 +127,9 @@ module _ (u : Table) where
     has-tree : (s : Rule) {p : ℕ} {t : Tree} → OfPair u p s → Derives (normalise u) p t
         → anyPass (hasAlts (hasLeft (pairsOf u) (fruitful (normalise u)))) (pairContents s) ≡ true
     unfolding inPairs
-    has-tree s o (derives {k = p} {n = n} {w = w} f all) =
+    has-tree s o (derives {w = w} f all) =
         let known : List ℕ = fruitful (normalise u) in
-        let q = pair-fits u p n w .0 f in
+        let q = fits-pair u f in
         let c = q .rule .content in
         let e = has-word known (inPairs u c) .1 (w, pair-words u c w .1 (q .word), forest-fruitful (normalise u) all) in
         let m = keep-mem (samePair s) (q .of-pair .of-table) (same-pair u s (q .rule) o (q .of-pair)) in

@@ -617,6 +617,11 @@ drop-map f (suc k) (x ∷ xs) = drop-map f k xs
 pub part-of : (s : List ℕ) (from size : ℕ) → take (from + size - from) (drop from s) ≡ take size (drop from s)
 part-of s from size = let z : from + size - from ≡ size = omega arith in ap (λ (n : ℕ). take n (drop from s)) z
 
+pub any-map : {A B : Type 0} (f : A → B) (test : B → Bool) (xs : List A) → anyPass test (map f xs) ≡ anyPass (λ x. test (f x)) xs
+unfolding anyPass
+any-map f test [] = refl
+any-map f test (x ∷ xs) = ap (λ (b : Bool). test (f x) || b) (any-map f test xs)
+
 pub keep-map : {A B : Type 0} (f : A → B) (test : B → Bool) (xs : List A) → keep test (map f xs) ≡ map f (keep (λ x. test (f x)) xs)
 unfolding keep
 keep-map f test [] = refl

@@ -15,15 +15,15 @@ use Rattle.theory.proofs.trees.TreeParts.{rootName, treesOf}
 roots-are : (f : Name → ℕ) (ts : Forest) → map (λ t. f (rootName t)) (treesOf ts) ≡ map f (rootNames ts)
 unfolding rootNames
 roots-are f []ᵗ = refl
-roots-are f (node n us ∷ᵗ ts) = ap (λ (l : List ℕ). f n ∷ l) (roots-are f ts)
+roots-are f (node h us ∷ᵗ ts) = ap (λ (l : List ℕ). f (h .name) ∷ l) (roots-are f ts)
 
 module _ (d : Tree) where
   mutual
     path-derives : (t : Tree) (p : List Name) → StandsAt d [] p t → Derives (sample d) (pathType d p) t
-    path-derives (node n ts) p s =
-        derives (visit-fits d (visitOf p (node n ts)) (stands-visit d [] p (node n ts) s))
+    path-derives (node h ts) p s =
+        derives (visit-fits d (visitOf p (node h ts)) (stands-visit d [] p (node h ts) s))
         (subst (λ (w : List ℕ). DerivesAll (sample d) w ts) (roots-are (λ m. pathType d (p ++ (m ∷ []))) ts)
-        (paths-derive ts p (λ c. stands-child d [] p (node n ts) c s)))
+        (paths-derive ts p (λ c. stands-child d [] p (node h ts) c s)))
 
     paths-derive : (ts : Forest) (p : List Name) → ((c : Tree) → List·Memᴰ c (treesOf ts) → StandsAt d [] (p ++ (rootName c ∷ [])) c)
         → DerivesAll (sample d) (map (λ c. pathType d (p ++ (rootName c ∷ []))) (treesOf ts)) ts

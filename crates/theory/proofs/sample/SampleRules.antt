@@ -1,5 +1,5 @@
 -- What the rules of a document's sample say, in terms of the document's visits:
---     visit-fits         the type of a visit's path fits the visit's name and its children's types
+--     visit-fits         the type of a visit's path fits the visit's name, its text and its children's types
 --     content-type       a type that stands in the content at a path is that of a child of a visit there
 --     path-types         visited paths have one type iff they are equal
 --     child-visited      each child's path is visited
@@ -31,7 +31,20 @@ use Rattle.grammar.specs.ReadContent.{sameContent}
 use Rattle.grammar.specs.Tree.{Tree, node}
 use Rattle.grammar.specs.Table.{Rule, Named, DistinctNames}
 use Rattle.grammar.specs.Derivation.{Fits}
-use Rattle.grammar.specs.Sample.{Visit, visits, samePath, pathsOf, namesOf, sequenceOf, childSequence, contentAt, ruleAt, sample}
+use Rattle.grammar.specs.Sample.{
+  Visit,
+  visits,
+  samePath,
+  pathsOf,
+  namesOf,
+  sequenceOf,
+  childSequence,
+  visitsAt,
+  contentAt,
+  textAt,
+  ruleAt,
+  sample,
+}
 use Rattle.theory.specs.SamplePaths.{pathType}
 use Rattle.theory.specs.Conditions.{Labelled}
 use Rattle.theory.proofs.lists.ListLaws.{any-of, kept, keep-mem, distinct-was, distinct-has, at-below, distinct-mem}
@@ -128,14 +141,14 @@ module _ (d : Tree) where
 
   -- the contents that the content at a path is the choice of
   pub sequencesAt : List Name → List Content
-  sequencesAt p = distinct sameContent (map (childSequence seen) (keep (λ (v : Visit). samePath p (v .path)) seen))
+  sequencesAt p = distinct sameContent (map (childSequence seen) (visitsAt seen p))
 
   pub content-at : (p : List Name) → contentAt seen p ≡ choiceOf (sequencesAt p)
   unfolding contentAt sequencesAt
   content-at p = refl
 
   pub sequence-at : (p : List Name) (c : Content) → List·Memᴰ c (sequencesAt p) ↔ SequenceAt p c
-  unfolding sequencesAt childSequence
+  unfolding sequencesAt visitsAt childSequence
   sequence-at p c = (
     λ m.
         let (v, n, e) = Memᴰ·of-map (childSequence seen) (keep atPath seen) (distinct-was sameContent sequences m) in
@@ -211,7 +224,13 @@ module _ (d : Tree) where
   same-names : {u v : Visit} → List·Memᴰ u seen → List·Memᴰ v seen → SamePath (u .path) (v .path) → SameName (u .name) (v .name)
   same-names {u} {v} m n e = ends-agree (path-ends d [] u m) (path-ends d [] v n) e
 
-  pub visit-fits : (v : Visit) → List·Memᴰ v seen → Fits (sample d) (pathType d (v .path)) (v .name) (childTypes v)
+  -- a path of a visit with text is for text
+  text-at : (p : List Name) (v : Visit) → List·Memᴰ v seen → SamePath p (v .path) → v .text ≡ true → textAt seen p ≡ true
+  unfolding textAt visitsAt
+  text-at p v m e t = any-of (λ (u : Visit). u .text) (keep-mem (λ (u : Visit). samePath p (u .path)) m e) t
+
+  pub visit-fits : (v : Visit) → List·Memᴰ v seen
+      → Fits (sample d) (pathType d (v .path)) (record { name = v .name; text = v .text }) (childTypes v)
   unfolding ruleAt
   visit-fits v m =
       let (u, n, e) = first-at m in
@@ -220,6 +239,7 @@ module _ (d : Tree) where
         of-table = rule-sample n;
         of-type = path-type (u .path) (v .path) e;
         of-name = same-named (own-name u (first-was n)) (same-names (first-was n) m e);
+        of-text = text-at (u .path) v m e;
         word = content-word (u .path) v m e;
       }
 
@@ -244,4 +264,4 @@ module _ (d : Tree) where
 -- the root's path is the first
 pub sample-root : (d : Tree) → pathType d (rootName d ∷ []) ≡ zero
 unfolding visits pathsOf place
-sample-root (node n ts) = rw (path-refl (n ∷ []), place)
+sample-root (node h ts) = rw (path-refl (h .name ∷ []), place)

@@ -1,10 +1,11 @@
 -- The fruitful types are those that derive some document:
 --     has-word       hasWord known c is true just where a word of c has only known types
+--     marks-is       a rule marks its pair just where it is for text and has a word of fruitful types
 --     fruitful-is    a type is among `fruitful g` just where it derives some tree in g
 -- the latter where every rule's label is a label of the table (`labelled`).
 use Prim.Native.Nat.{ℕ}
 use native.Mathlib.Omega.{arith}
-use mathlib.Core.Bool.{true, false≢true}
+use mathlib.Core.Bool.{true, false≢true, false, not, _&&_, Bool}
 use mathlib.Core.List.{
   List,
   [],
@@ -23,13 +24,14 @@ use mathlib.Core.List.{
   Memᴰ·of-map,
 }
 use mathlib.Core.Logic.{_↔_, inl, inr, ⊎-elim}
-use mathlib.Core.Path.{_≡_, refl, sym}
+use mathlib.Core.Path.{_≡_, refl, sym, _∙_, ap}
 use lib.ListN.{length, length-map}
 use Rattle.grammar.specs.Lists.{keep}
 use Rattle.grammar.specs.Tree.{Tree, node, Forest, []ᵗ, _∷ᵗ_}
 use Rattle.grammar.specs.Table.{Rule, Table}
 use Rattle.grammar.specs.Derivation.{Derives, derives, DerivesAll, derives-none, derives-next}
-use Rattle.grammar.specs.Reduce.{hasWord, haveWords, oneHasWord, newlyFruitful, fruitful}
+use Rattle.grammar.specs.Normalise.{marks}
+use Rattle.grammar.specs.Reduce.{prune, hasWord, haveWords, oneHasWord, newlyFruitful, fruitful, isNone, prune}
 use Rattle.grammar.specs.Content.{
   Content,
   none,
@@ -52,9 +54,9 @@ use Rattle.grammar.specs.Content.{
   OfOne,
 }
 use Rattle.theory.specs.Conditions.{Labelled}
-use Rattle.theory.proofs.lists.BoolLaws.{and-left, and-right, and-intro, or-cases, or-left, or-right}
+use Rattle.theory.proofs.lists.BoolLaws.{and-left, and-right, and-intro, or-cases, or-left, or-right, same-test}
 use Rattle.theory.proofs.lists.ListLaws.{kept, keep-mem, in-mem, mem-in, below-at, AllIn, all-in-none, all-in-append}
-use Rattle.theory.proofs.contents.SimplifyWords.{join}
+use Rattle.theory.proofs.contents.SimplifyWords.{join, prune-some}
 use Rattle.theory.proofs.steps.Rounds.{not-known, rounds-hold, rounds-closed, closed-has}
 use Rattle.theory.proofs.tables.TableConditions.{SomeTree}
 use Rattle.theory.proofs.tables.NamedLabels.{label-named}
@@ -121,6 +123,31 @@ module _ (known : List ℕ) where
           (λ v. or-right (hasWord known c) (oneHasWord known cs) (one-has-word cs .1 (p .0, v, p .2)))
           (p .1),
     )
+
+-- What is pruned is not none just where the content has a word of known types; so a rule marks its pair just where it is for text and
+-- has a word of fruitful types.
+pub prune-by-words : (known : List ℕ) (c : Content) → not (isNone (prune known c)) ≡ hasWord known c
+prune-by-words known c =
+    same-test (not (isNone (prune known c))) (hasWord known c) (
+      λ e. has-word known c .1 (prune-some known c .0 e),
+      λ e. prune-some known c .1 (has-word known c .0 e),
+    )
+
+pub marks-by-words : (g : Table) (r : Rule) → marks g r ≡ (r .text && hasWord (fruitful g) (r .content))
+unfolding marks
+marks-by-words g r = ap (λ (b : Bool). r .text && b) (prune-by-words (fruitful g) (r .content))
+
+pub marks-is : (g : Table) (r : Rule) → (marks g r ≡ true) ↔ ((r .text ≡ true) × KnownWord (fruitful g) (Word (r .content)))
+marks-is g r = (
+  λ e.
+      let p = sym (marks-by-words g r) ∙ e in (
+        and-left (r .text) (hasWord (fruitful g) (r .content)) p,
+        has-word (fruitful g) (r .content) .0 (and-right (r .text) (hasWord (fruitful g) (r .content)) p),
+      ),
+  λ p.
+      marks-by-words g r
+      ∙ and-intro (r .text) (hasWord (fruitful g) (r .content)) (p .0) (has-word (fruitful g) (r .content) .1 (p .1)),
+)
 
 pub some-forest : (g : Table) (w : List ℕ) → ((k : ℕ) → List·Memᴰ k w → SomeTree g k) → (ts : Forest) × DerivesAll g w ts
 some-forest g [] h = ([]ᵗ, derives-none)
@@ -199,13 +226,14 @@ module _ (g : Table) where
         let name = below-at (g .labels) (f .rule .label) (labelled (f .rule) (f .of-table)) in
         let w = f .word in
         let ts = some-forest g (w .0) (λ l m. h l (w .2 l m)) in (
-          node (name .0) (ts .0),
+          node (record { name = name .0; text = false }) (ts .0),
           derives
               (record {
                 rule = f .rule;
                 of-table = f .of-table;
                 of-type = f .of-type;
                 of-name = label-named (name .1);
+                of-text = λ e. absurd (false≢true e);
                 word = w .1;
               })
               (ts .1),

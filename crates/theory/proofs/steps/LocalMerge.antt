@@ -6,6 +6,7 @@
 --     local-form-keeps        it lets in all that the table lets in
 --     local-form-least        a local table that lets in all that the table lets in lets in all that the local form lets in
 use Prim.Native.Nat.{ℕ, _<_}
+use mathlib.Core.Bool.{Bool, true, false, false≢true}
 use mathlib.Core.List.{List, [], map, List·Memᴰ, Memᴰ·map, Memᴰ·of-map, Forall₂}
 use mathlib.Core.Option.{some as just}
 use mathlib.Core.Path.{_≡_, refl, sym, _∙_, ap, subst}
@@ -15,6 +16,7 @@ use borrow.Author.Tests.{eqb-true, eq-eqb}
 use Rattle.grammar.specs.Lists.{anyPass, keep, numbersBelow}
 use Rattle.grammar.specs.Names.{Name, SameName}
 use Rattle.grammar.specs.Content.{type, Word}
+use Rattle.grammar.specs.Tree.{Head}
 use Rattle.grammar.specs.Table.{Rule, Table, Named, DistinctNames}
 use Rattle.grammar.specs.Derivation.{Fits, LetsIn}
 use Rattle.grammar.specs.Kinds.{Local}
@@ -38,7 +40,7 @@ use Rattle.theory.proofs.lists.ListLaws.{
 }
 use Rattle.theory.proofs.lists.PlaceLaws.{place-of}
 use Rattle.theory.proofs.contents.WordLaws.{merge-words}
-use Rattle.theory.proofs.automata.Merge.{Forth, Back, StartType, accepted-let-in}
+use Rattle.theory.proofs.automata.Merge.{Forth, Back, TextStep, StartType, accepted-let-in}
 use Rattle.theory.proofs.automata.LeastMerge.{StartMember}
 use Rattle.theory.proofs.automata.LeastLocal.{Reached, LocalMerge, least-local}
 use Rattle.theory.proofs.automata.TableAutomaton.{
@@ -52,7 +54,7 @@ use Rattle.theory.proofs.automata.TableAutomaton.{
   table-kept,
 }
 use Rattle.theory.proofs.tables.ReducedTable.{ReducedTable}
-use Rattle.theory.proofs.automata.ReducedAutomaton.{type-alive, step-rules, step-alive, type-reached}
+use Rattle.theory.proofs.automata.ReducedAutomaton.{type-alive, step-rules, step-alive, rule-step, type-reached}
 use Rattle.theory.proofs.steps.UsedLabelsDocuments.{used-below, used-differ, label-used}
 use Rattle.theory.proofs.tables.TableConditions.{HasRule, rule-that-fits}
 use Rattle.theory.proofs.lists.NoTwo.{no-two-map}
@@ -119,6 +121,19 @@ module _ (g : Table) where
         renamed = refl;
       })
 
+  -- a rule for text of the local form has a rule for text behind it
+  text-merged : (r : Rule) → List·Memᴰ r (g .rules) → r .text ≡ true → ruleOfLabel g (r .label) .text ≡ true
+  unfolding ruleOfLabel
+  text-merged r m e =
+      any-of (λ (s : Rule). s .text) (keep-mem (λ (s : Rule). eqb (s .label) (r .label)) m (eq-eqb (r .label) (r .label) refl)) e
+
+  merged-text : (l : ℕ) → ruleOfLabel g l .text ≡ true → (r : Rule) × List·Memᴰ r (g .rules) × (r .label ≡ l) × (r .text ≡ true)
+  unfolding ruleOfLabel
+  merged-text l e =
+      let (r, m, t) = any-found (λ (s : Rule). s .text) (keep (λ (s : Rule). eqb (s .label) l) (g .rules)) e in
+      let k = kept (λ (s : Rule). eqb (s .label) l) (g .rules) m in
+      (r, k .0, eqb-true (r .label) l (k .1), t)
+
 module _ (g : Table) (reduced : ReducedTable g) where
   -- the label of a type with a rule is used
   pub merged-at : {k : ℕ} → HasRule g k → getElem? (usedLabels g) (merged g k) ≡ just (labelOf g k)
@@ -129,7 +144,7 @@ module _ (g : Table) (reduced : ReducedTable g) where
       (label-used g (reduced .labelled) (h .rule) (h .of-table)))
 
   -- What fits a type fits the type that merges it.
-  fits-merged : {k : ℕ} {n : Name} {u : List ℕ} → Fits g k n u → Fits (localForm g) (merged g k) n (map (merged g) u)
+  fits-merged : {k : ℕ} {h : Head} {u : List ℕ} → Fits g k h u → Fits (localForm g) (merged g k) h (map (merged g) u)
   unfolding localForm ruleOfLabel merged
   fits-merged {u = u} f =
       record {
@@ -137,24 +152,25 @@ module _ (g : Table) (reduced : ReducedTable g) where
         of-table = Memᴰ·map (ruleOfLabel g) (label-used g (reduced .labelled) (f .rule) (f .of-table));
         of-type = ap (typeOfLabel g) (sym (label-rule g (reduced .one-rule-each) (rule-that-fits f)));
         of-name = record { name = f .of-name .name; listed = f .of-name .listed; same = f .of-name .same };
+        of-text = λ e. text-merged g (f .rule) (f .of-table) (f .of-text e);
         word = word-merged g (f .rule) (f .of-table) u (f .word);
       }
 
-  -- And all that fits a type of the local form comes from there.
+  -- And all that fits a type of the local form comes from there, up to text.
   record Source (i : ℕ) (n : Name) (w : List ℕ) : Type 0 where
     type : ℕ
     word : List ℕ
-    fits : Fits g type n word
+    fits : Fits g type (record { name = n; text = false }) word
     of-label : merged g type ≡ i
     renamed : w ≡ map (merged g) word
 
-  source : {i : ℕ} {n : Name} {w : List ℕ} → Fits (localForm g) i n w → Source i n w
+  source : {i : ℕ} {h : Head} {w : List ℕ} → Fits (localForm g) i h w → Source i (h .name) w
   unfolding localForm ruleOfLabel merged
-  source {i} {n} {w} f =
+  source {i} {h} {w} f =
       let a = Memᴰ·of-map (ruleOfLabel g) (usedLabels g) (f .of-table) in
       let l = a .0 in
       let m = merged-word g l (subst (λ (r : Rule). Word (r .content) w) (sym (a .2)) (f .word)) in
-      let of-name = subst (λ (r : Rule). Named (localForm g) (r .label) n) (sym (a .2)) (f .of-name) in
+      let of-name = subst (λ (r : Rule). Named (localForm g) (r .label) (h .name)) (sym (a .2)) (f .of-name) in
       record {
         type = m .rule .type;
         word = m .source;
@@ -169,6 +185,7 @@ module _ (g : Table) (reduced : ReducedTable g) where
                     listed = ap (λ (j : ℕ). getElem? (g .labels) j) (m .of-label) ∙ of-name .listed;
                     same = of-name .same;
                   };
+              of-text = λ e. absurd (false≢true e);
               word = m .word;
             };
         of-label =
@@ -178,7 +195,7 @@ module _ (g : Table) (reduced : ReducedTable g) where
         renamed = m .renamed;
       }
 
-  step-merges : {k : ℕ} {u : List ℕ} → Steps g k u → Forall₂ (Merges g) (map (merged g) u) u
+  step-merges : {k : ℕ} {text : Bool} {u : List ℕ} → Steps g k text u → Forall₂ (Merges g) (map (merged g) u) u
   step-merges {u = u} step =
       related-turn {R = λ j i. Merges g i j} (λ j i p. p)
       (related-map (merged g) u (λ j at. record { has-rule = step-rules g reduced step j at; of-label = refl }))
@@ -194,25 +211,28 @@ module _ (g : Table) (reduced : ReducedTable g) where
       in
       subst (λ (l : ℕ). SameName (typeName g j) (getD (g .labels) l [])) e (name-refl (typeName g j))
 
-  forward : (i k : ℕ) (u : List ℕ) → Merges g i k → Steps g k u → Forth (tableAutomaton g) (localForm g) (Merges g) i k u
-  forward i k u m step =
-      let f = fits-steps g (reduced .one-rule-each) (reduced .labelled) k (typeName g k) u .1 (name-refl (typeName g k), step) in
+  forward : (i k : ℕ) (text : Bool) (u : List ℕ) → Merges g i k → Steps g k text u
+      → Forth (tableAutomaton g) (localForm g) (Merges g) i k text u
+  forward i k text u m step =
+      let h : Head = record { name = typeName g k; text = text } in
+      let f = fits-steps g (reduced .one-rule-each) (reduced .labelled) k h u .1 (name-refl (typeName g k), step) in
       record {
         word = map (merged g) u;
-        fits = subst (λ (j : ℕ). Fits (localForm g) j (typeName g k) (map (merged g) u)) (m .of-label) (fits-merged f);
+        fits = subst (λ (j : ℕ). Fits (localForm g) j h (map (merged g) u)) (m .of-label) (fits-merged f);
         members = step-merges step;
       }
 
-  backward : (i : ℕ) (n : Name) (w : List ℕ) → Fits (localForm g) i n w → Back (tableAutomaton g) (localForm g) (Merges g) i n w
-  backward i n w f =
+  backward : (i : ℕ) (h : Head) (w : List ℕ) → Fits (localForm g) i h w
+      → Back (tableAutomaton g) (localForm g) (Merges g) i (h .name) w
+  backward i h w f =
       let s = source f in
-      let h = s .fits in
-      let p = fits-steps g (reduced .one-rule-each) (reduced .labelled) (s .type) n (s .word) .0 h in
+      let plain : Head = record { name = h .name; text = false } in
+      let p = fits-steps g (reduced .one-rule-each) (reduced .labelled) (s .type) plain (s .word) .0 (s .fits) in
       record {
         state = s .type;
         member =
             record {
-              has-rule = rule-that-fits h;
+              has-rule = rule-that-fits (s .fits);
               of-label = s .of-label;
             };
         named = p .0;
@@ -220,6 +240,29 @@ module _ (g : Table) (reduced : ReducedTable g) where
         step = p .1;
         members = subst (λ (v : List ℕ). Forall₂ (Merges g) v (s .word)) (sym (s .renamed)) (step-merges (p .1));
         alive = step-alive g reduced (p .1);
+      }
+
+  -- a rule for text merges a rule for text, which has a step
+  textual : (i : ℕ) (h : Head) (w : List ℕ) → Fits (localForm g) i h w → h .text ≡ true
+      → TextStep (tableAutomaton g) (localForm g) (Merges g) i
+  unfolding localForm ruleOfLabel merged
+  textual i h w f e =
+      let a = Memᴰ·of-map (ruleOfLabel g) (usedLabels g) (f .of-table) in
+      let (r, m, l, t) = merged-text g (a .0) (ap (λ (q : Rule). q .text) (a .2) ∙ f .of-text e) in
+      let (u, step) = rule-step g reduced r m true (λ p. t) in
+      record {
+        state = r .type;
+        member =
+            record {
+              has-rule = record { rule = r; of-table = m; of-type = refl };
+              of-label =
+                  ap (typeOfLabel g) (label-of g (reduced .one-rule-each) r m ∙ l)
+                  ∙ ap (λ (q : Rule). q .type) (a .2)
+                  ∙ f .of-type;
+            };
+        next = u;
+        step = step;
+        alive = step-alive g reduced step;
       }
 
   starts : (k : ℕ) → List·Memᴰ k (g .starts) → StartType (tableAutomaton g) (localForm g) (Merges g) k
@@ -252,7 +295,7 @@ module _ (g : Table) (reduced : ReducedTable g) where
   pub local-form-merge : LocalMerge (tableAutomaton g) (localForm g) (Merges g)
   local-form-merge =
       record {
-        merge = record { one-name = one-name; forward = forward; backward = backward; starts = starts };
+        merge = record { one-name = one-name; backward = backward; textual = textual };
         reached =
             λ i k m.
             let h = m .has-rule in
@@ -263,7 +306,8 @@ module _ (g : Table) (reduced : ReducedTable g) where
 
   pub local-form-keeps : LetsInAll (localForm g) (LetsIn g)
   local-form-keeps d l =
-      accepted-let-in (local-form-merge .merge) d (table-accepts g (reduced .one-rule-each) (reduced .labelled) d .1 l)
+      accepted-let-in (record { forward = forward; starts = starts }) d
+      (table-accepts g (reduced .one-rule-each) (reduced .labelled) d .1 l)
 
   pub local-form-least : (H : Table) → DistinctNames H → Local H → LetsInAll H (LetsIn g) → LetsInAll H (LetsIn (localForm g))
   local-form-least H names local keeps =

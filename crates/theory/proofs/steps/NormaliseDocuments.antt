@@ -1,13 +1,14 @@
--- Normalise keeps the documents:
---     normalise-documents    LetsIn (normalise g) d ↔ LetsIn g d
+-- Normalise: the normal form lets in all that the table lets in, and perhaps more, since a pair is for text as a whole:
+--     normalise-keeps        LetsIn g d → LetsIn (normalise g) d, and normalise-derived, what a type derives, one of its pairs derives
 --     pairs-of               the pairs of a type are the pairs of its rules
---     pair-fits              what fits a pair in the normal form fits a rule of the pair, each type become one of its pairs
---     pair-derives           a type derives a node iff one of its pairs does in the normal form
+--     fits-pair              what fits a pair in the normal form fits, up to text, a rule of the pair, each type become one of its pairs
+--     pair-fits              and the other way round, with text if the rule marks the pair
+--     marked-pair            a pair's rule for text has behind it a rule for text that has a word of fruitful types
 --     normalise-types        no two rules of the normal form have one type
 --     normalise-labels       the labels are g's, so (normalise-names) no two have equal names if no two of g's do
 --     normalise-labelled     each rule's label stays among the labels
 --     normalise-contents     each type that stands in a content of the normal form has a rule there
---     normalise-starts       and so has each start
+--     normalise-starts       and so has each start, which is a pair of a start of g (normalise-start)
 use Prim.Native.Nat.{ℕ, _<_}
 use mathlib.Core.Bool.{true}
 use mathlib.Core.List.{
@@ -34,21 +35,23 @@ use borrow.Author.Tests.{eqb-true, eq-eqb}
 use Rattle.grammar.specs.Lists.{keep, distinct}
 use Rattle.grammar.specs.Names.{Name}
 use Rattle.grammar.specs.Content.{Content, Word, type, choiceOf, typesIn}
-use Rattle.grammar.specs.Tree.{Tree, Forest}
+use Rattle.grammar.specs.Tree.{Head, Tree, Forest}
 use Rattle.grammar.specs.Table.{Rule, Table, Named, DistinctNames}
 use Rattle.grammar.specs.Derivation.{Fits, Derives, derives, DerivesAll, derives-none, derives-next, LetsIn}
 use Rattle.grammar.specs.KindTests.{samePair}
-use Rattle.grammar.specs.Normalise.{pairOf, pairsOf, inPairs, ruleOfPair, normalise}
+use Rattle.grammar.specs.Normalise.{pairOf, pairsOf, inPairs, marks, ruleOfPair, normalise}
+use Rattle.grammar.specs.Reduce.{fruitful}
+use Rattle.grammar.specs.Least.{LetsInAll}
 use Rattle.theory.specs.Conditions.{Labelled}
 use Rattle.theory.proofs.lists.ListLaws.{
   any-of,
+  any-found,
   kept,
   keep-mem,
   distinct-was,
   distinct-has,
   joined-from,
   joined-mem,
-  related-turn,
 }
 use Rattle.theory.proofs.lists.PlaceLaws.{place-same, same-place}
 use Rattle.theory.proofs.contents.WordLaws.{choice-words, Spells, spells-none, spells-next, replace-words}
@@ -56,7 +59,7 @@ use Rattle.theory.proofs.tables.TableConditions.{HasRule, AllRuled, One
 use Rattle.theory.proofs.lists.NoTwo.{no-two-map, no-two-weaken, no-two-distinct}
 use Rattle.theory.proofs.contents.Standing.{choice-type, replace-type}
 use Rattle.theory.proofs.tables.KindTests.{same-pair as pair-decides, same-pair-sym as pair-sym}
-use Rattle.theory.proofs.tables.Covering.{covered-derived, WordsCovered}
+use Rattle.theory.proofs.steps.Fruitful.{KnownWord, forest-fruitful, marks-is}
 use Rattle.theory.proofs.tables.NamedLabels.{same-labels-named}
 
 -- Rules are of one pair when type and label are equal.
@@ -205,13 +208,13 @@ module _ (g : Table) where
   unfolding normalise
   normalise-labels = refl
 
-  pub pair-fits : (p : ℕ) (n : Name) (w : List ℕ) → Fits (normalise g) p n w ↔ PairFits p n w
+  -- What fits a pair in the normal form fits, up to text, a rule of the pair; and what fits a rule that marks the pair fits it with text.
+  pub fits-pair : {p : ℕ} {h : Head} {w : List ℕ} → Fits (normalise g) p h w → PairFits p (h .name) w
   unfolding ruleOfPair
-  pair-fits p n w = (λ f. let (r, m, e) = normal-rule (f .of-table) in there f r m e, back)
+  fits-pair {p} {h} {w} f = let (r, m, e) = normal-rule (f .of-table) in there r m e
     where
-      there : (f : Fits (normalise g) p n w) (r : Rule) → List·Memᴰ r (distinct samePair (g .rules)) → ruleOfPair g r ≡ f .rule
-          → PairFits p n w
-      there f r m e =
+      there : (r : Rule) → List·Memᴰ r (distinct samePair (g .rules)) → ruleOfPair g r ≡ f .rule → PairFits p (h .name) w
+      there r m e =
           let v = subst (λ (q : Rule). Word (q .content) w) (sym e) (f .word) in
           let o = choice-words (contentsOf r) w .0 (subst (λ (c : Content). Word c w) (joined-content r) v) in
           let (s, l, q, c) = listed-content r (o .1) in
@@ -223,94 +226,85 @@ module _ (g : Table) where
                   numbered = sym (pair-same r s q) ∙ ap (λ (q : Rule). q .type) e ∙ f .of-type;
                 };
             of-name =
-                subst (λ (l : ℕ). Named g l n) (pair-decides r s .0 q .1)
-                (same-labels-named normalise-labels (subst (λ (q : Rule). Named (normalise g) (q .label) n) (sym e) (f .of-name)));
+                subst (λ (l : ℕ). Named g l (h .name)) (pair-decides r s .0 q .1)
+                (same-labels-named normalise-labels
+                (subst (λ (q : Rule). Named (normalise g) (q .label) (h .name)) (sym e) (f .of-name)));
             word = pair-words (s .content) w .0 (subst (λ (c : Content). Word c w) (sym c) (o .2));
           }
 
-      back : PairFits p n w → Fits (normalise g) p n w
-      back f =
-          let s = f .rule in
-          let (r, m, e) = firstOf (f .of-pair .of-table) in
-          record {
-            rule = ruleOfPair g r;
-            of-table = rule-normal m;
-            of-type = pair-same r s e ∙ f .of-pair .numbered;
-            of-name = same-labels-named (sym normalise-labels) (subst (λ (l : ℕ). Named g l n) (sym (pair-decides r s .0 e .1)) (f .of-name));
-            word =
-                subst (λ (c : Content). Word c w) (sym (joined-content r))
-                (choice-words (contentsOf r) w .1 (
-                  inPairs g (s .content),
-                  content-listed r s (f .of-pair .of-table) e,
-                  pair-words (s .content) w .1 (f .word),
-                ));
-          }
+  pub pair-fits : {p : ℕ} {h : Head} {w : List ℕ} (f : PairFits p (h .name) w) → (h .text ≡ true → marks g (f .rule) ≡ true)
+      → Fits (normalise g) p h w
+  unfolding ruleOfPair
+  pair-fits {p} {h} {w} f marked =
+      let s = f .rule in
+      let (r, m, e) = firstOf (f .of-pair .of-table) in
+      record {
+        rule = ruleOfPair g r;
+        of-table = rule-normal m;
+        of-type = pair-same r s e ∙ f .of-pair .numbered;
+        of-name =
+            same-labels-named (sym normalise-labels)
+            (subst (λ (l : ℕ). Named g l (h .name)) (sym (pair-decides r s .0 e .1)) (f .of-name));
+        of-text = λ t. any-of (marks g) (keep-mem (samePair r) (f .of-pair .of-table) e) (marked t);
+        word =
+            subst (λ (c : Content). Word c w) (sym (joined-content r))
+            (choice-words (contentsOf r) w .1 (
+              inPairs g (s .content),
+              content-listed r s (f .of-pair .of-table) e,
+              pair-words (s .content) w .1 (f .word),
+            ));
+      }
 
-  -- a derivation of the normal form from a pair of a type is one of the table from the type
-  down : {p : ℕ} {t : Tree} → Derives (normalise g) p t → (k : ℕ) → List·Memᴰ p (pairsOf g k) → Derives g k t
-  down = covered-derived {Cover = λ p k. List·Memᴰ p (pairsOf g k)} words
-    where
-      words : WordsCovered (normalise g) g (λ p k. List·Memᴰ p (pairsOf g k))
-      words p k n w m f =
-          let a = pair-fits p n w .0 f in
-          let b = pairs-of k p .0 m in
-          record {
-            word = a .word .source;
-            fits =
-                record {
-                  rule = a .rule;
-                  of-table = a .of-pair .of-table;
-                  of-type =
-                      pair-decides (a .rule) (b .rule) .0 (same-pair (a .rule) (b .rule) (a .of-pair) (b .of-pair)) .0
-                      ∙ b .of-type;
-                  of-name = a .of-name;
-                  word = a .word .word;
-                };
-            covers = related-turn (λ k p m. m) (a .word .paired);
-          }
+  -- A pair's rule for text has behind it a rule for text that has a word of fruitful types.
+  pub record MarksPair (p : ℕ) : Type 0 where
+    pub rule : Rule
+    pub of-pair : OfPair p rule
+    pub of-text : rule .text ≡ true
+    pub word : KnownWord (fruitful g) (Word (rule .content))
 
-  -- and each derivation of the table is one of the normal form from some pair
+  pub marked-pair : (r : Rule) → List·Memᴰ r (normalise g .rules) → r .text ≡ true → MarksPair (r .type)
+  unfolding ruleOfPair
+  marked-pair r m t =
+      let (s, n, e) = normal-rule m in
+      let (q, o, p) = any-found (marks g) (keep (samePair s) (g .rules)) (ap (λ (z : Rule). z .text) e ∙ t) in
+      let (l, same) = kept (samePair s) (g .rules) o in
+      let w = marks-is g q .0 p in
+      record {
+        rule = q;
+        of-pair = record { of-table = l; numbered = sym (pair-same s q same) ∙ ap (λ (z : Rule). z .type) e };
+        of-text = w .0;
+        word = w .1;
+      }
+
+  -- each derivation of the table is one of the normal form from some pair
   mutual
-    up : {k : ℕ} {t : Tree} → Derives g k t → (p : ℕ) × List·Memᴰ p (pairsOf g k) × Derives (normalise g) p t
-    up (derives {k = k} {n = n} f ds) =
-        let (w, a, es) = up-all ds in
-        let q : OfPair (pairOf g (f .rule)) (f .rule) = record { of-table = f .of-table; numbered = refl } in (
+    pub normalise-derived : {k : ℕ} {t : Tree} → Derives g k t → (p : ℕ) × List·Memᴰ p (pairsOf g k) × Derives (normalise g) p t
+    normalise-derived (derives {k = k} {h = h} {w = u} f ds) =
+        let (w, a, es) = all-derived ds in
+        let q : OfPair (pairOf g (f .rule)) (f .rule) = record { of-table = f .of-table; numbered = refl } in
+        let fits : PairFits (pairOf g (f .rule)) (h .name) w =
+        record { rule = f .rule; of-pair = q; of-name = f .of-name; word = record { source = u; word = f .word; paired = a } } in (
           pairOf g (f .rule),
           pairs-of k (pairOf g (f .rule)) .1 (record { rule = f .rule; of-pair = q; of-type = f .of-type }),
-          derives
-              (pair-fits (pairOf g (f .rule)) n w .1
-              (record {
-                rule = f .rule;
-                of-pair = q;
-                of-name = f .of-name;
-                word = record { source = _; word = f .word; paired = a };
-              }))
-              es,
+          derives (pair-fits fits (λ t. marks-is g (f .rule) .1 (f .of-text t, (u, f .word, forest-fruitful g ds)))) es,
         )
 
-    up-all : {u : List ℕ} {ts : Forest} → DerivesAll g u ts → (w : List ℕ) × InPairs u w × DerivesAll (normalise g) w ts
-    up-all derives-none = ([], Forall₂·nil, derives-none)
-    up-all (derives-next d ds) =
-        let (p, m, e) = up d in
-        let (w, a, es) = up-all ds in
+    all-derived : {u : List ℕ} {ts : Forest} → DerivesAll g u ts → (w : List ℕ) × InPairs u w × DerivesAll (normalise g) w ts
+    all-derived derives-none = ([], Forall₂·nil, derives-none)
+    all-derived (derives-next d ds) =
+        let (p, m, e) = normalise-derived d in
+        let (w, a, es) = all-derived ds in
         (p ∷ w, Forall₂·cons m a, derives-next e es)
 
-  pub pair-derives : (k : ℕ) (t : Tree) → Derives g k t ↔ ((p : ℕ) × List·Memᴰ p (pairsOf g k) × Derives (normalise g) p t)
-  pair-derives k t = (up, λ a. down (a .2) k (a .1))
-
-  pub normalise-documents : (d : Tree) → LetsIn (normalise g) d ↔ LetsIn g d
+  pub normalise-keeps : LetsInAll (normalise g) (LetsIn g)
   unfolding normalise
-  normalise-documents d = (there, back)
-    where
-      there : LetsIn (normalise g) d → LetsIn g d
-      there l =
-          let (k, m, p) = joined-from (pairsOf g) (g .starts) (l .of-table) in
-          record { start = k; of-table = m; derived = pair-derives k d .1 (l .start, p, l .derived) }
+  normalise-keeps d l =
+      let (p, m, e) = normalise-derived (l .derived) in
+      record { start = p; of-table = joined-mem (pairsOf g) (l .of-table) m; derived = e }
 
-      back : LetsIn g d → LetsIn (normalise g) d
-      back l =
-          let (p, m, e) = pair-derives (l .start) d .0 (l .derived) in
-          record { start = p; of-table = joined-mem (pairsOf g) (l .of-table) m; derived = e }
+  pub normalise-start : (p : ℕ) → List·Memᴰ p (normalise g .starts) → (k : ℕ) × List·Memᴰ k (g .starts) × List·Memᴰ p (pairsOf g k)
+  unfolding normalise
+  normalise-start p m = joined-from (pairsOf g) (g .starts) m
 
   pub normalise-types : OneRuleEach (normalise g)
   unfolding normalise
@@ -344,8 +338,7 @@ module _ (g : Table) where
       }
 
   pub normalise-starts : (p : ℕ) → List·Memᴰ p (normalise g .starts) → HasRule (normalise g) p
-  unfolding normalise
-  normalise-starts p m = let (k, n, q) = joined-from (pairsOf g) (g .starts) m in pair-has-rule k p q
+  normalise-starts p m = let (k, n, q) = normalise-start p m in pair-has-rule k p q
 
   -- The types that stand in a content in pairs are the pairs of the types that stand in the content.
   pub pair-stands : (c : Content) (p : ℕ)

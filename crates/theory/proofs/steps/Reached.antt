@@ -11,9 +11,9 @@ use mathlib.Core.Path.{_≡_, sym, refl}
 use lib.ListN.{length, length-map}
 use Rattle.grammar.specs.Lists.{keep, isIn, joinedOf}
 use Rattle.grammar.specs.Content.{typesIn}
-use Rattle.grammar.specs.Tree.{Tree}
+use Rattle.grammar.specs.Tree.{Tree, Head}
 use Rattle.grammar.specs.Table.{Rule, Table}
-use Rattle.grammar.specs.Derivation.{Derives}
+use Rattle.grammar.specs.Derivation.{Derives, Fits}
 use Rattle.grammar.specs.Reduce.{newlyReached, reached, withoutUnreached}
 use Rattle.theory.proofs.lists.ListLaws.{kept, keep-mem, in-mem, mem-in, joined-from, joined-mem}
 use Rattle.theory.proofs.steps.Rounds.{not-known, rounds-start, rounds-hold, rounds-closed, closed-has}
@@ -63,6 +63,18 @@ module _ (g : Table) where
   labels-remain : g .labels ≡ withoutUnreached g .labels
   unfolding withoutUnreached
   labels-remain = refl
+
+  -- what fits without the unreached rules fits with them
+  pub remaining-fits : {k : ℕ} {h : Head} {w : List ℕ} → Fits (withoutUnreached g) k h w → Fits g k h w
+  remaining-fits f =
+      record {
+        rule = f .rule;
+        of-table = rule-was (f .rule) (f .of-table) .0;
+        of-type = f .of-type;
+        of-name = same-labels-named (sym labels-remain) (f .of-name);
+        of-text = f .of-text;
+        word = f .word;
+      }
 
   -- the start types are reached
   pub start-reached : (k : ℕ) → List·Memᴰ k (g .starts) → List·Memᴰ k (reached g)
@@ -126,24 +138,12 @@ module _ (g : Table) where
               of-table = rule-remains (f .rule) (f .of-table) m;
               of-type = f .of-type;
               of-name = same-labels-named labels-remain (f .of-name);
+              of-text = f .of-text;
               word = f .word;
             },
             λ x i. reached-on (f .rule) x (f .of-table) m (word-stands (f .rule .content) w (f .word) x i),
           ))
           d
           p,
-      λ d.
-          carry-tree (withoutUnreached g) g (λ l. Unit {0})
-          (λ l n w ts q f a. (
-            record {
-              rule = f .rule;
-              of-table = rule-was (f .rule) (f .of-table) .0;
-              of-type = f .of-type;
-              of-name = same-labels-named (sym labels-remain) (f .of-name);
-              word = f .word;
-            },
-            λ x i. tt,
-          ))
-          d
-          tt,
+      λ d. carry-tree (withoutUnreached g) g (λ l. Unit {0}) (λ l h w ts q f a. (remaining-fits f, λ x i. tt)) d tt,
     )

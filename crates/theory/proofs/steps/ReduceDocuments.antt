@@ -10,6 +10,8 @@
 --     reduce-labelled     the rules of reduce g have labels of it
 -- and of any table:
 --     reduce-labels       the labels are those of g
+--     reduce-fits         what fits in reduce g fits in g, and reduce-derived, what it derives g derives; its starts are starts of g
+--                         (reduce-started)
 --     reduce-no-two       where no two rules of g are alike in type and label, no two of reduce g are
 --     reduce-one-rule     so where no two rules of g have one type
 use Prim.Native.Nat.{ℕ}
@@ -17,9 +19,8 @@ use mathlib.Core.List.{List, [], _∷_, List·Memᴰ, List·Memᴰ·head, List·
 use mathlib.Core.Logic.{_↔_, Iff·trans}
 use mathlib.Core.Path.{_≡_, refl, sym, _∙_, ap, subst}
 use Rattle.grammar.specs.Lists.{keep, isIn}
-use Rattle.grammar.specs.Names.{Name}
 use Rattle.grammar.specs.Content.{Content, Word}
-use Rattle.grammar.specs.Tree.{Tree, Forest}
+use Rattle.grammar.specs.Tree.{Tree, Forest, Head}
 use Rattle.grammar.specs.Table.{Rule, Table}
 use Rattle.grammar.specs.Kinds.{NoTwoRules}
 use Rattle.grammar.specs.Derivation.{Fits, Derives, derives, DerivesAll, LetsIn}
@@ -38,6 +39,7 @@ use Rattle.theory.proofs.steps.Reached.{
   reached-remains,
   reached-trees,
   start-reached,
+  remaining-fits,
 }
 use Rattle.theory.proofs.tables.TableConditions.{HasRule, Reaches, SomeTree, AllRuled, OneRuleEach}
 use Rattle.theory.proofs.contents.Standing.{StandsIn, WordWith}
@@ -50,7 +52,7 @@ reduce-labels g = refl
 -- without the unfruitful types
 module _ (g : Table) where
   abbrev pruned : Rule → Rule
-  pruned r = record { type = r .type; label = r .label; content = prune (fruitful g) (r .content) }
+  pruned r = record { type = r .type; label = r .label; content = prune (fruitful g) (r .content); text = r .text }
 
   fruitful-rule : (r : Rule) → List·Memᴰ r (g .rules) → List·Memᴰ (r .type) (fruitful g)
       → List·Memᴰ (pruned r) (withoutUnfruitful g .rules)
@@ -75,32 +77,45 @@ module _ (g : Table) where
   unfolding withoutUnfruitful
   fruitful-labels = refl
 
+  -- what fits without the unfruitful types fits with them
+  unpruned-fits : {k : ℕ} {h : Head} {w : List ℕ} → Fits (withoutUnfruitful g) k h w → Fits g k h w
+  unpruned-fits {w = w} f =
+      let o = fruitful-was (f .rule) (f .of-table) in
+      let v = subst (λ (r : Rule). Word (r .content) w) (sym (o .of-rule)) (f .word) in
+      record {
+        rule = o .rule;
+        of-table = o .of-table;
+        of-type = ap (λ (r : Rule). r .type) (o .of-rule) ∙ f .of-type;
+        of-name =
+            same-labels-named {g = withoutUnfruitful g} (sym fruitful-labels)
+            (rw (ap (λ (r : Rule). r .label) (o .of-rule)) (f .of-name));
+        of-text = λ e. ap (λ (r : Rule). r .text) (o .of-rule) ∙ f .of-text e;
+        word = prune-words (fruitful g) (o .rule .content) w .0 v .0;
+      }
+
+  -- so what fits in the reduced table fits in the table
+  pub reduce-fits : {k : ℕ} {h : Head} {w : List ℕ} → Fits (reduce g) k h w → Fits g k h w
+  unfolding reduce
+  reduce-fits f = unpruned-fits (remaining-fits (withoutUnfruitful g) f)
+
+  pub reduce-derived : {k : ℕ} {t : Tree} → Derives (reduce g) k t → Derives g k t
+  reduce-derived d = carry-tree (reduce g) g (λ l. Unit {0}) (λ l h w ts q f a. (reduce-fits f, λ x i. tt)) d tt
+
   fruitful-trees : (k : ℕ) (t : Tree) → Derives g k t ↔ Derives (withoutUnfruitful g) k t
   fruitful-trees k t = (
-    λ d. carry-tree g (withoutUnfruitful g) (λ l. Unit {0}) (λ l n w ts q f a. (there l n w ts f a, λ x i. tt)) d tt,
-    λ d. carry-tree (withoutUnfruitful g) g (λ l. Unit {0}) (λ l n w ts q f a. (back l n w f, λ x i. tt)) d tt,
+    λ d. carry-tree g (withoutUnfruitful g) (λ l. Unit {0}) (λ l h w ts q f a. (there l h w ts f a, λ x i. tt)) d tt,
+    λ d. carry-tree (withoutUnfruitful g) g (λ l. Unit {0}) (λ l h w ts q f a. (unpruned-fits f, λ x i. tt)) d tt,
   )
     where
-      there : (l : ℕ) (n : Name) (w : List ℕ) (ts : Forest) → Fits g l n w → DerivesAll g w ts → Fits (withoutUnfruitful g) l n w
-      there l n w ts f a =
+      there : (l : ℕ) (h : Head) (w : List ℕ) (ts : Forest) → Fits g l h w → DerivesAll g w ts → Fits (withoutUnfruitful g) l h w
+      there l h w ts f a =
           record {
             rule = pruned (f .rule);
             of-table = fruitful-rule (f .rule) (f .of-table) (Memᴰ·cast (f .of-type) (tree-fruitful g (derives f a)));
             of-type = f .of-type;
             of-name = same-labels-named fruitful-labels (f .of-name);
+            of-text = f .of-text;
             word = prune-words (fruitful g) (f .rule .content) w .1 (f .word, forest-fruitful g a);
-          }
-
-      back : (l : ℕ) (n : Name) (w : List ℕ) → Fits (withoutUnfruitful g) l n w → Fits g l n w
-      back l n w f =
-          let o = fruitful-was (f .rule) (f .of-table) in
-          let v = subst (λ (r : Rule). Word (r .content) w) (sym (o .of-rule)) (f .word) in
-          record {
-            rule = o .rule;
-            of-table = o .of-table;
-            of-type = ap (λ (r : Rule). r .type) (o .of-rule) ∙ f .of-type;
-            of-name = same-labels-named {g = withoutUnfruitful g} (sym fruitful-labels) (rw (ap (λ (r : Rule). r .label) (o .of-rule)) (f .of-name));
-            word = prune-words (fruitful g) (o .rule .content) w .0 v .0;
           }
 
   fruitful-start : (k : ℕ) → List·Memᴰ k (withoutUnfruitful g .starts) ↔ (List·Memᴰ k (g .starts) × List·Memᴰ k (fruitful g))
@@ -163,6 +178,9 @@ module _ (g : Table) where
               of-table = rw (← same-starts) m;
               derived = reduce-trees (l .start) d (start-reached (withoutUnfruitful g) (l .start) m) .0 (l .derived);
             }
+
+    pub reduce-started : (k : ℕ) → List·Memᴰ k (reduce g .starts) → List·Memᴰ k (g .starts)
+    reduce-started k m = fruitful-start k .0 (rw same-starts m) .0
 
     reduce-tree : (k : ℕ) → List·Memᴰ k (fruitful g) → List·Memᴰ k (reached (withoutUnfruitful g)) → SomeTree (reduce g) k
     reduce-tree k p q =

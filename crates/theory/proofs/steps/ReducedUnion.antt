@@ -1,15 +1,19 @@
--- The reduced union of two tables that a file can hold: a reduced table that lets in just what one of the two lets in.
+-- The reduced union of two tables that a file can hold: a reduced table that lets in all that one of the two lets in, and no more than a
+-- table of either kind that does so.
 --     reduced-union       ReducedTable (reducedUnion lim old addition)
---     union-documents     LetsIn (reducedUnion lim old addition) d ↔ (LetsIn old d ⊎ LetsIn addition d)
+--     union-keeps         LetsIn old d ⊎ LetsIn addition d → LetsIn (reducedUnion lim old addition) d
+--     union-least         a table of a kind that lets in both tables' documents lets in those of the reduced union
 --     union-nothing       it has no start just where neither lets in a document
 use mathlib.Core.List.{[]}
-use mathlib.Core.Logic.{_↔_, _⊎_, Iff·trans}
+use mathlib.Core.Logic.{_↔_, _⊎_, ⊎-elim}
 use mathlib.Core.Path.{_≡_}
 use Rattle.grammar.specs.Limits.{Limits}
 use Rattle.grammar.specs.Names.{Classes}
 use Rattle.grammar.specs.Tree.{Tree}
 use Rattle.grammar.specs.Table.{Table, DistinctNames}
 use Rattle.grammar.specs.Derivation.{LetsIn}
+use Rattle.grammar.specs.Kinds.{Kind, local, singleType, OfKind, SingleType}
+use Rattle.grammar.specs.Least.{LetsInAll}
 use Rattle.grammar.specs.WithinLimits.{TableWithin}
 use Rattle.grammar.specs.Unite.{unite}
 use Rattle.grammar.specs.Normalise.{normalise}
@@ -17,7 +21,7 @@ use Rattle.grammar.specs.Widen.{reducedUnion}
 use Rattle.theory.specs.Conditions.{Labelled}
 use Rattle.theory.proofs.tables.TableConditions.{within-below, within-labelled, within-names, derived-rule}
 use Rattle.theory.proofs.steps.UniteDocuments.{unite-documents, unite-labelled, unite-names}
-use Rattle.theory.proofs.steps.NormaliseDocuments.{normalise-documents, normalise-types, normalise-names, normalise-labelled}
+use Rattle.theory.proofs.steps.NormaliseDocuments.{normalise-keeps, normalise-types, normalise-names, normalise-labelled}
 use Rattle.theory.proofs.steps.ReduceDocuments.{
   reduce-labels,
   reduce-documents,
@@ -31,6 +35,8 @@ use Rattle.theory.proofs.steps.ReduceDocuments.{
   reduce-one-rule,
 }
 use Rattle.theory.proofs.tables.ReducedTable.{ReducedTable}
+use Rattle.theory.proofs.tables.KindLaws.{local-single-type}
+use Rattle.theory.proofs.steps.JoinLeast.{join-least, join-some}
 
 module _ (lim : Limits) (classes : Classes) (old addition : Table) (old-within : TableWithin lim classes old)
     (addition-within : TableWithin lim classes addition) where
@@ -65,19 +71,35 @@ module _ (lim : Limits) (classes : Classes) (old addition : Table) (old-within :
         reaches = reduce-reached normal normal-labelled;
       }
 
-  normal-documents : (d : Tree) → LetsIn normal d ↔ (LetsIn old d ⊎ LetsIn addition d)
-  normal-documents d =
-      Iff·trans (normalise-documents united d)
-      (unite-documents lim old addition (within-below lim classes old old-within) (within-labelled lim classes old old-within)
-      (within-labelled lim classes addition addition-within) d)
+  united-documents : (d : Tree) → LetsIn united d ↔ (LetsIn old d ⊎ LetsIn addition d)
+  united-documents =
+      unite-documents lim old addition (within-below lim classes old old-within) (within-labelled lim classes old old-within)
+      (within-labelled lim classes addition addition-within)
 
-  pub union-documents : (d : Tree) → LetsIn (reducedUnion lim old addition) d ↔ (LetsIn old d ⊎ LetsIn addition d)
+  normal-keeps : (d : Tree) → LetsIn old d ⊎ LetsIn addition d → LetsIn normal d
+  normal-keeps d l = normalise-keeps united d (united-documents d .1 l)
+
+  pub union-keeps : (d : Tree) → LetsIn old d ⊎ LetsIn addition d → LetsIn (reducedUnion lim old addition) d
   unfolding reducedUnion
-  union-documents d = Iff·trans (reduce-documents normal normal-labelled d) (normal-documents d)
+  union-keeps d l = reduce-documents normal normal-labelled d .1 (normal-keeps d l)
+
+  -- a local table is single-type
+  pub union-least : (kind : Kind) (rival : Table) → DistinctNames rival → OfKind kind rival → LetsInAll rival (LetsIn old)
+      → LetsInAll rival (LetsIn addition) → LetsInAll rival (LetsIn (reducedUnion lim old addition))
+  unfolding reducedUnion
+  union-least kind rival names of-kind keeps-old keeps-added =
+      join-least united united-labelled rival names (single kind of-kind)
+      (λ d l. ⊎-elim (keeps-old d) (keeps-added d) (united-documents d .0 l))
+    where
+      single : (kind : Kind) → OfKind kind rival → SingleType rival
+      single local o = local-single-type rival o
+      single singleType o = o
 
   pub union-nothing : (reducedUnion lim old addition .starts ≡ []) ↔ ((d : Tree) → (LetsIn old d ⊎ LetsIn addition d) → ⊥)
   unfolding reducedUnion
   union-nothing = (
-    λ e d l. reduce-nothing normal normal-labelled .0 e d (normal-documents d .1 l),
-    λ h. reduce-nothing normal normal-labelled .1 (λ d l. h d (normal-documents d .0 l)),
+    λ e d l. reduce-nothing normal normal-labelled .0 e d (normal-keeps d l),
+    λ h.
+        reduce-nothing normal normal-labelled .1
+        (λ d l. let (t, m) = join-some united united-labelled d l in h t (united-documents t .0 m)),
   )

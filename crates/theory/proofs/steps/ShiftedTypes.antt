@@ -8,44 +8,28 @@ use mathlib.Core.Bool.{Bool, true, false, _&&_}
 use mathlib.Core.List.{List, [], _∷_, _++_, map, map-map, map-id, map-append, List·Memᴰ}
 use mathlib.Core.Path.{_≡_, refl, sym, _∙_, ap, ap₂, fun-ext}
 use lib.Dec.{eqb, ltb}
-use borrow.Author.Tests.{eqb-true, eq-eqb, ltb-true, ltb-false, lt-ltb, le-ltb}
-use Rattle.grammar.specs.Lists.{keep, distinct, joinedOf}
+use borrow.Author.Tests.{ltb-true, ltb-false, lt-ltb, le-ltb}
+use Rattle.grammar.specs.Lists.{anyPass, keep, distinct, joinedOf}
 use Rattle.grammar.specs.Limits.{Limits}
 use Rattle.grammar.specs.Content.{Content, type, choiceOf, replace}
 use Rattle.grammar.specs.Table.{Rule, Table}
 use Rattle.grammar.specs.KindTests.{samePair}
 use Rattle.grammar.specs.Unite.{shifted, added, unite}
-use Rattle.grammar.specs.Normalise.{pairOf, pairsOf, inPairs, ruleOfPair, normalise}
+use Rattle.grammar.specs.Normalise.{pairOf, pairsOf, inPairs, marks, ruleOfPair, normalise}
 use Rattle.grammar.specs.Reduce.{reduce}
 use Rattle.grammar.specs.Widen.{reducedUnion}
-use Rattle.theory.proofs.lists.BoolLaws.{same-test}
-use Rattle.theory.proofs.lists.ListLaws.{keep-on, keep-map, map-on, distinct-map}
+use Rattle.theory.proofs.lists.ListLaws.{keep-on, keep-map, any-map, map-on, distinct-map}
 use Rattle.theory.proofs.lists.PlaceLaws.{place-image}
 use Rattle.theory.proofs.lists.DistinctLaws.{distinct-on}
 use Rattle.theory.proofs.contents.ReplaceLaws.{replace-twice, replace-on, replace-self}
 use Rattle.theory.proofs.tables.TableConditions.{TypesBelow}
-
--- a rule, and a table, with types renamed
-module _ (rename : ℕ → ℕ) where
-  abbrev renamedRule : Rule → Rule
-  renamedRule r =
-      record { type = rename (r .type); label = r .label; content = replace (r .content) (λ k. type (rename k)) }
-
-  abbrev renamed : Table → Table
-  renamed g = record { labels = g .labels; starts = map rename (g .starts); rules = map renamedRule (g .rules) }
+use Rattle.theory.proofs.steps.RenamedTypes.{renamedRule, renamed, same-type-renamed, marks-renamed}
 
 -- Where no two types get one new name, renaming keeps each pair's number, and so the normal form.
 module _ (rename : ℕ → ℕ) (one-for-one : (j k : ℕ) → rename j ≡ rename k → j ≡ k) where
-  same-type-renamed : (j k : ℕ) → eqb (rename j) (rename k) ≡ eqb j k
-  same-type-renamed j k =
-      same-test (eqb (rename j) (rename k)) (eqb j k) (
-        λ e. eq-eqb j k (one-for-one j k (eqb-true (rename j) (rename k) e)),
-        λ e. eq-eqb (rename j) (rename k) (ap rename (eqb-true j k e)),
-      )
-
   same-pair-renamed : (r s : Rule) → samePair (renamedRule rename r) (renamedRule rename s) ≡ samePair r s
   unfolding samePair
-  same-pair-renamed r s = ap (λ (b : Bool). b && eqb (r .label) (s .label)) (same-type-renamed (r .type) (s .type))
+  same-pair-renamed r s = ap (λ (b : Bool). b && eqb (r .label) (s .label)) (same-type-renamed rename one-for-one (r .type) (s .type))
 
   module _ (u : Table) where
     pair-renamed : (r : Rule) → pairOf (renamed rename u) (renamedRule rename r) ≡ pairOf u r
@@ -67,7 +51,7 @@ module _ (rename : ℕ → ℕ) (one-for-one : (j k : ℕ) → rename j ≡ rena
         ∙ ap (map (pairOf (renamed rename u)))
         (keep-map (renamedRule rename) (λ (r : Rule). eqb (r .type) (rename k)) firsts
         ∙ ap (map (renamedRule rename))
-        (keep-on (λ (r : Rule). eqb (rename (r .type)) (rename k)) ofType firsts (λ r m. same-type-renamed (r .type) k)))
+        (keep-on (λ (r : Rule). eqb (rename (r .type)) (rename k)) ofType firsts (λ r m. same-type-renamed rename one-for-one (r .type) k)))
         ∙ map-map (pairOf (renamed rename u)) (renamedRule rename) (keep ofType firsts)
         ∙ map-on (λ r. pairOf (renamed rename u) (renamedRule rename r)) (pairOf u) (keep ofType firsts) (λ r m. pair-renamed r)
       where
@@ -83,25 +67,48 @@ module _ (rename : ℕ → ℕ) (one-for-one : (j k : ℕ) → rename j ≡ rena
         replace-twice (λ k. type (rename k)) (λ k. choiceOf (map type (pairsOf (renamed rename u) k))) c
         ∙ ap (replace c) (fun-ext (λ k. ap (λ (ps : List ℕ). choiceOf (map type ps)) (pairs-renamed k)))
 
+    rules-of-pair-renamed : (r : Rule)
+        → keep (samePair (renamedRule rename r)) (renamed rename u .rules) ≡ map (renamedRule rename) (keep (samePair r) (u .rules))
+    rules-of-pair-renamed r =
+        keep-map (renamedRule rename) (samePair (renamedRule rename r)) (u .rules)
+        ∙ ap (map (renamedRule rename))
+        (keep-on (λ s. samePair (renamedRule rename r) (renamedRule rename s)) (samePair r) (u .rules)
+        (λ s m. same-pair-renamed r s))
+
     contents-renamed : (r : Rule)
         → map (λ (s : Rule). inPairs (renamed rename u) (s .content)) (keep (samePair (renamedRule rename r)) (renamed rename u .rules))
         ≡ map (λ (s : Rule). inPairs u (s .content)) (keep (samePair r) (u .rules))
     contents-renamed r =
-        ap (map (λ (s : Rule). inPairs (renamed rename u) (s .content)))
-        (keep-map (renamedRule rename) (samePair (renamedRule rename r)) (u .rules)
-        ∙ ap (map (renamedRule rename))
-        (keep-on (λ s. samePair (renamedRule rename r) (renamedRule rename s)) (samePair r) (u .rules)
-        (λ s m. same-pair-renamed r s)))
+        ap (map (λ (s : Rule). inPairs (renamed rename u) (s .content))) (rules-of-pair-renamed r)
         ∙ map-map (λ (s : Rule). inPairs (renamed rename u) (s .content)) (renamedRule rename) (keep (samePair r) (u .rules))
         ∙ map-on (λ s. inPairs (renamed rename u) (renamedRule rename s .content)) (λ (s : Rule). inPairs u (s .content))
         (keep (samePair r) (u .rules))
         (λ s m. in-pairs-renamed (s .content))
 
+    text-renamed : (r : Rule)
+        → anyPass (marks (renamed rename u)) (keep (samePair (renamedRule rename r)) (renamed rename u .rules))
+        ≡ anyPass (marks u) (keep (samePair r) (u .rules))
+    text-renamed r =
+        ap (anyPass (marks (renamed rename u))) (rules-of-pair-renamed r)
+        ∙ any-map (renamedRule rename) (marks (renamed rename u)) (keep (samePair r) (u .rules))
+        ∙ ap (λ test. anyPass test (keep (samePair r) (u .rules))) (fun-ext (λ s. marks-renamed rename one-for-one u s))
+
     rule-renamed : (r : Rule) → ruleOfPair (renamed rename u) (renamedRule rename r) ≡ ruleOfPair u r
     unfolding ruleOfPair
     rule-renamed r =
-        ap₂ (λ (k : ℕ) (cs : List Content). record { type = k; label = r .label; content = choiceOf cs }) (pair-renamed r)
+        ap₂
+        (λ (k : ℕ) (cs : List Content). record { type = k; label = r .label; content = choiceOf cs; text = markedBy (renamed rename u) })
+        (pair-renamed r)
         (contents-renamed r)
+        ∙ ap
+        (λ (b : Bool). record { type = pairOf u r; label = r .label; content = choiceOf (contentsOf u); text = b })
+        (text-renamed r)
+      where
+        contentsOf : Table → List Content
+        contentsOf g = map (λ (s : Rule). inPairs g (s .content)) (keep (samePair r) (g .rules))
+
+        markedBy : Table → Bool
+        markedBy g = anyPass (marks g) (keep (samePair (renamedRule rename r)) (g .rules))
 
     starts-renamed : (ks : List ℕ) → joinedOf (pairsOf (renamed rename u)) (map rename ks) ≡ joinedOf (pairsOf u) ks
     unfolding joinedOf
@@ -179,13 +186,15 @@ module _ (lim lim′ : Limits) (g h : Table) (roomier : lim .types ≤ lim′ .t
 
   rule-stays : (r : Rule) → List·Memᴰ r (g .rules) → renamedRule move r ≡ r
   rule-stays r m =
-      ap₂ (λ (k : ℕ) (c : Content). record { type = k; label = r .label; content = c }) (stays (r .type) (below .rules r m))
+      ap₂ (λ (k : ℕ) (c : Content). record { type = k; label = r .label; content = c; text = r .text }) (stays (r .type) (below .rules r m))
       (replace-on (λ k. type (move k)) type (r .content) (λ k n. ap type (stays k (below .contents r m k n))) ∙ replace-self (r .content))
 
   rule-moves : (r : Rule) → renamedRule move (added lim g h r) ≡ added lim′ g h r
   unfolding added
   rule-moves r =
-      ap₂ (λ (k : ℕ) (c : Content). record { type = k; label = added lim g h r .label; content = c }) (shifted-moves (r .type))
+      ap₂
+      (λ (k : ℕ) (c : Content). record { type = k; label = added lim g h r .label; content = c; text = r .text })
+      (shifted-moves (r .type))
       (replace-twice (λ k. type (shifted lim k)) (λ k. type (move k)) (r .content)
       ∙ ap (replace (r .content)) (fun-ext (λ k. ap type (shifted-moves k))))
 

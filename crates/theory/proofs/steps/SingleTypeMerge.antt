@@ -8,6 +8,7 @@
 --     single-type-form-place     the i-th rule is that of type i
 --     single-type-form-length    there are as many rules as sets; starts and types in contents are below that (-starts, -types)
 use Prim.Native.Nat.{ℕ, _≤_, _<_}
+use mathlib.Core.Bool.{Bool, true, false, false≢true}
 use mathlib.Core.List.{List, [], _∷_, map, List·Memᴰ, List·Memᴰ·head, Memᴰ·cast, Memᴰ·map, Memᴰ·of-map, Forall₂}
 use mathlib.Core.Logic.{_↔_}
 use mathlib.Core.Option.{some as just}
@@ -17,6 +18,7 @@ use Rattle.grammar.specs.Lists.{place, sameNumbers}
 use Rattle.grammar.specs.Limits.{Limits}
 use Rattle.grammar.specs.Names.{Name, SameName}
 use Rattle.grammar.specs.Content.{Word, typesIn}
+use Rattle.grammar.specs.Tree.{Head}
 use Rattle.grammar.specs.Table.{Rule, Table, Named, DistinctNames}
 use Rattle.grammar.specs.Derivation.{Fits, LetsIn}
 use Rattle.grammar.specs.Kinds.{Competing, SingleType}
@@ -30,11 +32,14 @@ use Rattle.grammar.specs.SingleTypeForm.{
   typesMet,
   allSets,
   contentOfSet,
+  textOfSet,
   ruleOfSet,
   singleTypeForm,
 }
 use Rattle.theory.specs.Conditions.{Labelled}
 use Rattle.theory.proofs.lists.ListLaws.{
+  any-of,
+  any-found,
   at-mem,
   mem-at,
   at-below,
@@ -53,7 +58,7 @@ use Rattle.theory.proofs.trees.NameLaws.{name-refl}
 use Rattle.theory.proofs.contents.WordLaws.{merge-words}
 use Rattle.theory.proofs.contents.Standing.{word-stands, merge-type}
 use Rattle.theory.proofs.automata.Automaton.{Automaton}
-use Rattle.theory.proofs.automata.Merge.{Forth, Back, StartType, accepted-let-in}
+use Rattle.theory.proofs.automata.Merge.{Forth, Back, TextStep, StartType, accepted-let-in}
 use Rattle.theory.proofs.automata.LeastSingleType.{Arises, SingleTypeMerge, least-single-type}
 use Rattle.theory.proofs.automata.TableAutomaton.{typeName, Steps, tableAutomaton, table-accepts, table-kept}
 use Rattle.theory.proofs.tables.ReducedTable.{ReducedTable}
@@ -77,7 +82,7 @@ use Rattle.theory.proofs.steps.SetsClosed.{
   each-set,
 }
 use Rattle.theory.proofs.tables.TableConditions.{OneRuleEach, HasRule}
-use Rattle.theory.proofs.automata.ReducedAutomaton.{step-alive}
+use Rattle.theory.proofs.automata.ReducedAutomaton.{step-alive, rule-step}
 
 -- the first of a set with members
 pub first-member : (s : TypeSet) {k : ℕ} → List·Memᴰ k s → List·Memᴰ (getD s 0 0) s
@@ -118,6 +123,18 @@ word-of-set g sets s w = (there, back)
           renamed = h .renamed;
         })
 
+-- a set's rule is for text where a member's is
+text-of-set : (g : Table) (s : TypeSet) → (textOfSet g s ≡ true)
+    ↔ ((r : Rule) × List·Memᴰ r (g .rules) × List·Memᴰ (r .type) s × (r .text ≡ true))
+unfolding textOfSet
+text-of-set g s = (
+  λ e.
+      let (r, m, t) = any-found (λ (r : Rule). r .text) (members g s) e in
+      let (p, q) = member-rule g s r .0 m in
+      (r, p, q, t),
+  λ a. any-of (λ (r : Rule). r .text) (member-rule g s (a .0) .1 (a .1, a .2)) (a .3),
+)
+
 -- A type that stands in a set's content is the number of the set of a type met.
 type-of-set : (g : Table) (sets : List TypeSet) (s : TypeSet) (k : ℕ) → List·Memᴰ k (typesIn (contentOfSet g sets s))
     → (j : ℕ) × List·Memᴰ j (typesMet g s) × (setNumber g sets s j ≡ k)
@@ -149,12 +166,14 @@ module _ (lim : Limits) (g : Table) where
     at : getElem? sets k ≡ just set
     alike : ruleOfSet g sets set ≡ r
 
-  -- What fits a type of the form: a word of its set's content, and the name of the member whose rule gives it.
-  record FitsSet (k : ℕ) (n : Name) (w : List ℕ) : Type 0 where
+  -- What fits a type of the form: a word of its set's content, the name of the member whose rule gives it, and text if a member's rule
+  -- is for text.
+  record FitsSet (k : ℕ) (h : Head) (w : List ℕ) : Type 0 where
     set : TypeSet
     at : getElem? sets k ≡ just set
     word : WordOfSet g sets set w
-    named : SameName (typeName g (word .rule .type)) n
+    named : SameName (typeName g (word .rule .type)) (h .name)
+    of-text : h .text ≡ true → textOfSet g set ≡ true
 
   pub single-type-form-labels : singleTypeForm lim g .labels ≡ g .labels
   unfolding singleTypeForm
@@ -325,14 +344,14 @@ module _ (lim : Limits) (g : Table) where
               let (t, bt, b) = set-of r h l q in
               sets-compete (typesMet g (h .set)) (met-rules g reduced (h .set)) k l s t at bt a b c
 
-      fits-set : (k : ℕ) (n : Name) (w : List ℕ) → Fits form k n w ↔ FitsSet k n w
+      fits-set : (k : ℕ) (h : Head) (w : List ℕ) → Fits form k h w ↔ FitsSet k h w
       unfolding singleTypeForm ruleOfSet
-      fits-set k n w = (there, back)
+      fits-set k i w = (there, back)
         where
           rule-type : {s : TypeSet} (v : WordOfSet g sets s w) → HasRule g (v .rule .type)
           rule-type v = record { rule = v .rule; of-table = v .of-table; of-type = refl }
 
-          there : Fits form k n w → FitsSet k n w
+          there : Fits form k i w → FitsSet k i w
           there f =
               let h = rule-of k (f .rule) (f .of-table) (f .of-type) in
               let v = word-of-set g sets (h .set) w .0 (subst (λ (r : Rule). Word (r .content) w) (sym (h .alike)) (f .word)) in
@@ -342,18 +361,20 @@ module _ (lim : Limits) (g : Table) where
                 word = v;
                 named =
                     form-named (rule-type v)
-                    (ap (λ (r : Rule). r .label) (sym (h .alike)) ∙ set-label (at-mem sets k (h .at)) (v .of-set)) n .0
+                    (ap (λ (r : Rule). r .label) (sym (h .alike)) ∙ set-label (at-mem sets k (h .at)) (v .of-set)) (i .name) .0
                     (f .of-name);
+                of-text = λ e. ap (λ (r : Rule). r .text) (h .alike) ∙ f .of-text e;
               }
 
-          back : FitsSet k n w → Fits form k n w
+          back : FitsSet k i w → Fits form k i w
           back f =
               let m = at-mem sets k (f .at) in
               record {
                 rule = ruleOfSet g sets (f .set);
                 of-table = Memᴰ·map (ruleOfSet g sets) m;
                 of-type = one-place (number-at m) (f .at) refl;
-                of-name = form-named (rule-type (f .word)) (set-label m (f .word .of-set)) n .1 (f .named);
+                of-name = form-named (rule-type (f .word)) (set-label m (f .word .of-set)) (i .name) .1 (f .named);
+                of-text = f .of-text;
                 word = word-of-set g sets (f .set) w .1 (f .word);
               }
 
@@ -379,18 +400,22 @@ module _ (lim : Limits) (g : Table) where
       abbrev automaton : Automaton ℕ
       automaton = tableAutomaton g
 
-      forward : (k : ℕ) (s : ℕ) (u : List ℕ) → Member k s → Steps g s u → Forth automaton form Member k s u
-      forward k s u m step =
+      forward : (k : ℕ) (s : ℕ) (text : Bool) (u : List ℕ) → Member k s → Steps g s text u → Forth automaton form Member k s text u
+      forward k s text u m step =
           record {
             word = map (setNumber g sets (m .set)) u;
             fits =
-                fits-set k (typeName g s) (map (setNumber g sets (m .set)) u) .1
+                fits-set k (record { name = typeName g s; text = text }) (map (setNumber g sets (m .set)) u) .1
                 (record {
                   set = m .set;
                   at = m .at;
                   word = v;
                   named =
                       subst (λ (j : ℕ). SameName (typeName g j) (typeName g s)) (sym (step .of-type)) (name-refl (typeName g s));
+                  of-text =
+                      λ e.
+                      text-of-set g (m .set) .1
+                      (step .rule, step .of-table, Memᴰ·cast (step .of-type) (m .listed), step .of-text e);
                 });
             members = word-members (at-mem sets k (m .at)) v;
           }
@@ -406,12 +431,12 @@ module _ (lim : Limits) (g : Table) where
                 renamed = refl;
               }
 
-      backward : (k : ℕ) (n : Name) (w : List ℕ) → Fits form k n w → Back automaton form Member k n w
-      backward k n w f =
-          let h = fits-set k n w .0 f in
+      backward : (k : ℕ) (i : Head) (w : List ℕ) → Fits form k i w → Back automaton form Member k (i .name) w
+      backward k i w f =
+          let h = fits-set k i w .0 f in
           let v = h .word in
-          let step : Steps g (v .rule .type) (v .source) =
-          record { rule = v .rule; of-table = v .of-table; of-type = refl; word = v .word }
+          let step : Steps g (v .rule .type) false (v .source) =
+          record { rule = v .rule; of-table = v .of-table; of-type = refl; of-text = λ e. absurd (false≢true e); word = v .word }
           in
           record {
             state = v .rule .type;
@@ -420,6 +445,20 @@ module _ (lim : Limits) (g : Table) where
             next = v .source;
             step = step;
             members = word-members (at-mem sets k (h .at)) v;
+            alive = step-alive g reduced step;
+          }
+
+      -- a rule for text has a member whose rule is for text, and that has a step
+      textual : (k : ℕ) (i : Head) (w : List ℕ) → Fits form k i w → i .text ≡ true → TextStep automaton form Member k
+      textual k i w f e =
+          let h = fits-set k i w .0 f in
+          let (r, m, listed, t) = text-of-set g (h .set) .0 (h .of-text e) in
+          let (u, step) = rule-step g reduced r m true (λ p. t) in
+          record {
+            state = r .type;
+            member = record { set = h .set; at = h .at; listed = listed };
+            next = u;
+            step = step;
             alive = step-alive g reduced step;
           }
 
@@ -452,10 +491,10 @@ module _ (lim : Limits) (g : Table) where
           }
 
       -- Each member of a type within a word was met in the content of some member, which has a word with it.
-      arises : (k : ℕ) (n : Name) (w : List ℕ) → Fits form k n w → (l : ℕ) → List·Memᴰ l w → (s : ℕ) → Member l s
+      arises : (k : ℕ) (i : Head) (w : List ℕ) → Fits form k i w → (l : ℕ) → List·Memᴰ l w → (s : ℕ) → Member l s
           → Arises automaton form Member k s
-      arises k n w f l m s p =
-          let h = fits-set k n w .0 f in
+      arises k i w f l m s p =
+          let h = fits-set k i w .0 f in
           let v = h .word in
           let (j, q, e) =
           Memᴰ·of-map (setNumber g sets (h .set)) (v .source) (subst (λ (z : List ℕ). List·Memᴰ l z) (v .renamed) m)
@@ -473,8 +512,8 @@ module _ (lim : Limits) (g : Table) where
               → Arises automaton form Member k s
           from t at r =
               let v = reduced .content-words (r .rule) (r .of-table) s (r .stands) in
-              let step : Steps g (r .rule .type) (v .0) =
-              record { rule = r .rule; of-table = r .of-table; of-type = refl; word = v .1 }
+              let step : Steps g (r .rule .type) false (v .0) =
+              record { rule = r .rule; of-table = r .of-table; of-type = refl; of-text = λ e. absurd (false≢true e); word = v .1 }
               in
               record {
                 state = r .rule .type;
@@ -495,14 +534,15 @@ module _ (lim : Limits) (g : Table) where
       pub single-type-form-merge : SingleTypeMerge (tableAutomaton g) (singleTypeForm lim g) (SetMemberOf lim g)
       single-type-form-merge =
           record {
-            merge = record { one-name = one-name; forward = forward; backward = backward; starts = start-type };
+            merge = record { one-name = one-name; backward = backward; textual = textual };
             arises = arises;
             start-states = start-states;
           }
 
       pub single-type-form-keeps : LetsInAll (singleTypeForm lim g) (LetsIn g)
       single-type-form-keeps d l =
-          accepted-let-in (single-type-form-merge .merge) d (table-accepts g (reduced .one-rule-each) (reduced .labelled) d .1 l)
+          accepted-let-in (record { forward = forward; starts = start-type }) d
+          (table-accepts g (reduced .one-rule-each) (reduced .labelled) d .1 l)
 
       pub single-type-form-least : (H : Table) → DistinctNames H → SingleType H → LetsInAll H (LetsIn g)
           → LetsInAll H (LetsIn (singleTypeForm lim g))

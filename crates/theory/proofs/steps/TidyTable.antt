@@ -56,6 +56,7 @@ module _ (g : Table) where
               label = refl;
               words = λ w. let e = tidy-words (r .content) w in (e .1, e .0);
               types = λ k. let e = tidy-types k (r .content) in (e .1, e .0);
+              text = refl;
             });
       }
 

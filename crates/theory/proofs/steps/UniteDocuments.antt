@@ -29,7 +29,7 @@ use Rattle.grammar.specs.Lists.{anyPass, keep, place}
 use Rattle.grammar.specs.Limits.{Limits}
 use Rattle.grammar.specs.Names.{Name, sameName, SameName}
 use Rattle.grammar.specs.Content.{Word}
-use Rattle.grammar.specs.Tree.{Tree}
+use Rattle.grammar.specs.Tree.{Head, Tree}
 use Rattle.grammar.specs.Table.{Rule, Table, Named, DistinctNames}
 use Rattle.grammar.specs.Derivation.{Fits, Derives, LetsIn}
 use Rattle.grammar.specs.Unite.{unitedLabels, shifted, added, unite}
@@ -140,24 +140,26 @@ module _ (lim : Limits) (old addition : Table) where
   added-rule m = Memᴰ·append-right (old .rules) (Memᴰ·map inUnited m)
 
   -- what fits a type of old fits it in the united table, and only that
-  old-fits : {k : ℕ} {n : Name} {w : List ℕ} → Fits old k n w → Fits united k n w
-  old-fits {n = n} f =
+  old-fits : {k : ℕ} {h : Head} {w : List ℕ} → Fits old k h w → Fits united k h w
+  old-fits {h = h} f =
       record {
         rule = f .rule;
         of-table = old-rule (f .of-table);
         of-type = f .of-type;
-        of-name = old-named (f .rule .label) n (f .of-name);
+        of-name = old-named (f .rule .label) (h .name) (f .of-name);
+        of-text = f .of-text;
         word = f .word;
       }
 
-  added-fits : {k : ℕ} {n : Name} {w : List ℕ} → Fits addition k n w → Fits united (shifted lim k) n (map (shifted lim) w)
+  added-fits : {k : ℕ} {h : Head} {w : List ℕ} → Fits addition k h w → Fits united (shifted lim k) h (map (shifted lim) w)
   unfolding added
-  added-fits {n = n} {w = w} f =
+  added-fits {h = h} {w = w} f =
       record {
         rule = inUnited (f .rule);
         of-table = added-rule (f .of-table);
         of-type = ap (shifted lim) (f .of-type);
-        of-name = added-named (f .rule) n (f .of-name);
+        of-name = added-named (f .rule) (h .name) (f .of-name);
+        of-text = f .of-text;
         word =
             rename-words (shifted lim) (f .rule .content) (map (shifted lim) w) .1
             (record { source = w; in-language = f .word; renamed = refl });
@@ -165,16 +167,16 @@ module _ (lim : Limits) (old addition : Table) where
 
   -- a derivation of old, or of the addition, is one of the united table
   old-derives : {k : ℕ} {t : Tree} → Derives old k t → Derives united k t
-  old-derives d = carry-tree old united (λ k. Unit {0}) (λ k n w ts p f a. (old-fits f, λ l m. tt)) d tt
+  old-derives d = carry-tree old united (λ k. Unit {0}) (λ k h w ts p f a. (old-fits f, λ l m. tt)) d tt
 
   added-derives : {k : ℕ} {t : Tree} → Derives addition k t → Derives united (shifted lim k) t
   added-derives {k} d = covered-derived {Cover = λ k j. j ≡ shifted lim k} words d (shifted lim k) refl
     where
       words : WordsCovered addition united (λ k j. j ≡ shifted lim k)
-      words k j n w e f =
+      words k j h w e f =
           record {
             word = map (shifted lim) w;
-            fits = subst (λ (i : ℕ). Fits united i n (map (shifted lim) w)) (sym e) (added-fits f);
+            fits = subst (λ (i : ℕ). Fits united i h (map (shifted lim) w)) (sym e) (added-fits f);
             covers = related-map (shifted lim) w (λ l m. refl);
           }
 
@@ -188,16 +190,17 @@ module _ (lim : Limits) (old addition : Table) where
     unite-apart r s m e = let h = below .rules r m in let f = added-type s in omega arith
 
     -- a derivation of the united table from a type below the limit is one of old
-    fits-old : Labelled old → {k : ℕ} {n : Name} {w : List ℕ} → k < lim .types → Fits united k n w → Fits old k n w
-    fits-old labelled {k} {n} {w} h f = ⊎-elim here (λ t. absurd (there t)) (rule-of (f .of-table))
+    fits-old : Labelled old → {k : ℕ} {h : Head} {w : List ℕ} → k < lim .types → Fits united k h w → Fits old k h w
+    fits-old labelled {k} {h} {w} below-limit f = ⊎-elim here (λ t. absurd (there t)) (rule-of (f .of-table))
       where
-        here : List·Memᴰ (f .rule) (old .rules) → Fits old k n w
+        here : List·Memᴰ (f .rule) (old .rules) → Fits old k h w
         here m =
             record {
               rule = f .rule;
               of-table = m;
               of-type = f .of-type;
-              of-name = named-old (f .rule .label) n (labelled (f .rule) m) (f .of-name);
+              of-name = named-old (f .rule .label) (h .name) (labelled (f .rule) m) (f .of-name);
+              of-text = f .of-text;
               word = f .word;
             }
 
@@ -207,28 +210,28 @@ module _ (lim : Limits) (old addition : Table) where
             let g = added-type (t .0) in
             omega arith
 
-    fits-below : {k : ℕ} {n : Name} {w : List ℕ} → Fits old k n w → (l : ℕ) → List·Memᴰ l w → l < lim .types
+    fits-below : {k : ℕ} {h : Head} {w : List ℕ} → Fits old k h w → (l : ℕ) → List·Memᴰ l w → l < lim .types
     fits-below {w = w} f l m = below .contents (f .rule) (f .of-table) l (word-stands (f .rule .content) w (f .word) l m)
 
     derives-old : Labelled old → {k : ℕ} {t : Tree} → Derives united k t → k < lim .types → Derives old k t
     derives-old labelled =
-        carry-tree united old (λ k. k < lim .types) (λ k n w ts h f a. let e = fits-old labelled h f in (e, fits-below e))
+        carry-tree united old (λ k. k < lim .types) (λ k h w ts q f a. let e = fits-old labelled q f in (e, fits-below e))
 
     -- a derivation of the united table from a shifted type is one of the addition
-    record FitsAdded (k : ℕ) (n : Name) (w : List ℕ) : Type 0 where
+    record FitsAdded (k : ℕ) (h : Head) (w : List ℕ) : Type 0 where
       source : List ℕ
-      fits : Fits addition k n source
+      fits : Fits addition k h source
       renamed : w ≡ map (shifted lim) source
 
-    fits-added : Labelled addition → {j : ℕ} {n : Name} {w : List ℕ} → Fits united j n w → (k : ℕ) → j ≡ shifted lim k
-        → FitsAdded k n w
+    fits-added : Labelled addition → {j : ℕ} {h : Head} {w : List ℕ} → Fits united j h w → (k : ℕ) → j ≡ shifted lim k
+        → FitsAdded k h w
     unfolding added
-    fits-added labelled {j} {n} {w} f k e = ⊎-elim (λ m. absurd (here m)) (λ t. there (t .0) (t .1) (t .2)) (rule-of (f .of-table))
+    fits-added labelled {j} {h} {w} f k e = ⊎-elim (λ m. absurd (here m)) (λ t. there (t .0) (t .1) (t .2)) (rule-of (f .of-table))
       where
         here : List·Memᴰ (f .rule) (old .rules) → ⊥
-        here m = let h = below .rules (f .rule) m in let g = f .of-type ∙ e in omega arith
+        here m = let b = below .rules (f .rule) m in let g = f .of-type ∙ e in omega arith
 
-        there : (s : Rule) → List·Memᴰ s (addition .rules) → inUnited s ≡ f .rule → FitsAdded k n w
+        there : (s : Rule) → List·Memᴰ s (addition .rules) → inUnited s ≡ f .rule → FitsAdded k h w
         there s m q =
             let g = ap (λ (r : Rule). r .type) q ∙ f .of-type ∙ e in
             let v =
@@ -240,7 +243,10 @@ module _ (lim : Limits) (old addition : Table) where
                     rule = s;
                     of-table = m;
                     of-type = omega arith;
-                    of-name = named-added s n (labelled s m) (subst (λ (r : Rule). Named united (r .label) n) (sym q) (f .of-name));
+                    of-name =
+                        named-added s (h .name) (labelled s m)
+                        (subst (λ (r : Rule). Named united (r .label) (h .name)) (sym q) (f .of-name));
+                    of-text = λ p. ap (λ (r : Rule). r .text) q ∙ f .of-text p;
                     word = v .in-language;
                   };
               renamed = v .renamed;
@@ -250,7 +256,7 @@ module _ (lim : Limits) (old addition : Table) where
     derives-added labelled = covered-derived {Cover = λ j k. j ≡ shifted lim k} words
       where
         words : WordsCovered united addition (λ j k. j ≡ shifted lim k)
-        words j k n w e f =
+        words j k h w e f =
             let a = fits-added labelled f k e in
             record {
               word = a .source;

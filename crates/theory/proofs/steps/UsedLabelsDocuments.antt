@@ -100,6 +100,7 @@ module _ (g : Table) where
               label = place-of eqb eqb-decides (label-used labelled r m);
               words = λ w. (λ v. v, λ v. v);
               types = λ k. (λ v. v, λ v. v);
+              text = refl;
             });
       }
 

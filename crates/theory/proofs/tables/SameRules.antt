@@ -1,5 +1,5 @@
--- Two tables whose starts are the same and whose rules agree one by one: in type, in label up to a renumbering of labels, and in
--- the content's words and types.
+-- Two tables whose starts are the same and whose rules agree one by one: in type, in label up to a renumbering of labels, in the text
+-- mark, and in the content's words and types.
 --     same-documents      they let in the same documents
 --     same-local          one is local if the other is
 --     same-single-type    one is single-type if the other is
@@ -11,9 +11,8 @@ use mathlib.Core.List.{List, List·Memᴰ, Forall₂}
 use mathlib.Core.Logic.{_↔_}
 use mathlib.Core.Path.{_≡_, sym, _∙_, subst}
 use lib.ListN.{getElem?}
-use Rattle.grammar.specs.Names.{Name}
 use Rattle.grammar.specs.Content.{Word, typesIn}
-use Rattle.grammar.specs.Tree.{Tree}
+use Rattle.grammar.specs.Tree.{Head, Tree}
 use Rattle.grammar.specs.Table.{Rule, Table}
 use Rattle.grammar.specs.Derivation.{Fits, LetsIn}
 use Rattle.grammar.specs.Kinds.{NoTwoRules, Local, Competing, NoneCompete, SingleType}
@@ -29,6 +28,7 @@ pub record SameRule (Label : ℕ → ℕ → Type 0) (r s : Rule) : Type 0 where
   pub label : Label (r .label) (s .label)
   pub words : (w : List ℕ) → Word (r .content) w ↔ Word (s .content) w
   pub types : (k : ℕ) → List·Memᴰ k (typesIn (r .content)) ↔ List·Memᴰ k (typesIn (s .content))
+  pub text : r .text ≡ s .text
 
 pub record SameRules (Label : ℕ → ℕ → Type 0) (g h : Table) : Type 0 where
   pub names : (l m : ℕ) → Label l m → getElem? (g .labels) l ≡ getElem? (h .labels) m
@@ -44,6 +44,7 @@ module _ {Label : ℕ → ℕ → Type 0} where
         label = a .label;
         words = λ w. (a .words w .1, a .words w .0);
         types = λ k. (a .types k .1, a .types k .0);
+        text = sym (a .text);
       }
 
   pub same-turn : {g h : Table} → SameRules Label g h → SameRules (λ m l. Label l m) h g
@@ -57,8 +58,8 @@ module _ {Label : ℕ → ℕ → Type 0} where
 
 module _ {Label : ℕ → ℕ → Type 0} {g h : Table} (same : SameRules Label g h) where
   -- what fits in the one table fits in the other
-  same-fits : {k : ℕ} {n : Name} {w : List ℕ} → Fits h k n w → Fits g k n w
-  same-fits {k} {n} {w} f =
+  same-fits : {k : ℕ} {i : Head} {w : List ℕ} → Fits h k i w → Fits g k i w
+  same-fits {k} {i} {w} f =
       let r = related-mem (same .rules) (f .of-table) in
       let a = r .2 in
       record {
@@ -71,6 +72,7 @@ module _ {Label : ℕ → ℕ → Type 0} {g h : Table} (same : SameRules Label 
               listed = same .names (r .0 .label) (f .rule .label) (a .label) ∙ f .of-name .listed;
               same = f .of-name .same;
             };
+        of-text = λ p. a .text ∙ f .of-text p;
         word = a .words w .1 (f .word);
       }
 

@@ -5,8 +5,10 @@
 use Prim.Native.Nat.{ℕ}
 use mathlib.Core.List.{List}
 use mathlib.Core.Logic.{_↔_}
-use Rattle.grammar.specs.Names.{Name, SameName}
+use mathlib.Core.Path.{_≡_, refl, sym, _∙_}
+use Rattle.grammar.specs.Names.{SameName}
 use Rattle.grammar.specs.Tree.{
+  Head,
   Tree,
   node,
   Forest,
@@ -25,7 +27,7 @@ use Rattle.theory.proofs.tables.NamedLabels.{same-named}
 
 mutual
   pub same-refl : (t : Tree) → SameTree t t
-  same-refl (node n ts) = same-node (name-refl n) (same-all-refl ts)
+  same-refl (node h ts) = same-node (name-refl (h .name)) refl (same-all-refl ts)
 
   pub same-all-refl : (ts : Forest) → SameForest ts ts
   same-all-refl []ᵗ = same-none
@@ -33,7 +35,7 @@ mutual
 
 mutual
   pub same-sym : {t u : Tree} → SameTree t u → SameTree u t
-  same-sym (same-node {m = m} {n = n} e all) = same-node (name-sym m n e) (same-all-sym all)
+  same-sym (same-node {h = h} {i = i} e q all) = same-node (name-sym (h .name) (i .name) e) (sym q) (same-all-sym all)
 
   pub same-all-sym : {ts us : Forest} → SameForest ts us → SameForest us ts
   same-all-sym same-none = same-none
@@ -41,8 +43,8 @@ mutual
 
 mutual
   pub same-trans : {t u v : Tree} → SameTree t u → SameTree u v → SameTree t v
-  same-trans (same-node {m = l} {n = m} e all) (same-node {n = n} e′ all′) =
-      same-node (name-trans l m n e e′) (same-all-trans all all′)
+  same-trans (same-node {h = h} {i = i} e q all) (same-node {i = j} e′ q′ all′) =
+      same-node (name-trans (h .name) (i .name) (j .name) e e′) (q ∙ q′) (same-all-trans all all′)
 
   pub same-all-trans : {ts us vs : Forest} → SameForest ts us → SameForest us vs → SameForest ts vs
   same-all-trans same-none same-none = same-none
@@ -50,19 +52,20 @@ mutual
 
 module _ {g : Table} where
   -- a rule is of every name equal to one of its names
-  pub same-fits : {k : ℕ} {m n : Name} {w : List ℕ} → Fits g k m w → SameName m n → Fits g k n w
-  same-fits f e =
+  pub same-fits : {k : ℕ} {h i : Head} {w : List ℕ} → Fits g k h w → SameName (h .name) (i .name) → h .text ≡ i .text → Fits g k i w
+  same-fits f e q =
       record {
         rule = f .rule;
         of-table = f .of-table;
         of-type = f .of-type;
         of-name = same-named (f .of-name) e;
+        of-text = λ p. f .of-text (q ∙ p);
         word = f .word;
       }
 
   mutual
     pub same-derives : {k : ℕ} {t u : Tree} → Derives g k t → SameTree t u → Derives g k u
-    same-derives (derives f all) (same-node e same) = derives (same-fits f e) (same-derives-all all same)
+    same-derives (derives f all) (same-node e q same) = derives (same-fits f e q) (same-derives-all all same)
 
     pub same-derives-all : {w : List ℕ} {ts us : Forest} → DerivesAll g w ts → SameForest ts us → DerivesAll g w us
     same-derives-all derives-none same-none = derives-none

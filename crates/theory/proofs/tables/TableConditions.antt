@@ -8,12 +8,12 @@ use Prim.Native.Nat.{ℕ, _<_}
 use mathlib.Core.List.{List·Memᴰ, List}
 use mathlib.Core.Path.{_≡_}
 use Rattle.grammar.specs.Limits.{Limits}
-use Rattle.grammar.specs.Names.{sameName, Classes, Name}
+use Rattle.grammar.specs.Names.{sameName, Classes}
 use Rattle.grammar.specs.Content.{typesIn}
 use Rattle.grammar.specs.Table.{Rule, Table, DistinctNames}
 use Rattle.grammar.specs.WithinLimits.{TableWithin}
 use Rattle.grammar.specs.Kinds.{NoTwoRules}
-use Rattle.grammar.specs.Tree.{Tree}
+use Rattle.grammar.specs.Tree.{Head, Tree}
 use Rattle.grammar.specs.Derivation.{Fits, Derives, derives}
 use Rattle.theory.specs.Conditions.{Labelled}
 use Rattle.theory.proofs.lists.ListLaws.{differ-at}
@@ -39,7 +39,7 @@ pub record HasRule (g : Table) (k : ℕ) : Type 0 where
 abbrev pub AllRuled : Table → Type 0
 AllRuled g = (r : Rule) → List·Memᴰ r (g .rules) → (k : ℕ) → List·Memᴰ k (typesIn (r .content)) → HasRule g k
 
-abbrev pub rule-that-fits : {g : Table} {k : ℕ} {n : Name} {w : List ℕ} → Fits g k n w → HasRule g k
+abbrev pub rule-that-fits : {g : Table} {k : ℕ} {h : Head} {w : List ℕ} → Fits g k h w → HasRule g k
 rule-that-fits f = record { rule = f .rule; of-table = f .of-table; of-type = f .of-type }
 
 pub derived-rule : {g : Table} {k : ℕ} {t : Tree} → Derives g k t → HasRule g k

@@ -6,7 +6,7 @@ use Prim.Native.Nat.{ℕ, _≤_}
 use native.Mathlib.Omega.{arith}
 use mathlib.Core.Bool.{Bool, true, false, false≢true}
 use mathlib.Core.List.{List, [], _∷_}
-use mathlib.Core.Logic.{_↔_, _⊎_, inl, inr, ⊎-elim}
+use mathlib.Core.Logic.{_↔_, _⊎_, inl, inr}
 use mathlib.Core.Path.{_≡_, refl, sym, subst}
 use lib.ListN.{length}
 use Rattle.grammar.specs.Limits.{Limits}
@@ -24,7 +24,7 @@ use Rattle.grammar.specs.Size.{tooLarge}
 use Rattle.grammar.specs.Widen.{form, ofSize, reducedUnion, widenByTable, sampleTable, widen}
 use Rattle.grammar.specs.Sample.{sample}
 use Rattle.theory.proofs.bytes.OutcomeLaws.{given-eq, was-given, had-no-fault}
-use Rattle.theory.proofs.steps.ReducedUnion.{reduced-union, union-documents, union-nothing}
+use Rattle.theory.proofs.steps.ReducedUnion.{reduced-union, union-keeps, union-least, union-nothing}
 use Rattle.theory.proofs.steps.FinishedForm.{LeastForm, finished, finished-least}
 use Rattle.theory.proofs.steps.LeastForms.{least-form}
 use Rattle.theory.proofs.tables.SameTree.{same-let-in}
@@ -73,10 +73,7 @@ module _ (lim : Limits) (classes : Classes) (kind : Kind) (old addition : Table)
       subst (λ (g : Table). LeastForm kind reduced g) (sym (w .made)) (finished-least kind reduced (form lim kind reduced) f)
 
   in-union : (d : Tree) → LetsIn old d ⊎ LetsIn addition d → LetsIn reduced d
-  in-union d = union-documents lim classes old addition old-within addition-within d .1
-
-  from-union : (d : Tree) → LetsIn reduced d → LetsIn old d ⊎ LetsIn addition d
-  from-union d = union-documents lim classes old addition old-within addition-within d .0
+  in-union d = union-keeps lim classes old addition old-within addition-within d
 
   pub widened-by-table : (result : Table) → widenByTable lim kind old addition ≡ given result
       → LeastWidening kind old (byTable addition) result
@@ -90,7 +87,8 @@ module _ (lim : Limits) (classes : Classes) (kind : Kind) (old addition : Table)
         least =
             λ rival r d l.
             f .least rival (r .names) (r .of-kind)
-            (λ e m. ⊎-elim (r .keeps-old e) (r .keeps-added e) (from-union e m))
+            (union-least lim classes old addition old-within addition-within kind rival (r .names) (r .of-kind) (r .keeps-old)
+            (r .keeps-added))
             d
             l;
       }

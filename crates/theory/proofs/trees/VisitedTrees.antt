@@ -21,32 +21,32 @@ use mathlib.Core.Path.{_≡_, refl, sym, _∙_, ap, subst}
 use Rattle.grammar.specs.Names.{Name}
 use Rattle.grammar.specs.Tree.{Tree, node, Forest, []ᵗ, _∷ᵗ_}
 use Rattle.grammar.specs.Sample.{Visit, rootNames, visits, visitsAll}
-use Rattle.theory.proofs.trees.TreeParts.{rootName, childrenOf, treesOf, children}
+use Rattle.theory.proofs.trees.TreeParts.{rootHead, rootName, childrenOf, treesOf, children}
 
 -- the tree t stands at the path p in a document, whose root stands below the path `above`
 abbrev mutual
   pub StandsAt : Tree → List Name → List Name → Tree → Type 0
-  StandsAt (node n ts) = λ above p t. ((p ≡ above ++ (n ∷ [])) × (t ≡ node n ts)) ⊎ StandsAmong ts (above ++ (n ∷ [])) p t
+  StandsAt (node h ts) = λ above p t. ((p ≡ above ++ (h .name ∷ [])) × (t ≡ node h ts)) ⊎ StandsAmong ts (above ++ (h .name ∷ [])) p t
 
   pub StandsAmong : Forest → List Name → List Name → Tree → Type 0
   StandsAmong []ᵗ = λ above p t. ⊥
   StandsAmong (s ∷ᵗ ts) = λ above p t. StandsAt s above p t ⊎ StandsAmong ts above p t
 
 pub root-stands : (d : Tree) (above : List Name) → StandsAt d above (above ++ (rootName d ∷ [])) d
-root-stands (node n ts) above = inl (refl, refl)
+root-stands (node h ts) above = inl (refl, refl)
 
 -- visits
 abbrev pub visitOf : List Name → Tree → Visit
-visitOf p t = record { name = rootName t; path = p; children = rootNames (childrenOf t) }
+visitOf p t = record { name = rootName t; text = rootHead t .text; path = p; children = rootNames (childrenOf t) }
 
 mutual
   unfolding visits visitsAll
 
   pub stands-visit : (d : Tree) (above p : List Name) (t : Tree) → StandsAt d above p t → List·Memᴰ (visitOf p t) (visits d above)
-  stands-visit (node n ts) above p t s =
+  stands-visit (node h ts) above p t s =
       ⊎-elim
-      (λ e. List·Memᴰ·head (ap (λ (q : List Name). visitOf q t) (e .0) ∙ ap (visitOf (above ++ (n ∷ []))) (e .1)))
-      (λ q. List·Memᴰ·tail (stands-visit-all ts (above ++ (n ∷ [])) p t q))
+      (λ e. List·Memᴰ·head (ap (λ (q : List Name). visitOf q t) (e .0) ∙ ap (visitOf (above ++ (h .name ∷ []))) (e .1)))
+      (λ q. List·Memᴰ·tail (stands-visit-all ts (above ++ (h .name ∷ [])) p t q))
       s
 
   stands-visit-all : (ts : Forest) (above p : List Name) (t : Tree) → StandsAmong ts above p t
@@ -72,14 +72,14 @@ mutual
   unfolding visits visitsAll
 
   pub visit-stands : (d : Tree) (above : List Name) (v : Visit) → List·Memᴰ v (visits d above) → TreeOf (StandsAt d above) v
-  visit-stands (node n ts) above v m =
+  visit-stands (node h ts) above v m =
       ⊎-elim
       (λ e.
-      subst (λ (u : Visit). TreeOf (StandsAt (node n ts) above) u) (sym e)
-      (record { tree = node n ts; stands = inl (refl, refl); visits = refl }))
+      subst (λ (u : Visit). TreeOf (StandsAt (node h ts) above) u) (sym e)
+      (record { tree = node h ts; stands = inl (refl, refl); visits = refl }))
       (λ q.
-      tree-of-more (StandsAmong ts (above ++ (n ∷ []))) (StandsAt (node n ts) above) (λ p t. inr) v
-      (visit-stands-all ts (above ++ (n ∷ [])) v q))
+      tree-of-more (StandsAmong ts (above ++ (h .name ∷ []))) (StandsAt (node h ts) above) (λ p t. inr) v
+      (visit-stands-all ts (above ++ (h .name ∷ [])) v q))
       (List·Memᴰ·cases-cons m)
 
   visit-stands-all : (ts : Forest) (above : List Name) (v : Visit) → List·Memᴰ v (visitsAll ts above)
@@ -96,9 +96,9 @@ mutual
 pub root-named : (ts : Forest) {n : Name} → List·Memᴰ n (rootNames ts) → (t : Tree) × List·Memᴰ t (treesOf ts) × (rootName t ≡ n)
 unfolding rootNames
 root-named []ᵗ m = elim m [ ]
-root-named (node n us ∷ᵗ ts) m =
+root-named (node h us ∷ᵗ ts) m =
     ⊎-elim
-    (λ e. (node n us, List·Memᴰ·head refl, sym e))
+    (λ e. (node h us, List·Memᴰ·head refl, sym e))
     (λ q. let (t, o, e) = root-named ts q in (t, List·Memᴰ·tail o, e))
     (List·Memᴰ·cases-cons m)
 
@@ -115,13 +115,13 @@ roots-stand (s ∷ᵗ ts) above c o =
 mutual
   pub stands-child : (d : Tree) (above p : List Name) (t c : Tree) → StandsAt d above p t → List·Memᴰ c (children t)
       → StandsAt d above (p ++ (rootName c ∷ [])) c
-  stands-child (node n ts) above p t c s o =
+  stands-child (node h ts) above p t c s o =
       ⊎-elim
       (λ e.
       inr
-      (subst (λ (q : List Name). StandsAmong ts (above ++ (n ∷ [])) (q ++ (rootName c ∷ [])) c) (sym (e .0))
-      (roots-stand ts (above ++ (n ∷ [])) c (subst (λ (u : Tree). List·Memᴰ c (children u)) (e .1) o))))
-      (λ q. inr (stands-child-all ts (above ++ (n ∷ [])) p t c q o))
+      (subst (λ (q : List Name). StandsAmong ts (above ++ (h .name ∷ [])) (q ++ (rootName c ∷ [])) c) (sym (e .0))
+      (roots-stand ts (above ++ (h .name ∷ [])) c (subst (λ (u : Tree). List·Memᴰ c (children u)) (e .1) o))))
+      (λ q. inr (stands-child-all ts (above ++ (h .name ∷ [])) p t c q o))
       s
 
   stands-child-all : (ts : Forest) (above p : List Name) (t c : Tree) → StandsAmong ts above p t → List·Memᴰ c (children t)
@@ -152,15 +152,15 @@ parent-more S S′ h p t o =
 mutual
   pub stands-parent : (d : Tree) (above p : List Name) (t : Tree) → StandsAt d above p t
       → ((p ≡ above ++ (rootName t ∷ [])) × (t ≡ d)) ⊎ Parent (StandsAt d above) p t
-  stands-parent (node n ts) above p t s =
+  stands-parent (node h ts) above p t s =
       ⊎-elim
       (λ e. inl (e .0 ∙ ap (λ (u : Tree). above ++ (rootName u ∷ [])) (sym (e .1)), e .1))
       (λ q.
       inr
       (⊎-elim
-      (λ r. record { path = above ++ (n ∷ []); tree = node n ts; stands = inl (refl, refl); child = r .1; below = r .0 })
-      (λ r. parent-more (StandsAmong ts (above ++ (n ∷ []))) (StandsAt (node n ts) above) (λ p t. inr) p t r)
-      (stands-parent-all ts (above ++ (n ∷ [])) p t q)))
+      (λ r. record { path = above ++ (h .name ∷ []); tree = node h ts; stands = inl (refl, refl); child = r .1; below = r .0 })
+      (λ r. parent-more (StandsAmong ts (above ++ (h .name ∷ []))) (StandsAt (node h ts) above) (λ p t. inr) p t r)
+      (stands-parent-all ts (above ++ (h .name ∷ [])) p t q)))
       s
 
   stands-parent-all : (ts : Forest) (above p : List Name) (t : Tree) → StandsAmong ts above p t

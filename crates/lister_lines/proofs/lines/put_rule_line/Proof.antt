@@ -78,8 +78,8 @@ put-rule-content-requires c κs =
     let b4 = c .before .before .before .put-byte2 .kept .0 in
     (c .before .before .before .before .before .before .before .before .before .before .before .before .before .before .before .before .before .before .before .before .before .pre .0, c .before .before .before .before .before .before .before .before .before .before .before .before .before .before .before .before .before .before .before .before .before .pre .1, omega arith)
 
-put-byte-requires-3 : tie.Need-put-byte-requires-3
-put-byte-requires-3 c κs =
+put-rule-mark-requires : tie.Need-put-rule-mark-requires
+put-rule-mark-requires c κs =
     let pre = c .before .before .before .before .before .before .before .before .before .before .before .before .before .before .before .before .before .before .before .before .before .before .before .before .before .pre in
     let n = rule-type-size (pre .0) _ (pre .1) (c .before .before .before .before .before .before .before .before .before .before .before .before .before .before .before .before .before .before .before .before .before .rule-type .ensures) in
     let h = pre .2 in
@@ -93,32 +93,53 @@ put-byte-requires-3 c κs =
     let b4 = c .before .before .before .before .before .before .before .put-byte2 .kept .0 in
     let a5 = c .before .before .before .put-rule-content .ensures .short in
     let b5 = c .before .before .before .put-rule-content .kept .1 .1 .1 .0 in
+    (c .before .before .before .before .before .before .before .before .before .before .before .before .before .before .before .before .before .before .before .before .before .before .before .before .before .pre .0, c .before .before .before .before .before .before .before .before .before .before .before .before .before .before .before .before .before .before .before .before .before .before .before .before .before .pre .1, omega arith)
+
+put-byte-requires-3 : tie.Need-put-byte-requires-3
+put-byte-requires-3 c κs =
+    let pre = c .before .before .before .before .before .before .before .before .before .before .before .before .before .before .before .before .before .before .before .before .before .before .before .before .before .before .before .before .before .pre in
+    let n = rule-type-size (pre .0) _ (pre .1) (c .before .before .before .before .before .before .before .before .before .before .before .before .before .before .before .before .before .before .before .before .before .before .before .before .before .rule-type .ensures) in
+    let h = pre .2 in
+    let a1 = c .before .before .before .before .before .before .before .before .before .before .before .before .before .before .before .before .before .before .before .before .before .before .before .before .put-type .ensures .next-is in
+    let b1 = c .before .before .before .before .before .before .before .before .before .before .before .before .before .before .before .before .before .before .before .before .before .before .before .before .put-type .kept .0 in
+    let a2 = c .before .before .before .before .before .before .before .before .before .before .before .before .before .before .before .before .before .before .before .before .put-byte .ensures .next-is in
+    let b2 = c .before .before .before .before .before .before .before .before .before .before .before .before .before .before .before .before .before .before .before .before .put-byte .kept .0 in
+    let a3 = c .before .before .before .before .before .before .before .before .before .before .before .before .before .before .before .put-name .ensures .short in
+    let b3 = c .before .before .before .before .before .before .before .before .before .before .before .before .before .before .before .put-name .kept .1 .1 .1 .0 in
+    let a4 = c .before .before .before .before .before .before .before .before .before .before .before .put-byte2 .ensures .next-is in
+    let b4 = c .before .before .before .before .before .before .before .before .before .before .before .put-byte2 .kept .0 in
+    let a5 = c .before .before .before .before .before .before .before .put-rule-content .ensures .short in
+    let b5 = c .before .before .before .before .before .before .before .put-rule-content .kept .1 .1 .1 .0 in
+    let a6 = c .before .before .before .put-rule-mark .ensures .short in
+    let b6 = c .before .before .before .put-rule-mark .kept .1 .1 .1 .0 in
     omega arith
 
 returns : tie.Need-returns
 returns c =
-    let start = c .before .before .before .before .before .before .before .before .before .before .before .before .before .before .before .before .before .before .before .before .before .before .before .before .before .before .before .before in
+    let start = c .before .before .before .before .before .before .before .before .before .before .before .before .before .before .before .before .before .before .before .before .before .before .before .before .before .before .before .before .before .before .before .before in
     let h = start .pre .1 in
-    let e = c .before .before .before .before .before .before .before .before .before .before .before .before .before .before .before .before .before .before .before .before .before .before .before .before .rule-type .ensures in
-    let m = c .before .before .before .before .before .before .before .before .before .before .before .before .before .before .before .before .rule-label .ensures in
+    let e = c .before .before .before .before .before .before .before .before .before .before .before .before .before .before .before .before .before .before .before .before .before .before .before .before .before .before .before .before .rule-type .ensures in
+    let m = c .before .before .before .before .before .before .before .before .before .before .before .before .before .before .before .before .before .before .before .before .rule-label .ensures in
     let n = rule-type-size (start .pre .0) _ h e in
-    let typed = c .before .before .before .before .before .before .before .before .before .before .before .before .before .before .before .before .before .before .before .before .before .before .before .put-type .ensures in
-    let gap = c .before .before .before .before .before .before .before .before .before .before .before .before .before .before .before .before .before .before .before .put-byte .ensures in
-    let named = c .before .before .before .before .before .before .before .before .before .before .before .before .before .before .put-name .ensures in
-    let gap2 = c .before .before .before .before .before .before .before .before .before .before .put-byte2 .ensures in
-    let content = c .before .before .before .before .before .before .put-rule-content .ensures in
+    let typed = c .before .before .before .before .before .before .before .before .before .before .before .before .before .before .before .before .before .before .before .before .before .before .before .before .before .before .before .put-type .ensures in
+    let gap = c .before .before .before .before .before .before .before .before .before .before .before .before .before .before .before .before .before .before .before .before .before .before .before .put-byte .ensures in
+    let named = c .before .before .before .before .before .before .before .before .before .before .before .before .before .before .before .before .before .before .put-name .ensures in
+    let gap2 = c .before .before .before .before .before .before .before .before .before .before .before .before .before .before .put-byte2 .ensures in
+    let content = c .before .before .before .before .before .before .before .before .before .before .put-rule-content .ensures in
+    let mark = c .before .before .before .before .before .before .put-rule-mark .ensures in
     let last = c .before .before .put-byte3 .ensures in
     let a1 = typed .next-is in
     let a2 = gap .next-is in
     let a3 = named .short in
     let a4 = gap2 .next-is in
     let a5 = content .short in
-    let a6 = last .next-is in
+    let a6 = mark .short in
+    let a7 = last .next-is in
     record {
       put =
           λ f.
           line-joined (f .table) (ruleNumbered (f .table) (start .args .i)) _ _ (e ∙ rule-type-is f _ h) (m ∙ rule-label-is f _ h)
-          (put-join (put-join (put-join (put-join (put-join typed gap) (named .put f)) gap2) (content .put f)) last);
+          (put-join (put-join (put-join (put-join (put-join (put-join typed gap) (named .put f)) gap2) (content .put f)) (mark .put f)) last);
       short = omega arith;
     }
 
@@ -133,6 +154,7 @@ put-rule-line-spec =
     put-name-requires
     put-byte-requires-2
     put-rule-content-requires
+    put-rule-mark-requires
     put-byte-requires-3
     (λ c. search needs)
     returns)

@@ -20,7 +20,7 @@ abbrev Inv-loop : tie.InvT-loop
 Inv-loop table index text₀ at rules end₀ i₀ text end i =
     (i ≤ rules)
     × (length text ≡ length text₀)
-    × (end ≤ at + 3141 * i)
+    × (end ≤ at + 3142 * i)
     × ((f : SomeHeld large table index) → Put text₀ at (joinedOf (ruleLine (f .table)) (take i (f .table .rules))) text end)
 
 abbrev μ-loop : tie.MeasureT-loop

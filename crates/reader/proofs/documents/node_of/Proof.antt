@@ -15,85 +15,88 @@ use Rattle.reader.proofs.DocumentFields.{
   node-here,
   good-counts,
 }
+use borrow.Author.Tests.{not-true, not-false}
 use Rattle.reader.proofs.documents.node_of.Statement.{statement}
 use Rattle.reader.proofs.documents.node_of.Tie as tie
 
 returns : tie.Need-returns
 returns c =
-    let a = c .before .before .before .args in
-    let s = a .s .now in
-    let lim = limitsOf (a .limits) in
-    let p = c .before .before .before .pre in
-    λ o z. node-foreign s (a .from) (a .to) (p .1 .0) (p .1 .1) lim (a .classes .now) (a .tag) (fieldsOf (drop (a .to) s)) o (c .if1 .taken)
-
-returns-2 : tie.Need-returns-2
-returns-2 c =
     let a = c .before .before .before .before .args in
     let s = a .s .now in
     let lim = limitsOf (a .limits) in
-    let p = c .before .before .before .before .pre in
-    λ o z. node-short s (a .from) (a .to) (p .1 .0) (p .1 .1) lim (a .classes .now) (a .tag) (fieldsOf (drop (a .to) s)) o (omega arith)
+    let p = c .before .before .before .before .pre .1 .1 in
+    λ o z.
+    node-foreign s (a .from) (a .to) (p .0) (p .1) lim (a .classes .now) (a .tag) (fieldsOf (drop (a .to) s)) o
+    (sym (c .before .is-node-tag .ensures) ∙ not-true (c .before .is-node-tag .result) (c .if1 .taken))
 
-returns-3 : tie.Need-returns-3
-returns-3 c =
+returns-2 : tie.Need-returns-2
+returns-2 c =
     let a = c .before .before .before .before .before .args in
     let s = a .s .now in
     let lim = limitsOf (a .limits) in
-    let p = c .before .before .before .before .before .pre in
-    λ o z. node-long s (a .from) (a .to) (p .1 .0) (p .1 .1) lim (a .classes .now) (a .tag) (fieldsOf (drop (a .to) s)) o (omega arith)
+    let p = c .before .before .before .before .before .pre .1 .1 in
+    λ o z. node-short s (a .from) (a .to) (p .0) (p .1) lim (a .classes .now) (a .tag) (fieldsOf (drop (a .to) s)) o (omega arith)
+
+returns-3 : tie.Need-returns-3
+returns-3 c =
+    let a = c .before .before .before .before .before .before .args in
+    let s = a .s .now in
+    let lim = limitsOf (a .limits) in
+    let p = c .before .before .before .before .before .before .pre .1 .1 in
+    λ o z. node-long s (a .from) (a .to) (p .0) (p .1) lim (a .classes .now) (a .tag) (fieldsOf (drop (a .to) s)) o (omega arith)
 
 is-name-requires : tie.Need-is-name-requires
-is-name-requires c κs = c .before .before .before .before .before .before .before .before .pre .0
+is-name-requires c κs = c .before .before .before .before .before .before .before .before .before .pre .0
 
 returns-4 : tie.Need-returns-4
 returns-4 c =
-    let a = c .before .before .before .before .before .before .before .before .before .before .before .before .args in
+    let a = c .before .before .before .before .before .before .before .before .before .before .before .before .before .args in
     let s = a .s .now in
     let lim = limitsOf (a .limits) in
-    let p = c .before .before .before .before .before .before .before .before .before .before .before .before .pre in
+    let p = c .before .before .before .before .before .before .before .before .before .before .before .before .before .pre .1 .1 in
     λ o z.
-    node-misplaced s (a .from) (a .to) (p .1 .0) (p .1 .1) lim (a .classes .now) (a .tag) (fieldsOf (drop (a .to) s)) o
-    (c .before .before .before .before .before .before .before .before .before .if1 .left) (omega arith) (omega arith)
-    (a .nodes) (a .depth) (c .before .before .before .before .before .wide .result)
-    (c .before .before .before .before .before .wide .ensures .0) z
+    node-misplaced s (a .from) (a .to) (p .0) (p .1) lim (a .classes .now) (a .tag) (fieldsOf (drop (a .to) s)) o
+    (sym (c .before .before .before .before .before .before .before .before .before .before .is-node-tag .ensures) ∙ not-false (c .before .before .before .before .before .before .before .before .before .before .is-node-tag .result) (c .before .before .before .before .before .before .before .before .before .if1 .left)) (omega arith) (omega arith)
+    (c .before .before .before .before .before .before .before .before .before .before .before .before .before .pre .1 .0) (a .nodes) (a .depth) (c .before .before .before .before .before .wide .result) (c .before .before .before .before .before .wide .ensures .0) z
     (sym (c .before .before .before .is-name .ensures) ∙ c .before .before .if4 .taken)
     (sym (c .before .bad-node .ensures) ∙ c .if5 .taken)
 
 returns-5 : tie.Need-returns-5
 returns-5 c =
-    let a = c .before .before .before .before .before .before .before .before .before .before .before .before .args in
+    let a = c .before .before .before .before .before .before .before .before .before .before .before .before .before .args in
     let s = a .s .now in
     let lim = limitsOf (a .limits) in
-    let p = c .before .before .before .before .before .before .before .before .before .before .before .before .pre in
+    let p = c .before .before .before .before .before .before .before .before .before .before .before .before .before .pre .1 .1 in
+    let behind = c .before .before .before .before .before .before .before .before .before .before .before .before .before .pre .1 .0 .behind in
     let good = sym (c .before .bad-node .ensures) ∙ c .if5 .left in
     let counts = good-counts lim (a .nodes) (c .before .before .before .before .before .wide .result) (a .depth) good in
     record {
       forward = omega arith;
+      behind = omega arith;
       order = omega arith;
-      within = p .1 .1;
+      within = p .1;
       room = counts .room;
       some-level = counts .some-level;
       level = counts .level;
       few = counts .few;
       goes =
           λ o z.
-          node-here s (a .from) (a .to) (p .1 .0) (p .1 .1) lim (a .classes .now) (a .tag) (fieldsOf (drop (a .to) s)) o
-          (c .before .before .before .before .before .before .before .before .before .if1 .left) (omega arith) (omega arith)
-          (a .nodes) (a .depth) (c .before .before .before .before .before .wide .result)
-          (c .before .before .before .before .before .wide .ensures .0) z
+          node-here s (a .from) (a .to) (p .0) (p .1) lim (a .classes .now) (a .tag) (fieldsOf (drop (a .to) s)) o
+          (sym (c .before .before .before .before .before .before .before .before .before .before .is-node-tag .ensures) ∙ not-false (c .before .before .before .before .before .before .before .before .before .before .is-node-tag .result) (c .before .before .before .before .before .before .before .before .before .if1 .left)) (omega arith) (omega arith)
+          (c .before .before .before .before .before .before .before .before .before .before .before .before .before .pre .1 .0) (a .nodes) (a .depth) (c .before .before .before .before .before .wide .result) (c .before .before .before .before .before .wide .ensures .0) z
           (sym (c .before .before .before .is-name .ensures) ∙ c .before .before .if4 .taken)
           good;
     }
 
 returns-6 : tie.Need-returns-6
 returns-6 c =
-    let a = c .before .before .before .before .before .before .before .before .before .before .args in
+    let a = c .before .before .before .before .before .before .before .before .before .before .before .args in
     let s = a .s .now in
     let lim = limitsOf (a .limits) in
-    let p = c .before .before .before .before .before .before .before .before .before .before .pre in
+    let p = c .before .before .before .before .before .before .before .before .before .before .before .pre .1 .1 in
     λ o z.
-    node-misnamed s (a .from) (a .to) (p .1 .0) (p .1 .1) lim (a .classes .now) (a .tag) (fieldsOf (drop (a .to) s)) o
-    (c .before .before .before .before .before .before .before .if1 .left) (omega arith) (omega arith)
+    node-misnamed s (a .from) (a .to) (p .0) (p .1) lim (a .classes .now) (a .tag) (fieldsOf (drop (a .to) s)) o
+    (sym (c .before .before .before .before .before .before .before .before .is-node-tag .ensures) ∙ not-false (c .before .before .before .before .before .before .before .before .is-node-tag .result) (c .before .before .before .before .before .before .before .if1 .left)) (omega arith) (omega arith)
     (sym (c .before .is-name .ensures) ∙ c .if4 .left)
 
 pub node-of-spec : {M : Type 1} → statement M
@@ -101,6 +104,7 @@ node-of-spec =
     tie.close
     (tie.spec
     (λ c. omega arith)
+    (λ c κs. tt)
     returns
     returns-2
     (λ c. omega arith)

@@ -13,7 +13,13 @@ returns c =
     record {
       outcome = reads-long (limitsOf (a .limits)) (a .classes .now) (a .s .now) (c .if1 .taken);
       few = omega arith;
-      indexed = record { few = omega arith; within = λ i h. absurd (omega arith); counts = λ i h. absurd (omega arith) };
+      indexed =
+          record {
+            few = omega arith;
+            behind = λ i h. absurd (omega arith);
+            within = λ i h. absurd (omega arith);
+            counts = λ i h. absurd (omega arith);
+          };
     }
 
 read-fields-requires : tie.Need-read-fields-requires

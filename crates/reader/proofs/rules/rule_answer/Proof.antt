@@ -18,13 +18,13 @@ sub-size : tie.Need-sub-size
 sub-size c = search needs
 
 returns : tie.Need-returns
-returns c = λ g x. sym (rule-small (c .before .before .args .limits) x (c .before .before .pre .inside) (c .if1 .taken))
+returns c = λ text g x. sym (rule-small (c .before .before .args .limits) x (c .before .before .pre .inside) text (c .if1 .taken))
 
 add-if2 : tie.Need-add-if2
 add-if2 c = search needs
 
 returns-2 : tie.Need-returns-2
-returns-2 c = λ g x. sym (rule-large (c .before .before .before .args .limits) x (c .before .before .before .pre .inside) (c .before .if1 .left) (c .if2 .taken))
+returns-2 c = λ text g x. sym (rule-large (c .before .before .before .args .limits) x (c .before .before .before .pre .inside) text (c .before .if1 .left) (c .if2 .taken))
 
 shared-slice-read-wide : tie.Need-shared-slice-read-wide
 shared-slice-read-wide c = search needs
@@ -45,16 +45,16 @@ rule-count-requires : tie.Need-rule-count-requires
 rule-count-requires c κs = search needs
 
 returns-3 : tie.Need-returns-3
-returns-3 c = λ g x. sym (rule-one-too-many (c .before .before .before .before .before .before .before .before .before .before .args .limits) x (c .before .before .before .before .before .before .before .before .before .before .pre .inside) (c .before .before .before .before .before .before .before .before .if1 .left) (c .before .before .before .before .before .before .before .if2 .left) (omega (arith, c .before .before .rule-count .ensures, c .if3 .taken)))
+returns-3 c = λ text g x. sym (rule-one-too-many (c .before .before .before .before .before .before .before .before .before .before .args .limits) x (c .before .before .before .before .before .before .before .before .before .before .pre .inside) text (c .before .before .before .before .before .before .before .before .if1 .left) (c .before .before .before .before .before .before .before .if2 .left) (omega (arith, c .before .before .rule-count .ensures, c .if3 .taken)))
 
 returns-4 : tie.Need-returns-4
-returns-4 c = λ g x. sym (rule-type-out (c .before .before .before .before .before .before .before .before .before .before .before .before .args .limits) x (c .before .before .before .before .before .before .before .before .before .before .before .before .pre .inside) (c .before .before .before .before .before .before .before .before .before .before .if1 .left) (c .before .before .before .before .before .before .before .before .before .if2 .left) (omega (arith, c .before .before .before .before .rule-count .ensures, c .before .before .if3 .left)) (omega (arith, c .before .before .before .before .before .before .before .wide .ensures .0, c .if4 .taken)))
+returns-4 c = λ text g x. sym (rule-type-out (c .before .before .before .before .before .before .before .before .before .before .before .before .args .limits) x (c .before .before .before .before .before .before .before .before .before .before .before .before .pre .inside) text (c .before .before .before .before .before .before .before .before .before .before .if1 .left) (c .before .before .before .before .before .before .before .before .before .if2 .left) (omega (arith, c .before .before .before .before .rule-count .ensures, c .before .before .if3 .left)) (omega (arith, c .before .before .before .before .before .before .before .wide .ensures .0, c .if4 .taken)))
 
 label-count-requires : tie.Need-label-count-requires
 label-count-requires c κs = search needs
 
 returns-5 : tie.Need-returns-5
-returns-5 c = λ g x. sym (rule-label-out (c .before .before .before .before .before .before .before .before .before .before .before .before .before .before .args .limits) x (c .before .before .before .before .before .before .before .before .before .before .before .before .before .before .pre .inside) (c .before .before .before .before .before .before .before .before .before .before .before .before .if1 .left) (c .before .before .before .before .before .before .before .before .before .before .before .if2 .left) (omega (arith, c .before .before .before .before .before .before .rule-count .ensures, c .before .before .before .before .if3 .left)) (omega (arith, c .before .before .before .before .before .before .before .wide2 .ensures .0, c .before .label-count .ensures, c .if5 .taken)))
+returns-5 c = λ text g x. sym (rule-label-out (c .before .before .before .before .before .before .before .before .before .before .before .before .before .before .args .limits) x (c .before .before .before .before .before .before .before .before .before .before .before .before .before .before .pre .inside) text (c .before .before .before .before .before .before .before .before .before .before .before .before .if1 .left) (c .before .before .before .before .before .before .before .before .before .before .before .if2 .left) (omega (arith, c .before .before .before .before .before .before .rule-count .ensures, c .before .before .before .before .if3 .left)) (omega (arith, c .before .before .before .before .before .before .before .wide2 .ensures .0, c .before .label-count .ensures, c .if5 .taken)))
 
 add-content : tie.Need-add-content
 add-content c = search needs
@@ -78,10 +78,10 @@ enum-known-r : tie.Need-enum-known-r
 enum-known-r c = search needs
 
 returns-6 : tie.Need-returns-6
-returns-6 c = λ g x. sym (rule-reads (c .before .before .before .before .before .before .before .before .before .before .before .before .before .before .before .before .before .before .args .limits) x (c .before .before .before .before .before .before .before .before .before .before .before .before .before .before .before .before .before .before .pre .inside) (c .before .before .before .before .before .before .before .before .before .before .before .before .before .before .before .before .if1 .left) (c .before .before .before .before .before .before .before .before .before .before .before .before .before .before .before .if2 .left) (omega (arith, c .before .before .before .before .before .before .before .before .before .before .rule-count .ensures, c .before .before .before .before .before .before .before .before .if3 .left)) (omega (arith, c .before .before .before .before .before .before .before .before .before .before .before .before .before .wide .ensures .0, c .before .before .before .before .before .before .if4 .left)) (omega (arith, c .before .before .before .before .before .before .before .before .before .before .before .wide2 .ensures .0, c .before .before .before .before .before .label-count .ensures, c .before .before .before .before .if5 .left)) (sym (c .before .before .content-refusal .ensures) ∙ c .enum-told .given .1))
+returns-6 c = λ text g x. sym (rule-reads (c .before .before .before .before .before .before .before .before .before .before .before .before .before .before .before .before .before .before .args .limits) x (c .before .before .before .before .before .before .before .before .before .before .before .before .before .before .before .before .before .before .pre .inside) text (c .before .before .before .before .before .before .before .before .before .before .before .before .before .before .before .before .if1 .left) (c .before .before .before .before .before .before .before .before .before .before .before .before .before .before .before .if2 .left) (omega (arith, c .before .before .before .before .before .before .before .before .before .before .rule-count .ensures, c .before .before .before .before .before .before .before .before .if3 .left)) (omega (arith, c .before .before .before .before .before .before .before .before .before .before .before .before .before .wide .ensures .0, c .before .before .before .before .before .before .if4 .left)) (omega (arith, c .before .before .before .before .before .before .before .before .before .before .before .wide2 .ensures .0, c .before .before .before .before .before .label-count .ensures, c .before .before .before .before .if5 .left)) (sym (c .before .before .content-refusal .ensures) ∙ c .enum-told .given .1))
 
 returns-7 : tie.Need-returns-7
-returns-7 c = λ g x. sym (rule-by-content (c .before .before .before .before .before .before .before .before .before .before .before .before .before .before .before .before .before .before .before .args .limits) x (c .before .before .before .before .before .before .before .before .before .before .before .before .before .before .before .before .before .before .before .pre .inside) (c .before .before .before .before .before .before .before .before .before .before .before .before .before .before .before .before .before .if1 .left) (c .before .before .before .before .before .before .before .before .before .before .before .before .before .before .before .before .if2 .left) (omega (arith, c .before .before .before .before .before .before .before .before .before .before .before .rule-count .ensures, c .before .before .before .before .before .before .before .before .before .if3 .left)) (omega (arith, c .before .before .before .before .before .before .before .before .before .before .before .before .before .before .wide .ensures .0, c .before .before .before .before .before .before .before .if4 .left)) (omega (arith, c .before .before .before .before .before .before .before .before .before .before .before .before .wide2 .ensures .0, c .before .before .before .before .before .before .label-count .ensures, c .before .before .before .before .before .if5 .left)) _ (sym (c .before .before .before .content-refusal .ensures) ∙ c .before .r .given .1))
+returns-7 c = λ text g x. sym (rule-by-content (c .before .before .before .before .before .before .before .before .before .before .before .before .before .before .before .before .before .before .before .args .limits) x (c .before .before .before .before .before .before .before .before .before .before .before .before .before .before .before .before .before .before .before .pre .inside) text (c .before .before .before .before .before .before .before .before .before .before .before .before .before .before .before .before .before .if1 .left) (c .before .before .before .before .before .before .before .before .before .before .before .before .before .before .before .before .if2 .left) (omega (arith, c .before .before .before .before .before .before .before .before .before .before .before .rule-count .ensures, c .before .before .before .before .before .before .before .before .before .if3 .left)) (omega (arith, c .before .before .before .before .before .before .before .before .before .before .before .before .before .before .wide .ensures .0, c .before .before .before .before .before .before .before .if4 .left)) (omega (arith, c .before .before .before .before .before .before .before .before .before .before .before .before .wide2 .ensures .0, c .before .before .before .before .before .before .label-count .ensures, c .before .before .before .before .before .if5 .left)) _ (sym (c .before .before .before .content-refusal .ensures) ∙ c .before .r .given .1))
 
 pub rule-answer-spec : {M : Type 1} → statement M
 rule-answer-spec =

@@ -11,6 +11,7 @@ use Rattle.reader.proofs.TableIndexLaws.{none-indexed}
 use Rattle.reader.proofs.TableReading.{
   TableReached,
   reached-none,
+  found-tag,
   found-inside,
   indexed,
   ends-early,
@@ -51,7 +52,7 @@ returns : tie.Need-returns Inv-loop μ-loop
 returns c = let found = field-found (c .before .before .before .before .before .before .before .before .before .before .before .args .s .now) (c .before .before .before .before .before .before .loop .at) (sym (c .before .before .before .before .before .field-at .ensures) ∙ c .before .before .before .tag .given .1) in ends-here (c .before .before .before .before .before .before .loop .inv) found (c .before .if1 .taken) (c .end-answer .result) (c .end-answer .ensures (c .before .before .before .before .before .before .loop .inv .table))
 
 after-field-requires : tie.Need-after-field-requires Inv-loop μ-loop
-after-field-requires c κs = let found = field-found (c .before .before .before .before .before .before .before .before .before .before .before .args .s .now) (c .before .before .before .before .before .before .loop .at) (sym (c .before .before .before .before .before .field-at .ensures) ∙ c .before .before .before .tag .given .1) in (c .before .before .before .before .before .before .before .before .before .before .before .pre .0, (c .before .before .before .before .before .before .before .before .before .before .before .pre .1 .0, record { short = c .before .before .before .before .before .before .before .before .before .before .before .pre .1 .1; inside = found-inside found; indexed = indexed (c .before .before .before .before .before .before .loop .inv) }))
+after-field-requires c κs = let found = field-found (c .before .before .before .before .before .before .before .before .before .before .before .args .s .now) (c .before .before .before .before .before .before .loop .at) (sym (c .before .before .before .before .before .field-at .ensures) ∙ c .before .before .before .tag .given .1) in (c .before .before .before .before .before .before .before .before .before .before .before .pre .0, (c .before .before .before .before .before .before .before .before .before .before .before .pre .1 .0, (found-tag found, record { short = c .before .before .before .before .before .before .before .before .before .before .before .pre .1 .1; inside = found-inside found; indexed = indexed (c .before .before .before .before .before .before .loop .inv) })))
 
 enum-known-answer : tie.Need-enum-known-answer Inv-loop μ-loop
 enum-known-answer c = search needs

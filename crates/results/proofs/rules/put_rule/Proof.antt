@@ -9,13 +9,14 @@ use lib.ListN.{length, drop}
 use borrow.Author.Needs.{needs}
 use Rattle.grammar.specs.Lists.{keep, place, numbersBelow}
 use Rattle.grammar.specs.Table.{Rule}
+use Rattle.grammar.specs.ReadTable.{ruleTag}
 use Rattle.sets.specs.Sets.{member}
 use Rattle.union.proofs.ViewLaws.{views-sized}
 use Rattle.writer.specs.Tables.{RulePuts}
 use Rattle.writer.proofs.TableLaws.{rule-puts}
 use Rattle.results.specs.Results.{ruleFrom}
 use Rattle.results.specs.Widened.{kindOf}
-use Rattle.results.proofs.SetLaws.{set-held, set-room, set-eight, set-ascending, set-some, set-labelled, label-small, label-used, rule-is}
+use Rattle.results.proofs.SetLaws.{set-held, set-room, set-eight, set-ascending, set-some, set-labelled, set-pairs, label-small, label-used, text-is, rule-is}
 use Rattle.results.proofs.ResultLaws.{rule-value, scratch-long, scratch-room, made-stored, made-over}
 use Rattle.results.proofs.rules.put_rule.Statement.{statement}
 use Rattle.results.proofs.rules.put_rule.Tie as tie
@@ -107,6 +108,12 @@ add-stop c =
     let small = made-stored _ (ruleFrom q (start .args .i) .content) _ (content .ensures q) (c .before .end .given .1) .small in
     omega arith
 
+has-text-requires : tie.Need-has-text-requires
+has-text-requires c κs = c .before .before .before .before .before .before .before .before .before .before .before .before .before .before .before .before .before .pre .4 .rules .in-words .views .few
+
+rule-tag-requires : tie.Need-rule-tag-requires
+rule-tag-requires c κs = tt
+
 sub-put-field : tie.Need-sub-put-field
 sub-put-field c = search needs
 
@@ -115,13 +122,13 @@ part-put-field-start c = search needs
 
 part-put-field-end : tie.Need-part-put-field-end
 part-put-field-end c =
-    let start = c .before .before .before .before .before .before .before .before .before .before .before .before .before .before .before .before .before .before in
-    let content = c .before .before .before .before .before .before .before .set-content in
-    let placed = c .before .before .before .before .before .before .before .before .before .label-place in
+    let start = c .before .before .before .before .before .before .before .before .before .before .before .before .before .before .before .before .before .before .before .before .before in
+    let content = c .before .before .before .before .before .before .before .before .before .before .set-content in
+    let placed = c .before .before .before .before .before .before .before .before .before .before .before .before .label-place in
     let q = start .pre .4 .rules in
     let long = start .pre .2 in
     let before = start .args .scratch .now in
-    let made = made-stored _ (ruleFrom q (start .args .i) .content) _ (content .ensures q) (c .before .before .before .end .given .1) in
+    let made = made-stored _ (ruleFrom q (start .args .i) .content) _ (content .ensures q) (c .before .before .before .before .before .before .end .given .1) in
     scratch-room before (content .last .0) (drop (length before - 2) (drop 2 before)) (start .args .i) (placed .result) _ (omega arith)
     (made .inside)
 
@@ -146,13 +153,13 @@ same-length-3 c = search needs
 
 returns-2 : tie.Need-returns-2
 returns-2 c =
-    let start = c .before .before .before .before .before .before .before .before .before .before .before .before .before .before .before .before .before .before .before .before .before .before in
-    let loaded = c .before .before .before .before .before .before .before .before .before .before .before .before .before .before .before .before .load-eight in
-    let used-set = c .before .before .before .before .before .before .before .before .before .before .before .before .before .before .before .load-eight2 in
-    let labelled = c .before .before .before .before .before .before .before .before .before .before .before .before .before .before .set-label in
-    let place-of = c .before .before .before .before .before .before .before .before .before .before .before .before .before .label-place in
-    let content = c .before .before .before .before .before .before .before .before .before .before .before .set-content in
-    let end = c .before .before .before .before .before .before .before .end in
+    let start = c .before .before .before .before .before .before .before .before .before .before .before .before .before .before .before .before .before .before .before .before .before .before .before .before .before in
+    let loaded = c .before .before .before .before .before .before .before .before .before .before .before .before .before .before .before .before .before .before .before .load-eight in
+    let used-set = c .before .before .before .before .before .before .before .before .before .before .before .before .before .before .before .before .before .before .load-eight2 in
+    let labelled = c .before .before .before .before .before .before .before .before .before .before .before .before .before .before .before .before .before .set-label in
+    let place-of = c .before .before .before .before .before .before .before .before .before .before .before .before .before .before .before .before .label-place in
+    let content = c .before .before .before .before .before .before .before .before .before .before .before .before .before .before .set-content in
+    let end = c .before .before .before .before .before .before .before .before .before .before .end in
     let field = c .before .before .put-field in
     let a = start .args in
     λ q.
@@ -169,12 +176,18 @@ returns-2 c =
     let placed =
     place-of .ensures .0 (length (s .table .labels)) (omega arith) (label-used s i h on (labelled .result) used label)
     ∙ ap (λ (l : ℕ). place eqb l (keep on (numbersBelow (length (s .table .labels))))) label in
+    let rule : Rule = ruleFrom (q .rules) i in
+    let marked =
+    text-is (s .table) (s .sets) (kindOf (a .plan .kind)) i (a .plan .union .rules) (set-pairs s i h) _ _
+    (set-held s i h _ (loaded .ensures))
+    (q .rules .text-is) in
     subst (λ (rule : Rule). RulePuts (a .draft .now) (a .at) rule (field .last .0) (field .result))
     (rule-is (s .table) (s .sets) (kindOf (a .plan .kind)) i on (place-of .result) used placed)
-    (rule-puts (a .draft .now) (field .last .0) (a .at) _
-    (record { type = i; label = place-of .result; content = ruleFrom (q .rules) i .content })
+    (rule-puts (a .draft .now) (field .last .0) (a .at) _ _
+    (record { type = i; label = place-of .result; content = rule .content; text = rule .text })
     (field .result)
-    (rule-value (a .scratch .now) (content .last .0) _ i (place-of .result) _ (ruleFrom (q .rules) i .content) (omega arith) made)
+    (c .before .before .before .before .before .before .rule-tag .ensures ∙ ap ruleTag (c .before .before .before .before .before .before .before .has-text .ensures ∙ marked))
+    (rule-value (a .scratch .now) (content .last .0) _ i (place-of .result) _ (rule .content) (rule .text) (omega arith) made)
     (made .fits)
     (field .ensures))
 
@@ -198,6 +211,8 @@ put-rule-spec =
     cast-scratch-2
     slice-write-scratch-2
     add-stop
+    has-text-requires
+    rule-tag-requires
     sub-put-field
     part-put-field-start
     part-put-field-end

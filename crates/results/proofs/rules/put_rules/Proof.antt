@@ -10,7 +10,7 @@ use Rattle.grammar.specs.Lists.{joinedOf, numbersBelow}
 use Rattle.grammar.specs.Limits.{large, inputLimit}
 use Rattle.grammar.specs.Size.{contentTooLarge}
 use Rattle.writer.specs.Writing.{Put}
-use Rattle.writer.specs.Tables.{ruleField}
+use Rattle.writer.specs.Tables.{numberedField}
 use Rattle.writer.proofs.TableLaws.{up-start, rules-stop, rules-more}
 use Rattle.results.specs.Results.{RulesWith, ruleFrom}
 use Rattle.results.proofs.rules.put_rules.Statement.{statement}
@@ -23,7 +23,7 @@ Inv-loop draft₀ at scratch₀ old add plan words end₀ i₀ draft scratch end
     × (length draft ≡ length draft₀)
     × (length scratch ≡ length scratch₀)
     × ((q : RulesWith old add plan words)
-    → Put draft₀ at (joinedOf (ruleField (ruleFrom (q .rules))) (numbersBelow i)) draft end)
+    → Put draft₀ at (joinedOf (numberedField (ruleFrom (q .rules))) (numbersBelow i)) draft end)
     × ((q : RulesWith old add plan words)
     → (j : ℕ)
     → j < i
@@ -40,7 +40,7 @@ loop-holds c =
       start .pre .0,
       refl,
       refl,
-      λ q. up-start (ruleField (ruleFrom (q .rules))) (a .draft .now) (a .at) (omega arith),
+      λ q. up-start (numberedField (ruleFrom (q .rules))) (a .draft .now) (a .at) (omega arith),
       λ q j h. absurd (omega arith),
     )
 
@@ -115,7 +115,7 @@ returns-2 c =
     let a = c .before .before .before .before .before .before .before .before .args in
     let l = c .before .before .loop in
     let e : l .i ≡ a .plan .count = omega arith in (
-      subst (λ (n : ℕ). Put (a .draft .now) (a .at) (joinedOf (ruleField (ruleFrom (q .rules))) (numbersBelow n)) (l .draft) (l .end)) e (l .inv .4 q),
+      subst (λ (n : ℕ). Put (a .draft .now) (a .at) (joinedOf (numberedField (ruleFrom (q .rules))) (numbersBelow n)) (l .draft) (l .end)) e (l .inv .4 q),
       l .inv .1,
       λ j h. l .inv .5 q j (omega arith),
     )

@@ -55,30 +55,33 @@ first-numbers-requires c κs =
     let same : length front ≡ length (take setsEnd (start .args .words .now)) = search needs in
     (omega arith, laws.room-stays (start .args .words .now) (start .pre .2) front same)
 
+text-pairs-requires : tie.Need-text-pairs-requires
+text-pairs-requires c κs = seen-viewed (c .before .before .before .before .before .before .before .before .before .before .before .before .before .before .before .before .before .before .before .pre .1 .reduced .seen)
+
 slice-aggregate-put-result : tie.Need-slice-aggregate-put-result
 slice-aggregate-put-result c = search needs
 
 put-result-requires : tie.Need-put-result-requires
 unfolding kindOf
 put-result-requires c κs =
-    let start = c .before .before .before .before .before .before .before .before .before .before .before .before .before .before .before .before .before .before .before .before .before .before in
-    let counted = c .before .before .before .before .before .before .before .before .before .before .before .before .before .before .before .label-count in
-    let s = c .before .before .before .before .before .before .before .before .before .before .before .before .more-sets in
-    let count = c .before .before .before .before .before .before .before .before .count in
-    let types = c .before .before .before .before .before .first-numbers in
+    let start = c .before .before .before .before .before .before .before .before .before .before .before .before .before .before .before .before .before .before .before .before .before .before .before in
+    let counted = c .before .before .before .before .before .before .before .before .before .before .before .before .before .before .before .before .label-count in
+    let s = c .before .before .before .before .before .before .before .before .before .before .before .before .before .more-sets in
+    let count = c .before .before .before .before .before .before .before .before .before .count in
+    let types = c .before .before .before .before .before .before .first-numbers in
     let q = start .pre .1 in
     let room = start .pre .2 in
     let r = q .reduced in
-    let n = ap (λ (k : ℕ). k + c .before .before .before .before .before .before .before .before .before .before .before .before .before .before .before .before .before .before .before .before .before .before .args .union .«new_names» .count) (counted .ensures) ∙ laws.label-count-is (c .before .before .before .before .before .before .before .before .before .before .before .before .before .before .before .before .before .before .before .before .before .before .args .limits) (c .before .before .before .before .before .before .before .before .before .before .before .before .before .before .before .before .before .before .before .before .before .before .pre .0) r in
+    let n = ap (λ (k : ℕ). k + c .before .before .before .before .before .before .before .before .before .before .before .before .before .before .before .before .before .before .before .before .before .before .before .args .union .«new_names» .count) (counted .ensures) ∙ laws.label-count-is (c .before .before .before .before .before .before .before .before .before .before .before .before .before .before .before .before .before .before .before .before .before .before .before .args .limits) (c .before .before .before .before .before .before .before .before .before .before .before .before .before .before .before .before .before .before .before .before .before .before .before .pre .0) r in
     let front = s .last .1 .1 .1 .1 .1 .0 in
     let first-held = laws.sets-lent (start .args .words .now) room (q .held) in
     let (many, few, held) =
-    laws.single-type-counted (c .before .before .before .before .before .before .before .before .before .before .before .before .before .before .before .before .before .before .before .before .before .before .args .limits) (c .before .before .before .before .before .before .before .before .before .before .before .before .before .before .before .before .before .before .before .before .before .before .pre .0) r front (s .result) (s .ensures (limitsOf (c .before .before .before .before .before .before .before .before .before .before .before .before .before .before .before .before .before .before .before .before .before .before .args .limits)) _ refl (r .seen .rules) (r .lists-are) first-held (q .many)) _ (count .given .1) in
+    laws.single-type-counted (c .before .before .before .before .before .before .before .before .before .before .before .before .before .before .before .before .before .before .before .before .before .before .before .args .limits) (c .before .before .before .before .before .before .before .before .before .before .before .before .before .before .before .before .before .before .before .before .before .before .before .pre .0) r front (s .result) (s .ensures (limitsOf (c .before .before .before .before .before .before .before .before .before .before .before .before .before .before .before .before .before .before .before .before .before .before .before .args .limits)) _ refl (r .seen .rules) (r .lists-are) first-held (q .many)) _ (count .given .1) in
     let fits-same = s .kept .1 .1 .1 .1 .1 .0 in
     let same : length front ≡ length (take setsEnd (start .args .words .now)) = search needs in
     let fits-long = types .kept .1 .0 in
     let long : length (types .last .1 .0) ≡ length (front ++ drop setsEnd (start .args .words .now)) = search needs in
-    (start .pre .3, omega arith, laws.result-after (c .before .before .before .before .before .before .before .before .before .before .before .before .before .before .before .before .before .before .before .before .before .before .args .limits) (c .before .before .before .before .before .before .before .before .before .before .before .before .before .before .before .before .before .before .before .before .before .before .pre .0) r SingleType room front same _ held many few _ (types .ensures .1) long _ n)
+    (start .pre .3, omega arith, laws.result-after (c .before .before .before .before .before .before .before .before .before .before .before .before .before .before .before .before .before .before .before .before .before .before .before .args .limits) (c .before .before .before .before .before .before .before .before .before .before .before .before .before .before .before .before .before .before .before .before .before .before .before .pre .0) r SingleType room front same _ held many few _ (types .ensures .1) long _ n (c .before .before .before .text-pairs .result) (c .before .before .before .text-pairs .ensures .0 _ (r .seen .rules) (r .lists-are)))
 
 told-requires : tie.Need-told-requires
 told-requires c κs = tt
@@ -102,24 +105,24 @@ same-length-3 c = search needs
 returns-2 : tie.Need-returns-2
 unfolding kindOf
 returns-2 c g h r start-held start-many =
-    let start = c .before .before .before .before .before .before .before .before .before .before .before .before .before .before .before .before .before .before .before .before .before .before .before .before .before .before .before .before .before in
-    let counted = c .before .before .before .before .before .before .before .before .before .before .before .before .before .before .before .before .before .before .before .before .before .before .label-count in
-    let s = c .before .before .before .before .before .before .before .before .before .before .before .before .before .before .before .before .before .before .before .more-sets in
-    let count = c .before .before .before .before .before .before .before .before .before .before .before .before .before .before .before .count in
-    let types = c .before .before .before .before .before .before .before .before .before .before .before .before .first-numbers in
+    let start = c .before .before .before .before .before .before .before .before .before .before .before .before .before .before .before .before .before .before .before .before .before .before .before .before .before .before .before .before .before .before in
+    let counted = c .before .before .before .before .before .before .before .before .before .before .before .before .before .before .before .before .before .before .before .before .before .before .before .label-count in
+    let s = c .before .before .before .before .before .before .before .before .before .before .before .before .before .before .before .before .before .before .before .before .more-sets in
+    let count = c .before .before .before .before .before .before .before .before .before .before .before .before .before .before .before .before .count in
+    let types = c .before .before .before .before .before .before .before .before .before .before .before .before .before .first-numbers in
     let put = c .before .before .before .before .before .before .put-result in
     let room = start .pre .2 in
-    let n = ap (λ (k : ℕ). k + c .before .before .before .before .before .before .before .before .before .before .before .before .before .before .before .before .before .before .before .before .before .before .before .before .before .before .before .before .before .args .union .«new_names» .count) (counted .ensures) ∙ laws.label-count-is (c .before .before .before .before .before .before .before .before .before .before .before .before .before .before .before .before .before .before .before .before .before .before .before .before .before .before .before .before .before .args .limits) (c .before .before .before .before .before .before .before .before .before .before .before .before .before .before .before .before .before .before .before .before .before .before .before .before .before .before .before .before .before .pre .0) r in
+    let n = ap (λ (k : ℕ). k + c .before .before .before .before .before .before .before .before .before .before .before .before .before .before .before .before .before .before .before .before .before .before .before .before .before .before .before .before .before .before .args .union .«new_names» .count) (counted .ensures) ∙ laws.label-count-is (c .before .before .before .before .before .before .before .before .before .before .before .before .before .before .before .before .before .before .before .before .before .before .before .before .before .before .before .before .before .before .args .limits) (c .before .before .before .before .before .before .before .before .before .before .before .before .before .before .before .before .before .before .before .before .before .before .before .before .before .before .before .before .before .before .pre .0) r in
     let front = s .last .1 .1 .1 .1 .1 .0 in
     let first-held = laws.sets-lent (start .args .words .now) room start-held in
     let (many, few, held) =
-    laws.single-type-counted (c .before .before .before .before .before .before .before .before .before .before .before .before .before .before .before .before .before .before .before .before .before .before .before .before .before .before .before .before .before .args .limits) (c .before .before .before .before .before .before .before .before .before .before .before .before .before .before .before .before .before .before .before .before .before .before .before .before .before .before .before .before .before .pre .0) r front (s .result) (s .ensures (limitsOf (c .before .before .before .before .before .before .before .before .before .before .before .before .before .before .before .before .before .before .before .before .before .before .before .before .before .before .before .before .before .args .limits)) _ refl (r .seen .rules) (r .lists-are) first-held start-many) _ (count .given .1) in
+    laws.single-type-counted (c .before .before .before .before .before .before .before .before .before .before .before .before .before .before .before .before .before .before .before .before .before .before .before .before .before .before .before .before .before .before .args .limits) (c .before .before .before .before .before .before .before .before .before .before .before .before .before .before .before .before .before .before .before .before .before .before .before .before .before .before .before .before .before .before .pre .0) r front (s .result) (s .ensures (limitsOf (c .before .before .before .before .before .before .before .before .before .before .before .before .before .before .before .before .before .before .before .before .before .before .before .before .before .before .before .before .before .before .args .limits)) _ refl (r .seen .rules) (r .lists-are) first-held start-many) _ (count .given .1) in
     let fits-same = s .kept .1 .1 .1 .1 .1 .0 in
     let same : length front ≡ length (take setsEnd (start .args .words .now)) = search needs in
     let fits-long = types .kept .1 .0 in
     let long : length (types .last .1 .0) ≡ length (front ++ drop setsEnd (start .args .words .now)) = search needs in
-    laws.single-type-drafted (c .before .before .before .before .before .before .before .before .before .before .before .before .before .before .before .before .before .before .before .before .before .before .before .before .before .before .before .before .before .args .limits) (c .before .before .before .before .before .before .before .before .before .before .before .before .before .before .before .before .before .before .before .before .before .before .before .before .before .before .before .before .before .pre .0) r front _ many few held _ start-many _ (types .ensures .0) _ _ _ _ (c .told .ensures)
-    (put .ensures (laws.result-after (c .before .before .before .before .before .before .before .before .before .before .before .before .before .before .before .before .before .before .before .before .before .before .before .before .before .before .before .before .before .args .limits) (c .before .before .before .before .before .before .before .before .before .before .before .before .before .before .before .before .before .before .before .before .before .before .before .before .before .before .before .before .before .pre .0) r SingleType room front same _ held many few _ (types .ensures .1) long _ n))
+    laws.single-type-drafted (c .before .before .before .before .before .before .before .before .before .before .before .before .before .before .before .before .before .before .before .before .before .before .before .before .before .before .before .before .before .before .args .limits) (c .before .before .before .before .before .before .before .before .before .before .before .before .before .before .before .before .before .before .before .before .before .before .before .before .before .before .before .before .before .before .pre .0) r front _ many few held _ start-many _ (types .ensures .0) _ _ _ _ (c .told .ensures)
+    (put .ensures (laws.result-after (c .before .before .before .before .before .before .before .before .before .before .before .before .before .before .before .before .before .before .before .before .before .before .before .before .before .before .before .before .before .before .args .limits) (c .before .before .before .before .before .before .before .before .before .before .before .before .before .before .before .before .before .before .before .before .before .before .before .before .before .before .before .before .before .before .pre .0) r SingleType room front same _ held many few _ (types .ensures .1) long _ n (c .before .before .before .before .before .before .before .before .before .before .text-pairs .result) (c .before .before .before .before .before .before .before .before .before .before .text-pairs .ensures .0 _ (r .seen .rules) (r .lists-are))))
 
 pub widen-from-starts-spec : {M : Type 1} → statement M
 widen-from-starts-spec =
@@ -134,6 +137,7 @@ widen-from-starts-spec =
     enum-told
     enum-known-count
     first-numbers-requires
+    text-pairs-requires
     slice-aggregate-put-result
     put-result-requires
     told-requires

@@ -15,6 +15,7 @@ use Rattle.forms.proofs.WidenedBySets.{setsOf}
 use Rattle.results.specs.declared.widen.Kind.the-variants.{Local}
 use Rattle.results.specs.Widened.{kindOf}
 use Rattle.results.proofs.ReducedLaws as laws
+use Rattle.results.proofs.UnionLaws.{seen-viewed}
 use borrow.Author.Needs.{needs}
 use Rattle.results.proofs.widen.widen_local.Statement.{statement}
 use Rattle.results.proofs.widen.widen_local.Tie as tie
@@ -96,28 +97,31 @@ start-numbers-requires c κs =
       c .before .label-numbers .ensures .1,
     )
 
+text-pairs-requires : tie.Need-text-pairs-requires
+text-pairs-requires c κs = seen-viewed (c .before .before .before .before .before .before .before .before .before .before .before .before .before .before .before .before .before .before .before .before .before .before .before .pre .1 .reduced .seen)
+
 slice-aggregate-put-result : tie.Need-slice-aggregate-put-result
 slice-aggregate-put-result c = search needs
 
 put-result-requires : tie.Need-put-result-requires
 unfolding kindOf
 put-result-requires c κs =
-    let start = c .before .before .before .before .before .before .before .before .before .before .before .before .before .before .before .before .before .before .before .before .before .before .before .before .before .before in
-    let loaded = c .before .before .before .before .before .before .before .before .before .before .before .before .before .before .before .before .load-eight in
-    let counted = c .before .before .before .before .before .before .before .before .before .before .before .before .before .before .before .before .before .before .before .label-count in
-    let s = c .before .before .before .before .before .before .before .before .before .before .before .before .before .before .label-sets in
-    let count = c .before .before .before .before .before .before .before .before .before .before .count in
-    let types = c .before .before .before .before .before .start-numbers in
+    let start = c .before .before .before .before .before .before .before .before .before .before .before .before .before .before .before .before .before .before .before .before .before .before .before .before .before .before .before in
+    let loaded = c .before .before .before .before .before .before .before .before .before .before .before .before .before .before .before .before .before .load-eight in
+    let counted = c .before .before .before .before .before .before .before .before .before .before .before .before .before .before .before .before .before .before .before .before .label-count in
+    let s = c .before .before .before .before .before .before .before .before .before .before .before .before .before .before .before .label-sets in
+    let count = c .before .before .before .before .before .before .before .before .before .before .before .count in
+    let types = c .before .before .before .before .before .before .start-numbers in
     let r = start .pre .1 .reduced in
-    let n = ap (λ (k : ℕ). k + c .before .before .before .before .before .before .before .before .before .before .before .before .before .before .before .before .before .before .before .before .before .before .before .before .before .before .args .union .«new_names» .count) (counted .ensures) ∙ laws.label-count-is (c .before .before .before .before .before .before .before .before .before .before .before .before .before .before .before .before .before .before .before .before .before .before .before .before .before .before .args .limits) (c .before .before .before .before .before .before .before .before .before .before .before .before .before .before .before .before .before .before .before .before .before .before .before .before .before .before .pre .0) r in
+    let n = ap (λ (k : ℕ). k + c .before .before .before .before .before .before .before .before .before .before .before .before .before .before .before .before .before .before .before .before .before .before .before .before .before .before .before .args .union .«new_names» .count) (counted .ensures) ∙ laws.label-count-is (c .before .before .before .before .before .before .before .before .before .before .before .before .before .before .before .before .before .before .before .before .before .before .before .before .before .before .before .args .limits) (c .before .before .before .before .before .before .before .before .before .before .before .before .before .before .before .before .before .before .before .before .before .before .before .before .before .before .before .pre .0) r in
     let front = s .last .1 .1 .1 .1 .0 in
     let left = ap (λ (w : List ℕ). member w 0) (loaded .ensures) ∙ r .left-are in
-    let (many, few, held) = laws.local-counted (c .before .before .before .before .before .before .before .before .before .before .before .before .before .before .before .before .before .before .before .before .before .before .before .before .before .before .args .limits) (c .before .before .before .before .before .before .before .before .before .before .before .before .before .before .before .before .before .before .before .before .before .before .before .before .before .before .pre .0) r front (s .result) _ left (s .ensures _ _ _ (r .seen .rules) n) _ (count .given .1) in
+    let (many, few, held) = laws.local-counted (c .before .before .before .before .before .before .before .before .before .before .before .before .before .before .before .before .before .before .before .before .before .before .before .before .before .before .before .args .limits) (c .before .before .before .before .before .before .before .before .before .before .before .before .before .before .before .before .before .before .before .before .before .before .before .before .before .before .before .pre .0) r front (s .result) _ left (s .ensures _ _ _ (r .seen .rules) n) _ (count .given .1) in
     let fits-same = s .kept .1 .1 .1 .1 .0 in
     let same : length front ≡ length (take setsEnd (start .args .words .now)) = search needs in
     let fits-long = types .kept .1 .1 .0 in
     let long : length (types .last .1 .1 .0) ≡ length (front ++ drop setsEnd (start .args .words .now)) = search needs in
-    (start .pre .3, omega arith, laws.result-after (c .before .before .before .before .before .before .before .before .before .before .before .before .before .before .before .before .before .before .before .before .before .before .before .before .before .before .args .limits) (c .before .before .before .before .before .before .before .before .before .before .before .before .before .before .before .before .before .before .before .before .before .before .before .before .before .before .pre .0) r Local (start .pre .2) front same _ held many few _ (types .ensures .1) long _ n)
+    (start .pre .3, omega arith, laws.result-after (c .before .before .before .before .before .before .before .before .before .before .before .before .before .before .before .before .before .before .before .before .before .before .before .before .before .before .before .args .limits) (c .before .before .before .before .before .before .before .before .before .before .before .before .before .before .before .before .before .before .before .before .before .before .before .before .before .before .before .pre .0) r Local (start .pre .2) front same _ held many few _ (types .ensures .1) long _ n (c .before .before .before .text-pairs .result) (c .before .before .before .text-pairs .ensures .0 _ (r .seen .rules) (r .lists-are)))
 
 told-requires : tie.Need-told-requires
 told-requires c κs = tt
@@ -143,28 +147,28 @@ same-length-3 c = search needs
 returns-2 : tie.Need-returns-2
 unfolding setsOf kindOf
 returns-2 c g h r =
-    let start = c .before .before .before .before .before .before .before .before .before .before .before .before .before .before .before .before .before .before .before .before .before .before .before .before .before .before .before .before .before .before .before .before .before in
-    let loaded = c .before .before .before .before .before .before .before .before .before .before .before .before .before .before .before .before .before .before .before .before .before .before .before .load-eight in
-    let counted = c .before .before .before .before .before .before .before .before .before .before .before .before .before .before .before .before .before .before .before .before .before .before .before .before .before .before .label-count in
-    let s = c .before .before .before .before .before .before .before .before .before .before .before .before .before .before .before .before .before .before .before .before .before .label-sets in
-    let count = c .before .before .before .before .before .before .before .before .before .before .before .before .before .before .before .before .before .count in
-    let numbers = c .before .before .before .before .before .before .before .before .before .before .before .before .before .before .label-numbers in
-    let types = c .before .before .before .before .before .before .before .before .before .before .before .before .start-numbers in
+    let start = c .before .before .before .before .before .before .before .before .before .before .before .before .before .before .before .before .before .before .before .before .before .before .before .before .before .before .before .before .before .before .before .before .before .before in
+    let loaded = c .before .before .before .before .before .before .before .before .before .before .before .before .before .before .before .before .before .before .before .before .before .before .before .before .load-eight in
+    let counted = c .before .before .before .before .before .before .before .before .before .before .before .before .before .before .before .before .before .before .before .before .before .before .before .before .before .before .before .label-count in
+    let s = c .before .before .before .before .before .before .before .before .before .before .before .before .before .before .before .before .before .before .before .before .before .before .label-sets in
+    let count = c .before .before .before .before .before .before .before .before .before .before .before .before .before .before .before .before .before .before .count in
+    let numbers = c .before .before .before .before .before .before .before .before .before .before .before .before .before .before .before .label-numbers in
+    let types = c .before .before .before .before .before .before .before .before .before .before .before .before .before .start-numbers in
     let put = c .before .before .before .before .before .before .put-result in
     let room = start .pre .2 in
-    let n = ap (λ (k : ℕ). k + c .before .before .before .before .before .before .before .before .before .before .before .before .before .before .before .before .before .before .before .before .before .before .before .before .before .before .before .before .before .before .before .before .before .args .union .«new_names» .count) (counted .ensures) ∙ laws.label-count-is (c .before .before .before .before .before .before .before .before .before .before .before .before .before .before .before .before .before .before .before .before .before .before .before .before .before .before .before .before .before .before .before .before .before .args .limits) (c .before .before .before .before .before .before .before .before .before .before .before .before .before .before .before .before .before .before .before .before .before .before .before .before .before .before .before .before .before .before .before .before .before .pre .0) r in
+    let n = ap (λ (k : ℕ). k + c .before .before .before .before .before .before .before .before .before .before .before .before .before .before .before .before .before .before .before .before .before .before .before .before .before .before .before .before .before .before .before .before .before .before .args .union .«new_names» .count) (counted .ensures) ∙ laws.label-count-is (c .before .before .before .before .before .before .before .before .before .before .before .before .before .before .before .before .before .before .before .before .before .before .before .before .before .before .before .before .before .before .before .before .before .before .args .limits) (c .before .before .before .before .before .before .before .before .before .before .before .before .before .before .before .before .before .before .before .before .before .before .before .before .before .before .before .before .before .before .before .before .before .before .pre .0) r in
     let front = s .last .1 .1 .1 .1 .0 in
     let left = ap (λ (w : List ℕ). member w 0) (loaded .ensures) ∙ r .left-are in
-    let (many, few, held) = laws.local-counted (c .before .before .before .before .before .before .before .before .before .before .before .before .before .before .before .before .before .before .before .before .before .before .before .before .before .before .before .before .before .before .before .before .before .args .limits) (c .before .before .before .before .before .before .before .before .before .before .before .before .before .before .before .before .before .before .before .before .before .before .before .before .before .before .before .before .before .before .before .before .before .pre .0) r front (s .result) _ left (s .ensures _ _ _ (r .seen .rules) n) _ (count .given .1) in
+    let (many, few, held) = laws.local-counted (c .before .before .before .before .before .before .before .before .before .before .before .before .before .before .before .before .before .before .before .before .before .before .before .before .before .before .before .before .before .before .before .before .before .before .args .limits) (c .before .before .before .before .before .before .before .before .before .before .before .before .before .before .before .before .before .before .before .before .before .before .before .before .before .before .before .before .before .before .before .before .before .before .pre .0) r front (s .result) _ left (s .ensures _ _ _ (r .seen .rules) n) _ (count .given .1) in
     let fits-same = s .kept .1 .1 .1 .1 .0 in
     let same : length front ≡ length (take setsEnd (start .args .words .now)) = search needs in
     let fits-long = types .kept .1 .1 .0 in
     let long : length (types .last .1 .1 .0) ≡ length (front ++ drop setsEnd (start .args .words .now)) = search needs in
-    laws.local-drafted (c .before .before .before .before .before .before .before .before .before .before .before .before .before .before .before .before .before .before .before .before .before .before .before .before .before .before .before .before .before .before .before .before .before .args .limits) (c .before .before .before .before .before .before .before .before .before .before .before .before .before .before .before .before .before .before .before .before .before .before .before .before .before .before .before .before .before .before .before .before .before .pre .0) r front _ many few held (numbers .result .of) _ n _ _ left
-    (laws.reduced-stay (c .before .before .before .before .before .before .before .before .before .before .before .before .before .before .before .before .before .before .before .before .before .before .before .before .before .before .before .before .before .before .before .before .before .args .limits) (c .before .before .before .before .before .before .before .before .before .before .before .before .before .before .before .before .before .before .before .before .before .before .before .before .before .before .before .before .before .before .before .before .before .pre .0) r room front same .starts-are)
+    laws.local-drafted (c .before .before .before .before .before .before .before .before .before .before .before .before .before .before .before .before .before .before .before .before .before .before .before .before .before .before .before .before .before .before .before .before .before .before .args .limits) (c .before .before .before .before .before .before .before .before .before .before .before .before .before .before .before .before .before .before .before .before .before .before .before .before .before .before .before .before .before .before .before .before .before .before .pre .0) r front _ many few held (numbers .result .of) _ n _ _ left
+    (laws.reduced-stay (c .before .before .before .before .before .before .before .before .before .before .before .before .before .before .before .before .before .before .before .before .before .before .before .before .before .before .before .before .before .before .before .before .before .before .args .limits) (c .before .before .before .before .before .before .before .before .before .before .before .before .before .before .before .before .before .before .before .before .before .before .before .before .before .before .before .before .before .before .before .before .before .before .pre .0) r room front same .starts-are)
     (numbers .ensures .0 _ _ _ (localSets (unite large g h)) (r .seen .rules) (laws.sets-held (start .args .words .now) room front same held) many)
     _ (types .ensures .0) _ _ _ _ (c .told .ensures)
-    (put .ensures (laws.result-after (c .before .before .before .before .before .before .before .before .before .before .before .before .before .before .before .before .before .before .before .before .before .before .before .before .before .before .before .before .before .before .before .before .before .args .limits) (c .before .before .before .before .before .before .before .before .before .before .before .before .before .before .before .before .before .before .before .before .before .before .before .before .before .before .before .before .before .before .before .before .before .pre .0) r Local room front same _ held many few _ (types .ensures .1) long _ n))
+    (put .ensures (laws.result-after (c .before .before .before .before .before .before .before .before .before .before .before .before .before .before .before .before .before .before .before .before .before .before .before .before .before .before .before .before .before .before .before .before .before .before .args .limits) (c .before .before .before .before .before .before .before .before .before .before .before .before .before .before .before .before .before .before .before .before .before .before .before .before .before .before .before .before .before .before .before .before .before .before .pre .0) r Local room front same _ held many few _ (types .ensures .1) long _ n (c .before .before .before .before .before .before .before .before .before .before .text-pairs .result) (c .before .before .before .before .before .before .before .before .before .before .text-pairs .ensures .0 _ (r .seen .rules) (r .lists-are))))
 
 pub widen-local-spec : {M : Type 1} → statement M
 widen-local-spec =
@@ -181,6 +185,7 @@ widen-local-spec =
     enum-known-count
     label-numbers-requires
     start-numbers-requires
+    text-pairs-requires
     slice-aggregate-put-result
     put-result-requires
     told-requires

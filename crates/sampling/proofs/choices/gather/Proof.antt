@@ -17,7 +17,7 @@ use Rattle.sampling.proofs.choices.gather.Statement.{statement}
 use Rattle.sampling.proofs.choices.gather.Tie as tie
 
 abbrev Inv-loop : tie.InvT-loop
-Inv-loop scratch₀ parents types children nodes k notes₀ count₀ end₀ i₀ scratch notes count end i =
+Inv-loop scratch₀ parents types nodes k notes₀ count₀ end₀ i₀ scratch notes count end i =
     Row scratch 4 count (gathered [] (sequencesAmong parents types nodes k (numbersBelow i))) end
     × (end ≤ operandsEnd)
     × (i ≤ nodes)
@@ -26,11 +26,11 @@ Inv-loop scratch₀ parents types children nodes k notes₀ count₀ end₀ i₀
     × (length notes ≡ operandLimit)
 
 abbrev μ-loop : tie.MeasureT-loop
-μ-loop scratch₀ parents types children nodes k notes₀ count₀ end₀ i₀ scratch notes count end i = nodes - i
+μ-loop scratch₀ parents types nodes k notes₀ count₀ end₀ i₀ scratch notes count end i = nodes - i
 
 loop-holds : tie.Need-loop-holds Inv-loop μ-loop
 loop-holds c =
-    let start = c .before .before .before .before in
+    let start = c .before .before .before in
     let a = start .args in (
       among-start (a .parents .now) (a .types .now) (a .nodes) (a .k) (a .scratch .now) (omega arith),
       omega arith,
@@ -42,20 +42,18 @@ loop-holds c =
 
 mul-if1 : tie.Need-mul-if1 Inv-loop μ-loop
 mul-if1 c =
-    let start = c .before .before .before .before .before .before in
-    let h = start .pre .2 (c .before .loop .i) (c .loop-test .taken) .fits in omega arith
+    let h = c .before .before .before .before .before .pre .1 .fits in omega arith
 
 shared-slice-read-if1 : tie.Need-shared-slice-read-if1 Inv-loop μ-loop
 shared-slice-read-if1 c =
-    let start = c .before .before .before .before .before .before .before in
-    let h = start .pre .2 (c .before .before .loop .i) (c .before .loop-test .taken) .types-held in omega arith
+    let h = c .before .before .before .before .before .before .pre .1 .types-held in omega arith
 
 cast-if1 : tie.Need-cast-if1 Inv-loop μ-loop
-cast-if1 c = omega (arith, c .shared-slice-known4 .given (c .before .before .loop .i))
+cast-if1 c = omega (arith, c .shared-slice-known3 .given (c .before .before .loop .i))
 
 loop-again : tie.Need-loop-again Inv-loop μ-loop
 loop-again c =
-    let start = c .before .before .before .before .before .before .before .before in
+    let start = c .before .before .before .before .before .before .before in
     let at-loop = c .before .before .before .loop in
     let a = start .args in
     let l = at-loop in
@@ -68,41 +66,25 @@ loop-again c =
       l .inv .5,
     )
 
-mul-kids : tie.Need-mul-kids Inv-loop μ-loop
-mul-kids c =
-    let start = c .before .before .before .before .before .before .before .before in
-    let at-loop = c .before .before .before .loop in
-    let h = start .pre .2 (at-loop .i) (c .before .before .loop-test .taken) .fits in omega arith
-
-shared-slice-read-kids : tie.Need-shared-slice-read-kids Inv-loop μ-loop
-shared-slice-read-kids c = omega arith
-
-cast-kids : tie.Need-cast-kids Inv-loop μ-loop
-cast-kids c =
-    let at-loop = c .before .before .before .before .loop in
-    omega (arith, c .shared-slice-known5 .given (at-loop .i))
-
 slice-aggregate-settle : tie.Need-slice-aggregate-settle Inv-loop μ-loop
 slice-aggregate-settle c =
-    let at-loop = c .before .before .before .before .before .before .before .before .before .before .loop in
+    let at-loop = c .before .before .before .before .before .before .before .before .before .loop in
     sym (at-loop .inv .5)
 
 put-sequence-requires : tie.Need-put-sequence-requires Inv-loop μ-loop
 put-sequence-requires c κs =
-    let start = c .before .before .before .before .before .before .before .before .before .before in
-    let at-loop = c .before .before .before .before .before .loop in
-    let at-loop-test = c .before .before .before .before .loop-test in
+    let start = c .before .before .before .before .before .before .before .before in
+    let at-loop = c .before .before .before .before .loop in
+    let at-loop-test = c .before .before .before .loop-test in
     let l = at-loop in
     let w = l .inv .3 in
     let room = start .pre .0 in
-    let kids = start .pre .2 (l .i) (at-loop-test .taken) in
-    let few = kids .few in
-    (kids, omega arith)
+    (start .pre .1, at-loop-test .taken, omega arith)
 
 settle-requires : tie.Need-settle-requires Inv-loop μ-loop
 settle-requires c κs =
-    let start = c .before .before .before .before .before .before .before .before .before .before .before .before .before .before .before in
-    let at-loop = c .before .before .before .before .before .before .before .before .before .before .loop in
+    let start = c .before .before .before .before .before .before .before .before .before .before .before .before .before in
+    let at-loop = c .before .before .before .before .before .before .before .before .before .loop in
     let at-put-sequence = c .before .before .before .before .put-sequence in
     let a = start .args in
     let l = at-loop in
@@ -111,10 +93,10 @@ settle-requires c κs =
 
 returns : tie.Need-returns Inv-loop μ-loop
 returns c =
-    let start = c .before .before .before .before .before .before .before .before .before .before .before .before .before .before .before .before .before .before .before in
-    let at-loop = c .before .before .before .before .before .before .before .before .before .before .before .before .before .before .loop in
-    let at-loop-test = c .before .before .before .before .before .before .before .before .before .before .before .before .before .loop-test in
-    let at-if1 = c .before .before .before .before .before .before .before .before .before .before .before .if1 in
+    let start = c .before .before .before .before .before .before .before .before .before .before .before .before .before .before .before .before .before in
+    let at-loop = c .before .before .before .before .before .before .before .before .before .before .before .before .before .loop in
+    let at-loop-test = c .before .before .before .before .before .before .before .before .before .before .before .before .loop-test in
+    let at-if1 = c .before .before .before .before .before .before .before .before .before .before .if1 in
     let at-put-sequence = c .before .before .before .before .before .before .before .before .put-sequence in
     let at-settle = c .before .before .before .settle in
     let a = start .args in
@@ -127,9 +109,9 @@ returns c =
 
 loop-again-2 : tie.Need-loop-again-2 Inv-loop μ-loop
 loop-again-2 c =
-    let start = c .before .before .before .before .before .before .before .before .before .before .before .before .before .before .before .before .before .before .before .before in
-    let at-loop = c .before .before .before .before .before .before .before .before .before .before .before .before .before .before .before .loop in
-    let at-if1 = c .before .before .before .before .before .before .before .before .before .before .before .before .if1 in
+    let start = c .before .before .before .before .before .before .before .before .before .before .before .before .before .before .before .before .before .before in
+    let at-loop = c .before .before .before .before .before .before .before .before .before .before .before .before .before .before .loop in
+    let at-if1 = c .before .before .before .before .before .before .before .before .before .before .before .if1 in
     let at-put-sequence = c .before .before .before .before .before .before .before .before .before .put-sequence in
     let at-settle = c .before .before .before .before .settle in
     let a = start .args in
@@ -139,12 +121,12 @@ loop-again-2 c =
     gather-next (a .parents .now) (a .types .now) (a .nodes) (a .k) _ _ _ (l .count) (l .end) (l .i) (at-if1 .left) (at-settle .result)
     (at-settle .ensures newest (l .inv .4))
     (c .before .more .given .1) in
-    let h = c .before .before .before .before .before .before .before .before .before .before .before .before .before .before .loop-test .taken in
+    let h = c .before .before .before .before .before .before .before .before .before .before .before .before .before .loop-test .taken in
     (r .0, r .1, omega arith, search needs, r .2, search needs)
 
 returns-2 : tie.Need-returns-2 Inv-loop μ-loop
 returns-2 c =
-    let start = c .before .before .before .before .before .before in
+    let start = c .before .before .before .before .before in
     let a = start .args in
     let l = c .before .loop in
     gather-all (a .parents .now) (a .types .now) (a .nodes) (a .k) _ (l .inv .0) (l .inv .1) (omega arith)
@@ -162,9 +144,6 @@ gather-spec =
     (λ c. omega arith)
     (λ c. omega arith)
     loop-again
-    mul-kids
-    shared-slice-read-kids
-    cast-kids
     put-sequence-requires
     slice-aggregate-settle
     settle-requires

@@ -21,7 +21,7 @@ enum-known-next c = search needs
 
 finish-requires : tie.Need-finish-requires
 finish-requires c κs =
-    let a = c .before .before .before .before .before .before .before .before .before .before .before .before .args in
+    let a = c .before .before .before .before .before .before .before .before .before .before .before .args in
     let ds = gathered [] (sequencesAmong (a .parents .now) (a .types .now) (a .nodes) (a .k) (numbersBelow (a .nodes))) in
     let row = upto-row (c .before .before .before .before .before .before .gather .last .0) ds (c .before .before .before .before .before .before .gather .result) (c .before .before .before .before .before .before .gather .ensures) (c .before .before .next .given .1) .0 in
     record { list = ds; row = row }
@@ -31,7 +31,7 @@ same-length c = search needs
 
 returns : tie.Need-returns
 returns c =
-    let a = c .before .before .before .before .before .before .before .before .before .before .before .before .before .before .before .before .args in
+    let a = c .before .before .before .before .before .before .before .before .before .before .before .before .before .before .before .args in
     let ds = gathered [] (sequencesAmong (a .parents .now) (a .types .now) (a .nodes) (a .k) (numbersBelow (a .nodes))) in
     let row = upto-row (c .before .before .before .before .before .before .before .before .before .before .gather .last .0) ds (c .before .before .before .before .before .before .before .before .before .before .gather .result) (c .before .before .before .before .before .before .before .before .before .before .gather .ensures) (c .before .before .before .before .before .before .next .given .1) .0 in
     let made = c .before .before .before .finish .ensures (record { list = ds; row = row }) .stands in
@@ -43,7 +43,7 @@ same-length-2 c = search needs
 
 returns-2 : tie.Need-returns-2
 returns-2 c =
-    let a = c .before .before .before .before .before .before .before .before .before .before .args in
+    let a = c .before .before .before .before .before .before .before .before .before .args in
     content-wide (a .parents .now) (a .types .now) (a .nodes) (a .k) (stop-wide (c .before .before .before .before .gather .last .0) _ (c .before .before .before .before .gather .result) (c .before .before .before .before .gather .ensures) (c .enum-told .given .1))
 
 same-length-3 : tie.Need-same-length-3
@@ -51,7 +51,7 @@ same-length-3 c = search needs
 
 returns-3 : tie.Need-returns-3
 returns-3 c =
-    let a = c .before .before .before .before .before .before .before .before .before .before .before .before .before .before .before .before .args in
+    let a = c .before .before .before .before .before .before .before .before .before .before .before .before .before .before .before .args in
     let ds = gathered [] (sequencesAmong (a .parents .now) (a .types .now) (a .nodes) (a .k) (numbersBelow (a .nodes))) in
     let row = upto-row (c .before .before .before .before .before .before .before .before .before .before .gather .last .0) ds (c .before .before .before .before .before .before .before .before .before .before .gather .result) (c .before .before .before .before .before .before .before .before .before .before .gather .ensures) (c .before .before .before .before .before .before .next .given .1) .0 in
     let made = c .before .before .before .finish .ensures (record { list = ds; row = row }) .stands in

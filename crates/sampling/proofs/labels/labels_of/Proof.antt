@@ -65,8 +65,8 @@ loop-again c =
     let f = l .inv .3 .few in
     let a = l .inv .0 in
     let b = l .inv .1 in (
-      length-set (l .of) (l .t) _ ∙ l .inv .0,
-      length-set (l .firsts) (l .count) _ ∙ l .inv .1,
+      length-set (l .of) _ _ ∙ l .inv .0,
+      length-set (l .firsts) _ _ ∙ l .inv .1,
       omega arith,
       labelling-next (start .pre .1) (start .pre .2) (l .inv .3) (c .before .before .before .before .loop-test .taken) (c .before .find .result)
           (c .before .find .ensures .0) (omega arith) (omega arith) (c .next-count .result) (c .next-count .ensures),

@@ -1,6 +1,6 @@
 -- `sample_table` meets its contract.
 use native.Mathlib.Omega.{arith}
-use mathlib.Core.Path.{_≡_, sym}
+use mathlib.Core.Path.{_≡_}
 use lib.ListN.{length}
 use Rattle.sampling.proofs.SampleIndexed.{index-counted, index-tree, index-whole, index-held, index-ready}
 use borrow.Author.Needs.{needs}
@@ -111,9 +111,7 @@ slice-aggregate-write-sample-2 : tie.Need-slice-aggregate-write-sample-2
 slice-aggregate-write-sample-2 c = search needs
 
 slice-aggregate-write-sample-3 : tie.Need-slice-aggregate-write-sample-3
-slice-aggregate-write-sample-3 c =
-    let early = c .before .before .before .before .before .before .before in
-    sym (counts-long (early .before .before .before .before .before .before .before .before .before .before))
+slice-aggregate-write-sample-3 c = search needs
 
 slice-aggregate-write-sample-4 : tie.Need-slice-aggregate-write-sample-4
 slice-aggregate-write-sample-4 c = search needs
@@ -127,12 +125,9 @@ slice-aggregate-write-sample-6 c = search needs
 slice-aggregate-write-sample-7 : tie.Need-slice-aggregate-write-sample-7
 slice-aggregate-write-sample-7 c = search needs
 
-slice-aggregate-write-sample-8 : tie.Need-slice-aggregate-write-sample-8
-slice-aggregate-write-sample-8 c = search needs
-
 write-sample-requires : tie.Need-write-sample-requires
 write-sample-requires c κs =
-    let at-types = c .before .before .before .before .before .before .before .before .before .before .before in
+    let at-types = c .before .before .before .before .before .before .before .before .before .before in
     let at-parents = at-types .before .before .before .before in
     let start = at-parents .before .before .before .before .before .before .before in
     let a = start .args in
@@ -145,7 +140,7 @@ write-sample-requires c κs =
     let types = at-types .types-of in
     let ready =
     index-ready _ s (a .index) x (at-parents .parents-of .result) ps lp (names-long start) (sizes-long start) (types .result .of)
-    (types .result .firsts) (types .result .count) (types-long at-types) (firsts-long at-types) (types .ensures) (omega arith) in
+    (types .result .firsts) (types .result .count) (types-long at-types) (firsts-long at-types) (types .ensures) in
     (start .pre .0, (start .pre .1 .0, omega arith, omega arith, zeros-at 2048, ready))
 
 same-length : tie.Need-same-length
@@ -153,7 +148,7 @@ same-length c = search needs
 
 returns : tie.Need-returns
 returns c =
-    let at-types = c .before .before .before .before .before .before .before .before .before .before .before .before .before .before .before in
+    let at-types = c .before .before .before .before .before .before .before .before .before .before .before .before .before .before in
     let at-parents = at-types .before .before .before .before in
     let start = at-parents .before .before .before .before .before .before .before in
     let a = start .args in
@@ -186,7 +181,6 @@ sample-table-spec =
     slice-aggregate-write-sample-5
     slice-aggregate-write-sample-6
     slice-aggregate-write-sample-7
-    slice-aggregate-write-sample-8
     write-sample-requires
     same-length
     returns)

@@ -7,7 +7,7 @@ use Rattle.grammar.specs.Lists.{joinedOf, numbersBelow}
 use Rattle.writer.specs.declared.writing.Drafted.the-variants.{TooLarge}
 use Rattle.sampling.specs.SampleTable.{ruleIn, labelField, startBytes}
 use Rattle.writer.proofs.TableLaws.{put-length-is, put-over, put-then}
-use Rattle.sampling.proofs.SampleWritten.{sample-wide, sample-drafted, firsts-keys, labels-keys, nodes-held, rules-held}
+use Rattle.sampling.proofs.SampleWritten.{sample-wide, sample-drafted, firsts-keys, labels-keys, rules-held}
 use borrow.Author.Needs.{needs}
 use Rattle.sampling.proofs.sample.write_sample.Statement.{statement}
 use Rattle.sampling.proofs.sample.write_sample.Tie as tie
@@ -38,12 +38,12 @@ firsts-long c = search needs
 
 returns : tie.Need-returns
 returns c =
-    let start = c .before .before .before .before .before .before .before .before .before .before .before .before in
+    let start = c .before .before .before .before .before .before .before .before .before .before .before in
     λ q. sample-wide q (start .args .limits) (c .if1 .taken)
 
 labels-of-requires : tie.Need-labels-of-requires
 labels-of-requires c κs =
-    let start = c .before .before .before .before .before .before .before .before .before .before .before .before in
+    let start = c .before .before .before .before .before .before .before .before .before .before .before in
     let room = start .pre .0 .rules in
     let p = start .pre .1 in
     (omega arith, firsts-keys (p .4) (omega arith) (p .2), p .3)
@@ -51,7 +51,7 @@ labels-of-requires c κs =
 put-labels-requires : tie.Need-put-labels-requires
 put-labels-requires c κs =
     let found = c .before .before .before .before in
-    let start = found .before .before .before .before .before .before .before .before .before .before .before .before .before in
+    let start = found .before .before .before .before .before .before .before .before .before .before .before .before in
     let room = start .pre .0 .rules in
     let p = start .pre .1 in
     let l = found .labels-of in
@@ -63,27 +63,27 @@ put-start-requires : tie.Need-put-start-requires
 put-start-requires c κs =
     let named = c .before .before .before .before .before .before .before .before in
     let found = named .before .before .before .before .before in
-    let start = found .before .before .before .before .before .before .before .before .before .before .before .before .before in
+    let start = found .before .before .before .before .before .before .before .before .before .before .before .before in
     let types = found .before .if1 .left in
     let a = start .args in
     let room = start .pre .0 .rules in
     let p = start .pre .1 in
     let l = found .labels-of in
     let m = named .put-labels in
-    let rule = ruleIn (a .parents .now) (a .types .now) (a .firsts .now) (l .result .of) (a .nodes) in
+    let rule = ruleIn (a .s .now) (a .names .now) (a .parents .now) (a .types .now) (l .result .of) (a .nodes) in
     let xs = joinedOf (labelField (a .s .now) (a .names .now) (a .sizes .now) (l .result .firsts)) (numbersBelow (l .result .count)) in
     let h =
     put-length-is (a .draft .now) 0 rule (a .count) xs (startBytes rule (a .count)) (m .last .0) [] (m .result) (m .ensures)
     (c .before .before .before .before .end .given .1) in
     let w : length (m .last .0) ≡ length (a .draft .now) = search needs in
     let v = labels-long found in
-    (h .1, omega arith, p .1, nodes-held (p .4) (omega arith), rules-held (p .4) (omega arith) (l .ensures) (omega arith))
+    (h .1, omega arith, p .1, rules-held (p .4) (omega arith) (omega arith))
 
 returns-2 : tie.Need-returns-2
 returns-2 c =
     let named = c .before .before .before .before in
     let found = named .before .before .before .before .before in
-    let start = found .before .before .before .before .before .before .before .before .before .before .before .before .before in
+    let start = found .before .before .before .before .before .before .before .before .before .before .before .before in
     let types = found .before .if1 .left in
     let a = start .args in
     let l = found .labels-of in
@@ -91,7 +91,7 @@ returns-2 c =
     let room = start .pre .0 .rules in
     let few = l .ensures .few in
     let w = firsts-long found in
-    let rule = ruleIn (a .parents .now) (a .types .now) (a .firsts .now) (l .result .of) (a .nodes) in
+    let rule = ruleIn (a .s .now) (a .names .now) (a .parents .now) (a .types .now) (l .result .of) (a .nodes) in
     let xs = joinedOf (labelField (a .s .now) (a .names .now) (a .sizes .now) (l .result .firsts)) (numbersBelow (l .result .count)) in
     λ q. sample-drafted q (l .ensures) (omega arith) (a .limits) (omega arith) (a .draft .now) (m .last .0) TooLarge
     (put-over (a .draft .now) 0 rule (a .count) xs (startBytes rule (a .count)) (m .last .0) (m .last .0) (m .result) (m .ensures)
@@ -101,7 +101,7 @@ returns-3 : tie.Need-returns-3
 returns-3 c =
     let named = c .before .before .before .before .before .before .before .before .before .before .before .before .before in
     let found = named .before .before .before .before .before in
-    let start = found .before .before .before .before .before .before .before .before .before .before .before .before .before in
+    let start = found .before .before .before .before .before .before .before .before .before .before .before .before in
     let types = found .before .if1 .left in
     let a = start .args in
     let l = found .labels-of in
@@ -110,7 +110,7 @@ returns-3 c =
     let room = start .pre .0 .rules in
     let few = l .ensures .few in
     let w = firsts-long found in
-    let rule = ruleIn (a .parents .now) (a .types .now) (a .firsts .now) (l .result .of) (a .nodes) in
+    let rule = ruleIn (a .s .now) (a .names .now) (a .parents .now) (a .types .now) (l .result .of) (a .nodes) in
     let xs = joinedOf (labelField (a .s .now) (a .names .now) (a .sizes .now) (l .result .firsts)) (numbersBelow (l .result .count)) in
     λ q. sample-drafted q (l .ensures) (omega arith) (a .limits) (omega arith) (a .draft .now) (n .last .0) (n .result)
     (put-then (a .draft .now) 0 rule (a .count) xs (startBytes rule (a .count)) (m .last .0) (n .last .0) (m .result) (m .ensures)

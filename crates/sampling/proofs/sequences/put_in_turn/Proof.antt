@@ -1,7 +1,7 @@
 -- `put_in_turn` meets its contract.
 use native.Mathlib.Omega.{arith}
 use mathlib.Core.Path.{sym, _∙_}
-use lib.ListN.{length-set}
+use lib.ListN.{length-set, set}
 use borrow.Author.Needs.{needs}
 use Rattle.theory.proofs.sample.SampleRuns.{runs-few}
 use Rattle.writer.proofs.PutLaws.{put-length}
@@ -62,11 +62,7 @@ put-runs-requires-2 c κs = search needs
 same-length-3 : tie.Need-same-length-3
 same-length-3 c =
     let a = c .before .before .before .before .before .before .before .before .before .args in
-    let x = c .before .before .before .before .before .if1 .left in
-    let y = c .before .before .before .before .if2 .left in
-    put-length
-    (put-several (a .kinds .now) (a .scratch .now) (a .at) (c .before .before .before .before .before .before .run-count .result) (omega (arith, x, y)) (sym (c .before .before .before .before .before .before .run-count .ensures)) (omega arith)
-    (c .before .before .put-runs2 .ensures))
+    put-length (c .before .before .put-runs2 .ensures) ∙ length-set (set (a .scratch .now) (a .at) 3) _ _ ∙ length-set (a .scratch .now) _ _
 
 returns-3 : tie.Need-returns-3
 returns-3 c =
