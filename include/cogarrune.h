@@ -31,10 +31,17 @@
  * it was met first: as the old table does, also where that label has no rule there; else as the addition does, a document's name as its
  * first node of that name. cogarrune_label_name gives a name as its own table spells it.
  *
- * Text. A rule of tag 13 is for text: its nodes may hold text. A node of tag 32 does hold text. A rule 12 takes only nodes 30, a rule 13
- * both. In every other way the two tags of a rule, and those of a node, are read alike. A table that is written has a rule 13 where a
- * rule 13 of the inputs, or a node 32 of a document, stands behind it: one whose own content is not none once it is reduced, of a type that
- * is reached. Kinds do not look at text: a rule 12 and a rule 13 of one type and label are two rules.
+ * Documents. Directly before a document a call takes its format: COGARRUNE_DOCUMENT_FILE or COGARRUNE_XML_TEXT. Any other number counts as
+ * COGARRUNE_DOCUMENT_FILE. The format is never guessed from the bytes. XML text is start tags, end tags and empty-element tags as XML 1.0
+ * writes them, with white space (20, 09, 0D, 0A) around them and behind a name in a tag. Nothing else is taken: no attributes, text,
+ * comments, declarations or references, and no byte order mark. A name ends at white space, / or >. An end tag has the bytes of the
+ * innermost open element's name, so </CARD> does not end <card>. Limits, classes and the equality of names are those of document files. A
+ * file and a text of the same nodes, neither too long (2), are both read or neither is; if both are, every call answers alike.
+ *
+ * Text. A rule of tag 13 is for text: its nodes may hold text. A node of tag 32 does hold text; no node of XML text does. A rule 12 takes
+ * only nodes without text, a rule 13 both. In every other way the two tags of a rule, and those of a node, are read alike. A table that is
+ * written has a rule 13 where a rule 13 of the inputs, or a node 32 of a document, stands behind it: one whose own content is not none
+ * once it is reduced, of a type that is reached. Kinds do not look at text: a rule 12 and a rule 13 of one type and label are two rules.
  *
  * Working memory. Every call is lent `work`, of at least as many words as its size needs, with any content. Afterwards just these words
  * are zero, with every refusal too (18 included), and words beyond are as they came. With fewer words the call answers refusal 1 and
@@ -42,7 +49,8 @@
  *
  * Answers. Every answer is one number: refusal x 2^32 + value. The refusal is 0, or the first fault found; then the value is 0, and
  * nothing is written to `out`. First 1 is tried, then 18, then the inputs one after the other: 2, and field by field, front to back, 3 to
- * 12. After the inputs come a caller's label number (8), then 13, 14 and 15. So the order is no longer that of the numbers.
+ * 12. XML text, after 2, is tried tag by tag, front to back, each tag as a whole: 16, 17, 5, 11. It is never 3, 4 or 12, and no bytes
+ * at all are 11. After the inputs come a caller's label number (8), then 13, 14 and 15. So the order is not that of the numbers.
  */
 #ifndef COGARRUNE_H
 #define COGARRUNE_H
@@ -56,6 +64,9 @@ extern "C" {
 
 /* The sizes. */
 enum cogarrune_size { COGARRUNE_SMALL = 0, COGARRUNE_STANDARD = 1, COGARRUNE_LARGE = 2 };
+
+/* What a document is read as. */
+enum cogarrune_format { COGARRUNE_DOCUMENT_FILE = 0, COGARRUNE_XML_TEXT = 1 };
 
 /* Words that a call of each size needs. */
 #define COGARRUNE_WORDS_SMALL 12288
@@ -97,13 +108,15 @@ enum cogarrune_refusal {
     COGARRUNE_INPUT_TOO_LONG = 2,    /* an input is longer than 32,768 bytes */
     COGARRUNE_FIELD_PAST_END = 3,    /* a field runs past the input's end, or the input stops before an end field */
     COGARRUNE_BAD_FIELD = 4,         /* a tag is foreign or out of order, or its length is not one of its own */
-    COGARRUNE_BAD_NAME = 5,          /* a name has a byte of class 0, or its first byte is not of class 2 */
+    COGARRUNE_BAD_TEXT = 16,         /* XML text has a byte outside names that is not taken there, or stops inside a tag */
+    COGARRUNE_BAD_END_TAG = 17,      /* an end tag of XML text has not the bytes of the innermost open element's name, or none is open */
+    COGARRUNE_BAD_NAME = 5,          /* a name has a byte of class 0, its first is not of class 2, or it has 0 or over 63 (XML text) */
     COGARRUNE_REPEATED = 6,          /* a label name (up to letter case) or a start type repeats an earlier one */
     COGARRUNE_TOO_MANY = 7,          /* a label, start or rule more than the size allows */
     COGARRUNE_OUT_OF_RANGE = 8,      /* a start or rule type not below the size's limit, or a label number not among the labels */
     COGARRUNE_BAD_CONTENT = 9,       /* a content is not exactly one expression, or names a type not below the size's limit */
     COGARRUNE_NESTED_TOO_DEEP = 10,  /* a content nests more than 32 deep */
-    COGARRUNE_BAD_TREE = 11,         /* a node too many, too many children, too deep, after or before the tree is complete */
+    COGARRUNE_BAD_TREE = 11,         /* a node too many, too many children, too deep, after the tree is complete, or an end before it is */
     COGARRUNE_BYTES_AFTER_END = 12,  /* bytes follow the end field */
     COGARRUNE_NO_DOCUMENT = 13,      /* the united tables derive no document */
     COGARRUNE_RESULT_TOO_LARGE = 14, /* the sample or the result breaks a limit of table files of that size */
@@ -128,7 +141,7 @@ uint64_t cogarrune_table_reads(uint32_t size, const uint8_t *classes, size_t cla
                                uint32_t *work, size_t work_length);
 
 /* Does a document read? Value 1. */
-uint64_t cogarrune_document_reads(uint32_t size, const uint8_t *classes, size_t classes_length, const uint8_t *document,
+uint64_t cogarrune_document_reads(uint32_t size, const uint8_t *classes, size_t classes_length, uint32_t format, const uint8_t *document,
                                   size_t document_length, uint32_t *work, size_t work_length);
 
 /* The name of a label, counted from 0, as a part of the table's own bytes. Value: offset x 65,536 + length. */
@@ -137,7 +150,7 @@ uint64_t cogarrune_label_name(uint32_t size, const uint8_t *classes, size_t clas
 
 /* Does the table let in the document? Value 1 for yes, 0 for no. A name that the table does not know means no. */
 uint64_t cogarrune_lets_in(uint32_t size, const uint8_t *classes, size_t classes_length, const uint8_t *table, size_t table_length,
-                           const uint8_t *document, size_t document_length, uint32_t *work, size_t work_length);
+                           uint32_t format, const uint8_t *document, size_t document_length, uint32_t *work, size_t work_length);
 
 /* Is the table local: has no label two rules? Value 1 for yes, 0 for no. */
 uint64_t cogarrune_is_local(uint32_t size, const uint8_t *classes, size_t classes_length, const uint8_t *table, size_t table_length,
@@ -151,24 +164,24 @@ uint64_t cogarrune_is_single_type(uint32_t size, const uint8_t *classes, size_t 
 /* Writes the sample table of a document: a type for each path of names, and of the children of its nodes the choice of their sequences, in
  * which a run of two or more neighbours of one name is one or more of its type. The sample lets in the document. Value: how many bytes of
  * `out` it takes; bytes past them stay as they came. */
-uint64_t cogarrune_sample(uint32_t size, const uint8_t *classes, size_t classes_length, const uint8_t *document, size_t document_length,
-                          uint8_t *out, size_t out_length, uint32_t *work, size_t work_length);
+uint64_t cogarrune_sample(uint32_t size, const uint8_t *classes, size_t classes_length, uint32_t format, const uint8_t *document,
+                          size_t document_length, uint8_t *out, size_t out_length, uint32_t *work, size_t work_length);
 
 /* Writes the least local (or single-type) table that lets in all that the old table and the addition let in. Value as for
- * cogarrune_sample. A document is added through its sample: the result lets in all that the sample lets in, the document among them, and is
- * least over the old table and the sample. */
+ * cogarrune_sample. A document is added through its sample: the result lets in all that the sample lets in, the document among them, and
+ * is least over the old table and the sample. */
 uint64_t cogarrune_widen_local_by_table(uint32_t size, const uint8_t *classes, size_t classes_length, const uint8_t *old,
                                         size_t old_length, const uint8_t *addition, size_t addition_length, uint8_t *out,
                                         size_t out_length, uint32_t *work, size_t work_length);
 uint64_t cogarrune_widen_local_by_document(uint32_t size, const uint8_t *classes, size_t classes_length, const uint8_t *old,
-                                           size_t old_length, const uint8_t *document, size_t document_length, uint8_t *out,
-                                           size_t out_length, uint32_t *work, size_t work_length);
+                                           size_t old_length, uint32_t format, const uint8_t *document, size_t document_length,
+                                           uint8_t *out, size_t out_length, uint32_t *work, size_t work_length);
 uint64_t cogarrune_widen_single_type_by_table(uint32_t size, const uint8_t *classes, size_t classes_length, const uint8_t *old,
                                               size_t old_length, const uint8_t *addition, size_t addition_length, uint8_t *out,
                                               size_t out_length, uint32_t *work, size_t work_length);
 uint64_t cogarrune_widen_single_type_by_document(uint32_t size, const uint8_t *classes, size_t classes_length, const uint8_t *old,
-                                                 size_t old_length, const uint8_t *document, size_t document_length, uint8_t *out,
-                                                 size_t out_length, uint32_t *work, size_t work_length);
+                                                 size_t old_length, uint32_t format, const uint8_t *document, size_t document_length,
+                                                 uint8_t *out, size_t out_length, uint32_t *work, size_t work_length);
 
 #ifdef __cplusplus
 }

@@ -132,11 +132,12 @@ def equal_operands(count, named_in_all=430):
 
 
 def case(size, call, first, second):
-    """A case as tests/second_validator/README.md lays it down."""
+    """A case as tests/second_validator/README.md lays it down; the document is a document file."""
     number = lambda n: n.to_bytes(4, "big")
     part = lambda b: number(len(b)) + b
     lent = number(ASCII_CLASSES) + number(WORDS[size]) + number(0) + number(0 if call == LETS_IN else OUTPUT)
-    return bytes([call]) + number(size) + lent + number(0) + part(first) + part(second)
+    label, document_file = number(0), number(0)
+    return bytes([call]) + number(size) + lent + label + document_file + part(first) + part(second)
 
 
 def seconds(program, one, repeats):

@@ -3,9 +3,9 @@
 
 Takes cases with small inputs and enough working words (so not refusals 1 and 2) from the second validator's generator, at the three
 sizes, under document 01's classes and others, with each name in one spelling and with one in several, with runs of neighbours in their
-documents and without, with text marks and without, writes each as an equation between grammar's definition of the call, over the limits
-of the size and the classes, and the second validator's answer, and has the checker compute them, in a copy of crates/grammar. Not part of
-the gate.
+documents and without, with text marks and without, with document files and with XML text, writes each as an equation between grammar's
+definition of the call, over the limits of the size and the classes, and the second validator's answer, and has the checker compute them,
+in a copy of crates/grammar. Not part of the gate.
 
     python3 tests/definitions_agree.py [--seed N] [--most BYTES] [--each N]
 """
@@ -19,7 +19,7 @@ import reference  # noqa: E402
 
 REFUSALS = dict(enumerate("""WorkTooShort InputTooLong FieldPastEnd BadField BadName Repeated TooMany OutOfRange BadContent NestedTooDeep
 BadTree BytesAfterEnd NoDocument ResultTooLarge OutputTooShort""".split(), 1))
-REFUSALS[18] = "BadClasses"
+REFUSALS.update({16: "BadText", 17: "BadEndTag", 18: "BadClasses"})
 HEAD = """use Prim.Native.Nat.{ℕ}
 use mathlib.Core.Bool.{true, false}
 use mathlib.Core.List.{List, [], _∷_}
@@ -31,6 +31,7 @@ use Rattle.grammar.specs.Kinds.{local, singleType}
 use Rattle.grammar.specs.Outcome.{given, refused}
 use Rattle.grammar.specs.Calls.{tableReads, documentReads, labelName, tableLetsIn, tableIsOfKind, documentSample, widened}
 use Rattle.grammar.specs.declared.Source.the-variants.{Table as aTable, Document as aDocument}
+use Rattle.grammar.specs.declared.Format.the-variants.{DocumentFile, XmlText}
 use Rattle.grammar.specs.Answers.{numberAfter}
 use Rattle.grammar.specs.declared.Refusal.the-variants.{%s}
 
@@ -45,7 +46,7 @@ largeWork = replicate 32768 0
 """ % ", ".join(REFUSALS.values())
 LIMITS = ("small", "standard", "large")
 DECISIONS = {4: ("tableLetsIn", ""), 5: ("tableIsOfKind", "local "), 6: ("tableIsOfKind", "singleType ")}
-WIDENINGS = {8: "local aTable", 9: "local aDocument", 10: "singleType aTable", 11: "singleType aDocument"}
+WIDENINGS = {8: "local aTable", 9: "local (aDocument {})", 10: "singleType aTable", 11: "singleType (aDocument {})"}
 
 
 def numbers(values):
@@ -66,35 +67,38 @@ def equation(case, refusal, value):
     limits = LIMITS[case.size]
     classes = "asciiClasses" if case.classes == reference.ASCII else numbers(case.classes)
     fixed, work = f"{limits} {classes}", f"{limits}Work"
+    text = "XmlText" if generate.is_text(case) else "DocumentFile"
     refused = f"refused {REFUSALS.get(refusal)}"
-    if call in (1, 2):
-        name = "tableReads" if call == 1 else "documentReads"
-        return name, f"numberAfter ({name} {fixed} {a} {work}) ≡ {refusal}"
+    if call == 1:
+        return "tableReads", f"numberAfter (tableReads {fixed} {a} {work}) ≡ {refusal}"
+    if call == 2:
+        return "documentReads", f"numberAfter (documentReads {fixed} {text} {a} {work}) ≡ {refusal}"
     if call == 3:
         given = f"given (record {{ from = {value // 65536}; size = {value % 65536} }})"
         return "labelName", f"labelName {fixed} {a} {case.label} {work} ≡ {refused if refusal else given}"
     if call in DECISIONS:
         name, kind = DECISIONS[call]
-        inputs = f"{a} {b}" if call == 4 else kind + a
+        inputs = f"{a} {text} {b}" if call == 4 else kind + a
         return name, f"{name} {fixed} {inputs} {work} ≡ {refused if refusal else 'given ' + ('true' if value else 'false')}"
     told = refused if refusal else "given " + numbers(generate.answer_of(case).written)
     if call == 7:
-        return "documentSample", f"documentSample {fixed} {a} {lent} {work} ≡ {told}"
-    return "widened", f"widened {fixed} {WIDENINGS[call]} {a} {b} {lent} {work} ≡ {told}"
+        return "documentSample", f"documentSample {fixed} {text} {a} {lent} {work} ≡ {told}"
+    return "widened", f"widened {fixed} {WIDENINGS[call].format(text)} {a} {b} {lent} {work} ≡ {told}"
 
 
 def chosen(folder, most, each, seed):
-    """Up to `each` small cases of each call, size, sort of classes, sort of spelling, with and without a run, with and without a mark, and
-    refusal, ten times as many that were not refused."""
+    """Up to `each` small cases of each call, size, sort of classes, sort of spelling, with and without a run, with and without a mark, of
+    each format and refusal, ten times as many that were not refused."""
     sorts = {}
     for case, refusal, value in cases(folder):
         enough = case.size in generate.SIZES and case.work_len >= generate.limits_of(case).words
         if enough and len(case.first) + len(case.second) <= most:
             own = case.classes != reference.ASCII
-            twice = generate.in_two_spellings(case.first, case.second)
+            inputs = generate.as_file(case)[-2:]
+            twice, marks = generate.in_two_spellings(*inputs), generate.has_marks(*inputs)
             runs = refusal == 0 and generate.samples_a_run(case)
-            marks = generate.has_marks(case.first, case.second)
-            sorts.setdefault((case.call, case.size, own, twice, runs, marks, refusal), []).append((case, refusal, value))
+            sort = case.call, case.size, own, twice, runs, marks, generate.is_text(case), refusal
+            sorts.setdefault(sort, []).append((case, refusal, value))
     pick = random.Random(seed)
     for (*_, refusal), found in sorted(sorts.items()):
         pick.shuffle(found)

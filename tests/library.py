@@ -4,7 +4,7 @@
     build_archive(crate)                the archive of another crate's exported functions; build_shared(crate) to load it
     library.calls                       the numbers of the calls that it has (tests/second_validator/README.md)
     library.run(case)                   (refusal, value, output slice, working slice) of a case of generate.py
-    library.lets_in(size, classes, table, document)    True or False
+    library.lets_in(size, classes, table, document, format=0)    True or False; the format 1 is XML text
     loaded(name, path)                  a script of tests or tools as a module
 """
 
@@ -80,7 +80,11 @@ class Library:
         work = words(case.work_len, case.work_fill)
         out = ctypes.create_string_buffer(generate.OUTPUT_FILL[:case.out_len], max(case.out_len, 1))
         arguments = [ctypes.c_uint32(case.size), case.classes, ctypes.c_size_t(len(case.classes))]
+        if call in generate.DOCUMENT_FIRST:
+            arguments.append(ctypes.c_uint32(case.format))
         arguments += [case.first, ctypes.c_size_t(len(case.first))]
+        if call == generate.LETS_IN or call in generate.BY_DOCUMENT:
+            arguments.append(ctypes.c_uint32(case.format))
         if call == generate.LETS_IN or call in generate.BY_TABLE + generate.BY_DOCUMENT:
             arguments += [case.second, ctypes.c_size_t(len(case.second))]
         if call == generate.LABEL_NAME:
@@ -90,9 +94,9 @@ class Library:
         answer = self.functions[call](*arguments, work, ctypes.c_size_t(case.work_len))
         return answer >> 32, answer % 2**32, out.raw[:case.out_len], bytes(work)[:4 * case.work_len]
 
-    def lets_in(self, size, classes, table, document):
+    def lets_in(self, size, classes, table, document, format=ref.DOCUMENT_FILE):
         words = ref.limits_of(size).words
-        refusal, value, _, _ = self.run(generate.Case(generate.LETS_IN, size, classes, words, 0, 0, 0, table, document))
+        refusal, value, _, _ = self.run(generate.Case(generate.LETS_IN, size, classes, words, 0, 0, 0, format, table, document))
         if refusal:
             raise ref.Refused(refusal)
         return value == 1

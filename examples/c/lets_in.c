@@ -1,10 +1,13 @@
-/* Does a table let in a document? lets_in TABLE DOCUMENT prints yes, no or refused N.
+/* Does a table let in a document? lets_in TABLE DOCUMENT, or lets_in --xml TABLE TEXT for a document as XML text. Prints yes, no or
+ * refused N.
  *
  *     rt staticlib exports
  *     cc -Iinclude -o lets_in examples/c/lets_in.c target/staticlib/libexports.a
  *     ./lets_in examples/cards/old.tbl examples/cards/new.doc
+ *     ./lets_in --xml examples/xml/old.tbl examples/xml/list.xml
  */
 #include <stdio.h>
+#include <string.h>
 
 #include "cogarrune.h"
 
@@ -25,14 +28,17 @@ static size_t read_file(const char *path, uint8_t *bytes) {
 }
 
 int main(int count, char **arguments) {
-    if (count != 3) {
-        fprintf(stderr, "usage: lets_in TABLE DOCUMENT\n");
+    int xml = count > 1 && strcmp(arguments[1], "--xml") == 0;
+    if (count != 3 + xml) {
+        fprintf(stderr, "usage: lets_in [--xml] TABLE DOCUMENT\n");
         return 2;
     }
-    size_t table_length = read_file(arguments[1], table);
-    size_t document_length = read_file(arguments[2], document);
-    uint64_t answer = cogarrune_lets_in(COGARRUNE_STANDARD, classes, sizeof classes, table, table_length, document, document_length, work,
-                                        COGARRUNE_WORDS_STANDARD);
+    /* The caller says what the document is; no byte of it is looked at for that. */
+    uint32_t format = xml ? COGARRUNE_XML_TEXT : COGARRUNE_DOCUMENT_FILE;
+    size_t table_length = read_file(arguments[1 + xml], table);
+    size_t document_length = read_file(arguments[2 + xml], document);
+    uint64_t answer = cogarrune_lets_in(COGARRUNE_STANDARD, classes, sizeof classes, table, table_length, format, document,
+                                        document_length, work, COGARRUNE_WORDS_STANDARD);
     if (cogarrune_refusal_of(answer) != 0) {
         printf("refused %u\n", cogarrune_refusal_of(answer));
         return 2;

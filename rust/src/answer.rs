@@ -16,8 +16,12 @@ pub enum Refusal {
     FieldPastEnd,
     /// A tag is foreign to this file or out of order, or its length is not one of its own.
     BadField,
-    /// A name has a byte of class 0, or its first byte is not of class 2.
-    BadName,
+    /// A byte outside names that XML text does not take there, or a text that stops inside a tag.
+    BadText = 16,
+    /// An end tag of XML text that does not name the innermost open element, byte for byte, or with none open.
+    BadEndTag = 17,
+    /// A name has a byte of class 0, or its first byte is not of class 2; in XML text also a name of no bytes or over 63.
+    BadName = 5,
     /// A label name, in whatever spelling, or a start type repeats an earlier one of its table.
     Repeated,
     /// A label, start or rule more than the size allows.
@@ -28,7 +32,8 @@ pub enum Refusal {
     BadContent,
     /// A content nests more than 32 deep.
     NestedTooDeep,
-    /// A node too many, too many children, too deep, after the tree is complete, or an end before it is.
+    /// A node too many, too many children, too deep, after the tree is complete, or an end before it is; so no bytes at all as XML
+    /// text.
     BadTree,
     /// Bytes follow the end field.
     BytesAfterEnd,
@@ -41,12 +46,14 @@ pub enum Refusal {
 }
 
 /// All refusals.
-const REFUSALS: [Refusal; 16] = [
+const REFUSALS: [Refusal; 18] = [
     Refusal::WorkTooShort,
     Refusal::BadClasses,
     Refusal::InputTooLong,
     Refusal::FieldPastEnd,
     Refusal::BadField,
+    Refusal::BadText,
+    Refusal::BadEndTag,
     Refusal::BadName,
     Refusal::Repeated,
     Refusal::TooMany,
@@ -61,7 +68,7 @@ const REFUSALS: [Refusal; 16] = [
 ];
 
 impl Refusal {
-    /// The number of the refusal: 1 to 15, or 18.
+    /// The number of the refusal: 1 to 18.
     pub fn number(self) -> u8 {
         self as u8
     }

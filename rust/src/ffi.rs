@@ -2,7 +2,7 @@
 //! length, which is all that the archive asks of its callers.
 #![allow(unsafe_code)]
 
-use crate::Size;
+use crate::{Format, Size};
 
 mod archive {
     extern "C" {
@@ -19,6 +19,7 @@ mod archive {
             size: u32,
             classes: *const u8,
             classes_length: usize,
+            format: u32,
             document: *const u8,
             document_length: usize,
             work: *mut u32,
@@ -40,6 +41,7 @@ mod archive {
             classes_length: usize,
             table: *const u8,
             table_length: usize,
+            format: u32,
             document: *const u8,
             document_length: usize,
             work: *mut u32,
@@ -67,6 +69,7 @@ mod archive {
             size: u32,
             classes: *const u8,
             classes_length: usize,
+            format: u32,
             document: *const u8,
             document_length: usize,
             out: *mut u8,
@@ -93,6 +96,7 @@ mod archive {
             classes_length: usize,
             old: *const u8,
             old_length: usize,
+            format: u32,
             document: *const u8,
             document_length: usize,
             out: *mut u8,
@@ -119,6 +123,7 @@ mod archive {
             classes_length: usize,
             old: *const u8,
             old_length: usize,
+            format: u32,
             document: *const u8,
             document_length: usize,
             out: *mut u8,
@@ -129,54 +134,18 @@ mod archive {
     }
 }
 
-/// A call on one input.
-type OneInput = unsafe extern "C" fn(u32, *const u8, usize, *const u8, usize, *mut u32, usize) -> u64;
+/// A call on one table.
+type OnTable = unsafe extern "C" fn(u32, *const u8, usize, *const u8, usize, *mut u32, usize) -> u64;
 
-/// A call on two inputs.
-type TwoInputs =
-    unsafe extern "C" fn(u32, *const u8, usize, *const u8, usize, *const u8, usize, *mut u32, usize) -> u64;
-
-/// A call that widens.
-type Widening = unsafe extern "C" fn(
-    u32,
-    *const u8,
-    usize,
-    *const u8,
-    usize,
-    *const u8,
-    usize,
-    *mut u8,
-    usize,
-    *mut u32,
-    usize,
-) -> u64;
-
-fn one_input(call: OneInput, size: Size, classes: &[u8], input: &[u8], work: &mut [u32]) -> u64 {
+fn on_table(call: OnTable, size: Size, classes: &[u8], table: &[u8], work: &mut [u32]) -> u64 {
     // SAFETY: all pointers come from slices of these lengths, and `work` overlaps no other of them.
     unsafe {
         call(
             size.number(),
             classes.as_ptr(),
             classes.len(),
-            input.as_ptr(),
-            input.len(),
-            work.as_mut_ptr(),
-            work.len(),
-        )
-    }
-}
-
-fn two_inputs(call: TwoInputs, size: Size, classes: &[u8], first: &[u8], second: &[u8], work: &mut [u32]) -> u64 {
-    // SAFETY: as above; classes and inputs are only read.
-    unsafe {
-        call(
-            size.number(),
-            classes.as_ptr(),
-            classes.len(),
-            first.as_ptr(),
-            first.len(),
-            second.as_ptr(),
-            second.len(),
+            table.as_ptr(),
+            table.len(),
             work.as_mut_ptr(),
             work.len(),
         )
@@ -184,11 +153,23 @@ fn two_inputs(call: TwoInputs, size: Size, classes: &[u8], first: &[u8], second:
 }
 
 pub fn table_reads(size: Size, classes: &[u8], table: &[u8], work: &mut [u32]) -> u64 {
-    one_input(archive::cogarrune_table_reads, size, classes, table, work)
+    on_table(archive::cogarrune_table_reads, size, classes, table, work)
 }
 
-pub fn document_reads(size: Size, classes: &[u8], document: &[u8], work: &mut [u32]) -> u64 {
-    one_input(archive::cogarrune_document_reads, size, classes, document, work)
+pub fn document_reads(size: Size, classes: &[u8], format: Format, document: &[u8], work: &mut [u32]) -> u64 {
+    // SAFETY: as above; classes and inputs are only read.
+    unsafe {
+        archive::cogarrune_document_reads(
+            size.number(),
+            classes.as_ptr(),
+            classes.len(),
+            format.number(),
+            document.as_ptr(),
+            document.len(),
+            work.as_mut_ptr(),
+            work.len(),
+        )
+    }
 }
 
 pub fn label_name(size: Size, classes: &[u8], table: &[u8], label: usize, work: &mut [u32]) -> u64 {
@@ -207,25 +188,40 @@ pub fn label_name(size: Size, classes: &[u8], table: &[u8], label: usize, work: 
     }
 }
 
-pub fn lets_in(size: Size, classes: &[u8], table: &[u8], document: &[u8], work: &mut [u32]) -> u64 {
-    two_inputs(archive::cogarrune_lets_in, size, classes, table, document, work)
+pub fn lets_in(size: Size, classes: &[u8], table: &[u8], format: Format, document: &[u8], work: &mut [u32]) -> u64 {
+    // SAFETY: as above.
+    unsafe {
+        archive::cogarrune_lets_in(
+            size.number(),
+            classes.as_ptr(),
+            classes.len(),
+            table.as_ptr(),
+            table.len(),
+            format.number(),
+            document.as_ptr(),
+            document.len(),
+            work.as_mut_ptr(),
+            work.len(),
+        )
+    }
 }
 
 pub fn is_local(size: Size, classes: &[u8], table: &[u8], work: &mut [u32]) -> u64 {
-    one_input(archive::cogarrune_is_local, size, classes, table, work)
+    on_table(archive::cogarrune_is_local, size, classes, table, work)
 }
 
 pub fn is_single_type(size: Size, classes: &[u8], table: &[u8], work: &mut [u32]) -> u64 {
-    one_input(archive::cogarrune_is_single_type, size, classes, table, work)
+    on_table(archive::cogarrune_is_single_type, size, classes, table, work)
 }
 
-pub fn sample(size: Size, classes: &[u8], document: &[u8], out: &mut [u8], work: &mut [u32]) -> u64 {
+pub fn sample(size: Size, classes: &[u8], format: Format, document: &[u8], out: &mut [u8], work: &mut [u32]) -> u64 {
     // SAFETY: as above; `out` overlaps no other slice either, and is written within its length.
     unsafe {
         archive::cogarrune_sample(
             size.number(),
             classes.as_ptr(),
             classes.len(),
+            format.number(),
             document.as_ptr(),
             document.len(),
             out.as_mut_ptr(),
@@ -236,12 +232,27 @@ pub fn sample(size: Size, classes: &[u8], document: &[u8], out: &mut [u8], work:
     }
 }
 
-fn widen(
-    call: Widening,
+/// A call that widens by a table.
+type ByTable = unsafe extern "C" fn(
+    u32,
+    *const u8,
+    usize,
+    *const u8,
+    usize,
+    *const u8,
+    usize,
+    *mut u8,
+    usize,
+    *mut u32,
+    usize,
+) -> u64;
+
+fn by_table(
+    call: ByTable,
     size: Size,
     classes: &[u8],
     old: &[u8],
-    added: &[u8],
+    addition: &[u8],
     out: &mut [u8],
     work: &mut [u32],
 ) -> u64 {
@@ -253,8 +264,52 @@ fn widen(
             classes.len(),
             old.as_ptr(),
             old.len(),
-            added.as_ptr(),
-            added.len(),
+            addition.as_ptr(),
+            addition.len(),
+            out.as_mut_ptr(),
+            out.len(),
+            work.as_mut_ptr(),
+            work.len(),
+        )
+    }
+}
+
+/// A call that widens by a document.
+type ByDocument = unsafe extern "C" fn(
+    u32,
+    *const u8,
+    usize,
+    *const u8,
+    usize,
+    u32,
+    *const u8,
+    usize,
+    *mut u8,
+    usize,
+    *mut u32,
+    usize,
+) -> u64;
+
+fn by_document(
+    call: ByDocument,
+    size: Size,
+    classes: &[u8],
+    old: &[u8],
+    (format, document): (Format, &[u8]),
+    out: &mut [u8],
+    work: &mut [u32],
+) -> u64 {
+    // SAFETY: as above.
+    unsafe {
+        call(
+            size.number(),
+            classes.as_ptr(),
+            classes.len(),
+            old.as_ptr(),
+            old.len(),
+            format.number(),
+            document.as_ptr(),
+            document.len(),
             out.as_mut_ptr(),
             out.len(),
             work.as_mut_ptr(),
@@ -271,7 +326,7 @@ pub fn widen_local_by_table(
     out: &mut [u8],
     work: &mut [u32],
 ) -> u64 {
-    widen(
+    by_table(
         archive::cogarrune_widen_local_by_table,
         size,
         classes,
@@ -286,16 +341,17 @@ pub fn widen_local_by_document(
     size: Size,
     classes: &[u8],
     old: &[u8],
+    format: Format,
     document: &[u8],
     out: &mut [u8],
     work: &mut [u32],
 ) -> u64 {
-    widen(
+    by_document(
         archive::cogarrune_widen_local_by_document,
         size,
         classes,
         old,
-        document,
+        (format, document),
         out,
         work,
     )
@@ -309,7 +365,7 @@ pub fn widen_single_type_by_table(
     out: &mut [u8],
     work: &mut [u32],
 ) -> u64 {
-    widen(
+    by_table(
         archive::cogarrune_widen_single_type_by_table,
         size,
         classes,
@@ -324,16 +380,17 @@ pub fn widen_single_type_by_document(
     size: Size,
     classes: &[u8],
     old: &[u8],
+    format: Format,
     document: &[u8],
     out: &mut [u8],
     work: &mut [u32],
 ) -> u64 {
-    widen(
+    by_document(
         archive::cogarrune_widen_single_type_by_document,
         size,
         classes,
         old,
-        document,
+        (format, document),
         out,
         work,
     )

@@ -4,41 +4,49 @@
 //! memory of as many words as the size needs ([`Size::words`]), with any content. Afterwards those words are zero, and words beyond them
 //! are as they came.
 //!
-//! Two names are equal when they agree after A to Z become a to z: CARD and card are one name, under any classes. All other bytes are equal
-//! to themselves alone. The first spelling met is kept: in a result the old table's, else the addition's, in a sample that of the first
-//! node.
+//! Before each document stands its [`Format`]: a document file, or XML text of tags and white space alone.
+//!
+//! Two names are equal when they agree after A to Z become a to z: CARD and card are one name, under any classes. All other bytes are
+//! equal to themselves alone. The first spelling met is kept: in a result the old table's, else the addition's, in a sample that of the
+//! first node.
 //!
 //! A document is added to a table through its [`sample`], in which a run of neighbours of one name is one or more of it: a list of nine
 //! cards lets in ten.
 //!
-//! A rule with tag 13 (hexadecimal) in place of 12 is for nodes that may hold text, and a node with tag 32 in place of 30 does hold some. A
-//! node with text needs a rule for text; one without takes either. Widening keeps such marks: a result's rule is for text if one of the
-//! rules behind it is that has a document of its own.
+//! A rule with tag 13 (hexadecimal) in place of 12 is for nodes that may hold text, and a node with tag 32 in place of 30 does hold some;
+//! no node of XML text does. A node with text needs a rule for text; one without takes either. Widening keeps such marks: a result's
+//! rule is for text if one of the rules behind it is that has a document of its own.
 //!
 //! ```
-//! use cogarrune::{lets_in, new_work, Classes, Size, Verdict};
+//! use cogarrune::{lets_in, new_work, Classes, Format, Size, Verdict};
 //!
+//! let (size, classes, file) = (Size::Standard, &Classes::ASCII, Format::DocumentFile);
 //! let table = [0x10, 0, 1, b'a', 0x11, 0, 1, 0, 0x12, 0, 3, 0, 0, 1, 0x1F, 0, 0];
 //! let document = [0x30, 0, 2, 0, b'a', 0x3F, 0, 0];
-//! let mut work = new_work(Size::Standard);
-//! assert_eq!(lets_in(Size::Standard, &Classes::ASCII, &table, &document, &mut work), Ok(Verdict::Yes));
+//! let mut work = new_work(size);
+//! assert_eq!(lets_in(size, classes, &table, file, &document, &mut work), Ok(Verdict::Yes));
+//!
+//! // the same as XML text
+//! assert_eq!(lets_in(size, classes, &table, Format::XmlText, b"<a/>\n", &mut work), Ok(Verdict::Yes));
 //!
 //! // with text, which needs a rule for it
 //! let with_text = [0x32, 0, 2, 0, b'a', 0x3F, 0, 0];
 //! let for_text = [0x10, 0, 1, b'a', 0x11, 0, 1, 0, 0x13, 0, 3, 0, 0, 1, 0x1F, 0, 0];
-//! assert_eq!(lets_in(Size::Standard, &Classes::ASCII, &table, &with_text, &mut work), Ok(Verdict::No));
-//! assert_eq!(lets_in(Size::Standard, &Classes::ASCII, &for_text, &with_text, &mut work), Ok(Verdict::Yes));
+//! assert_eq!(lets_in(size, classes, &table, file, &with_text, &mut work), Ok(Verdict::No));
+//! assert_eq!(lets_in(size, classes, &for_text, file, &with_text, &mut work), Ok(Verdict::Yes));
 //! ```
 #![deny(unsafe_code)]
 
 mod answer;
 mod classes;
 mod ffi;
+mod format;
 mod size;
 
 use answer::{value_of, verdict_of};
 pub use answer::{Refusal, Verdict};
 pub use classes::Classes;
+pub use format::Format;
 pub use size::Size;
 
 /// No input is longer, and no table written: an output of this many bytes is never too short.
@@ -55,8 +63,14 @@ pub fn table_reads(size: Size, classes: &Classes, table: &[u8], work: &mut [u32]
 }
 
 /// Does a document read?
-pub fn document_reads(size: Size, classes: &Classes, document: &[u8], work: &mut [u32]) -> Result<(), Refusal> {
-    value_of(ffi::document_reads(size, classes.as_bytes(), document, work)).map(|_| ())
+pub fn document_reads(
+    size: Size,
+    classes: &Classes,
+    format: Format,
+    document: &[u8],
+    work: &mut [u32],
+) -> Result<(), Refusal> {
+    value_of(ffi::document_reads(size, classes.as_bytes(), format, document, work)).map(|_| ())
 }
 
 /// The name of a label, counted from 0, as a part of its table's own bytes, so in its spelling.
@@ -78,10 +92,11 @@ pub fn lets_in(
     size: Size,
     classes: &Classes,
     table: &[u8],
+    format: Format,
     document: &[u8],
     work: &mut [u32],
 ) -> Result<Verdict, Refusal> {
-    verdict_of(ffi::lets_in(size, classes.as_bytes(), table, document, work))
+    verdict_of(ffi::lets_in(size, classes.as_bytes(), table, format, document, work))
 }
 
 /// Is the table local: has no label two rules? Two rules are two whether or not they are for text.
@@ -101,11 +116,12 @@ pub fn is_single_type(size: Size, classes: &Classes, table: &[u8], work: &mut [u
 pub fn sample<'a>(
     size: Size,
     classes: &Classes,
+    format: Format,
     document: &[u8],
     out: &'a mut [u8],
     work: &mut [u32],
 ) -> Result<&'a [u8], Refusal> {
-    let answer = ffi::sample(size, classes.as_bytes(), document, out, work);
+    let answer = ffi::sample(size, classes.as_bytes(), format, document, out, work);
     written(answer, out)
 }
 
@@ -128,11 +144,12 @@ pub fn widen_local_by_document<'a>(
     size: Size,
     classes: &Classes,
     old: &[u8],
+    format: Format,
     document: &[u8],
     out: &'a mut [u8],
     work: &mut [u32],
 ) -> Result<&'a [u8], Refusal> {
-    let answer = ffi::widen_local_by_document(size, classes.as_bytes(), old, document, out, work);
+    let answer = ffi::widen_local_by_document(size, classes.as_bytes(), old, format, document, out, work);
     written(answer, out)
 }
 
@@ -155,11 +172,12 @@ pub fn widen_single_type_by_document<'a>(
     size: Size,
     classes: &Classes,
     old: &[u8],
+    format: Format,
     document: &[u8],
     out: &'a mut [u8],
     work: &mut [u32],
 ) -> Result<&'a [u8], Refusal> {
-    let answer = ffi::widen_single_type_by_document(size, classes.as_bytes(), old, document, out, work);
+    let answer = ffi::widen_single_type_by_document(size, classes.as_bytes(), old, format, document, out, work);
     written(answer, out)
 }
 

@@ -125,7 +125,7 @@ fn every_letter_is_a_name() {
             Ok(Verdict::Yes)
         };
         assert_eq!(
-            lets_in(STANDARD, &classes, &table, &document, &mut work),
+            lets_in(STANDARD, &classes, &table, FILE, &document, &mut work),
             wanted,
             "{byte:02X}"
         );
@@ -159,24 +159,33 @@ fn names_above_7f_go_through_every_call() {
     let mut out = vec![0; MOST_BYTES];
 
     assert_eq!(table_reads(STANDARD, &classes, &old, &mut work), Ok(()));
-    assert_eq!(document_reads(STANDARD, &classes, &seen, &mut work), Ok(()));
+    assert_eq!(document_reads(STANDARD, &classes, FILE, &seen, &mut work), Ok(()));
     for (label, name) in ["menü", "größe"].iter().enumerate() {
         assert_eq!(
             label_name(STANDARD, &classes, &old, label, &mut work),
             Ok(name.as_bytes())
         );
     }
-    assert_eq!(lets_in(STANDARD, &classes, &old, &seen, &mut work), Ok(Verdict::Yes));
-    assert_eq!(lets_in(STANDARD, &classes, &old, &added, &mut work), Ok(Verdict::No));
+    assert_eq!(
+        lets_in(STANDARD, &classes, &old, FILE, &seen, &mut work),
+        Ok(Verdict::Yes)
+    );
+    assert_eq!(
+        lets_in(STANDARD, &classes, &old, FILE, &added, &mut work),
+        Ok(Verdict::No)
+    );
     assert_eq!(is_local(STANDARD, &classes, &old, &mut work), Ok(Verdict::Yes));
     assert_eq!(is_single_type(STANDARD, &classes, &old, &mut work), Ok(Verdict::Yes));
-    assert_eq!(sample(STANDARD, &classes, &added, &mut out, &mut work), Ok(&taken[..]));
+    assert_eq!(
+        sample(STANDARD, &classes, FILE, &added, &mut out, &mut work),
+        Ok(&taken[..])
+    );
     assert_eq!(
         widen_local_by_table(STANDARD, &classes, &old, &taken, &mut out, &mut work),
         Ok(&wide[..])
     );
     assert_eq!(
-        widen_local_by_document(STANDARD, &classes, &old, &added, &mut out, &mut work),
+        widen_local_by_document(STANDARD, &classes, &old, FILE, &added, &mut out, &mut work),
         Ok(&wide[..])
     );
     assert_eq!(
@@ -184,7 +193,7 @@ fn names_above_7f_go_through_every_call() {
         Ok(&wide[..])
     );
     assert_eq!(
-        widen_single_type_by_document(STANDARD, &classes, &old, &added, &mut out, &mut work),
+        widen_single_type_by_document(STANDARD, &classes, &old, FILE, &added, &mut out, &mut work),
         Ok(&wide[..])
     );
 }
@@ -200,21 +209,21 @@ fn names_are_read_under_the_lent_classes() {
 
     assert_eq!(table_reads(STANDARD, ASCII, &ours, &mut work), Err(Refusal::BadName));
     assert_eq!(
-        document_reads(STANDARD, ASCII, &our_list, &mut work),
+        document_reads(STANDARD, ASCII, FILE, &our_list, &mut work),
         Err(Refusal::BadName)
     );
     assert_eq!(label_name(STANDARD, ASCII, &ours, 0, &mut work), Err(Refusal::BadName));
     assert_eq!(
-        lets_in(STANDARD, ASCII, &ours, &plain_list, &mut work),
+        lets_in(STANDARD, ASCII, &ours, FILE, &plain_list, &mut work),
         Err(Refusal::BadName)
     );
     assert_eq!(
-        lets_in(STANDARD, ASCII, &plain, &our_list, &mut work),
+        lets_in(STANDARD, ASCII, &plain, FILE, &our_list, &mut work),
         Err(Refusal::BadName)
     );
     assert_eq!(is_local(STANDARD, ASCII, &ours, &mut work), Err(Refusal::BadName));
     assert_eq!(is_single_type(STANDARD, ASCII, &ours, &mut work), Err(Refusal::BadName));
-    assert_eq!(sample(STANDARD, ASCII, &our_list, &mut out, &mut work), bad);
+    assert_eq!(sample(STANDARD, ASCII, FILE, &our_list, &mut out, &mut work), bad);
     for (old, addition) in [(&ours, &plain), (&plain, &ours)] {
         assert_eq!(
             widen_local_by_table(STANDARD, ASCII, old, addition, &mut out, &mut work),
@@ -227,11 +236,11 @@ fn names_are_read_under_the_lent_classes() {
     }
     for (old, list) in [(&ours, &plain_list), (&plain, &our_list)] {
         assert_eq!(
-            widen_local_by_document(STANDARD, ASCII, old, list, &mut out, &mut work),
+            widen_local_by_document(STANDARD, ASCII, old, FILE, list, &mut out, &mut work),
             bad
         );
         assert_eq!(
-            widen_single_type_by_document(STANDARD, ASCII, old, list, &mut out, &mut work),
+            widen_single_type_by_document(STANDARD, ASCII, old, FILE, list, &mut out, &mut work),
             bad
         );
     }

@@ -36,12 +36,12 @@ fn reads(classes: &Classes, table: &[u8]) -> Result<(), Refusal> {
 }
 
 fn answer(classes: &Classes, table: &[u8], document: &[u8]) -> Result<Verdict, Refusal> {
-    lets_in(STANDARD, classes, table, document, &mut new_work(STANDARD))
+    lets_in(STANDARD, classes, table, FILE, document, &mut new_work(STANDARD))
 }
 
 fn sampled(classes: &Classes, document: &[u8]) -> Result<Vec<u8>, Refusal> {
     let mut out = vec![0; MOST_BYTES];
-    sample(STANDARD, classes, document, &mut out, &mut new_work(STANDARD)).map(<[u8]>::to_vec)
+    sample(STANDARD, classes, FILE, document, &mut out, &mut new_work(STANDARD)).map(<[u8]>::to_vec)
 }
 
 #[test]
@@ -110,7 +110,7 @@ fn a_widening_keeps_the_old_spelling() {
         Ok(&wide[..])
     );
     assert_eq!(
-        widen_local_by_document(STANDARD, ASCII, &old, &list, &mut out, &mut work),
+        widen_local_by_document(STANDARD, ASCII, &old, FILE, &list, &mut out, &mut work),
         Ok(&wide[..])
     );
     assert_eq!(
@@ -118,12 +118,12 @@ fn a_widening_keeps_the_old_spelling() {
         Ok(&wide[..])
     );
     assert_eq!(
-        widen_single_type_by_document(STANDARD, ASCII, &old, &list, &mut out, &mut work),
+        widen_single_type_by_document(STANDARD, ASCII, &old, FILE, &list, &mut out, &mut work),
         Ok(&wide[..])
     );
     // a name that is new is spelled as it came
     assert_eq!(
-        widen_local_by_document(STANDARD, ASCII, E, &list, &mut out, &mut work),
+        widen_local_by_document(STANDARD, ASCII, E, FILE, &list, &mut out, &mut work),
         Ok(&addition[..])
     );
 }

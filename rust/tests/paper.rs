@@ -24,14 +24,17 @@ fn p1_is_a_table() {
 
 #[test]
 fn p2_is_let_in() {
-    assert_eq!(document_reads(STANDARD, ASCII, &P2, &mut new_work(STANDARD)), Ok(()));
     assert_eq!(
-        lets_in(STANDARD, ASCII, &P1, &P2, &mut new_work(STANDARD)),
+        document_reads(STANDARD, ASCII, FILE, &P2, &mut new_work(STANDARD)),
+        Ok(())
+    );
+    assert_eq!(
+        lets_in(STANDARD, ASCII, &P1, FILE, &P2, &mut new_work(STANDARD)),
         Ok(Verdict::Yes)
     );
     let other = document(node("b", &[]));
     assert_eq!(
-        lets_in(STANDARD, ASCII, &P1, &other, &mut new_work(STANDARD)),
+        lets_in(STANDARD, ASCII, &P1, FILE, &other, &mut new_work(STANDARD)),
         Ok(Verdict::No)
     );
 }
@@ -43,7 +46,7 @@ fn p3_no_bytes_are_refused() {
         Err(Refusal::FieldPastEnd)
     );
     assert_eq!(
-        document_reads(STANDARD, ASCII, &[], &mut new_work(STANDARD)),
+        document_reads(STANDARD, ASCII, FILE, &[], &mut new_work(STANDARD)),
         Err(Refusal::FieldPastEnd)
     );
     assert_eq!(Refusal::FieldPastEnd.number(), 3);
@@ -67,6 +70,7 @@ fn p5_doors_merge_in_local_work_only() {
             STANDARD,
             ASCII,
             &local(&p5(), E).unwrap(),
+            FILE,
             &crossed,
             &mut new_work(STANDARD)
         ),
@@ -77,6 +81,7 @@ fn p5_doors_merge_in_local_work_only() {
             STANDARD,
             ASCII,
             &single_type(&p5(), E).unwrap(),
+            FILE,
             &crossed,
             &mut new_work(STANDARD)
         ),
@@ -118,20 +123,31 @@ fn a_widening_by_a_document_lets_it_in() {
     let added = document(node("list", &[node("door", &[]), node("zone", &[])]));
     let mut out = vec![0; MOST_BYTES];
     let mut work = new_work(STANDARD);
-    let wider = widen_local_by_document(STANDARD, ASCII, &p8(), &added, &mut out, &mut work)
+    let wider = widen_local_by_document(STANDARD, ASCII, &p8(), FILE, &added, &mut out, &mut work)
         .unwrap()
         .to_vec();
     assert_eq!(is_local(STANDARD, ASCII, &wider, &mut work), Ok(Verdict::Yes));
-    assert_eq!(lets_in(STANDARD, ASCII, &wider, &added, &mut work), Ok(Verdict::Yes));
-    let wider = widen_single_type_by_document(STANDARD, ASCII, &p8(), &added, &mut out, &mut work)
+    assert_eq!(
+        lets_in(STANDARD, ASCII, &wider, FILE, &added, &mut work),
+        Ok(Verdict::Yes)
+    );
+    let wider = widen_single_type_by_document(STANDARD, ASCII, &p8(), FILE, &added, &mut out, &mut work)
         .unwrap()
         .to_vec();
     assert_eq!(is_single_type(STANDARD, ASCII, &wider, &mut work), Ok(Verdict::Yes));
-    assert_eq!(lets_in(STANDARD, ASCII, &wider, &added, &mut work), Ok(Verdict::Yes));
-    let taken = sample(STANDARD, ASCII, &added, &mut out, &mut work).unwrap().to_vec();
-    assert_eq!(lets_in(STANDARD, ASCII, &taken, &added, &mut work), Ok(Verdict::Yes));
     assert_eq!(
-        sample(STANDARD, ASCII, &added, &mut out[..3], &mut work),
+        lets_in(STANDARD, ASCII, &wider, FILE, &added, &mut work),
+        Ok(Verdict::Yes)
+    );
+    let taken = sample(STANDARD, ASCII, FILE, &added, &mut out, &mut work)
+        .unwrap()
+        .to_vec();
+    assert_eq!(
+        lets_in(STANDARD, ASCII, &taken, FILE, &added, &mut work),
+        Ok(Verdict::Yes)
+    );
+    assert_eq!(
+        sample(STANDARD, ASCII, FILE, &added, &mut out[..3], &mut work),
         Err(Refusal::OutputTooShort)
     );
 }

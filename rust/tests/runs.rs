@@ -24,15 +24,23 @@ fn cards(content: &[u8]) -> Vec<u8> {
 }
 
 fn sampled(size: Size, document: &[u8]) -> Result<Vec<u8>, Refusal> {
-    sample(size, ASCII, document, &mut vec![0; MOST_BYTES], &mut new_work(size)).map(<[u8]>::to_vec)
+    sample(
+        size,
+        ASCII,
+        FILE,
+        document,
+        &mut vec![0; MOST_BYTES],
+        &mut new_work(size),
+    )
+    .map(<[u8]>::to_vec)
 }
 
 /// The widenings by a document, to local and to single-type.
 fn wider(size: Size, old: &[u8], list: &[u8]) -> [Result<Vec<u8>, Refusal>; 2] {
     let (mut out, mut work) = (vec![0; MOST_BYTES], new_work(size));
     [
-        widen_local_by_document(size, ASCII, old, list, &mut out, &mut work).map(<[u8]>::to_vec),
-        widen_single_type_by_document(size, ASCII, old, list, &mut out, &mut work).map(<[u8]>::to_vec),
+        widen_local_by_document(size, ASCII, old, FILE, list, &mut out, &mut work).map(<[u8]>::to_vec),
+        widen_single_type_by_document(size, ASCII, old, FILE, list, &mut out, &mut work).map(<[u8]>::to_vec),
     ]
 }
 
@@ -46,7 +54,7 @@ fn wider_by_table(size: Size, old: &[u8], addition: &[u8]) -> [Result<Vec<u8>, R
 }
 
 fn let_in(size: Size, table: &[u8], document: &[u8]) -> bool {
-    lets_in(size, ASCII, table, document, &mut new_work(size))
+    lets_in(size, ASCII, table, FILE, document, &mut new_work(size))
         .unwrap()
         .is_yes()
 }

@@ -75,7 +75,7 @@ fn one_start_too_many() {
 #[test]
 fn nodes_and_levels_to_the_limit() {
     for (size, _, most_nodes, most_levels) in LIMITS {
-        let reads = |document: Vec<u8>| document_reads(size, ASCII, &document, &mut new_work(size));
+        let reads = |document: Vec<u8>| document_reads(size, ASCII, FILE, &document, &mut new_work(size));
         assert_eq!(reads(nodes(most_nodes)), Ok(()));
         assert_eq!(reads(nodes(most_nodes + 1)), Err(Refusal::BadTree));
         assert_eq!(reads(levels(most_levels)), Ok(()));
@@ -89,7 +89,15 @@ fn a_sample_has_as_many_types_as_its_size_allows() {
         let taken = |children| {
             let children: Vec<Vec<u8>> = (0..children).map(|i| node(&format!("c{i}"), &[])).collect();
             let document = document(node("list", &children));
-            sample(size, ASCII, &document, &mut vec![0; MOST_BYTES], &mut new_work(size)).map(<[u8]>::to_vec)
+            sample(
+                size,
+                ASCII,
+                FILE,
+                &document,
+                &mut vec![0; MOST_BYTES],
+                &mut new_work(size),
+            )
+            .map(<[u8]>::to_vec)
         };
         let table = taken(most - 1).unwrap();
         assert_eq!(table_reads(size, ASCII, &table, &mut new_work(size)), Ok(()));

@@ -45,6 +45,7 @@ struct Case {
     size: Size,
     classes: Vec<u8>,
     label: usize,
+    format: Format,
     first: Vec<u8>,
     second: Vec<u8>,
     out: Vec<u8>,
@@ -57,6 +58,14 @@ fn size_of(number: u32) -> Size {
         0 => Size::Small,
         2 => Size::Large,
         _ => Size::Standard,
+    }
+}
+
+/// The format of a number; any other number counts as a document file.
+fn format_of(number: u32) -> Format {
+    match number {
+        1 => Format::XmlText,
+        _ => Format::DocumentFile,
     }
 }
 
@@ -75,6 +84,7 @@ fn next_case(cases: &mut Cases) -> Option<Case> {
         size,
         classes,
         label: label as usize,
+        format: format_of(cases.number()),
         first: cases.slice(),
         second: cases.slice(),
         out,
@@ -95,21 +105,21 @@ fn answered(case: &mut Case, classes: &Classes) -> (Result<usize, Refusal>, u32)
     let (size, first, second, out, work) = (case.size, &case.first, &case.second, &mut case.out, &mut case.work);
     let value = match case.call {
         1 => table_reads(size, classes, first, work).map(|()| 1),
-        2 => document_reads(size, classes, first, work).map(|()| 1),
+        2 => document_reads(size, classes, case.format, first, work).map(|()| 1),
         3 => {
             let name = label_name(size, classes, first, case.label, work);
             let sum = checksum(name.unwrap_or(&[]).iter().map(|byte| u32::from(*byte)));
             let place = |name: &[u8]| (name.as_ptr() as usize - first.as_ptr() as usize) * 65_536 + name.len();
             return (name.map(place), sum);
         }
-        4 => of_verdict(lets_in(size, classes, first, second, work)),
+        4 => of_verdict(lets_in(size, classes, first, case.format, second, work)),
         5 => of_verdict(is_local(size, classes, first, work)),
         6 => of_verdict(is_single_type(size, classes, first, work)),
-        7 => sample(size, classes, first, out, work).map(<[u8]>::len),
+        7 => sample(size, classes, case.format, first, out, work).map(<[u8]>::len),
         8 => widen_local_by_table(size, classes, first, second, out, work).map(<[u8]>::len),
-        9 => widen_local_by_document(size, classes, first, second, out, work).map(<[u8]>::len),
+        9 => widen_local_by_document(size, classes, first, case.format, second, out, work).map(<[u8]>::len),
         10 => widen_single_type_by_table(size, classes, first, second, out, work).map(<[u8]>::len),
-        11 => widen_single_type_by_document(size, classes, first, second, out, work).map(<[u8]>::len),
+        11 => widen_single_type_by_document(size, classes, first, case.format, second, out, work).map(<[u8]>::len),
         other => panic!("no call {other}"),
     };
     (value, checksum(out.iter().map(|byte| u32::from(*byte))))

@@ -8,7 +8,7 @@ use common::*;
 const SIZES: [Size; 3] = [Size::Small, Size::Standard, Size::Large];
 
 fn answer(size: Size, table: &[u8], document: &[u8]) -> Result<Verdict, Refusal> {
-    lets_in(size, ASCII, table, document, &mut new_work(size))
+    lets_in(size, ASCII, table, FILE, document, &mut new_work(size))
 }
 
 fn let_in(table: &[u8], root: Vec<u8>) -> bool {
@@ -17,7 +17,7 @@ fn let_in(table: &[u8], root: Vec<u8>) -> bool {
 
 fn sampled(document: &[u8]) -> Vec<u8> {
     let (mut out, mut work) = (vec![0; MOST_BYTES], new_work(Size::Standard));
-    sample(Size::Standard, ASCII, document, &mut out, &mut work)
+    sample(Size::Standard, ASCII, FILE, document, &mut out, &mut work)
         .unwrap()
         .to_vec()
 }
@@ -37,10 +37,10 @@ fn wider(size: Size, old: &[u8], addition: &[u8]) -> [Vec<u8>; 2] {
 /// The widenings by a document.
 fn wider_by_document(size: Size, old: &[u8], list: &[u8]) -> [Vec<u8>; 2] {
     let (mut out, mut work) = (vec![0; MOST_BYTES], new_work(size));
-    let local = widen_local_by_document(size, ASCII, old, list, &mut out, &mut work)
+    let local = widen_local_by_document(size, ASCII, old, FILE, list, &mut out, &mut work)
         .unwrap()
         .to_vec();
-    let single = widen_single_type_by_document(size, ASCII, old, list, &mut out, &mut work)
+    let single = widen_single_type_by_document(size, ASCII, old, FILE, list, &mut out, &mut work)
         .unwrap()
         .to_vec();
     [local, single]
@@ -84,7 +84,7 @@ fn tags() {
     assert_eq!(reads(&[&head, &[0x13, 0, 3, 0, 0, 8], E]), Err(Refusal::BadContent));
     let reads = |tag: u8| {
         let bytes = [tag, 0, 2, 0, b'a', 0x3F, 0, 0];
-        document_reads(Size::Standard, ASCII, &bytes, &mut new_work(Size::Standard))
+        document_reads(Size::Standard, ASCII, FILE, &bytes, &mut new_work(Size::Standard))
     };
     assert_eq!([reads(0x30), reads(0x32)], [Ok(()), Ok(())]);
     assert_eq!([reads(0x13), reads(0x31)], [Err(Refusal::BadField); 2]);

@@ -1,6 +1,6 @@
 """Cases for the calls of document 01, at the three sizes of Card 13, under the classes of Card 4, with
-names in several spellings (Card 8), with runs of neighbours in documents (Card 5) and with text marks
-(Card 7), with the answers of reference.py.
+names in several spellings (Card 8), with runs of neighbours in documents (Card 5), with text marks
+(Card 7) and with documents as XML text (Card 2), with the answers of reference.py.
 
     python3 generate.py --write DIR [--seed N] [--count M]    writes DIR/cases.bin, DIR/expected.txt
     python3 generate.py --check DIR [--seed N] [--count M]    recomputes both and compares
@@ -25,6 +25,8 @@ cases.bin, front to back; all numbers unsigned, high byte first:
         4 bytes  F, the word that fills the working slice before the call
         4 bytes  O, the length of the output slice in bytes (0 for calls without one)
         4 bytes  the caller's label number (0 for calls without one)
+        4 bytes  the document's format: 0 a document file, 1 XML text; any other number counts as 0
+                 (0 for calls without a document)
         4 bytes  length of the first input, then its bytes
         4 bytes  length of the second input, then its bytes (length 0 for calls without one)
     1 byte   0: no more cases
@@ -56,6 +58,7 @@ MOST_WORK words, and no more than MOST_CLASSES classes are lent.
 import argparse
 import itertools
 import os
+import re
 import sys
 from collections import Counter, namedtuple
 from functools import lru_cache, partial
@@ -77,9 +80,11 @@ CALL_NAMES = {1: 'table_reads', 2: 'document_reads', 3: 'label_name', 4: 'lets_i
 WRITING = (SAMPLE, LOCAL_BY_TABLE, LOCAL_BY_DOCUMENT, SINGLE_BY_TABLE, SINGLE_BY_DOCUMENT)
 BY_TABLE = (LOCAL_BY_TABLE, SINGLE_BY_TABLE)
 BY_DOCUMENT = (LOCAL_BY_DOCUMENT, SINGLE_BY_DOCUMENT)
-REFUSALS = (*range(16), 18)     # 0 for none
+DOCUMENT_FIRST = (DOCUMENT_READS, SAMPLE)       # the document is their only input; it is the second one of others
+WITH_DOCUMENT = (*DOCUMENT_FIRST, LETS_IN, *BY_DOCUMENT)
+REFUSALS = (*range(19),)        # 0 for none
 
-Case = namedtuple('Case', 'call size classes work_len work_fill out_len label first second')
+Case = namedtuple('Case', 'call size classes work_len work_fill out_len label format first second')
 ASCII_CLASSES = 2**32 - 1       # in place of a number of classes
 
 
@@ -95,16 +100,17 @@ def answer_of(case):
 
 def answer_under(limits, case):
     """The answer under any set of limits, whatever the case's size."""
-    c, w, o, a, b = case.classes, case.work_len, case.out_len, case.first, case.second
+    lent = [case.out_len, case.work_len] if case.call in WRITING else [case.work_len]
+    inputs = [case.first]
     if case.call == LABEL_NAME:
-        return ref.label_name(limits, c, a, case.label, w)
-    if case.call == LETS_IN:
-        return ref.lets_in(limits, c, a, b, w)
-    if case.call == SAMPLE:
-        return ref.sample(limits, c, a, o, w)
-    if case.call in WRITING:
-        return getattr(ref, CALL_NAMES[case.call])(limits, c, a, b, o, w)
-    return getattr(ref, CALL_NAMES[case.call])(limits, c, a, w)
+        inputs.append(case.label)
+    elif case.call in DOCUMENT_FIRST:
+        inputs.insert(0, case.format)
+    elif case.call in WITH_DOCUMENT:
+        inputs += [case.format, case.second]
+    elif case.call in BY_TABLE:
+        inputs.append(case.second)
+    return getattr(ref, CALL_NAMES[case.call])(limits, case.classes, *inputs, *lent)
 
 
 def checksum(items, h=17):
@@ -150,7 +156,7 @@ def case_bytes(case):
 
     classes = number(ASCII_CLASSES) if case.classes == ref.ASCII else slice_(case.classes)
     return (bytes([case.call]) + number(case.size) + classes + number(case.work_len) + number(case.work_fill)
-            + number(case.out_len) + number(case.label) + slice_(case.first) + slice_(case.second))
+            + number(case.out_len) + number(case.label) + number(case.format) + slice_(case.first) + slice_(case.second))
 
 
 def cases_in(data):
@@ -174,8 +180,8 @@ def cases_in(data):
             return
         size, count = number(), number()
         classes = ref.ASCII if count == ASCII_CLASSES else part(count)
-        work_len, work_fill, out_len, label_ = (number() for _ in range(4))
-        yield Case(call, size, classes, work_len, work_fill, out_len, label_, part(number()), part(number()))
+        lent_and_label = [number() for _ in range(4)]
+        yield Case(call, size, classes, *lent_and_label, number(), part(number()), part(number()))
 
 
 # ---------------------------------------------------------------- a generator of numbers
@@ -374,7 +380,8 @@ class Cases:
     def __init__(self):
         self.all = []
 
-    def add(self, call, first, second=b'', label=0, out=None, work=None, fill=None, size=STANDARD, classes=ref.ASCII):
+    def add(self, call, first, second=b'', label=0, out=None, work=None, fill=None, size=STANDARD, classes=ref.ASCII,
+            format=ref.DOCUMENT_FILE):
         """`out`: None for a few bytes more than the result, 'exact', 'short' by one, or a length;
         only calls that write have an output."""
         turn = len(self.all)
@@ -383,7 +390,7 @@ class Cases:
             work = ref.limits_of(size).words + beyond[turn % len(beyond)]
         if fill is None:
             fill = FILLS[turn % len(FILLS)]
-        case = Case(call, size, classes, work, fill, MOST_OUTPUT, label, first, second)
+        case = Case(call, size, classes, work, fill, MOST_OUTPUT, label, format, first, second)
         if call not in WRITING:
             case = case._replace(out_len=0)
         elif isinstance(out, int):
@@ -1108,7 +1115,7 @@ def meaning_cases(cases):
         cases.add(SAMPLE, document(a_tree), out='exact')
         cases.widen_doc(E, document(a_tree))
         cases.widen_doc(P5, document(a_tree))
-        sampled = ref.sample(ref.STANDARD, ref.ASCII, document(a_tree), MOST_OUTPUT, ref.STANDARD.words)
+        sampled = ref.sample(ref.STANDARD, ref.ASCII, ref.DOCUMENT_FILE, document(a_tree), MOST_OUTPUT, ref.STANDARD.words)
         cases.add(LETS_IN, sampled.written, document(a_tree))
 
 
@@ -3125,6 +3132,505 @@ def text_cases(cases):
         cases.add(BY_DOCUMENT[number % 2], first, random_document(numbers, first, WIDE_POOL))
 
 
+# ---------------------------------------------------------------- XML text
+
+# An edge of XML text is as one of letter case: the answer, written by hand, then the call, its two inputs, and what else `Cases.add` is
+# told; selftest.py holds the second validator to the answers.
+
+SPACES = (b'\x20', b'\x09', b'\x0D', b'\x0A')
+
+
+def name_bytes(head):
+    """The name of a head as bytes; of a text mark there is no trace in XML text."""
+    name = name_of(head)
+    return name.encode('latin-1') if isinstance(name, str) else name
+
+
+def xml(a_tree):
+    """The tree as XML text, nothing between the tags."""
+    name, inner = name_bytes(a_tree[0]), b''.join(xml(child) for child in a_tree[1])
+    return b'<' + name + b'>' + inner + b'</' + name + b'>' if inner else b'<' + name + b'/>'
+
+
+def xml_in_some_way(numbers, a_tree):
+    """The tree as XML text with white space where it may be; a leaf as one tag or two."""
+    outside, inside, two_tags = numbers.of((0, 20, 60)), numbers.of((0, 0, 10, 50)), numbers.of((0, 20, 100))
+
+    def space(share):
+        return b''.join(numbers.of(SPACES) for _ in range(numbers.between(1, 3))) if share and numbers.chance(share) else b''
+
+    def written(one):
+        name = name_bytes(one[0])
+        if not one[1] and not numbers.chance(two_tags):
+            return space(outside) + b'<' + name + space(inside) + b'/>'
+        below = b''.join(written(child) for child in one[1])
+        return space(outside) + b'<' + name + space(inside) + b'>' + below + space(outside) + b'</' + name + space(inside) + b'>'
+
+    return written(a_tree) + space(outside)
+
+
+# What may be found in XML and in files that are none.
+TELLING_PIECES = (b'<', b'>', b'/', b'</', b'/>', b' ', b'\n', b'\x0b', b'\x00', b'!', b'a', b'A', b'0', b'=', b'"', b'&', b'\xc3\xa9',
+                  b'<a>', b'</a>', b'<a/>', b'<a b="c"/>', b'<!--x-->', b'<?x?>', b'&lt;', b']]>', b'<>', b'</>', b'\xef\xbb\xbf')
+
+
+def damaged_text(numbers, data):
+    """XML text with one or two faults, few of which are none."""
+    for _ in range(1 + numbers.below(2)):
+        action, at = numbers.below(9), numbers.below(len(data) + 1)
+        if action == 0:
+            data = data[:at]
+        elif action < 4:
+            data = data[:at] + numbers.of(TELLING_PIECES) + data[at + numbers.below(2):]
+        elif action == 4:
+            data = data[:at] + data[at + 1:]
+        elif action == 5:
+            data = data[:at] + data[at:at + 1].translate(OTHER_CASE) + data[at + 1:]
+        else:
+            parts = re.findall(b'<[^>]*>|[^<]+|<', data)
+            if len(parts) > 1:
+                i, j = numbers.below(len(parts)), numbers.below(len(parts))
+                if action == 6:
+                    parts[i], parts[j] = parts[j], parts[i]
+                elif action == 7:
+                    parts.insert(j, parts[i])
+                else:
+                    parts.pop(i)
+                data = b''.join(parts)
+    return data
+
+
+def spelled_text(spell, data):
+    """XML text that reads, with `spell(name)` in place of each name, the same in both tags of an element."""
+    unclosed = []
+
+    def tag(found):
+        begin, name, rest = found.groups()
+        name = unclosed.pop() if begin == b'</' else spell(name)
+        if begin == b'<' and not rest.endswith(b'/>'):
+            unclosed.append(name)
+        return begin + name + rest
+
+    return re.sub(rb'(</?)([^ \t\r\n/>]*)([ \t\r\n]*/?>)', tag, data)
+
+
+def exactly(a_tree):
+    """A table that lets in this tree alone, up to letter case: a type for each node."""
+    rules, spellings = [], {}
+
+    def visit(one):
+        number, name = len(rules), name_of(one[0])
+        rules.append(None)
+        below = [t(visit(child)) for child in one[1]]
+        content = seq(*below) if len(below) > 1 else below[0] if below else EMPTY
+        rules[number] = (number, spellings.setdefault(ref.folded(name_bytes(name)), name), content)
+        return number
+
+    visit(a_tree)
+    return table([0], rules)
+
+
+def inputs_for(call, data, a_table=GOOD_TABLE):
+    """The two inputs of a call with this document."""
+    return (data, b'') if call in DOCUMENT_FIRST else (a_table, data)
+
+
+def told_of(refusal):
+    return refused(refusal) if refusal else READS
+
+
+def as_text(**options):
+    return dict(options, format=ref.XML_TEXT)
+
+
+# The texts of our readings, with their refusals.
+XML_EXAMPLES = [
+    (b'<!-- x -->', 16), (b'<!--x-->', 5), (b'<a b="c">', 16), (b'<>', 5), (b'< a>', 16), (b'< />', 5), (b'</>', 17), (b'</a/>', 16),
+    (b'<a / >', 16), (b'<a/', 16), (b'<a<b>', 5), (b'<?xml?>', 5), (b'<a>x<b/></a>', 16), (b'', 11),
+]
+
+
+def xml_refusals():
+    """Short texts that reading turns back at every size, by refusal; many with several faults, for their order."""
+    long, longer = b'a' * 63, b'a' * 64
+    return {
+        16: [
+            # Outside tags: anything but white space.
+            b'x', b'x<a/>', b'<a/>x', b'<a>x</a>', b'<a><b/>x</a>', b'<a>/</a>', b'<a>></a>', b'>', b'/', b'/>', b'<a/>/', b'<a/>>',
+            b'<a>>', b'<a>&amp;</a>', b'&lt;a/>', b'<a>]]></a>', b'\xef\xbb\xbf<a/>', b'\xfe\xff\x00<\x00a', b'\x00<a/>', b'<a/>\x00',
+            b'<a/>\x1a', b'\x0b<a/>', b'\x0c<a/>', b'<a/>\x85', b'<a>\xa0</a>', b'<a/>=', b'=', b'<a>"</a>', b'<a>&#32;</a>', b'\x1c<a/>',
+            b'<a/>!',
+            # Text that stops inside a tag.
+            b'<', b'</', b'<a', b'<a ', b'<a\n', b'<a/', b'<a /', b'<a></', b'<a></a', b'<a></a ', b'<a><', b'<a/><', b'<a/><b', b'<a/></',
+            b'<!', b'<?xml', b'<!-- ', b'<' + long, b'<' + longer, b'</a', b'</b ', b'<1', b'<1/', b'</1', b'<a/></a', b'<<', b'<a<',
+            b'< ', b'</ ',
+            # Something after the name that ends no tag.
+            b'< a/>', b'<\na/>', b'<a b>', b'<a b/>', b'<a b="c"/>', b"<a b='c'/>", b'<a b = "c"/>', b'<a =>', b'<a ">', b'<a <b/>',
+            b'<a </a>', b'<a !>', b'<a \x0b>', b'<a \x00/>', b'<a \xa0/>', b'<a/b>', b'<a/b/>', b'<a/ >', b'<a/ />', b'<a /b>', b'<a//>',
+            b'<a/\n>', b'<a /\t>', b'<a/<b/>', b'<a></a/>', b'<a></a />', b'<a></a/ >', b'<a></a b>', b'<a></ a>', b'<a></ a >',
+            b'<a></a <', b'<//>', b'<//a>', b'< / >', b'< //>', b'</ />', b'</ a>', b'</a b>', b'</a b="c">', b'<a/></a/>', b'</<a/>',
+            # Declarations, comments, instructions, sections, where white space is in them.
+            b'<?xml version="1.0"?><a/>', b'<?xml ?><a/>', b'<!DOCTYPE a><a/>', b'<a><!-- x --></a>', b'<a><![CDATA[ x ]]></a>',
+            b'<a><?p x?></a>', b'<!-- --><a/>', b'<a/><!-- -->', b'<a xmlns="u"/>', b'<\x00a\x00/\x00>\x00', b'<!ELEMENT a ANY>',
+            # Before 17, 5 and 11 in one tag, and before a fault in a later one.
+            b'<a></b x>', b'<a></b/>', b'</b x>', b'<a></A x>', b'<1 x>', b'<1 x/>', b'<a/><1 x>', b'<a/><b x>', b'<a/><b/ >', b'<!x y/>',
+            b'<a>x</b>', b'<a>x<1/></a>', b'<a/>x<b/>', b'<a/>x</b>', b'x</a>', b'x<1/>', b'<a>x', b'<' + longer + b' x>',
+        ],
+        17: [
+            b'</a>', b' </a>', b'</a><a/>', b'</ >', b'</\r\n>', b'</1>', b'</!>', b'</<>', b'</' + longer + b'>', b'<a></b>',
+            b'<a></b></a>', b'<a></ab>', b'<ab></a>', b'<aa></a>', b'<a></aa>', b'<a><b></a></b>', b'<a><b></a>', b'<a><b/></b>',
+            b'<a></a></a>', b'<a/></a>', b'<a/> </a >', b'<a/></b>', b'<a></>', b'<a></ >', b'<a><b></b></b>', b'<a><b/><c></b></c></a>',
+            b'<a></a\x0b>', b'<a></<a>', b'<a><b></b\x00></a>', b'<' + long + b'></' + longer + b'>',
+            # By bytes, whatever the names are equal to.
+            b'<a></A>', b'<A></a>', b'<card></CARD>', b'<CARD></card>', b'<Card></card>', b'<list><card></Card></list>', b'<a><A></a></A>',
+            # Before 5 and 11 in one tag, and before a fault in a later one.
+            b'<a/></1>', b'<a/></' + longer + b'>', b'<a></b>x', b'<a></b><1/>', b'</a>x', b'</a><1/>', b'<a/></a>x', b'<a/></a><b/>',
+            b'<a></b><',
+        ],
+        5: [
+            b'< >', b'<\t>', b'<\n/>', b'<a><></a>', b'<a>< /></a>', b'<><a/>', b'<1/>', b'<1>', b'<-a/>', b'<.a/>', b'<9></9>',
+            b'<a><-/></a>', b'<a!/>', b'<a=>', b'<a="x">', b'<a"/>', b"<a'/>", b'<a:b/>', b'<a&b/>', b'<a#/>', b'<\xc3\xa9/>', b'<a\xe9/>',
+            b'<a\x00/>', b'<a\x0b/>', b'<a\x0c/>', b'<a\x85/>', b'<\xa0/>', b'<a\x1f/>', b'<a\x7f/>', b'<a\xff/>', b'<a<b/>', b'<<a/>',
+            b'<<a>', b'<a><<b/></a>', b'<a<b></a<b>', b'<&>', b'<!---->', b'<a/><?x?>', b'<!DOCTYPE>', b'<a><![CDATA[x]]></a>',
+            b'<a><!--x--></a>', b'<![>', b'<' + longer + b'/>', b'<' + longer + b'></' + longer + b'>', b'<a><' + longer + b' /></a>',
+            b'<' + b'a' * 300 + b'>', b'<' + long + b'!/>', b'<' + long[1:] + b'!/>',
+            # Before 11 in one tag, and before a fault in a later one.
+            b'<a/><1/>', b'<a/><>', b'<a></a><!--x-->', b'<1>x', b'<1></2>', b'<a><1/>', b'<1/><2/>', b'<a><1>x</2>', b'<1/>x', b'<1><',
+        ],
+        11: [
+            # No element, elements open.
+            b' ', b'\n', b'\t\r\n ', b' ' * 100, b'<a>', b'<a> ', b'<a><b>', b'<a><b/>', b'<a><b></b>', b'<a><b></b>\n', b'<a><a></a>',
+            b'<a ><b /><c >', b'<a><a><a></a></a>', b'<' + long + b'>',
+            # A second root, and before a fault in a later tag.
+            b'<a/><b/>', b'<a/><a/>', b'<a/><b>', b'<a></a><b></b>', b'<a/> <b/>', b'<a></a>\n<a/>', b'<a/><b/>x', b'<a/><b></c>',
+            b'<a/><b><1/>', b'<a/><b/><', b'<a/><b></b', b'<a/><b/></b>',
+        ],
+    }
+
+
+def xml_trees():
+    """Texts that read, and their trees."""
+    a, b, ab, list_ = tree('a'), tree('b'), tree('a', tree('b')), tree('list', tree('card'), tree('card'))
+    long = 'n' * 63
+    return [
+        (b'<a/>', a), (b'<a></a>', a), (b'<a />', a), (b'<a\t/>', a), (b'<a\r/>', a), (b'<a\n/>', a), (b'<a \t\r\n />', a),
+        (b'<a ></a>', a), (b'<a></a >', a), (b'<a\n>\n</a\n>', a), (b' <a/>', a), (b'<a/> ', a), (b'\t\r\n <a/>\n\r\t ', a),
+        (b'<a> </a>', a), (b'<a>\r\n</a>', a), (b'<_/>', tree('_')), (b'<a-1._/>', tree('a-1._')), (b'<Z></Z>', tree('Z')),
+        (b'<' + long.encode() + b'/>', tree(long)), (b'<' + long.encode() + b' >\n</' + long.encode() + b' >', tree(long)),
+        (b'<a><b/></a>', ab), (b'<a><b></b></a>', ab), (b'<a > <b /> </a >', ab), (b'<a>\n\t<b>\n\t</b>\n</a>\n', ab),
+        (b'<a><b/><b/></a>', tree('a', b, b)), (b'<a><b></b><b/></a>', tree('a', b, b)), (b'<a><b><b/></b></a>', tree('a', tree('b', b))),
+        (b'<a><b/><c/><b/></a>', tree('a', b, tree('c'), b)), (b'<a><a><a></a></a><a/></a>', tree('a', tree('a', a), a)),
+        (b'<a><b><c/></b><d/></a>', tree('a', tree('b', tree('c')), tree('d'))),
+        (b'<a><b/><c><d/></c></a>', tree('a', b, tree('c', tree('d')))), (b'<list><card/><card/></list>', list_),
+        (b'<list>\n  <card></card>\n  <card/>\n</list>\n', list_),
+        (b'<LIST><card/><Card></Card></LIST>', tree('LIST', tree('card'), tree('Card'))),
+        (b'<a><A></A><a></a></a>', tree('a', tree('A'), a)), (b'<aA></aA>', tree('aA')),
+        (b'<list><card><name/><zone/></card></list>', tree('list', tree('card', tree('name'), tree('zone')))),
+        (b'<list>\r\n\t<card >\r\n\t\t<name />\r\n\t\t<zone></zone >\r\n\t</card>\r\n</list>',
+         tree('list', tree('card', tree('name'), tree('zone')))),
+    ]
+
+
+def xml_reading_edges():
+    for number, (data, refusal) in enumerate(XML_EXAMPLES):
+        for call in WITH_DOCUMENT:
+            yield refused(refusal), call, *inputs_for(call, data), as_text(size=SIZES[number % 3])
+    for refusal, texts in xml_refusals().items():
+        for number, data in enumerate(texts):
+            yield refused(refusal), DOCUMENT_READS, data, b'', as_text(size=SIZES[number % 3])
+            if number % 5 == 0:
+                call = WITH_DOCUMENT[1 + number // 5 % 4]
+                yield refused(refusal), call, *inputs_for(call, data), as_text(size=SIZES[number % 3])
+    for number, (data, a_tree) in enumerate(xml_trees()):
+        yield READS, DOCUMENT_READS, data, b'', as_text(size=SIZES[number % 3])
+        yield YES, LETS_IN, exactly(a_tree), data, as_text(size=SIZES[number % 3])
+        if number % 4 == 0:
+            yield NO, LETS_IN, exactly(tree('a', a_tree)), data, as_text()
+    # Every prefix: inside a tag, with elements open, and whole.
+    parts = (b' ', b'<list >', b'\n\t', b'<card/>', b'<Card\r>', b'<x />', b'</Card >', b' ', b'</list>', b'\n ')
+    data, inside = b''.join(parts), [part[:1] == b'<' and cut > 0 for part in parts for cut in range(len(part))]
+    for place, in_a_tag in enumerate(inside):
+        refusal = 16 if in_a_tag else 0 if place >= len(data) - 2 else 11
+        yield told_of(refusal), DOCUMENT_READS, data[:place], b'', as_text(size=SIZES[place % 3])
+    yield READS, DOCUMENT_READS, data, b'', as_text()
+
+
+def texts_with_byte(byte):
+    """A byte at four places outside tags, and at five in a tag: behind a name, first in it, later in it; with what reading gives under
+    document 01's classes. Most bytes fare alike; < > / and white space are told apart."""
+    one = bytes([byte])
+    space, first, later = one in SPACES, ref.ASCII[byte] == 2, ref.ASCII[byte] > 0
+
+    def by_byte(otherwise, at_space, **told):
+        names = {b'<': 'less', b'>': 'more', b'/': 'slash'}
+        return at_space if space else told.get(names.get(one), otherwise)
+
+    outside = [(one + b'<a/>', by_byte(16, 0, less=5)), (b'<a>' + one + b'</a>', by_byte(16, 0)), (b'<a/>' + one, by_byte(16, 0)),
+               (b'<a><b/>' + one + b'<c/></a>', by_byte(16, 0, less=5))]
+    inside = [(b'<a ' + one + b'></a>', by_byte(16, 0, slash=17)), (b'<a></a ' + one + b'>', by_byte(16, 0)),
+              (b'<a ' + one + b'/>', by_byte(16, 0)), (b'<' + one + b'a/>', by_byte(0 if first else 5, 16, slash=16)),
+              (b'<a' + one + b'/>', by_byte(0 if later else 5, 0, more=16, slash=16))]
+    return outside + inside
+
+
+def xml_byte_edges():
+    """Every byte at a place in turn; < > / and white space at every place."""
+    for byte in range(256):
+        texts = texts_with_byte(byte)
+        for data, refusal in texts if bytes([byte]) in (*SPACES, b'<', b'>', b'/') else texts[byte % 9:][:1]:
+            yield told_of(refusal), DOCUMENT_READS, data, b'', as_text(size=SIZES[byte % 3])
+
+
+def opened(count, inner=b'', name=b'a'):
+    """So many elements, each in the one before, and what is in the last."""
+    return (b'<' + name + b'>') * count + inner + (b'</' + name + b'>') * count
+
+
+def children(count, last=b'', name=b'list', child=b'<card/>'):
+    return b'<' + name + b'>' + child * count + last + b'</' + name + b'>'
+
+
+def xml_limit_edges():
+    """Texts and what reading gives at the small, the standard and the large size."""
+    long, longer = b'n' * 63, b'n' * 64
+    every_size = (children(200), children(201), b'<' + long + b'/>', b'<' + longer + b'/>', b'<a/>' + b' ' * 32764, b'<a/>' + b' ' * 32765)
+    edges_ = [
+        # Nodes.
+        (xml(crowd(256)), 0, 0, 0), (xml(crowd(257)), 11, 0, 0), (xml(crowd(1024)), 11, 0, 0), (xml(crowd(1025)), 11, 11, 0),
+        (xml(crowd(2048)), 11, 11, 0), (xml(crowd(2049)), 11, 11, 11),
+        # Levels, with the last one as one tag, as two, and with what is wrong below it.
+        (xml(chain(16)), 0, 0, 0), (xml(chain(17)), 11, 0, 0), (xml(chain(64)), 11, 0, 0), (xml(chain(65)), 11, 11, 11),
+        (opened(16), 0, 0, 0), (opened(17), 11, 0, 0), (opened(64), 11, 0, 0), (opened(65), 11, 11, 11), (opened(16, b'\n'), 0, 0, 0),
+        (opened(64, b' '), 11, 0, 0), (opened(15, b'<b/><b></b><b/>'), 0, 0, 0), (opened(63, b'<b/>' * 200), 11, 0, 0),
+        (opened(16, b'<b/>'), 11, 0, 0), (opened(16, b'<1/>'), 5, 5, 5), (opened(16, b'</b>'), 17, 17, 17),
+        (opened(16, b'<b'), 16, 16, 16), (opened(16, b'x'), 16, 16, 16), (opened(64, b'<1/>'), 11, 5, 5),
+        (opened(64, b'</b>'), 11, 17, 17), (opened(64, b'<b x>'), 11, 16, 16), (opened(64, b'x'), 11, 16, 16),
+        (opened(64, b'<b/>'), 11, 11, 11), (b'<a>' * 16, 11, 11, 11), (b'<a>' * 65 + b'x', 11, 11, 11), (b'<a>' * 64 + b'<1>', 11, 5, 5),
+        # Up and down again: levels are counted, not tags.
+        (b'<r>' + opened(15) * 15 + b'</r>', 0, 0, 0), (b'<r>' + opened(16) + b'</r>', 11, 0, 0),
+        (b'<r>' + (opened(15) + b'<b/>') * 15 + b'</r>', 0, 0, 0), (b'<r>' + opened(63) * 32 + b'</r>', 11, 11, 0),
+        # Children: it is the tag of the 201st, whatever came with the parent's and whatever comes later.
+        (children(200), 0, 0, 0), (children(201), 11, 11, 11), (children(199, b'<card></card>'), 0, 0, 0),
+        (children(200, b'<card>'), 11, 11, 11), (children(200, b' '), 0, 0, 0), (children(200, b'x'), 16, 16, 16),
+        (children(200, b'x<card/>'), 16, 16, 16), (children(200, b'</card>'), 17, 17, 17), (children(200, b'<1/>'), 5, 5, 5),
+        (children(200, b'<card x/>'), 16, 16, 16), (children(200, b'<card/>x'), 11, 11, 11), (children(200, b'<card/><1/>'), 11, 11, 11),
+        (children(100, b'x' + b'<card/>' * 101), 16, 16, 16), (children(200) + b'<a/>', 11, 11, 11), (children(200) + b' ', 0, 0, 0),
+        (children(200)[:-1], 16, 16, 16), (children(200)[:-7], 11, 11, 11), (b'<r>' + children(200) + b'<b/>' * 54 + b'</r>', 0, 0, 0),
+        (b'<r>' + children(200) + b'<b/>' * 55 + b'</r>', 11, 0, 0), (b'<r>' + children(200) * 2 + children(201) + b'</r>', 11, 11, 11),
+        (b'<r>' + b'<b/>' * 199 + children(5) + b'</r>', 0, 0, 0), (b'<r>' + b'<b/>' * 200 + children(5) + b'</r>', 11, 11, 11),
+        (children(200, child=b'<card></card>'), 0, 0, 0),
+        # The node too many before what is wrong later, and after what is wrong in its own tag.
+        (xml(crowd(257)) + b'x', 11, 16, 16), (xml(crowd(1025)) + b'</a>', 11, 11, 17), (xml(crowd(256)) + b'<1/>', 5, 5, 5),
+        (xml(crowd(256)) + b'<a/>', 11, 11, 11), (xml(crowd(256))[:-4] + b'<1/></a>', 5, 5, 5), (xml(crowd(256))[:-4] + b'<a', 16, 16, 16),
+        # Names.
+        (b'<' + long + b'/>', 0, 0, 0), (b'<' + longer + b'/>', 5, 5, 5), (b'<a><' + long + b'></' + long + b'></a>', 0, 0, 0),
+        (b'<' + long + b'></' + longer + b'>', 17, 17, 17), (b'<' + longer + b'></' + longer + b'>', 5, 5, 5), (b'<' + longer, 16, 16, 16),
+        (b'<' + long + b'></' + long[1:] + b'>', 17, 17, 17), (b'<' + long + b'></' + long[1:] + b'm>', 17, 17, 17),
+        (b'<' + b'n' * 319 + b'/>', 5, 5, 5), (b'<' + b'n' * 20000 + b'/>', 5, 5, 5),
+        # The length of the text itself, wherever it comes from.
+        (b'<a/>' + b' ' * 32764, 0, 0, 0), (b'<a/>' + b' ' * 32765, 2, 2, 2), (b'\n' * 32764 + b'<a/>', 0, 0, 0),
+        (b'\n' * 32765 + b'<a/>', 2, 2, 2), (b'<a' + b'\t' * 32764 + b'/>', 0, 0, 0), (b'<a' + b'\t' * 32765 + b'/>', 2, 2, 2),
+        (b'<a></a' + b'\r' * 32761 + b'>', 0, 0, 0), (b'<a>' + b' ' * 32761 + b'</a>', 0, 0, 0), (b' ' * 32768, 11, 11, 11),
+        (b' ' * 32769, 2, 2, 2), (b'x' * 32769, 2, 2, 2), (b' ' * 32767 + b'x', 16, 16, 16), (b' ' * 32767 + b'<', 16, 16, 16),
+        (b'<' + b'a' * 32767, 16, 16, 16), (b'<' + b'a' * 32766 + b'>', 5, 5, 5), (b'</' + b'a' * 32765 + b'>', 17, 17, 17),
+        (b'<a/>' + b' ' * 65532, 2, 2, 2), (b'<a/>' + b' ' * 65536, 2, 2, 2), (b'<1/>' + b' ' * 32765, 2, 2, 2),
+    ]
+    for number, (data, *refusals) in enumerate(edges_):
+        alike = len(set(refusals)) == 1 and data not in every_size
+        for size in SIZES[number % 3:][:1] if alike else SIZES if len(data) < 1000 or data in every_size else beside_the_edge(refusals):
+            yield told_of(refusals[size]), DOCUMENT_READS, data, b'', as_text(size=size)
+        if refusals[STANDARD] and len(data) < 3000 or number % 6 == 0:
+            call = WITH_DOCUMENT[1 + number % 4]
+            if refusals[LARGE]:
+                yield refused(refusals[LARGE]), call, *inputs_for(call, data), as_text(size=LARGE)
+            elif refusals[SMALL]:
+                yield refused(refusals[SMALL]), call, *inputs_for(call, data), as_text(size=SMALL)
+
+
+def many_leaves(groups, count, length):
+    """A root with so many groups of so many leaves, all leaves of one name of this length."""
+    return tree('r', *[tree('g', *[tree('b' * length)] * count)] * groups)
+
+
+def long_file_edges():
+    """Texts within the limit whose document files would be beyond it: a file has a byte more for each leaf. (At the small size the nodes
+    are too few.) With names a byte longer the text is beyond it too."""
+    for size, groups, length, refusal in ((LARGE, 10, 13, 0), (LARGE, 10, 14, 2), (STANDARD, 5, 29, 0), (STANDARD, 5, 30, 2)):
+        a_tree = many_leaves(groups, 200, length)
+        data, leaf = xml(a_tree), 'b' * length
+        file = document(a_tree)
+        assert (len(data) > ref.INPUT_BYTES) == (refusal == 2) and len(file) > ref.INPUT_BYTES
+        sampled = table([0], [(0, 'r', some_of(t(1))), (1, 'g', some_of(t(2))), (2, leaf, EMPTY)])
+        other = table([0], [(0, 'r', any_of(t(1))), (1, 'g', EMPTY), (2, leaf, EMPTY)])
+        wider = table([0], [(0, 'r', choice(any_of(t(1)), some_of(t(1)))), (1, 'g', choice(EMPTY, some_of(t(2)))), (2, leaf, EMPTY)])
+        asked = [(READS, DOCUMENT_READS, data, b''), (YES, LETS_IN, sampled, data), (NO, LETS_IN, other, data)]
+        asked += [(gives(sampled), SAMPLE, data, b'')] + [(gives(wider), call, other, data) for call in BY_DOCUMENT]
+        for told, call, first, second in asked[:2] if refusal else asked:
+            yield refused(refusal) if refusal else told, call, first, second, as_text(size=size)
+        yield refused(2), DOCUMENT_READS, file, b'', dict(size=size)
+        spaces = data + b' ' * (ref.INPUT_BYTES - len(data))
+        if not refusal:
+            yield gives(sampled), SAMPLE, spaces, b'', as_text(size=size, out='exact')
+            yield refused(2), SAMPLE, spaces + b' ', b'', as_text(size=size)
+
+
+def xml_class_edges():
+    """The name rule of the lent classes; a byte that is a letter is still none outside a tag."""
+    late = with_class(1, range(0x80, 0x100))
+    one, two, three = (name.encode('latin-1') for name in OWN_NAMES)
+    for number, (classes, data, refusal) in enumerate((
+            (OWN, b'<\xc3\xa9/>', 0), (OWN, b'<\xc3\xa9></\xc3\xa9>', 0), (OWN, b'<\xc3\xa9></\xc3\xa8>', 17), (OWN, b'<a&b/>', 0),
+            (OWN, b'<"#"/>', 0), (OWN, b'<a b="c"/>', 16), (OWN, b'<a "b"/>', 16), (OWN, b'<a="c"/>', 5), (OWN, b'\xef\xbb\xbf<a/>', 16),
+            (OWN, b'<a>\xc3\xa9</a>', 16), (OWN, b'<a>&amp;</a>', 16), (OWN, b'<a/>#', 16), (OWN, b'<a\xa0/>', 0),
+            (OWN, b'<a\x85></a\x85>', 0), (OWN, b'<a \xa0/>', 16), (OWN, b'\x85<a/>', 16), (OWN, b'<\xff\xfe/>', 0),
+            (OWN, b'<' + one + b'><' + three + b'/></' + one + b'>', 0), (OWN, b'<' + one + b'></' + two + b'>', 17),
+            (OWN, b'<\xe1></a>', 17), (OWN, b'<\xe9></\xc9>', 17), (OWN, b'<' + b'\xff' * 63 + b'/>', 0),
+            (OWN, b'<' + b'\xff' * 64 + b'/>', 5), (OWN, b'<!/>', 5), (OWN, b'<!--x-->', 5), (OWN, b'<?x?>', 5), (OWN, b'<1/>', 5),
+            (late, b'<\xe9/>', 5), (late, b'<a\xe9/>', 0), (late, b'<a\xe9></a\xe9 >', 0), (late, b'<\xe9 x/>', 16),
+            (late, b'</\xe9>', 17), (ALL_LETTERS, b'<1:2/>', 0), (ALL_LETTERS, b'<a;b/>', 0), (ALL_LETTERS, b'<[x]></[x]>', 0),
+            (ALL_LETTERS, b"<'/>", 0), (ALL_LETTERS, b'<-->', 11), (ALL_LETTERS, b'<a<b/>', 5), (ALL_LETTERS, b'<![CDATA[x]]>', 5),
+            (ALL_LETTERS, b'<a=b/>', 5), (ALL_LETTERS, b'<a,b/>', 5), (ALL_LETTERS, b'<a\x00/>', 5), (ALL_LETTERS, b'<a\x0b/>', 5),
+            (ALL_LETTERS, b'<@></`>', 17), (ALL_LETTERS, b'<a>;</a>', 16), (one_letter(0xFF), b'<\xff/>', 0),
+            (one_letter(0xFF), b'<a/>', 5), (one_letter(0xFF), b'</a>', 17), (one_letter(0xFF), b'<a', 16),
+            (with_class(0, b'A'), b'<a></A>', 17), (with_class(0, b'A'), b'<A></A>', 5), (with_class(1, b'a'), b'<a/>', 5),
+            (with_class(1, b'a'), b'<ba/>', 0))):
+        told = told_of(refusal)
+        yield told, DOCUMENT_READS, data, b'', as_text(classes=classes, size=SIZES[number % 3])
+        if told != READS and number % 3 == 0:
+            call = WITH_DOCUMENT[1 + number // 3 % 4]
+            yield told, call, *inputs_for(call, data, E), as_text(classes=classes)
+    own = xml(tree_of(ref.read_document(ref.LARGE, OWN, OWN_DOC)))
+    sampled = table([0], [(0, OWN_NAMES[0], seq(t(1), t(3))), (1, OWN_NAMES[2], t(2)), (2, OWN_NAMES[1], EMPTY), (3, OWN_NAMES[1], EMPTY)])
+    for number, call in enumerate(WITH_DOCUMENT):
+        told = {DOCUMENT_READS: READS, SAMPLE: gives(sampled), LETS_IN: YES}.get(call)
+        if told:
+            yield told, call, *inputs_for(call, own, OWN_TABLE), as_text(classes=OWN, out='exact')
+        yield refused(5), call, *inputs_for(call, own), as_text()
+        for classes, work, refusal in ((BAD_CLASSES[number], None, 18), (BAD_CLASSES[number], 16383, 1), (OWN, 16383, 1)):
+            faulty = (b'x' * 32769, b'x', b'</a>', b'<1/>', b'')[number]
+            yield refused(refusal), call, *inputs_for(call, faulty), as_text(classes=classes, work=work, out=50)
+
+
+def xml_order_edges():
+    """After the old table, before 13, 14 and 15; 2, then the first tag at fault."""
+    pieces = ((b'x', 16), (b'</q>', 17), (b'<1/>', 5))
+    for (one, refusal), (other, _) in itertools.product(pieces, repeat=2):
+        yield refused(refusal), DOCUMENT_READS, b'<a>' + one + other + b'</a>', b'', as_text()
+        yield refused(refusal), DOCUMENT_READS, b'<a/>' + one + other, b'', as_text()
+    for one, _ in pieces:
+        yield refused(11), DOCUMENT_READS, b'<a/><b/>' + one, b'', as_text()
+    for number, (refusal, faulty) in enumerate((
+            (3, b''), (3, GOOD_TABLE[:-1]), (4, GOOD_DOC), (5, label('1') + END), (6, start(3) + start(3) + END),
+            (8, start(99) + END), (9, one_rule(b'\x08')), (10, one_rule(deep(33))), (12, GOOD_TABLE + b'\x00'), (2, bytes(32769)))):
+        for call in (LETS_IN, BY_DOCUMENT[number % 2]):
+            yield refused(refusal), call, faulty, (b'x', b'</a>', b'<1/>', b'')[number % 4], as_text()
+    for data, refusal in ((b'x', 16), (b'</a>', 17), (b'<1/>', 5), (b'', 11), (b' ' * 32769, 2)):
+        for call in BY_DOCUMENT:
+            yield refused(refusal), call, E, data, as_text(out=0)
+        yield refused(refusal), SAMPLE, data, b'', as_text(out=0)
+    seventeen = xml(tree('r', *[tree('c%02d' % i) for i in range(16)]))
+    for call in (SAMPLE,) + BY_DOCUMENT:
+        yield refused(14), call, *inputs_for(call, seventeen, P1), as_text(size=SMALL, out=0)
+        yield refused(16), call, *inputs_for(call, seventeen + b'x', P1), as_text(size=SMALL, out=0)
+        yield refused(15), call, *inputs_for(call, b'<list><card/></list>'), as_text(out='short')
+        yield refused(15), call, *inputs_for(call, b'<list><card/></list>'), as_text(out=0)
+
+
+# Numbers that are no format; low bytes that would be one are among them. Each counts as 0.
+NO_FORMATS = (2, 3, 255, 256, 257, 2**16 + 1, 2**31, 2**31 + 1, 2**32 - 1)
+
+
+def format_edges():
+    """The format alone says what the bytes are."""
+    for number in (0,) + NO_FORMATS:
+        for told, call, first, second in ((READS, DOCUMENT_READS, GOOD_DOC, b''), (YES, LETS_IN, GOOD_TABLE, GOOD_DOC),
+                                          (refused(3), DOCUMENT_READS, b'<a/>', b''), (refused(3), LETS_IN, GOOD_TABLE, b'')):
+            yield told, call, first, second, dict(format=number)
+        call = ((SAMPLE,) + BY_DOCUMENT)[number % 3]
+        told = {SAMPLE: cards(AS)}.get(call, cards(choice(any_of(A), AS)))
+        yield gives(told), call, *inputs_for(call, GOOD_DOC), dict(format=number)
+        yield refused(3), call, *inputs_for(call, b'<list><card/></list>'), dict(format=number)
+    for call in WITH_DOCUMENT:
+        for data, refusal in ((GOOD_DOC, 16), (P2, 16)):
+            yield refused(refusal), call, *inputs_for(call, data), as_text()
+        for data, refusal in ((b'<list><card/></list>', 3), (b' ' * 9000 + b'<a/>', 4)):
+            yield refused(refusal), call, *inputs_for(call, data), {}
+    for data, text_, file in ((DOC_END, 16, 11), (GOOD_TABLE, 16, 4), (E, 16, 4), (b'', 11, 3), (b'<a/>', 0, 3), (b' <a/>', 0, 3),
+                              (b'</>', 17, 3)):
+        yield told_of(text_), DOCUMENT_READS, data, b'', as_text()
+        yield refused(file), DOCUMENT_READS, data, b'', {}
+
+
+def plain_trees(data):
+    """The tree of a document file without text marks; none for others."""
+    try:
+        return [tree_of(ref.read_document(ref.LARGE, ANY_BYTES, data))] if data and not has_marks(data) else []
+    except ref.Refused:
+        return []
+
+
+def xml_result_edges():
+    """Samples and widenings of Cards 5 and 8, whose answers stand there by hand, from text in place of files."""
+    ways = [xml, partial(xml_in_some_way, Numbers(720000))]
+    for number, (data, told) in enumerate(spelled_samples() + run_samples()):
+        for a_tree in plain_trees(data):
+            written = ways[number % 2](a_tree)
+            yield gives(told), SAMPLE, written, b'', as_text(size=SIZES[number % 3] if len(written) < 1000 else LARGE, out='exact')
+            if number % 2:
+                yield YES, LETS_IN, told, written, as_text()
+    for number, (word, content) in enumerate(run_words()):
+        if number % 3 == 0:
+            told, written = gives(above_leaves(content, first_seen(word))), ways[number // 3 % 2](row(word))
+            yield told, SAMPLE, written, b'', as_text(size=SIZES[number % 3])
+    widenings = [(old, data, results) for old, data, *results in spelled_widenings()]
+    widenings += [(old, data, results) for old, data, _, *results in run_widenings()]
+    for number, (old, data, results) in enumerate(widenings):
+        for a_tree in plain_trees(data):
+            written = ways[number % 2](a_tree)
+            for call, result in zip(BY_DOCUMENT, results if len(results) == 2 else results * 2):
+                yield gives(result), call, old, written, as_text(size=SIZES[number % 3], out='exact')
+            yield YES, LETS_IN, results[0], written, as_text()
+    # Text holds no mark: a rule 12 takes each node, and a rule 13 too; what is written has the old table's marks alone.
+    lister = xml(tree('list', tree('card', tree('name'), tree('zone'))))
+    for a_table in (LISTER_TABLE, NAME_TEXT, OTHER_TEXT, with_all_marks(LISTER_TABLE)):
+        yield NO, LETS_IN, a_table, lister, as_text()
+        yield YES, LETS_IN, a_table, lister.replace(b'zone', b'door'), as_text()
+    listed = table([0], [(0, 'list', choice(any_of(A), A)), (1, 'card', choice(seq(B, optional(C)), seq(B, t(4)))),
+                         (2, 'name', EMPTY, TEXT), (3, 'door', EMPTY), (4, 'zone', EMPTY)])
+    yield gives(listed), LOCAL_BY_DOCUMENT, NAME_TEXT, lister, as_text()
+    yield gives(P1), SAMPLE, b'<a/>', b'', as_text()
+    yield gives(with_all_marks(P1)), SINGLE_BY_DOCUMENT, with_all_marks(P1), b'<a/>', as_text()
+    # The paper's, as texts.
+    for told, a_table, data in ((YES, P1, P2), (NO, P5, P5_CROSSED), (YES, P5, P5_STRAIGHT), (NO, LISTER_TABLE, LISTER_DOC)):
+        for size in SIZES:
+            yield told, LETS_IN, a_table, xml(plain_trees(data)[0]), as_text(size=size)
+    # Lent words: just those of the size are cleared, also after 16 and 17, and none by 1.
+    for call in WITH_DOCUMENT:
+        for data, refusal in ((b'<list/>x', 16), (b'<list></card>', 17), (b'<list><card/><card/></list>', 0)):
+            told = refused(refusal) if refusal else {DOCUMENT_READS: READS, LETS_IN: YES, SAMPLE: gives(cards(AS))}.get(
+                call, gives(cards(choice(any_of(A), AS))))
+            for size, words in ((SMALL, 12288), (STANDARD, 16384), (LARGE, 32768), (3, 16384)):
+                if (size + call + refusal) % 2 == 0:
+                    yield told, call, *inputs_for(call, data), as_text(size=size, work=words + 13 * (size % 2), fill=0xFFFFFFFF, out=300)
+        yield refused(1), call, *inputs_for(call, b'<list/>x'), as_text(work=16383, fill=7, out=20)
+
+
+def xml_edges():
+    yield from xml_reading_edges()
+    yield from xml_byte_edges()
+    yield from xml_limit_edges()
+    yield from long_file_edges()
+    yield from xml_class_edges()
+    yield from xml_order_edges()
+    yield from format_edges()
+    yield from xml_result_edges()
+
+
+def xml_cases(cases):
+    for _, call, first, second, options in xml_edges():
+        cases.add(call, first, second, **options)
+
+
 # ---------------------------------------------------------------- random cases
 
 POOL = ['a', 'b', 'c', 'd', 'list', 'card', 'x-1', 'A']
@@ -3324,22 +3830,67 @@ def tree_of(node):
     return (node.name.decode('latin-1') + TEXT * node.text, [tree_of(child) for child in node.children])
 
 
-def document_has_a_run(data):
-    """Where it reads at the large size, whatever the bytes of its names."""
-    try:
-        return has_a_run(tree_of(ref.read_document(ref.LARGE, ANY_BYTES, data)))
-    except ref.Refused:
-        return False
+def place_of_document(case):
+    """Which input is the document; None for calls without one."""
+    return 'first' if case.call in DOCUMENT_FIRST else 'second' if case.call in WITH_DOCUMENT else None
 
 
 def document_of(case):
-    """The document of a call that makes its sample; None for other calls."""
-    return case.first if case.call == SAMPLE else case.second if case.call in BY_DOCUMENT else None
+    return getattr(case, place_of_document(case)) if case.call in WITH_DOCUMENT else None
+
+
+def with_document(case, data, format_):
+    """The case with another document."""
+    return case._replace(format=format_, **{place_of_document(case): data})
+
+
+def is_text(case):
+    """Is its document XML text?"""
+    return case.call in WITH_DOCUMENT and case.format == ref.XML_TEXT
+
+
+def tree_in(case):
+    """The tree of its document, where that reads at the large size, whatever the bytes of its names; else None."""
+    try:
+        return tree_of(ref.read_either(ref.LARGE, ANY_BYTES, case.format, document_of(case))) if case.call in WITH_DOCUMENT else None
+    except ref.Refused:
+        return None
+
+
+def as_file(case):
+    """The case with a document file of any length in place of XML text, to look into; of no bytes where the text does not read."""
+    if not is_text(case):
+        return case
+    a_tree = tree_in(case)
+    return with_document(case, document(a_tree) if a_tree else b'', ref.DOCUMENT_FILE)
+
+
+def changed_inputs(case, change, change_text, places=('first', 'second')):
+    """The case with `change(input)` for these inputs; for XML text that reads `change_text(text)`, and none for one that does not."""
+    for place in places:
+        data = getattr(case, place)
+        if not is_text(case) or place != place_of_document(case):
+            case = case._replace(**{place: change(data)})
+        elif tree_in(case):
+            case = case._replace(**{place: change_text(data)})
+    return case
+
+
+def with_names(case, spell, places=('first', 'second')):
+    """The case with `spell(name)` in place of each name of these inputs."""
+    return changed_inputs(case, partial(spelled, spell), partial(spelled_text, spell), places)
+
+
+def names_of_case(case):
+    """The names of its inputs, front to back."""
+    case = as_file(case)
+    return names_in(case.first) + names_in(case.second)
 
 
 def samples_a_run(case):
     """Is a run of neighbours part of a sample that the call makes?"""
-    return document_of(case) is not None and document_has_a_run(document_of(case))
+    a_tree = tree_in(case) if case.call == SAMPLE or case.call in BY_DOCUMENT else None
+    return a_tree is not None and has_a_run(a_tree)
 
 
 def node_count(a_tree):
@@ -3365,12 +3916,17 @@ OTHER_CASE = bytes.maketrans(b'ABCDEFGHIJKLMNOPQRSTUVWXYZabcdefghijklmnopqrstuvw
                              b'abcdefghijklmnopqrstuvwxyzABCDEFGHIJKLMNOPQRSTUVWXYZ')
 
 
-def with_other_letters(numbers, data, classes, share=50):
-    """The input with a share of its letters, in percent, in the other case, where both spellings are of one class."""
+def other_letters(numbers, classes, share=50):
+    """Names with a share of their letters, in percent, in the other case, where both spellings are of one class."""
     def spell(name):
         return bytes(OTHER_CASE[byte] if byte != OTHER_CASE[byte] and classes[byte] == classes[OTHER_CASE[byte]]
                      and numbers.chance(share) else byte for byte in name)
-    return spelled(spell, data)
+    return spell
+
+
+def with_other_letters(numbers, data, classes, share=50):
+    """The input with a share of its letters in the other case."""
+    return spelled(other_letters(numbers, classes, share), data)
 
 
 def respelled(numbers, data, classes=ref.ASCII):
@@ -3556,7 +4112,14 @@ def random_lent(numbers):
 
 
 def random_case(cases, numbers):
-    """One random case, or a few that belong together, at a random size and under random classes."""
+    """One random case, or a few that belong together, at a random size and under random classes; some documents as XML text."""
+    before, format_numbers = len(cases.all), Numbers(numbers.state, XML_CHOICE)
+    random_files(cases, numbers)
+    cases.all[before:] = [perhaps_as_text(format_numbers, case) for case in cases.all[before:]]
+
+
+def random_files(cases, numbers):
+    """The same with document files alone."""
     size = random_size(numbers)
     limits = random_limits(numbers, size)
     classes, pool = random_lent(numbers)
@@ -3591,6 +4154,22 @@ def random_case(cases, numbers):
     else:
         random_widening(add, numbers, roll < 82, first, limits, pool, respell)
         random_question(add, numbers, cases.all[-1], first, limits, pool, respell)
+
+
+XML_CHOICE = 2      # numbers of their own, so that all else of a case is as it is without
+
+
+def perhaps_as_text(numbers, case):
+    """Where the document reads, at times as XML text, which at times is damaged; seldom the same bytes in another format."""
+    if case.call not in WITH_DOCUMENT:
+        return case
+    if numbers.chance(4):
+        return case._replace(format=numbers.of((1, 1, 2, 257, 2**32 - 1)))
+    a_tree = tree_in(case)
+    if a_tree is None or numbers.chance(60):
+        return case
+    data = xml_in_some_way(numbers, a_tree)
+    return with_document(case, damaged_text(numbers, data) if numbers.chance(30) else data, ref.XML_TEXT)
 
 
 def random_widening(add, numbers, by_table, first, limits, pool, respell):
@@ -3638,6 +4217,7 @@ def made_cases(cases):
     spelling_cases(cases)
     run_cases(cases)
     text_cases(cases)
+    xml_cases(cases)
 
 
 def all_cases(seed, count):

@@ -1,16 +1,18 @@
-"""The second validator: every public call, written from document 01 and Cards 4, 5, 7, 8 and 13 alone.
+"""The second validator: every public call, written from document 01 and Cards 2, 4, 5, 7, 8 and 13 alone.
 
 Plain search, for reading next to the papers: derivations are tried directly, every step of a
 widening is made as a table, and refusals come in the paper's order.  Sentences of the papers
 stand in quotes; where document 01 has a number of the second set, the chosen set's own is read,
 where it has the fixed classes of bytes, those lent with the call, where it has names equal, they
-are so up to letter case, where it has child sequences of a sample, their runs are made first, and
-rules and nodes have their text marks.  Python 3, standard library only.
+are so up to letter case, where it has child sequences of a sample, their runs are made first, rules
+and nodes have their text marks, and a document comes as a document file or as XML text.  Python 3,
+standard library only.
 
     python3 reference.py list DIR      the text that the lister prints in DIR (old.tbl, new.doc)
 """
 
 import os
+import re
 import sys
 from collections import namedtuple
 from functools import partial
@@ -41,6 +43,10 @@ def limits_of(size):
     """The set that a size's number picks: 0 small, 1 standard, 2 large; any other counts as 1."""
     return SETS[size] if size in (0, 1, 2) else STANDARD
 
+
+# The format of a document, told before it: a document file, or XML text in its place (Card 2). No other
+# number is one: it counts as 0. The bytes are not asked.
+DOCUMENT_FILE, XML_TEXT = 0, 1
 
 LABEL, START, RULE, TABLE_END = 0x10, 0x11, 0x12, 0x1F
 NODE, DOCUMENT_END = 0x30, 0x3F
@@ -257,7 +263,7 @@ def read_table(limits, classes, data):
 
 
 def read_document(limits, classes, data):
-    """A document's root from its bytes, or Refused."""
+    """The root of a document file from its bytes, or Refused."""
     if len(data) > INPUT_BYTES:                 # "2 opens each input"
         raise Refused(2)
     root, nodes = None, 0
@@ -295,6 +301,68 @@ def read_document(limits, classes, data):
         while unfilled and unfilled[-1][1] == 0:
             unfilled.pop()
         at = after
+
+
+# "Read, in place of a document file, start tags, end tags, empty-element tags and white space around
+# them, as XML 1.0 writes them". XML 1.0's white space; "A name ends at white space, / or >", and after
+# it a tag may have white space. /> has none inside, and an end tag no second /.
+SPACE = rb'[\x20\x09\x0D\x0A]*'
+NAME_UP_TO_ITS_END = rb'([^\x20\x09\x0D\x0A/>]*)'
+WHITE_SPACE = re.compile(SPACE)
+END_TAG = re.compile(b'</' + NAME_UP_TO_ITS_END + SPACE + b'>')
+START_TAG = re.compile(b'<' + NAME_UP_TO_ITS_END + SPACE + b'(/?)>')     # or, with /, an empty-element tag
+
+
+def read_xml_text(limits, classes, data):
+    """The root of a document from its XML text, or Refused: "limits, name rule and 11 hold as there, at
+    the first tag at fault". Each tag is tried whole, 16 and 17 "before 5"; 3, 4 and 12 are never given.
+    No element has a text mark: "XML text still has no marks." """
+    if len(data) > INPUT_BYTES:                 # "2 opens each input", by the text's own length
+        raise Refused(2)
+    root, nodes = None, 0
+    unclosed = []    # the elements still open, from the root down
+    at = WHITE_SPACE.match(data).end()
+    while at < len(data):
+        closing = data.startswith(b'</', at)
+        tag = (END_TAG if closing else START_TAG).match(data, at)
+        # 16: "a byte outside names that the subset does not allow, or text that stops inside a tag"
+        if tag is None:
+            raise Refused(16)
+        name = tag.group(1)
+        if closing:
+            # 17: "an end tag not naming the innermost open element, or with none"; "XML end tags still
+            # match by bytes."
+            if not unclosed or unclosed[-1].name != name:
+                raise Refused(17)
+            unclosed.pop()
+        else:
+            # 5: the name rule; "one of no bytes or over 63 is 5"
+            if not 1 <= len(name) <= NAME_BYTES or not is_name(classes, name):
+                raise Refused(5)
+            # 11: a node too many, a child too many ("for over 200 children that is the 201st child's"),
+            # a level too deep, or a second root
+            complete = root is not None and not unclosed
+            children = len(unclosed[-1].children) if unclosed else 0
+            if nodes == limits.nodes or children == CHILDREN or len(unclosed) == limits.levels or complete:
+                raise Refused(11)
+            node = Node(name)
+            nodes += 1
+            if unclosed:
+                unclosed[-1].children.append(node)
+            else:
+                root = node
+            if tag.group(2) != b'/':
+                unclosed.append(node)
+        at = WHITE_SPACE.match(data, tag.end()).end()
+    # 11: "Text that ends with elements open, or with no element, is 11."
+    if root is None or unclosed:
+        raise Refused(11)
+    return root
+
+
+def read_either(limits, classes, format_, data):
+    """A document's root from a document file or from XML text, as the format says."""
+    return (read_xml_text if format_ == XML_TEXT else read_document)(limits, classes, data)
 
 
 # ---------------------------------------------------------------- meaning
@@ -805,8 +873,8 @@ def table_reads(limits, classes, table, work_len):
     return answered(limits, classes, work_len, lambda: read_table(limits, classes, table) is not None)
 
 
-def document_reads(limits, classes, document, work_len):
-    return answered(limits, classes, work_len, lambda: read_document(limits, classes, document) is not None)
+def document_reads(limits, classes, format_, document, work_len):
+    return answered(limits, classes, work_len, lambda: read_either(limits, classes, format_, document) is not None)
 
 
 def label_name(limits, classes, table, label, work_len):
@@ -820,10 +888,10 @@ def label_name(limits, classes, table, label, work_len):
     return answered(limits, classes, work_len, question)
 
 
-def lets_in(limits, classes, table, document, work_len):
+def lets_in(limits, classes, table, format_, document, work_len):
     def question():
         read = read_table(limits, classes, table)
-        root = read_document(limits, classes, document)
+        root = read_either(limits, classes, format_, document)
         return table_lets_in(read, root)
     return answered(limits, classes, work_len, question)
 
@@ -843,9 +911,9 @@ def sample_within_limits(limits, root):
     return made
 
 
-def sample(limits, classes, document, out_len, work_len):
+def sample(limits, classes, format_, document, out_len, work_len):
     def made():
-        return table_bytes(sample_within_limits(limits, read_document(limits, classes, document)))
+        return table_bytes(sample_within_limits(limits, read_either(limits, classes, format_, document)))
     return answered_in_bytes(limits, classes, work_len, out_len, made)
 
 
@@ -869,12 +937,12 @@ def widen_by_table(limits, classes, old, addition, form, out_len, work_len):
     return answered_in_bytes(limits, classes, work_len, out_len, made)
 
 
-def widen_by_document(limits, classes, old, document, form, out_len, work_len):
+def widen_by_document(limits, classes, old, format_, document, form, out_len, work_len):
     """"A document is added through its sample." The result is then "least over the old table's
     documents and all those of the sample table"."""
     def made():
         first = read_table(limits, classes, old)
-        root = read_document(limits, classes, document)
+        root = read_either(limits, classes, format_, document)
         return table_bytes(widened(limits, first, sample_within_limits(limits, root), form))
     return answered_in_bytes(limits, classes, work_len, out_len, made)
 
@@ -883,16 +951,16 @@ def widen_local_by_table(limits, classes, old, addition, out_len, work_len):
     return widen_by_table(limits, classes, old, addition, to_local, out_len, work_len)
 
 
-def widen_local_by_document(limits, classes, old, document, out_len, work_len):
-    return widen_by_document(limits, classes, old, document, to_local, out_len, work_len)
+def widen_local_by_document(limits, classes, old, format_, document, out_len, work_len):
+    return widen_by_document(limits, classes, old, format_, document, to_local, out_len, work_len)
 
 
 def widen_single_type_by_table(limits, classes, old, addition, out_len, work_len):
     return widen_by_table(limits, classes, old, addition, partial(to_single_type, limits), out_len, work_len)
 
 
-def widen_single_type_by_document(limits, classes, old, document, out_len, work_len):
-    return widen_by_document(limits, classes, old, document, partial(to_single_type, limits), out_len, work_len)
+def widen_single_type_by_document(limits, classes, old, format_, document, out_len, work_len):
+    return widen_by_document(limits, classes, old, format_, document, partial(to_single_type, limits), out_len, work_len)
 
 
 # ---------------------------------------------------------------- the lent slices afterwards
@@ -928,9 +996,9 @@ def content_text(content):
 
 
 def listing(old, document):
-    """The lister's text for the bytes of old.tbl and new.doc; it keeps the second set and "the old
-    classes, which the lister uses"."""
-    answer = widen_local_by_document(STANDARD, ASCII, old, document, INPUT_BYTES, STANDARD.words)
+    """The lister's text for the bytes of old.tbl and new.doc; it keeps the second set, "the old
+    classes, which the lister uses", and document files."""
+    answer = widen_local_by_document(STANDARD, ASCII, old, DOCUMENT_FILE, document, INPUT_BYTES, STANDARD.words)
     if answer.refusal:
         return b'refused %d\n' % answer.refusal
     table = read_table(STANDARD, ASCII, answer.written)

@@ -2,24 +2,26 @@
 
     python3 selftest.py [--rounds N]
 
-The paper's P1 to P8, its edges and the lister's example; the edges of the three sizes, those of the
-classes, those of letter case, those of runs and those of text marks, numbered by hand; that a larger set gives the same answer wherever a
-smaller one gives one, and so do classes with more letters; that inputs with letters in the other case give
-the same answers, with every name written in its first spelling; that marks change no answer but letting in and, of what is written, no
-byte but the tags of rules; that widening by a document is widening by its
-sample, that both let it in, and that one more member of a run changes neither; that names of other letters, under classes
-that say so, give the answers of the names that they stand for; reading against bytes written; letting in against a listing of all
-derived documents; a sample's documents against what a run and a mark stand for, on all small trees; and widening against
-brute force on small tables, without marks and with: the result is of its kind, lets in what it must, and is least.
+The paper's P1 to P8, its edges and the lister's example; the edges of the three sizes, those of the classes, those of letter case, those
+of runs, those of text marks and those of XML text, numbered by hand; that XML text is read as expat reads it, and gives the answers of a
+document file of the same nodes; that a larger set gives the same answer wherever a smaller one gives one, and so do classes with more
+letters; that inputs with letters in the other case give the same answers, with every name written in its first spelling; that marks
+change no answer but letting in and, of what is written, no byte but the tags of rules; that widening by a document is widening by its
+sample, that both let it in, and that one more member of a run changes neither; that names of other letters, under classes that say so,
+give the answers of the names that they stand for; reading against bytes written; letting in against a listing of all derived documents; a
+sample's documents against what a run and a mark stand for, on all small trees; and widening against brute force on small tables, without
+marks and with: the result is of its kind, lets in what it must, and is least.
 """
 
 import argparse
 import itertools
 import os
 import sys
+from functools import lru_cache
 
 sys.dont_write_bytecode = True
 sys.path.insert(0, os.path.dirname(os.path.abspath(__file__)))
+import by_expat  # noqa: E402
 import generate as gen  # noqa: E402
 import reference as ref  # noqa: E402
 from generate import EMPTY, TEXT, E, Numbers, any_of, choice, doc, name_of, seq, t, table, text, tree  # noqa: E402
@@ -27,9 +29,33 @@ from generate import EMPTY, TEXT, E, Numbers, any_of, choice, doc, name_of, seq,
 L = ref.STANDARD        # "document 01's cases keep the second"
 C = ref.ASCII           # and "the old classes"
 W = L.words
-FORMS = {'local': (ref.widen_local_by_table, ref.widen_local_by_document, ref.is_local),
-         'single-type': (ref.widen_single_type_by_table, ref.widen_single_type_by_document,
-                         ref.is_single_type)}
+FILE, XML = ref.DOCUMENT_FILE, ref.XML_TEXT
+
+
+# The calls with a document, here mostly of a document file.
+
+def document_reads(limits, classes, document, work_len, format_=FILE):
+    return ref.document_reads(limits, classes, format_, document, work_len)
+
+
+def lets_in(limits, classes, a_table, document, work_len, format_=FILE):
+    return ref.lets_in(limits, classes, a_table, format_, document, work_len)
+
+
+def sample(limits, classes, document, out_len, work_len, format_=FILE):
+    return ref.sample(limits, classes, format_, document, out_len, work_len)
+
+
+def local_by_document(limits, classes, old, document, out_len, work_len, format_=FILE):
+    return ref.widen_local_by_document(limits, classes, old, format_, document, out_len, work_len)
+
+
+def single_type_by_document(limits, classes, old, document, out_len, work_len, format_=FILE):
+    return ref.widen_single_type_by_document(limits, classes, old, format_, document, out_len, work_len)
+
+
+FORMS = {'local': (ref.widen_local_by_table, local_by_document, ref.is_local),
+         'single-type': (ref.widen_single_type_by_table, single_type_by_document, ref.is_single_type)}
 done = [0]
 
 
@@ -39,22 +65,30 @@ def check(fact, *about):
         raise AssertionError(about)
 
 
+@lru_cache(maxsize=None)
+def made_cases():
+    """All made cases, once."""
+    made = gen.Cases()
+    gen.made_cases(made)
+    return made.all
+
+
 # ---------------------------------------------------------------- the paper's cases
 
 def paper():
     p1, p2 = gen.P1, gen.P2
     check(len(p1) == 17 and ref.table_reads(L, C, p1, W) == (0, 1, b''), 'P1')
-    check(ref.lets_in(L, C, p1, p2, W) == (0, 1, b''), 'P2')
+    check(lets_in(L, C, p1, p2, W) == (0, 1, b''), 'P2')
     check(ref.table_reads(L, C, b'', W) == (3, 0, b''), 'P3')
-    check(ref.document_reads(L, C, b'', W) == (3, 0, b''), 'P3')
+    check(document_reads(L, C, b'', W) == (3, 0, b''), 'P3')
     check(ref.table_reads(L, C, E, W) == (0, 1, b''), 'a table of the end field alone is valid')
     for by_table, _, _ in FORMS.values():
         check(by_table(L, C, E, E, 100, W) == (13, 0, b''), 'P4')
     local = ref.widen_local_by_table(L, C, gen.P5, E, 500, W).written
     single = ref.widen_single_type_by_table(L, C, gen.P5, E, 500, W).written
-    check(ref.lets_in(L, C, local, gen.P5_CROSSED, W).value == 1, 'P5 local')
-    check(ref.lets_in(L, C, single, gen.P5_CROSSED, W) == (0, 0, b''), 'P5 single-type')
-    check(ref.lets_in(L, C, single, gen.P5_STRAIGHT, W).value == 1, 'P5 single-type')
+    check(lets_in(L, C, local, gen.P5_CROSSED, W).value == 1, 'P5 local')
+    check(lets_in(L, C, single, gen.P5_CROSSED, W) == (0, 0, b''), 'P5 single-type')
+    check(lets_in(L, C, single, gen.P5_STRAIGHT, W).value == 1, 'P5 single-type')
     p6 = table([0], [(0, 'group', choice(seq(t(0), t(0)), t(1))), (1, 'card', EMPTY)])
     check(ref.widen_local_by_table(L, C, gen.P6, E, 500, W) == (0, len(p6), p6), 'P6')
     p7 = table([0], [(0, 'list', t(1)), (1, 'door', t(2)), (2, 'code', EMPTY)])
@@ -74,13 +108,13 @@ def paper():
         check(ref.table_reads(L, C, gen.label('a') + b''.join(rules[:count]) + E, W).refusal == refusal)
     for length, refusal in ((63, 0), (64, 4)):
         check(ref.table_reads(L, C, gen.label('a' * length) + E, W).refusal == refusal)
-        check(ref.document_reads(L, C, doc('a' * length), W).refusal == refusal)
+        check(document_reads(L, C, doc('a' * length), W).refusal == refusal)
     for depth, refusal in ((32, 0), (33, 10)):
         check(ref.table_reads(L, C, gen.one_rule(gen.deep(depth)), W).refusal == refusal)
     for children, refusal in ((200, 0), (201, 11)):
-        check(ref.document_reads(L, C, gen.document(gen.wide_doc(children)), W).refusal == refusal)
+        check(document_reads(L, C, gen.document(gen.wide_doc(children)), W).refusal == refusal)
     for numbered, read in ((gen.refused_tables(), ref.table_reads),
-                           (gen.refused_documents(), ref.document_reads)):
+                           (gen.refused_documents(), document_reads)):
         for refusal, inputs in numbered.items():
             for data in inputs:
                 check(read(L, C, data, W).refusal == refusal, refusal, data)
@@ -303,7 +337,7 @@ def leastness(rounds, marks):
             addition = through = made(make[number // 2 % 2])
         else:                           # a document, "added through its sample"
             addition = gen.respelled(numbers, gen.document(one))
-            through = ref.sample(limits, C, addition, 33000, limits.words).written
+            through = sample(limits, C, addition, 33000, limits.words).written
         added = derived_documents(ref.read_table(limits, C, through), most + 1)
         check(number % 3 or one in added, one)
         for kind, (by_table, by_document, is_kind) in FORMS.items():
@@ -362,24 +396,22 @@ GROWING = (ref.Limits(0, 0, 0, 32768), ref.Limits(1, 1, 1, 32768), ref.SMALL, re
 def sizes_by_hand():
     for call, first, second, label, refusals in gen.edges():
         for size in gen.SIZES:
-            case = gen.Case(call, size, C, gen.MOST_WORK, 0, gen.MOST_OUTPUT, label, first, second)
+            case = gen.Case(call, size, C, gen.MOST_WORK, 0, gen.MOST_OUTPUT, label, FILE, first, second)
             check(gen.answer_of(case).refusal == refusals[size], call, size, first.hex(), second.hex())
     for call in gen.CALL_NAMES:
         for size, work, refusal in gen.WORD_EDGES:
-            case = gen.Case(call, size, C, work, 7, 400, 0, *gen.good_inputs(call))
+            case = gen.Case(call, size, C, work, 7, 400, 0, FILE, *gen.good_inputs(call))
             check(gen.answer_of(case).refusal == refusal, call, size, work)
     for size in gen.NO_SIZES:
         for call, first, refusal in gen.NO_SIZE_EDGES:
-            case = gen.Case(call, size, C, W, 7, gen.MOST_OUTPUT, 0, first, b'')
+            case = gen.Case(call, size, C, W, 7, gen.MOST_OUTPUT, 0, FILE, first, b'')
             check(gen.answer_of(case).refusal == refusal, call, size, first.hex())
 
 
 def larger_sets_agree():
     """Wherever a set gives an answer that is no refusal by a limit, a larger one gives it too; and where the classes read an
     input's names, classes with more letters give the same answer."""
-    made = gen.Cases()
-    gen.made_cases(made)
-    questions = {(case.call, case.label, case.classes, case.first, case.second): case for case in made.all}
+    questions = {(case.call, case.label, case.classes, case.format, case.first, case.second): case for case in made_cases()}
     for case in questions.values():
         room = gen.MOST_OUTPUT if case.call in gen.WRITING else 0
         answers = [gen.answer_under(limits, case._replace(work_len=limits.words, out_len=room)) for limits in GROWING]
@@ -419,18 +451,18 @@ def own_names_by_hand():
     for number, name in enumerate((one, two, three)):
         offset, length = divmod(ref.label_name(L, own, gen.OWN_TABLE, number, W).value, 65536)
         check(gen.OWN_TABLE[offset:offset + length] == name.encode('latin-1'))
-    check(ref.lets_in(L, own, gen.OWN_TABLE, gen.OWN_DOC, W) == (0, 1, b''))
+    check(lets_in(L, own, gen.OWN_TABLE, gen.OWN_DOC, W) == (0, 1, b''))
     for a_tree, value in ((tree(one), 1), (tree(one, tree(three)), 1), (tree(one, tree(three, tree(two)), tree(two)), 1),
                           (tree(two), 0), (tree(one, tree(three, tree(three))), 0), (tree(one, tree(three[::-1])), 0),
                           (tree(one[:-1]), 0), (tree('a'), 0)):
-        check(ref.lets_in(L, own, gen.OWN_TABLE, gen.document(a_tree), W) == (0, value, b''), a_tree)
+        check(lets_in(L, own, gen.OWN_TABLE, gen.document(a_tree), W) == (0, value, b''), a_tree)
     sampled = table([0], [(0, one, seq(t(1), t(3))), (1, three, t(2)), (2, two, EMPTY), (3, two, EMPTY)])
-    check(ref.sample(L, own, gen.OWN_DOC, 500, W) == (0, len(sampled), sampled))
+    check(sample(L, own, gen.OWN_DOC, 500, W) == (0, len(sampled), sampled))
     wider = table([0, 2], [(0, one, any_of(choice(t(1), t(2)))), (1, two, EMPTY),
                            (2, three, choice(gen.optional(t(1)), any_of(t(3)))), (3, '\xe9#', EMPTY)])
     check(ref.widen_local_by_table(L, own, gen.OWN_TABLE, gen.OWN_OTHER, 500, W) == (0, len(wider), wider))
     # No bit of a byte above 7F is left out of account.
-    check(ref.lets_in(L, own, gen.P1, doc('\xe1'), W) == (0, 0, b''))
+    check(lets_in(L, own, gen.P1, doc('\xe1'), W) == (0, 0, b''))
     wider = table([0, 1], [(0, 'a', EMPTY), (1, '\xe1', EMPTY)])
     for _, by_document, _ in FORMS.values():
         check(by_document(L, own, gen.P1, doc('\xe1'), 500, W) == (0, len(wider), wider))
@@ -457,9 +489,9 @@ def renamed_alike(rounds):
             same = Numbers(48000 + number)
             old, addition = gen.perhaps_marked(same, gen.random_table(same, names)), gen.perhaps_marked(same, gen.rich_table(same, names))
             a_document = gen.random_document(same, old, names)
-            answers.append([ref.lets_in(L, lent, old, a_document, W), ref.label_name(L, lent, old, 1, W),
+            answers.append([lets_in(L, lent, old, a_document, W), ref.label_name(L, lent, old, 1, W),
                             ref.is_local(L, lent, old, W), ref.is_single_type(L, lent, old, W),
-                            ref.sample(L, lent, a_document, 33000, W)]
+                            sample(L, lent, a_document, 33000, W)]
                            + [by_table(L, lent, old, addition, 33000, W) for by_table, _, _ in FORMS.values()]
                            + [by_document(L, lent, old, a_document, 33000, W) for _, by_document, _ in FORMS.values()])
         for ours, theirs in zip(*answers):
@@ -502,19 +534,17 @@ def spellings_by_hand():
 def respelled_alike():
     """Over all made cases: letters in the other case, of the same class, change no verdict and no refusal, and of a written table only
     the spelling of its names, which is the first one met: the old table's, or else that of the addition's first label or node."""
-    made = gen.Cases()
-    gen.made_cases(made)
-    for number, case in enumerate(made.all):
+    for number, case in enumerate(made_cases()):
         if len(case.classes) != 256:
             continue
         numbers, answer = Numbers(52000 + number), gen.answer_of(case)
-        first, second = (gen.with_other_letters(numbers, data, case.classes) for data in (case.first, case.second))
-        for other in {case._replace(second=second), case._replace(first=first, second=second)}:
+        both = gen.with_names(case, gen.other_letters(numbers, case.classes))
+        for other in {case._replace(second=both.second), both}:
             found = gen.answer_of(other)
             check(found[:2] == answer[:2], case, other)
             check(gen.in_small_letters(found.written) == gen.in_small_letters(answer.written), case, other)
             met = {}
-            for name in gen.names_in(other.first) + gen.names_in(other.second):
+            for name in gen.names_of_case(other):
                 met.setdefault(name.lower(), name)
             check(all(met[name.lower()] == name for name in gen.names_in(found.written)), case, other)
 
@@ -532,11 +562,11 @@ def runs_by_hand():
     tail = bytes.fromhex('120003 010101 1F0000')
     for count, rule in ((1, '120004 00000201'), (2, '120005 0000060201'), (9, '120005 0000060201'), (200, '120005 0000060201')):
         sampled = head + bytes.fromhex(rule) + tail
-        check(ref.sample(L, C, gen.list_of(count), 500, W) == (0, len(sampled), sampled), count)
+        check(sample(L, C, gen.list_of(count), 500, W) == (0, len(sampled), sampled), count)
     # The second byte of a sequence is the number of its operands.
     for word, count, length in (('aab', 2, 7), ('a' * 199 + 'b', 2, 7), ('ab' * 99 + 'aa', 199, 401), ('ab' * 100, 200, 402),
                                 ('aabb' * 50, 100, 302), ('aabaa', 3, 10)):
-        content = ref.sample(L, C, gen.document(gen.row(word)), 2000, W).written.split(gen.start(0))[1][5:]
+        content = sample(L, C, gen.document(gen.row(word)), 2000, W).written.split(gen.start(0))[1][5:]
         check(content[:2] == bytes([3, count]) and content[length:length + 3] == b'\x12\x00\x03', word)
     text = (b'local\nstart t0\nt0 list (t1*|t1+)\nt1 card ((t2,t3?)|(t2,t4)|(t2,t4+)|t2)\n'
             b't2 name ()\nt3 door ()\nt4 zone ()\n')
@@ -566,28 +596,26 @@ def with_one_more(a_tree, way):
 def added_through_samples():
     """Over all made cases of a sample or of a widening by a document that give a table: it lets in the document; the widening by the
     sample has the same bytes; and so has the answer with one more member of a run."""
-    made = gen.Cases()
-    gen.made_cases(made)
     counts = {'through samples': 0, 'longer runs': 0}
-    for turn, case in enumerate(made.all):
+    for turn, case in enumerate(made_cases()):
         data, answer = gen.document_of(case), gen.answer_of(case)
-        if data is None or answer.refusal:
+        if case.call != gen.SAMPLE and case.call not in gen.BY_DOCUMENT or answer.refusal:
             continue
         limits, classes, words = gen.limits_of(case), case.classes, case.work_len
-        sampled = ref.sample(limits, classes, data, gen.MOST_OUTPUT, words)
+        sampled = sample(limits, classes, data, gen.MOST_OUTPUT, words, case.format)
         check(sampled.refusal == 0 and ref.is_single_type(limits, classes, sampled.written, words) == (0, 1, b''), case)
         for a_table in {sampled.written, answer.written}:
-            check(ref.lets_in(limits, classes, a_table, data, words) == (0, 1, b''), case)
+            check(lets_in(limits, classes, a_table, data, words, case.format) == (0, 1, b''), case)
         if case.call in gen.BY_DOCUMENT:
             by_table = gen.BY_TABLE[gen.BY_DOCUMENT.index(case.call)]
             check(gen.answer_of(case._replace(call=by_table, second=sampled.written)) == answer, case)
             counts['through samples'] += 1
-        numbers, a_tree = Numbers(53000, turn), gen.tree_of(ref.read_document(limits, classes, data))
+        numbers, a_tree = Numbers(53000, turn), gen.tree_in(case)
         ways = list(runs_in(a_tree))
         check(bool(ways) == gen.samples_a_run(case), case)
         for way in {numbers.of(ways) for _ in range(3)} if ways else ():
-            longer = gen.document(with_one_more(a_tree, way))
-            found = gen.answer_of(case._replace(first=longer) if case.call == gen.SAMPLE else case._replace(second=longer))
+            longer = (gen.xml if gen.is_text(case) else gen.document)(with_one_more(a_tree, way))
+            found = gen.answer_of(gen.with_document(case, longer, case.format))
             check(found == answer or found.refusal in (2, 11), case, way)
             counts['longer runs'] += found == answer
     return counts
@@ -618,7 +646,7 @@ def small_samples(heads, most, share):
     for number, (one, seen, texts) in enumerate(trees):
         if gen.node_count(one) == most and number % share:
             continue
-        sampled = ref.read_table(L, C, ref.sample(L, C, gen.document(one), 500, W).written)
+        sampled = ref.read_table(L, C, sample(L, C, gen.document(one), 500, W).written)
         listed = derived_documents(sampled, most)
         for other, asked, held in trees:
             fits = held <= texts and all(any(path == there and like(groups, others) for there, others in seen) for path, groups in asked)
@@ -639,8 +667,8 @@ def text_by_hand():
     marked, held = bytes.fromhex('10000161 110001 00 130003000001 1F0000'), bytes.fromhex('3200020061 3F0000')
     check(marked == gen.with_all_marks(gen.P1) and held == gen.with_all_marks(gen.P2))
     for a_table, a_document, value in ((gen.P1, gen.P2, 1), (gen.P1, held, 0), (marked, gen.P2, 1), (marked, held, 1)):
-        check(ref.lets_in(L, C, a_table, a_document, W) == (0, value, b''), a_table, a_document)
-    check(ref.sample(L, C, held, 100, W) == (0, 17, marked) and ref.sample(L, C, gen.P2, 100, W) == (0, 17, gen.P1))
+        check(lets_in(L, C, a_table, a_document, W) == (0, value, b''), a_table, a_document)
+    check(sample(L, C, held, 100, W) == (0, 17, marked) and sample(L, C, gen.P2, 100, W) == (0, 17, gen.P1))
     for by_table, by_document, _ in FORMS.values():
         for old, addition in ((gen.P1, marked), (marked, gen.P1), (marked, marked), (marked, E), (E, marked)):
             check(by_table(L, C, old, addition, 100, W) == (0, 17, marked), old, addition)
@@ -670,18 +698,16 @@ def lister_with_marks():
 def marks_seen_by_letting_in_alone():
     """Over all made cases, with other marks: the same refusal; of what is written the same bytes but for the tags of rules; the same value
     but for letting in, which more marks in the table never make a no, and more in the document never a yes. With all of them it is as
-    with none, and so is what is written, all its rules for text."""
-    made = gen.Cases()
-    gen.made_cases(made)
-    for turn, case in enumerate(made.all):
+    with none, and so is what is written, all its rules for text. XML text has no marks: no mark of the table changes its verdict."""
+    for turn, case in enumerate(made_cases()):
         numbers, plain = Numbers(54000, turn), gen.answer_of(with_marks(case, gen.without_marks))
         marked = with_marks(case, lambda data: gen.with_other_marks(numbers, data, 50))
         every, own, answer = gen.answer_of(with_marks(case, gen.with_all_marks)), gen.answer_of(case), gen.answer_of(marked)
-        check(every == plain._replace(written=gen.with_all_marks(plain.written)), case)
-        for found in (own, answer):
+        check(gen.is_text(case) or every == plain._replace(written=gen.with_all_marks(plain.written)), case)
+        for found in (own, answer, every):
             check(found.refusal == plain.refusal and gen.without_marks(found.written) == plain.written, case)
-            check(found.value == plain.value or case.call == gen.LETS_IN and found.value < plain.value, case)
-        if case.call == gen.LETS_IN:
+            check(found.value == plain.value or case.call == gen.LETS_IN and not gen.is_text(case) and found.value < plain.value, case)
+        if case.call == gen.LETS_IN and not gen.is_text(case):
             first, second = marked.first, marked.second
             for more in (marked._replace(first=gen.with_all_marks(first)), marked._replace(second=gen.without_marks(second))):
                 check(answer.value <= gen.answer_of(more).value, case)
@@ -690,7 +716,90 @@ def marks_seen_by_letting_in_alone():
 
 
 def with_marks(case, changed):
-    return case._replace(first=changed(case.first), second=changed(case.second))
+    return gen.changed_inputs(case, changed, lambda text_: text_)
+
+
+# ---------------------------------------------------------------- XML text
+
+def xml_by_hand():
+    made = gen.Cases()
+    for told, call, first, second, options in gen.xml_edges():
+        made.add(call, first, second, **options)
+        answer = gen.answer_of(made.all[-1])
+        check(answer == told, told, answer, call, first.hex(), second.hex(), options)
+    texts = [case for case in made.all if gen.is_text(case)]
+    for call in gen.WITH_DOCUMENT:
+        check({0, 1, 2, 5, 11, 16, 17, 18} <= {gen.answer_of(case).refusal for case in texts if case.call == call}, call)
+    for case in texts:          # "both take the place of 3, 4 and 12"
+        check(not document_reads(L, C, gen.document_of(case), W, XML).refusal in (3, 4, 12), case)
+    for data, a_tree in gen.xml_trees():
+        root = ref.read_xml_text(L, C, data)
+        check(gen.tree_of(root) == a_tree and not gen.has_marks(gen.document(gen.tree_of(root))), data)
+        check(gen.tree_of(root) == gen.tree_of(ref.read_document(L, C, gen.document(a_tree))), data)
+    for byte in range(256):
+        for data, refusal in gen.texts_with_byte(byte):
+            check(document_reads(L, C, data, W, XML).refusal == refusal, data, refusal)
+    # In bytes: P2 as text, and the lister's document.
+    for data in (b'<a/>', b'<a></a>', b' <a\t>\r\n</a > '):
+        check(lets_in(L, C, gen.P1, data, W, XML) == (0, 1, b'') and sample(L, C, data, 100, W, XML) == (0, 17, gen.P1), data)
+        for _, by_document, _ in FORMS.values():
+            check(by_document(L, C, gen.P1, data, 100, W, XML) == by_document(L, C, E, data, 100, W, XML) == (0, 17, gen.P1), data)
+    listed = b'<list><card><name/><zone/></card></list>'
+    check(local_by_document(L, C, gen.LISTER_TABLE, listed, 500, W, XML)
+          == local_by_document(L, C, gen.LISTER_TABLE, gen.LISTER_DOC, 500, W) != local_by_document(L, C, E, listed, 500, W, XML))
+    check(ref.listing(gen.LISTER_TABLE, listed) == b'refused 3\n', 'lister')        # it keeps document files
+    for number in gen.NO_FORMATS:
+        check(document_reads(L, C, gen.P2, W, number) == (0, 1, b'') and document_reads(L, C, b'<a/>', W, number).refusal == 3, number)
+
+
+def agrees_with_expat(limits, classes, data):
+    """Our tree, or our refusal, is one that expat's reading leaves."""
+    found = by_expat.read(data)
+    try:
+        ours, refusal = gen.tree_of(ref.read_xml_text(limits, classes, data)), 0
+    except ref.Refused as fault:
+        ours, refusal = None, fault.number
+    return refusal in by_expat.refusals(limits, classes, data, found) and ours == (None if refusal else found.tree)
+
+
+def xml_against_expat():
+    """All short texts, and all short rows of tags, white space and others; the texts of the made cases; and documents of these as texts,
+    whole and damaged."""
+    counts = {'texts by expat': 0, 'well-formed': 0}
+
+    def asked(limits, classes, data):
+        check(agrees_with_expat(limits, classes, data), data)
+        counts['texts by expat'] += 1
+        counts['well-formed'] += by_expat.read(data).tree is not None
+
+    for data in itertools.chain(by_expat.short_texts(), by_expat.rows_of_tags()):
+        asked(L, C, data)
+    for turn, case in enumerate(made_cases()):
+        if gen.is_text(case) and case.classes == C:
+            asked(gen.limits_of(case), C, gen.document_of(case))
+        elif turn % 5 == 0 and gen.tree_in(case):
+            numbers = Numbers(55000, turn)
+            data = gen.xml_in_some_way(numbers, gen.tree_in(case))
+            asked(gen.limits_of(case), C, data)
+            asked(gen.limits_of(case), C, gen.damaged_text(numbers, data))
+    return counts
+
+
+def xml_as_files():
+    """Over all made cases with a document that reads: a document file and XML text of its nodes, in whatever way, give the same answers,
+    written bytes included."""
+    counts = {'texts as files': 0}
+    for turn, case in enumerate(made_cases()):
+        a_tree = gen.tree_in(case)
+        if a_tree is None or any(byte in b' \t\r\n/>' for name in gen.names_in(gen.document(a_tree)) for byte in name):
+            continue        # such a name (5) is none in a text
+        file = gen.without_marks(gen.document(a_tree))
+        answer = gen.answer_of(gen.with_document(case, file, FILE))
+        for data in (gen.xml(a_tree), gen.xml_in_some_way(Numbers(56000, turn), a_tree)):
+            if max(len(data), len(file)) <= 32768:
+                check(gen.answer_of(gen.with_document(case, data, XML)) == answer, case, data)
+                counts['texts as files'] += 1
+    return counts
 
 
 # ---------------------------------------------------------------- other facts
@@ -730,10 +839,10 @@ def other_facts(rounds):
             check(again.written == answer.written, old, addition)
             a_document = gen.respelled(numbers, gen.random_document(numbers, old))
             answer = by_document(limits, C, old, a_document, 33000, words)
-            check(answer.refusal in (11, 14) or ref.lets_in(limits, C, answer.written, a_document, words).value == 1)
-            a_sample = ref.sample(limits, C, a_document, 33000, words)
+            check(answer.refusal in (11, 14) or lets_in(limits, C, answer.written, a_document, words).value == 1)
+            a_sample = sample(limits, C, a_document, 33000, words)
             if not a_sample.refusal:
-                check(ref.lets_in(limits, C, a_sample.written, a_document, words).value == 1)
+                check(lets_in(limits, C, a_sample.written, a_document, words).value == 1)
                 check(ref.is_single_type(limits, C, a_sample.written, words).value == 1)
                 check(by_table(limits, C, old, a_sample.written, 33000, words) == answer)
                 check(ref.widen_single_type_by_table(limits, C, a_sample.written, E, 33000, words).refusal == 0)
@@ -762,7 +871,10 @@ def main():
     runs_by_hand()
     text_by_hand()
     marks_seen_by_letting_in_alone()
-    counts = added_through_samples()
+    xml_by_hand()
+    counts = xml_against_expat()
+    counts.update(xml_as_files())
+    counts.update(added_through_samples())
     small_samples(('a', 'b'), 5, 7)
     small_samples(with_text(('a', 'b')), 4, 5)
     numbers_by_hand()

@@ -1,8 +1,8 @@
-/* Membership in plain C, with nothing proved: the floor that tests/speed/run measures the library against. Written from document 01, with
- * the library's own algorithm. The nodes are gone through from the last to the first, with a stack of type sets in the working words: a
- * node takes the sets of its children from the top and leaves its own. For each rule of a node's label the content is walked over once for
- * each child. Compiled once for each size, whose number is FLOOR_SIZE, so that its limits are constants. tests/speed/agrees holds its
- * answers against the library's. */
+/* Membership in plain C, with nothing proved: the floor that tests/speed/run measures the library against. Written from document 01 and,
+ * for XML text, Card 2, with the library's own algorithm. The nodes are gone through from the last to the first, with a stack of type sets
+ * in the working words: a node takes the sets of its children from the top and leaves its own. For each rule of a node's label the content
+ * is walked over once for each child. Compiled once for each size, whose number is FLOOR_SIZE, so that its limits are constants.
+ * tests/speed/agrees holds its answers against the library's. */
 #include "floor.h"
 
 #include <string.h>
@@ -73,11 +73,27 @@ struct node {
     uint8_t text; /* it holds text: 1, else 0 */
 };
 
-/* A document while it is read. For each open level, outermost first, `coming` has how many nodes are still to come there. */
+/* A document while it is read. For each open level, outermost first, `coming` has how many nodes are still to come there; XML text does
+ * not use it, and its levels are the elements that are open. */
 struct document {
     size_t nodes, levels;
     struct node node[MOST_NODES];
     uint8_t coming[MOST_LEVELS + 1];
+};
+
+/* An element of XML text whose end tag is still to come: its name, and its place among the nodes. */
+struct open {
+    const uint8_t *name;
+    uint16_t place;
+    uint8_t size;
+};
+
+/* A tag of XML text. */
+struct tag {
+    const uint8_t *name;
+    size_t size;
+    unsigned closes; /* 1 for an end tag, else 0 */
+    unsigned empty;  /* 1 for an empty-element tag, else 0 */
 };
 
 /* Whether classes load: 256 of them, each 0, 1 or 2, some of them 2, and 0 for the bytes that are in no name. */
@@ -274,12 +290,10 @@ static unsigned read_node(struct document *document, const uint8_t *classes, con
     return 0;
 }
 
-/* Reads a document under classes that load, with the labels that a table has for its names: 0, or why it is turned back. */
-static unsigned read_document(struct document *document, const uint8_t *classes, const uint8_t *bytes, size_t length,
-                              const struct table *table) {
-    const uint8_t *at = bytes, *end = bytes + length;
+/* Reads a document file under classes that load, with the labels that a table has for its names: 0, or why it is turned back. */
+static unsigned read_file(struct document *document, const uint8_t *classes, const uint8_t *at, const uint8_t *end,
+                          const struct table *table) {
     struct field field;
-    if (length > COGARRUNE_MOST_BYTES) return COGARRUNE_INPUT_TOO_LONG;
     document->nodes = 0;
     document->levels = 1;
     document->coming[0] = 1;
@@ -292,6 +306,77 @@ static unsigned read_document(struct document *document, const uint8_t *classes,
     if (field.size != 0) return COGARRUNE_BAD_FIELD;
     if (document->levels != 0) return COGARRUNE_BAD_TREE;
     return at == end ? 0 : COGARRUNE_BYTES_AFTER_END;
+}
+
+/* White space, and what else ends a name; 0 for all other bytes. */
+enum { WHITE = 1, SIGN = 2 };
+static const uint8_t sorts[256] = {[' '] = WHITE, ['\t'] = WHITE, ['\r'] = WHITE, ['\n'] = WHITE, ['/'] = SIGN, ['>'] = SIGN};
+
+static const uint8_t *past_white(const uint8_t *at, const uint8_t *end) {
+    while (at < end && sorts[*at] == WHITE) at++;
+    return at;
+}
+
+/* The tag at a place, which goes on past it; 0 where no whole tag of the three kinds stands there. */
+static int next_tag(struct tag *tag, const uint8_t **at, const uint8_t *end) {
+    const uint8_t *from = *at;
+    if (*from++ != '<') return 0;
+    tag->closes = from < end && *from == '/';
+    from += tag->closes;
+    tag->name = from;
+    while (from < end && sorts[*from] == 0) from++;
+    tag->size = (size_t)(from - tag->name);
+    from = past_white(from, end);
+    tag->empty = from < end && *from == '/' && !tag->closes;
+    from += tag->empty;
+    if (from == end || *from != '>') return 0;
+    *at = from + 1;
+    return 1;
+}
+
+/* Reads a start tag or an empty-element tag while elements are open. */
+static unsigned read_element(struct document *document, const uint8_t *classes, struct open *open, const struct tag *tag,
+                             const struct table *table) {
+    size_t place = document->nodes, levels = document->levels;
+    struct node *parent = levels != 0 ? &document->node[open[levels - 1].place] : NULL;
+    if (tag->size < 1 || tag->size > NAME_BYTES || !is_name(classes, tag->name, tag->size)) return COGARRUNE_BAD_NAME;
+    if (place == MOST_NODES || levels == MOST_LEVELS || (parent != NULL ? parent->children == MOST_CHILDREN : place != 0))
+        return COGARRUNE_BAD_TREE;
+    if (parent != NULL) parent->children++;
+    document->node[document->nodes++] = (struct node){(uint8_t)label_of(table, tag->name, tag->size), 0, 0};
+    if (!tag->empty) open[document->levels++] = (struct open){tag->name, (uint16_t)place, (uint8_t)tag->size};
+    return 0;
+}
+
+/* Reads an end tag while elements are open: it names the innermost, byte for byte. */
+static unsigned read_end(struct document *document, const struct open *open, const struct tag *tag) {
+    if (document->levels == 0) return COGARRUNE_BAD_END_TAG;
+    const struct open *innermost = &open[document->levels - 1];
+    if (innermost->size != tag->size || memcmp(innermost->name, tag->name, tag->size) != 0) return COGARRUNE_BAD_END_TAG;
+    document->levels--;
+    return 0;
+}
+
+/* Reads XML text, as read_file does a document file. */
+static unsigned read_text(struct document *document, const uint8_t *classes, const uint8_t *at, const uint8_t *end,
+                          const struct table *table) {
+    struct open open[MOST_LEVELS];
+    struct tag tag;
+    document->nodes = document->levels = 0;
+    for (at = past_white(at, end); at < end; at = past_white(at, end)) {
+        if (!next_tag(&tag, &at, end)) return COGARRUNE_BAD_TEXT;
+        unsigned refusal = tag.closes ? read_end(document, open, &tag) : read_element(document, classes, open, &tag, table);
+        if (refusal != 0) return refusal;
+    }
+    return document->levels != 0 || document->nodes == 0 ? COGARRUNE_BAD_TREE : 0;
+}
+
+/* Reads a document of either format. */
+static unsigned read_document(struct document *document, const uint8_t *classes, uint32_t format, const uint8_t *bytes, size_t length,
+                              const struct table *table) {
+    if (length > COGARRUNE_MOST_BYTES) return COGARRUNE_INPUT_TOO_LONG;
+    if (format == COGARRUNE_XML_TEXT) return read_text(document, classes, bytes, bytes + length, table);
+    return read_file(document, classes, bytes, bytes + length, table);
 }
 
 /* What the walk over an expression gives back: the place after it, whether it has the word of no types, and whether the children so far,
@@ -409,30 +494,29 @@ static unsigned decide(const struct table *table, const struct document *documen
 }
 
 static uint64_t read_and_decide(const uint8_t *classes, size_t classes_length, const uint8_t *table_bytes, size_t table_length,
-                                const uint8_t *document_bytes, size_t document_length, uint32_t *work) {
+                                uint32_t format, const uint8_t *document_bytes, size_t document_length, uint32_t *work) {
     struct table table;
     struct document document;
     uint64_t refusal = loads(classes, classes_length) ? 0 : COGARRUNE_BAD_CLASSES;
     if (refusal == 0) refusal = read_table(&table, classes, table_bytes, table_length);
-    if (refusal == 0) refusal = read_document(&document, classes, document_bytes, document_length, &table);
+    if (refusal == 0) refusal = read_document(&document, classes, format, document_bytes, document_length, &table);
     return refusal != 0 ? refusal << 32 : decide(&table, &document, work);
 }
 
 uint64_t LETS_IN_OF_SIZE(const uint8_t *classes, size_t classes_length, const uint8_t *table, size_t table_length,
-                         const uint8_t *document, size_t document_length, uint32_t *work, size_t work_length) {
+                         uint32_t format, const uint8_t *document, size_t document_length, uint32_t *work, size_t work_length) {
     if (work_length < WORDS) return (uint64_t)COGARRUNE_WORK_TOO_SHORT << 32;
-    uint64_t answer = read_and_decide(classes, classes_length, table, table_length, document, document_length, work);
+    uint64_t answer = read_and_decide(classes, classes_length, table, table_length, format, document, document_length, work);
     memset(work, 0, WORDS * sizeof *work);
     return answer;
 }
 
 #if FLOOR_SIZE == 1
 uint64_t floor_lets_in(uint32_t size, const uint8_t *classes, size_t classes_length, const uint8_t *table, size_t table_length,
-                       const uint8_t *document, size_t document_length, uint32_t *work, size_t work_length) {
-    if (size == COGARRUNE_SMALL)
-        return floor_lets_in_small(classes, classes_length, table, table_length, document, document_length, work, work_length);
-    if (size == COGARRUNE_LARGE)
-        return floor_lets_in_large(classes, classes_length, table, table_length, document, document_length, work, work_length);
-    return floor_lets_in_standard(classes, classes_length, table, table_length, document, document_length, work, work_length);
+                       uint32_t format, const uint8_t *document, size_t document_length, uint32_t *work, size_t work_length) {
+    floor_call *call = size == COGARRUNE_SMALL ? floor_lets_in_small
+                       : size == COGARRUNE_LARGE ? floor_lets_in_large
+                                                 : floor_lets_in_standard;
+    return call(classes, classes_length, table, table_length, format, document, document_length, work, work_length);
 }
 #endif

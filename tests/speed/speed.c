@@ -1,15 +1,23 @@
 /* Times of membership, side by side: the static library's lets_in, the same call in plain C (floor.c), and libxml2's validation of the
- * same table as a RELAX NG schema and the same document as XML.
+ * same table as a RELAX NG schema and the same document as XML; and from XML text to the verdict: both calls on the text, libxml2's
+ * parse of it with validation, and expat's parse alone.
  *
  *     speed SECONDS FILE..
  *
- * Each FILE holds the size in decimal and a line feed, then four parts, each a number of bytes in decimal, a line feed and the bytes:
- * table, document, schema, XML; the classes are the ASCII ones. For each one line of numbers goes to standard output: the answers of
- * lets_in, of the floor and of libxml2 (1 yes, 0 no), and seconds a call of
- *     lets_in whole; reading the table; reading the document; the least call (the three bytes of an empty table), which tries the
- *     classes, clears the working words and does next to nothing else; the floor whole; libxml2's validation alone.
- * The six are measured in turn in short rounds, for so many seconds in all; of all rounds of a measure the one counts that a tenth of
+ * Each FILE holds the size in decimal and a line feed, then five parts, each a number of bytes in decimal, a line feed and the bytes:
+ * table, document file, schema, the document as XML for the validation alone, and as XML text; the classes are the ASCII ones. For each
+ * one line of numbers goes to standard output. First the answers (1 yes, 0 no):
+ *     of lets_in, of the floor and of libxml2 on the document; on the text of lets_in, of the floor, of libxml2 in both ways, and
+ *     whether expat parses it.
+ * Then seconds a call of
+ *     lets_in whole; reading the table; reading the document file; the least call (the three bytes of an empty table), which tries the
+ *     classes, clears the working words and does next to nothing else; the floor whole; libxml2's validation alone;
+ *     lets_in whole on the text; reading the text; the floor whole on the text; libxml2 on the text: xmlReadMemory, validation under
+ *     the schema parsed before and the context made before, xmlFreeDoc, first without options and then with XML_PARSE_NOBLANKS, which
+ *     makes no nodes of white space; expat on the text: XML_ParserReset of a parser made before, one XML_Parse, no handlers.
+ * They are measured in turn in short rounds, for so many seconds in all; of all rounds of a measure the one counts that a tenth of
  * them undercut, so that load on the machine and errors of its clock tell little. */
+#include <expat.h>
 #include <inttypes.h>
 #include <libxml/parser.h>
 #include <libxml/relaxng.h>
@@ -21,8 +29,9 @@
 #include "../../include/cogarrune.h"
 #include "floor.h"
 
-enum { TABLE, DOCUMENT, SCHEMA, XML, PARTS };
-enum { WHOLE, READ_TABLE, READ_DOCUMENT, LEAST, FLOOR, VALIDATE, MEASURES };
+enum { TABLE, DOCUMENT, SCHEMA, XML, TEXT, PARTS };
+enum { WHOLE, READ_TABLE, READ_DOCUMENT, LEAST, FLOOR, VALIDATE };
+enum { TEXT_WHOLE = VALIDATE + 1, READ_TEXT, TEXT_FLOOR, TEXT_VALIDATE, TEXT_NO_BLANKS, TEXT_EXPAT, MEASURES };
 
 struct part {
     unsigned char *bytes;
@@ -38,6 +47,7 @@ static const uint8_t empty_table[] = {0x1F, 0, 0};
 static xmlRelaxNGPtr schema;
 static xmlRelaxNGValidCtxtPtr context;
 static xmlDocPtr document;
+static XML_Parser expat;
 static volatile uint64_t sink;
 
 static void quiet(void *data, const char *message, ...) { (void)data, (void)message; }
@@ -69,29 +79,59 @@ static xmlDocPtr parse_document(void) {
     return xmlReadMemory((const char *)parts[XML].bytes, (int)parts[XML].length, NULL, NULL, XML_PARSE_HUGE);
 }
 
+/* libxml2 from the text to its verdict: 0 for yes. */
+static uint64_t parse_and_validate(struct part text, int options) {
+    xmlDocPtr parsed = xmlReadMemory((const char *)text.bytes, (int)text.length, NULL, NULL, options);
+    if (parsed == NULL) exit(3);
+    int verdict = xmlRelaxNGValidateDoc(context, parsed);
+    xmlFreeDoc(parsed);
+    return (uint64_t)verdict;
+}
+
+static uint64_t parse_alone(struct part text) {
+    if (XML_ParserReset(expat, NULL) != XML_TRUE) exit(3);
+    return XML_Parse(expat, (const char *)text.bytes, (int)text.length, 1) == XML_STATUS_OK;
+}
+
+static uint64_t lets_in(uint32_t format, struct part listed) {
+    return cogarrune_lets_in(size, classes, sizeof classes, parts[TABLE].bytes, parts[TABLE].length, format, listed.bytes, listed.length,
+                             work, words);
+}
+
+static uint64_t floor_on(uint32_t format, struct part listed) {
+    return floor_lets_in(size, classes, sizeof classes, parts[TABLE].bytes, parts[TABLE].length, format, listed.bytes, listed.length, work,
+                         words);
+}
+
+static uint64_t table_reads(const uint8_t *bytes, size_t length) {
+    return cogarrune_table_reads(size, classes, sizeof classes, bytes, length, work, words);
+}
+
+static uint64_t document_reads(uint32_t format, struct part listed) {
+    return cogarrune_document_reads(size, classes, sizeof classes, format, listed.bytes, listed.length, work, words);
+}
+
 static void once(int measure) {
-    const struct part table = parts[TABLE], listed = parts[DOCUMENT];
-    const size_t given = sizeof classes;
     switch (measure) {
-    case WHOLE:
-        sink = cogarrune_lets_in(size, classes, given, table.bytes, table.length, listed.bytes, listed.length, work, words);
-        break;
-    case READ_TABLE:
-        sink = cogarrune_table_reads(size, classes, given, table.bytes, table.length, work, words);
-        break;
-    case READ_DOCUMENT:
-        sink = cogarrune_document_reads(size, classes, given, listed.bytes, listed.length, work, words);
-        break;
-    case LEAST:
-        sink = cogarrune_table_reads(size, classes, given, empty_table, sizeof empty_table, work, words);
-        break;
-    case FLOOR:
-        sink = floor_lets_in(size, classes, given, table.bytes, table.length, listed.bytes, listed.length, work, words);
-        break;
-    case VALIDATE:
-        sink = (uint64_t)xmlRelaxNGValidateDoc(context, document);
-        break;
+    case WHOLE: sink = lets_in(COGARRUNE_DOCUMENT_FILE, parts[DOCUMENT]); break;
+    case READ_TABLE: sink = table_reads(parts[TABLE].bytes, parts[TABLE].length); break;
+    case READ_DOCUMENT: sink = document_reads(COGARRUNE_DOCUMENT_FILE, parts[DOCUMENT]); break;
+    case LEAST: sink = table_reads(empty_table, sizeof empty_table); break;
+    case FLOOR: sink = floor_on(COGARRUNE_DOCUMENT_FILE, parts[DOCUMENT]); break;
+    case VALIDATE: sink = (uint64_t)xmlRelaxNGValidateDoc(context, document); break;
+    case TEXT_WHOLE: sink = lets_in(COGARRUNE_XML_TEXT, parts[TEXT]); break;
+    case READ_TEXT: sink = document_reads(COGARRUNE_XML_TEXT, parts[TEXT]); break;
+    case TEXT_FLOOR: sink = floor_on(COGARRUNE_XML_TEXT, parts[TEXT]); break;
+    case TEXT_VALIDATE: sink = parse_and_validate(parts[TEXT], 0); break;
+    case TEXT_NO_BLANKS: sink = parse_and_validate(parts[TEXT], XML_PARSE_NOBLANKS); break;
+    case TEXT_EXPAT: sink = parse_alone(parts[TEXT]); break;
     }
+}
+
+/* What a measure answers: 1 for yes, 0 for no. */
+static unsigned answer_of(int measure) {
+    once(measure);
+    return measure == VALIDATE || measure == TEXT_VALIDATE || measure == TEXT_NO_BLANKS ? sink == 0 : sink == 1;
 }
 
 static double timed(int measure, long repeats) {
@@ -116,6 +156,7 @@ static int ascending(const void *a, const void *b) {
 }
 
 static void measure_file(double seconds) {
+    static const int answering[] = {WHOLE, FLOOR, VALIDATE, TEXT_WHOLE, TEXT_FLOOR, TEXT_VALIDATE, TEXT_NO_BLANKS, TEXT_EXPAT};
     const double round_seconds = 150e-6;
     size_t rounds = (size_t)(seconds / MEASURES / round_seconds) + 1;
     long repeats[MEASURES];
@@ -127,12 +168,7 @@ static void measure_file(double seconds) {
     }
     for (size_t round = 0; round < rounds; round++)
         for (int measure = 0; measure < MEASURES; measure++) spent[measure][round] = timed(measure, repeats[measure]);
-    once(WHOLE);
-    printf("%u", cogarrune_value_of(sink));
-    once(FLOOR);
-    printf(" %u", cogarrune_value_of(sink));
-    once(VALIDATE);
-    printf(" %d", sink == 0);
+    for (size_t i = 0; i < sizeof answering / sizeof *answering; i++) printf("%s%u", i == 0 ? "" : " ", answer_of(answering[i]));
     for (int measure = 0; measure < MEASURES; measure++) {
         qsort(spent[measure], rounds, sizeof *spent[measure], ascending);
         printf(" %.9f", spent[measure][rounds / 10]);
@@ -146,6 +182,8 @@ int main(int count, char **arguments) {
     if (count < 3) return 2;
     xmlInitParser();
     xmlSetGenericErrorFunc(NULL, quiet);
+    expat = XML_ParserCreate(NULL);
+    if (expat == NULL) return 2;
     for (int i = 2; i < count; i++) {
         FILE *file = fopen(arguments[i], "rb");
         if (file == NULL) return 2;
@@ -165,5 +203,6 @@ int main(int count, char **arguments) {
         xmlRelaxNGFree(schema);
         for (int part = 0; part < PARTS; part++) free(parts[part].bytes);
     }
+    XML_ParserFree(expat);
     return 0;
 }

@@ -24,6 +24,7 @@ use Rattle.grammar.specs.Size.{tooLarge}
 use Rattle.grammar.specs.Widen.{ofSize, sampleTable, widenByTable, widen}
 use Rattle.grammar.specs.Calls.{writtenTo, tableReads, documentReads, documentSample, readAddition, widened, After, after, wrote}
 use Rattle.grammar.specs.Promises.{Sampling, Widening}
+use Rattle.grammar.specs.declared.Format.{Format}
 use Rattle.grammar.specs.declared.Source.{Source}
 use Rattle.grammar.specs.declared.Refusal.the-variants.{ResultTooLarge, OutputTooShort}
 use Rattle.theory.proofs.bytes.OutcomeLaws.{was-given, had-no-fault, given-eq}
@@ -71,11 +72,11 @@ module _ (lim : Limits) (same-input : lim .input ≡ inputLimit) where
       let (a, _, p) = was-given (sampleTable lim d) (λ a. widenByTable lim kind old a) result e in
       result-size kind old a result p
 
-  sample-below : (classes : Classes) (document out work : List ℕ)
-      → numbersOf length (documentSample lim classes document out work) .value < 4294967296
+  sample-below : (classes : Classes) (format : Format) (document out work : List ℕ)
+      → numbersOf length (documentSample lim classes format document out work) .value < 4294967296
   unfolding documentSample
-  sample-below classes document out work =
-      then-below (documentReads lim classes document work) _
+  sample-below classes format document out work =
+      then-below (documentReads lim classes format document work) _
       (λ d _. then-below (sampleTable lim d) _ (λ g e. table-below out g (sample-size d g e)))
 
   widening-below : (classes : Classes) (kind : Kind) (source : Source) (old addition out work : List ℕ)
@@ -95,12 +96,12 @@ size-input Standard = refl
 size-input Large = refl
 
 -- so is the value of what a call promised
-pub sampled-value : (size : Size) (classes : Classes) (document out work left kept : List ℕ) (n : Numbers) → Sampling (sizeLimits size) classes document out work (after n left kept)
+pub sampled-value : (size : Size) (classes : Classes) (format : Format) (document out work left kept : List ℕ) (n : Numbers) → Sampling (sizeLimits size) classes format document out work (after n left kept)
     → n .value < 4294967296
 unfolding wrote
-sampled-value size classes document out work left kept n s =
+sampled-value size classes format document out work left kept n s =
     let same = ap (λ (a : After Numbers). a .answer .value) (s .settled) in
-    let below = sample-below (sizeLimits size) (size-input size) classes document out work in
+    let below = sample-below (sizeLimits size) (size-input size) classes format document out work in
     omega arith
 
 pub widened-value : (size : Size) (classes : Classes) (kind : Kind) (source : Source) (old addition out work left kept : List ℕ) (n : Numbers)

@@ -1,5 +1,5 @@
 // The public calls for C and Rust. The first number picks the limits: 0 the small ones, 2 the large ones, any other the standard ones;
-// then come the classes.
+// then come the classes. Before a document stands its format: 1 XML text, any other number a document file.
 // A slice is a pointer and a length; every answer is one number: the refusal's number times 2^32, and the value (1 for yes and readable,
 // 0 for no, the length of a table written, offset times 65,536 and length for a name).
 mod answers;
@@ -12,6 +12,7 @@ use crate::answers::of_written;
 use grammar::Refusal;
 use reader::calls::document_reads;
 use reader::calls::table_reads;
+use reader::documents::format_numbered;
 use reader::label_places::find_label;
 use reader::limits::limits_of;
 use reader::limits::size_numbered;
@@ -26,6 +27,7 @@ use widening::calls::widen_single_type_by_document;
 use widening::calls::widen_single_type_by_table;
 ghost use mathlib.Core.List.{[]};
 ghost use Rattle.grammar.specs.LimitSets.{sizeLimits, sizeNumbered};
+ghost use Rattle.grammar.specs.Documents.{formatNumbered};
 ghost use Rattle.grammar.specs.Kinds.{local, singleType};
 ghost use Rattle.grammar.specs.Calls.{after};
 ghost use Rattle.grammar.specs.Promises.{TableReading, DocumentReading, NamePlace, Membership, KindTest, Sampling, Widening};
@@ -51,13 +53,20 @@ pub extern "C" fn cogarrune_table_reads(
 pub extern "C" fn cogarrune_document_reads(
     size: u32,
     classes: &[u8],
+    format: u32,
     document: &[u8],
     work: &mut [u32],
 ) -> u64
-    ensures { λ r. ⌜ DocumentReading (sizeLimits (sizeNumbered size)) (now (classes .entry)) (now (document .entry)) (now (work .entry))
-        (after (parted r) [] (now (work .exit))) ⌝ }
+    ensures { λ r. ⌜ DocumentReading (sizeLimits (sizeNumbered size)) (now (classes .entry)) (formatNumbered format)
+        (now (document .entry)) (now (work .entry)) (after (parted r) [] (now (work .exit))) ⌝ }
 {
-    of_reading(document_reads(size_numbered(size), classes, document, work))
+    of_reading(document_reads(
+        size_numbered(size),
+        classes,
+        format_numbered(format),
+        document,
+        work,
+    ))
 }
 
 // Where the name of a label stands in its table.
@@ -87,14 +96,21 @@ pub extern "C" fn cogarrune_lets_in(
     size: u32,
     classes: &[u8],
     table: &[u8],
+    format: u32,
     document: &[u8],
     work: &mut [u32],
 ) -> u64
-    ensures { λ r. ⌜ Membership (sizeLimits (sizeNumbered size)) (now (classes .entry)) (now (table .entry)) (now (document .entry))
-        (now (work .entry))
-        (after (parted r) [] (now (work .exit))) ⌝ }
+    ensures { λ r. ⌜ Membership (sizeLimits (sizeNumbered size)) (now (classes .entry)) (now (table .entry)) (formatNumbered format)
+        (now (document .entry)) (now (work .entry)) (after (parted r) [] (now (work .exit))) ⌝ }
 {
-    of_verdict(lets_in(size_numbered(size), classes, table, document, work))
+    of_verdict(lets_in(
+        size_numbered(size),
+        classes,
+        table,
+        format_numbered(format),
+        document,
+        work,
+    ))
 }
 
 // Is the table local?
@@ -130,15 +146,23 @@ pub extern "C" fn cogarrune_is_single_type(
 pub extern "C" fn cogarrune_sample(
     size: u32,
     classes: &[u8],
+    format: u32,
     document: &[u8],
     out: &mut [u8],
     work: &mut [u32],
 ) -> u64
-    ensures { λ r. ⌜ Sampling (sizeLimits (sizeNumbered size)) (now (classes .entry)) (now (document .entry)) (now (out .entry))
-        (now (work .entry))
+    ensures { λ r. ⌜ Sampling (sizeLimits (sizeNumbered size)) (now (classes .entry)) (formatNumbered format)
+        (now (document .entry)) (now (out .entry)) (now (work .entry))
         (after (parted r) (now (out .exit)) (now (work .exit))) ⌝ }
 {
-    of_written(sample(size_numbered(size), classes, document, out, work))
+    of_written(sample(
+        size_numbered(size),
+        classes,
+        format_numbered(format),
+        document,
+        out,
+        work,
+    ))
 }
 
 // Writes the least local table that lets in all of the old table and of the addition.
@@ -165,16 +189,24 @@ pub extern "C" fn cogarrune_widen_local_by_document(
     size: u32,
     classes: &[u8],
     old: &[u8],
+    format: u32,
     document: &[u8],
     out: &mut [u8],
     work: &mut [u32],
 ) -> u64
-    ensures { λ r. ⌜ Widening (sizeLimits (sizeNumbered size)) (now (classes .entry)) local aDocument (now (old .entry))
-        (now (document .entry)) (now (out .entry))
-        (now (work .entry))
+    ensures { λ r. ⌜ Widening (sizeLimits (sizeNumbered size)) (now (classes .entry)) local (aDocument (formatNumbered format))
+        (now (old .entry)) (now (document .entry)) (now (out .entry)) (now (work .entry))
         (after (parted r) (now (out .exit)) (now (work .exit))) ⌝ }
 {
-    of_written(widen_local_by_document(size_numbered(size), classes, old, document, out, work))
+    of_written(widen_local_by_document(
+        size_numbered(size),
+        classes,
+        old,
+        format_numbered(format),
+        document,
+        out,
+        work,
+    ))
 }
 
 // Writes the least single-type table that lets in all of the old table and of the addition.
@@ -201,19 +233,20 @@ pub extern "C" fn cogarrune_widen_single_type_by_document(
     size: u32,
     classes: &[u8],
     old: &[u8],
+    format: u32,
     document: &[u8],
     out: &mut [u8],
     work: &mut [u32],
 ) -> u64
-    ensures { λ r. ⌜ Widening (sizeLimits (sizeNumbered size)) (now (classes .entry)) singleType aDocument (now (old .entry))
-        (now (document .entry))
-        (now (out .entry)) (now (work .entry))
+    ensures { λ r. ⌜ Widening (sizeLimits (sizeNumbered size)) (now (classes .entry)) singleType (aDocument (formatNumbered format))
+        (now (old .entry)) (now (document .entry)) (now (out .entry)) (now (work .entry))
         (after (parted r) (now (out .exit)) (now (work .exit))) ⌝ }
 {
     of_written(widen_single_type_by_document(
         size_numbered(size),
         classes,
         old,
+        format_numbered(format),
         document,
         out,
         work,

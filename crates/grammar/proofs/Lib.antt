@@ -7,6 +7,7 @@ pub mod RefusalOrder
 pub mod ClassRules
 pub mod LetterCase
 pub mod TextMarks
+pub mod TextExamples
 pub mod Mistakes
 pub mod WideningExamples
 pub mod SampleExamples

@@ -11,7 +11,7 @@ use Rattle.grammar.specs.Kinds.{Kind, local, singleType}
 use Rattle.grammar.specs.Least.{byTable}
 use Rattle.grammar.specs.Outcome.{Outcome, given, _>>=_}
 use Rattle.grammar.specs.ReadTable.{readTable}
-use Rattle.grammar.specs.ReadDocument.{readDocument}
+use Rattle.grammar.specs.ReadDocument.{readDocumentFile}
 use Rattle.grammar.specs.WriteDocument.{documentBytes}
 use Rattle.grammar.specs.Membership.{letsIn}
 use Rattle.grammar.specs.Widen.{widen}
@@ -44,8 +44,8 @@ pub p1-reads : readTable standard asciiClasses p1Bytes ≡ given p1Table
 unfolding readTable standard asciiClasses p1Bytes p1Table
 p1-reads = refl
 
-pub p2-reads : readDocument standard asciiClasses p2Bytes ≡ given p2Document
-unfolding readDocument standard asciiClasses p2Bytes p2Document
+pub p2-reads : readDocumentFile standard asciiClasses p2Bytes ≡ given p2Document
+unfolding readDocumentFile standard asciiClasses p2Bytes p2Document
 p2-reads = refl
 
 pub p2-bytes : documentBytes p2Document ≡ p2Bytes
@@ -60,8 +60,8 @@ pub p3 : numberAfter (readTable standard asciiClasses []) ≡ 3
 unfolding readTable standard numberAfter
 p3 = refl
 
-pub p3-document : numberAfter (readDocument standard asciiClasses []) ≡ 3
-unfolding readDocument standard numberAfter
+pub p3-document : numberAfter (readDocumentFile standard asciiClasses []) ≡ 3
+unfolding readDocumentFile standard numberAfter
 p3-document = refl
 
 -- E widened by E, from their bytes

@@ -16,6 +16,7 @@ use Rattle.grammar.specs.ReadTable.{readTable, labelTag, startTag, ruleT
 use Rattle.grammar.specs.ReadDocument.{nodeTag, readNodes}
 use Rattle.grammar.specs.Calls.{tableReads, documentReads, labelName, widened}
 use Rattle.grammar.specs.Listing.{typeText}
+use Rattle.grammar.specs.declared.Format.the-variants.{DocumentFile}
 use Rattle.grammar.specs.declared.Source.the-variants.{Table as aTable, Document as aDocument}
 use Rattle.grammar.specs.declared.Refusal.the-variants.{
   WorkTooShort,
@@ -67,7 +68,7 @@ classes-before-length : tableReads standard [] (replicate 32769 0) enough ≡ re
 unfolding tableReads standard asciiClasses loads enough
 classes-before-length = refl
 
-classes-before-document : documentReads standard [] (replicate 32769 0) enough ≡ refused BadClasses
+classes-before-document : documentReads standard [] DocumentFile (replicate 32769 0) enough ≡ refused BadClasses
 unfolding documentReads standard asciiClasses loads enough
 classes-before-document = refl
 
@@ -180,7 +181,7 @@ wideDocument =
     nodeField "a" 64 ++ joinedOf (λ k. fieldBytes (nodeTag false) (0 ∷ typeText k)) (numbersBelow 64) ++ endOfDocument
 
 -- 14 of the sample first, before 15
-sample-before-output : widened standard asciiClasses local aDocument eBytes wideDocument [] enough ≡ refused ResultTooLarge
+sample-before-output : widened standard asciiClasses local (aDocument DocumentFile) eBytes wideDocument [] enough ≡ refused ResultTooLarge
 unfolding widened standard asciiClasses eBytes wideDocument enough
 sample-before-output = refl
 

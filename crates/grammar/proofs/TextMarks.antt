@@ -26,7 +26,7 @@ use Rattle.grammar.specs.Kinds.{Kind, local, singleType}
 use Rattle.grammar.specs.Least.{byTable}
 use Rattle.grammar.specs.Outcome.{Outcome, given, refused}
 use Rattle.grammar.specs.ReadTable.{readTable}
-use Rattle.grammar.specs.ReadDocument.{readDocument}
+use Rattle.grammar.specs.ReadDocument.{readDocumentFile}
 use Rattle.grammar.specs.WriteTable.{tableBytes}
 use Rattle.grammar.specs.WriteDocument.{documentBytes}
 use Rattle.grammar.specs.Sample.{sample}
@@ -54,8 +54,8 @@ note-written = refl
 textBytes : List ℕ
 textBytes = 0x32 ∷ 0x00 ∷ 0x02 ∷ 0x00 ∷ 0x61 ∷ 0x3F ∷ 0x00 ∷ 0x00 ∷ []
 
-text-reads : readDocument standard asciiClasses textBytes ≡ given (textTree "a" [])
-unfolding readDocument standard asciiClasses textBytes textTree
+text-reads : readDocumentFile standard asciiClasses textBytes ≡ given (textTree "a" [])
+unfolding readDocumentFile standard asciiClasses textBytes textTree
 text-reads = refl
 
 text-written : documentBytes (textTree "a" []) ≡ textBytes
@@ -63,8 +63,8 @@ unfolding documentBytes textBytes textTree
 text-written = refl
 
 -- 13 in a document and 32 in a table stay foreign
-rule-in-document : readDocument standard asciiClasses (0x13 ∷ 0x00 ∷ 0x02 ∷ 0x00 ∷ 0x61 ∷ 0x3F ∷ 0x00 ∷ 0x00 ∷ []) ≡ refused BadField
-unfolding readDocument standard asciiClasses
+rule-in-document : readDocumentFile standard asciiClasses (0x13 ∷ 0x00 ∷ 0x02 ∷ 0x00 ∷ 0x61 ∷ 0x3F ∷ 0x00 ∷ 0x00 ∷ []) ≡ refused BadField
+unfolding readDocumentFile standard asciiClasses
 rule-in-document = refl
 
 node-in-table : readTable standard asciiClasses (0x32 ∷ 0x00 ∷ 0x03 ∷ 0x00 ∷ 0x00 ∷ 0x01 ∷ 0x1F ∷ 0x00 ∷ 0x00 ∷ []) ≡ refused BadField

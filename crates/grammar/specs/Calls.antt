@@ -14,12 +14,13 @@ use Rattle.grammar.specs.Least.{Addition, byTable, byDocument}
 use Rattle.grammar.specs.Outcome.{Outcome, given, refused, _>>=_, _>>_, turnBack}
 use Rattle.grammar.specs.Fields.{fieldBytes}
 use Rattle.grammar.specs.ReadTable.{labelTag, readTable}
-use Rattle.grammar.specs.ReadDocument.{readDocument}
+use Rattle.grammar.specs.Documents.{readDocument}
 use Rattle.grammar.specs.WriteTable.{tableBytes}
 use Rattle.grammar.specs.Membership.{letsIn}
 use Rattle.grammar.specs.KindTests.{isOfKind}
 use Rattle.grammar.specs.Widen.{widen, sampleTable}
 use Rattle.grammar.specs.Answers.{Numbers, numbersOf, numberAfter}
+use Rattle.grammar.specs.declared.Format.{Format}
 use Rattle.grammar.specs.declared.Source.{Source}
 use Rattle.grammar.specs.declared.Source.the-variants.{Table as aTable, Document as aDocument}
 use Rattle.grammar.specs.declared.Refusal.the-variants.{WorkTooShort, BadClasses, OutOfRange, OutputTooShort}
@@ -75,12 +76,12 @@ module _ (lim : Limits) (classes : Classes) where
     turnBack (not (loads classes)) BadClasses
     readTable lim classes table
 
-  unfoldable pub documentReads : List ℕ → List ℕ → Outcome Tree
+  unfoldable pub documentReads : Format → List ℕ → List ℕ → Outcome Tree
   unfolding workTooShort loads readDocument
-  documentReads document work = do
+  documentReads format document work = do
     turnBack (workTooShort lim work) WorkTooShort
     turnBack (not (loads classes)) BadClasses
-    readDocument lim classes document
+    readDocument lim classes format document
 
   -- A caller's label number is tried after its table.
   unfoldable pub labelName : List ℕ → ℕ → List ℕ → Outcome Part
@@ -91,11 +92,11 @@ module _ (lim : Limits) (classes : Classes) where
     given (partOfLabel (g .labels) label)
 
   -- Inputs are read one after the other. An unknown name means no.
-  unfoldable pub tableLetsIn : List ℕ → List ℕ → List ℕ → Outcome Bool
+  unfoldable pub tableLetsIn : List ℕ → Format → List ℕ → List ℕ → Outcome Bool
   unfolding tableReads readDocument letsIn
-  tableLetsIn table document work = do
+  tableLetsIn table format document work = do
     g ← tableReads table work
-    d ← readDocument lim classes document
+    d ← readDocument lim classes format document
     given (letsIn g d)
 
   unfoldable pub tableIsOfKind : Kind → List ℕ → List ℕ → Outcome Bool
@@ -104,10 +105,10 @@ module _ (lim : Limits) (classes : Classes) where
     g ← tableReads table work
     given (isOfKind kind g)
 
-  unfoldable pub documentSample : List ℕ → List ℕ → List ℕ → Outcome (List ℕ)
+  unfoldable pub documentSample : Format → List ℕ → List ℕ → List ℕ → Outcome (List ℕ)
   unfolding documentReads sampleTable writtenTo
-  documentSample document out work = do
-    d ← documentReads document work
+  documentSample format document out work = do
+    d ← documentReads format document work
     g ← sampleTable lim d
     writtenTo out g
 
@@ -115,7 +116,7 @@ module _ (lim : Limits) (classes : Classes) where
   unfoldable pub readAddition : Source → List ℕ → Outcome Addition
   unfolding readTable readDocument
   readAddition aTable bytes = readTable lim classes bytes >>= λ g. given (byTable g)
-  readAddition aDocument bytes = readDocument lim classes bytes >>= λ d. given (byDocument d)
+  readAddition (aDocument format) bytes = readDocument lim classes format bytes >>= λ d. given (byDocument d)
 
   -- the old table first
   unfoldable pub widened : Kind → Source → List ℕ → List ℕ → List ℕ → List ℕ → Outcome (List ℕ)

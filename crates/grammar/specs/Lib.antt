@@ -14,8 +14,11 @@ pub mod Fields
 pub mod ReadContent
 pub mod ReadTable
 pub mod ReadDocument
+pub mod ReadText
+pub mod Documents
 pub mod WriteTable
 pub mod WriteDocument
+pub mod WriteText
 pub mod WithinLimits
 pub mod Membership
 pub mod KindTests

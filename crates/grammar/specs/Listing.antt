@@ -25,10 +25,11 @@ use Rattle.grammar.specs.Content.{
 use Rattle.grammar.specs.Table.{Rule, Table}
 use Rattle.grammar.specs.Outcome.{Outcome, given, refused, number, _>>=_}
 use Rattle.grammar.specs.ReadTable.{readTable}
-use Rattle.grammar.specs.ReadDocument.{readDocument}
+use Rattle.grammar.specs.Documents.{readDocument}
 use Rattle.grammar.specs.Kinds.{local}
 use Rattle.grammar.specs.Least.{byDocument}
 use Rattle.grammar.specs.Widen.{widen}
+use Rattle.grammar.specs.declared.Format.the-variants.{DocumentFile}
 
 abbrev pub Text : Type 0
 Text = List ℕ
@@ -107,5 +108,5 @@ unfolding outcomeText readTable readDocument widen
 listing lim classes oldFile newFile =
     outcomeText do
       g ← readTable lim classes oldFile
-      d ← readDocument lim classes newFile
+      d ← readDocument lim classes DocumentFile newFile
       widen lim local g (byDocument d)

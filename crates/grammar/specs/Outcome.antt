@@ -18,6 +18,8 @@ use Rattle.grammar.specs.declared.Refusal.the-variants.{
   NoDocument,
   ResultTooLarge,
   OutputTooShort,
+  BadText,
+  BadEndTag,
   BadClasses,
 }
 
@@ -52,6 +54,10 @@ number NoDocument = 13
 number ResultTooLarge = 14
 -- The lent output is shorter than the result.
 number OutputTooShort = 15
+-- In XML text a byte outside names is not allowed, or the text stops inside a tag.
+number BadText = 16
+-- An end tag does not name the innermost open element, or none is open.
+number BadEndTag = 17
 -- The classes do not load.
 number BadClasses = 18
 

@@ -14,7 +14,7 @@ use Rattle.grammar.specs.Kinds.{Kind, OfKind}
 use Rattle.grammar.specs.Least.{Addition, Added}
 use Rattle.grammar.specs.Outcome.{Outcome, given}
 use Rattle.grammar.specs.ReadTable.{readTable}
-use Rattle.grammar.specs.ReadDocument.{readDocument}
+use Rattle.grammar.specs.Documents.{readDocument}
 use Rattle.grammar.specs.Sample.{sample}
 use Rattle.grammar.specs.Claim.{WritesLeast}
 use Rattle.grammar.specs.Answers.{Numbers, refusedBy, saysYes, saysNo, bit}
@@ -35,6 +35,7 @@ use Rattle.grammar.specs.Calls.{
   readAddition,
   widened,
 }
+use Rattle.grammar.specs.declared.Format.{Format}
 use Rattle.grammar.specs.declared.Source.{Source}
 use Rattle.grammar.specs.declared.Refusal.the-variants.{NoDocument}
 
@@ -58,8 +59,8 @@ module _ (lim : Limits) (classes : Classes) where
     pub settled : left ≡ answered lim (λ g. 1) (tableReads lim classes table work) work
 
   -- `document_reads`
-  pub record DocumentReading (document work : List ℕ) (left : After Numbers) : Type 0 where
-    pub settled : left ≡ answered lim (λ d. 1) (documentReads lim classes document work) work
+  pub record DocumentReading (format : Format) (document work : List ℕ) (left : After Numbers) : Type 0 where
+    pub settled : left ≡ answered lim (λ d. 1) (documentReads lim classes format document work) work
 
   -- `label_name`
   pub record Naming (table : List ℕ) (label : ℕ) (work : List ℕ) (left : After NamePart) : Type 0 where
@@ -70,9 +71,9 @@ module _ (lim : Limits) (classes : Classes) where
     pub settled : left ≡ answered lim placeValue (labelName lim classes table label work) work
 
   -- `lets_in`. Demand 2: A document is let in exactly if the table derives it.
-  pub record Membership (table document work : List ℕ) (left : After Numbers) : Type 0 where
-    pub settled : left ≡ answered lim bit (tableLetsIn lim classes table document work) work
-    pub decides : (g : Table) (d : Tree) → readTable lim classes table ≡ given g → readDocument lim classes document ≡ given d
+  pub record Membership (table : List ℕ) (format : Format) (document work : List ℕ) (left : After Numbers) : Type 0 where
+    pub settled : left ≡ answered lim bit (tableLetsIn lim classes table format document work) work
+    pub decides : (g : Table) (d : Tree) → readTable lim classes table ≡ given g → readDocument lim classes format document ≡ given d
         → lim .words ≤ length work → Loads classes → Decides (left .answer) (LetsIn g d)
 
   -- `is_local`, `is_single_type`. Demand 2: exactly by definition.
@@ -82,11 +83,11 @@ module _ (lim : Limits) (classes : Classes) where
         → Decides (left .answer) (OfKind kind g)
 
   -- `sample`: the bytes written read as the sample, which lets in the document.
-  pub record Sampling (document out work : List ℕ) (left : After Numbers) : Type 0 where
-    pub settled : left ≡ wrote lim (documentSample lim classes document out work) out work
-    pub reads : left .answer .refusal ≡ 0 → (d : Tree) → readDocument lim classes document ≡ given d
+  pub record Sampling (format : Format) (document out work : List ℕ) (left : After Numbers) : Type 0 where
+    pub settled : left ≡ wrote lim (documentSample lim classes format document out work) out work
+    pub reads : left .answer .refusal ≡ 0 → (d : Tree) → readDocument lim classes format document ≡ given d
         → readTable lim classes (take (left .answer .value) (left .out)) ≡ given (sample d)
-    pub lets-in : (d : Tree) → readDocument lim classes document ≡ given d → LetsIn (sample d) d
+    pub lets-in : (d : Tree) → readDocument lim classes format document ≡ given d → LetsIn (sample d) d
 
   -- The four widening calls. Demand 3: the bytes written read as the least table of the kind that lets in the old and the added; and 13 is
   -- given exactly where neither the old table nor the addition has a document.

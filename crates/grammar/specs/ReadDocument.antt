@@ -120,6 +120,6 @@ unfoldable pub treeOf : List Node → Outcome Tree
 unfolding forestOf
 treeOf ns = elim (forestOf ns) [ []ᵗ ↦ refused BadTree | t ∷ᵗ ts ↦ given t ]
 
-unfoldable pub readDocument : Limits → Classes → List ℕ → Outcome Tree
+unfoldable pub readDocumentFile : Limits → Classes → List ℕ → Outcome Tree
 unfolding readNodes treeOf
-readDocument lim classes bytes = readNodes lim classes bytes >>= treeOf
+readDocumentFile lim classes bytes = readNodes lim classes bytes >>= treeOf

@@ -1,7 +1,7 @@
-// The answers of the public calls, whose cases crates/grammar/specs gives numbers and values, the sorts of addition, and the sizes that
-// a call can be asked for.
+// The answers of the public calls, whose cases crates/grammar/specs gives numbers and values, the sorts of addition, the formats of a
+// document, and the sizes that a call can be asked for.
 
-// Why a call turned its input back. The reasons are tried in this order, but the last of them after the first.
+// Why a call turned its input back, by number. (The order in which the reasons are tried is that of crates/grammar/specs.)
 pub enum Refusal {
     WorkTooShort,
     InputTooLong,
@@ -18,6 +18,8 @@ pub enum Refusal {
     NoDocument,
     ResultTooLarge,
     OutputTooShort,
+    BadText,
+    BadEndTag,
     BadClasses,
 }
 
@@ -40,10 +42,16 @@ pub enum Written {
     Refused(Refusal),
 }
 
+// What a document is read as.
+pub enum Format {
+    DocumentFile,
+    XmlText,
+}
+
 // What an addition is read as.
 pub enum Source {
     Table,
-    Document,
+    Document(Format),
 }
 
 // The three sets of limits: those of a small site, those that are meant where nothing is said, those of a large one.

@@ -1,4 +1,5 @@
 // What the lister prints for the files of the folder where it runs.
+use grammar::Format;
 use grammar::Size;
 use grammar::Written;
 use libc::STDOUT_FILENO;
@@ -28,7 +29,15 @@ pub fn list(old: &[u8], document: &[u8], out: &mut [u8], work: &mut [u32], text:
         (now (text .exit)) r ⌝ }
 {
     let classes = ASCII;
-    match widen_local_by_document(Size::Standard, &classes, old, document, out, work) {
+    match widen_local_by_document(
+        Size::Standard,
+        &classes,
+        old,
+        Format::DocumentFile,
+        document,
+        out,
+        work,
+    ) {
         Written::Refused(refusal) => refusal_line(refusal, text),
         Written::Length(n) => list_bytes(&classes, &out[0..n], text),
     }

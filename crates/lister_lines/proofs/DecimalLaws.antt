@@ -28,6 +28,8 @@ use Rattle.grammar.specs.declared.Refusal.the-variants.{
   NoDocument,
   ResultTooLarge,
   OutputTooShort,
+  BadText,
+  BadEndTag,
   BadClasses,
 }
 use Rattle.grammar.specs.Listing.{digitsWithin, decimal, typeText}
@@ -109,4 +111,6 @@ number-small BytesAfterEnd = omega arith
 number-small NoDocument = omega arith
 number-small ResultTooLarge = omega arith
 number-small OutputTooShort = omega arith
+number-small BadText = omega arith
+number-small BadEndTag = omega arith
 number-small BadClasses = omega arith

@@ -19,12 +19,13 @@ use Rattle.grammar.specs.Kinds.{local}
 use Rattle.grammar.specs.Least.{byDocument}
 use Rattle.grammar.specs.Outcome.{Outcome, given, refused, _>>=_}
 use Rattle.grammar.specs.ReadTable.{readTable}
-use Rattle.grammar.specs.ReadDocument.{readDocument}
+use Rattle.grammar.specs.Documents.{readDocument}
 use Rattle.grammar.specs.WriteTable.{tableBytes}
 use Rattle.grammar.specs.WithinLimits.{TableWithin}
 use Rattle.grammar.specs.Widen.{widen}
 use Rattle.grammar.specs.Calls.{tableReads, outAfter, writtenTo, readAddition, widened, After, after, wrote}
 use Rattle.grammar.specs.Answers.{Numbers, writtenNumbers, numbersOf}
+use Rattle.grammar.specs.declared.Format.the-variants.{DocumentFile}
 use Rattle.grammar.specs.declared.Size.the-variants.{Standard}
 use Rattle.grammar.specs.declared.SizeLimits.{SizeLimits}
 use Rattle.grammar.specs.declared.Source.the-variants.{Document as aDocument}
@@ -36,7 +37,7 @@ use Rattle.grammar.specs.declared.Written.the-variants.{Length, Refused as Unwr
 use Rattle.theory.proofs.bytes.OutcomeLaws.{no-fault, was-given, given-eq}
 use Rattle.theory.proofs.bytes.NumberedTable.{sized-agree}
 use Rattle.theory.proofs.bytes.ReadWithin.{read-within}
-use Rattle.theory.proofs.bytes.DocumentWithin.{document-within}
+use Rattle.theory.proofs.bytes.TreeRead.{tree-within}
 use Rattle.theory.proofs.theorems.ResultWithin.{document-result-within, document-result-read-back}
 use Rattle.theory.proofs.theorems.AnswerNumbers.{was-written, was-unwritten}
 use Rattle.theory.proofs.theorems.CallPromises.{lent-loaded}
@@ -65,10 +66,10 @@ module _ (classes : Classes) (load : Loads classes) (old document out work : Lis
   abbrev result : Outcome Table
   result =
       readTable standard classes old
-      >>= λ g. readDocument standard classes document >>= λ d. widen standard local g (byDocument d)
+      >>= λ g. readDocument standard classes DocumentFile document >>= λ d. widen standard local g (byDocument d)
 
   abbrev called : Outcome (List ℕ)
-  called = widened standard classes local aDocument old document out work
+  called = widened standard classes local (aDocument DocumentFile) old document out work
 
   enough : standard .words ≤ length work
   unfolding standard
@@ -80,10 +81,10 @@ module _ (classes : Classes) (load : Loads classes) (old document out work : Lis
       ap
       (λ (o : Outcome Table).
       o
-      >>= λ g. ((readDocument standard classes document >>= λ d. given (byDocument d))
+      >>= λ g. ((readDocument standard classes DocumentFile document >>= λ d. given (byDocument d))
       >>= λ a. (widen standard local g a >>= λ r. writtenTo out r)))
       (lent-loaded standard classes work (readTable standard classes old) enough load)
-      ∙ through (readTable standard classes old) (readDocument standard classes document)
+      ∙ through (readTable standard classes old) (readDocument standard classes DocumentFile document)
     where
       through : (x : Outcome Table) (y : Outcome Tree)
           → (x >>= λ g. ((y >>= λ d. given (byDocument d)) >>= λ a. (widen standard local g a >>= λ r. writtenTo out r)))
@@ -95,24 +96,24 @@ module _ (classes : Classes) (load : Loads classes) (old document out work : Lis
   module _ (g : Table) (e : result ≡ given g) where
     -- what was read and widened
     steps : (h : Table) × (d : Tree) × (readTable standard classes old ≡ given h)
-        × (readDocument standard classes document ≡ given d) × (widen standard local h (byDocument d) ≡ given g)
+        × (readDocument standard classes DocumentFile document ≡ given d) × (widen standard local h (byDocument d) ≡ given g)
     steps =
         let (h, p, q) =
         was-given (readTable standard classes old)
-        (λ h. readDocument standard classes document >>= λ d. widen standard local h (byDocument d)) g e in
-        let (d, r, w) = was-given (readDocument standard classes document) (λ d. widen standard local h (byDocument d)) g q in
+        (λ h. readDocument standard classes DocumentFile document >>= λ d. widen standard local h (byDocument d)) g e in
+        let (d, r, w) = was-given (readDocument standard classes DocumentFile document) (λ d. widen standard local h (byDocument d)) g q in
         (h, d, p, r, w)
 
     result-within : TableWithin standard classes g
     result-within =
         let (h, d, p, r, w) = steps in
-        document-result-within standard classes standard-agree d (document-within standard classes document d r) local h
+        document-result-within standard classes standard-agree d (tree-within standard classes DocumentFile document d r) local h
         (read-within standard classes old h p) g w
 
     result-read-back : readTable standard classes (tableBytes g) ≡ given g
     result-read-back =
         let (h, d, p, r, w) = steps in
-        document-result-read-back standard classes standard-agree d (document-within standard classes document d r) local h
+        document-result-read-back standard classes standard-agree d (tree-within standard classes DocumentFile document d r) local h
         (read-within standard classes old h p) g w
 
     called-given : called ≡ given (tableBytes g)

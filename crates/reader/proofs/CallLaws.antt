@@ -13,7 +13,8 @@ use Rattle.grammar.specs.Table.{Table}
 use Rattle.grammar.specs.Outcome.{Outcome, given, refused, _>>=_, _>>_, turnBack, number}
 use Rattle.grammar.specs.Answers.{Numbers, refusedBy, readingNumbers, numbersOf, reading, numberAfter}
 use Rattle.grammar.specs.ReadTable.{readTable}
-use Rattle.grammar.specs.ReadDocument.{readDocument}
+use Rattle.grammar.specs.Documents.{readDocument}
+use Rattle.grammar.specs.declared.Format.{Format}
 use Rattle.grammar.specs.Calls.{
   Part,
   workAfter,
@@ -90,16 +91,16 @@ module _ (lim : Limits) (classes : Classes) (table work : List ℕ) where
         → TableReading lim classes table work (after (readingNumbers answer) [] left)
     table-answered load = table-told (readTable lim classes table) (loaded-is classes _ load)
 
-module _ (lim : Limits) (classes : Classes) (document work : List ℕ) where
+module _ (lim : Limits) (classes : Classes) (format : Format) (document work : List ℕ) where
   pub document-unanswered : length work < lim .words
-      → DocumentReading lim classes document work (after (readingNumbers (Unreadable WorkTooShort)) [] work)
+      → DocumentReading lim classes format document work (after (readingNumbers (Unreadable WorkTooShort)) [] work)
   unfolding documentReads readingNumbers
   document-unanswered h =
-      record { settled = left-short lim (λ d. 1) _ work h (lent-short lim work (loaded classes (readDocument lim classes document)) h) }
+      record { settled = left-short lim (λ d. 1) _ work h (lent-short lim work (loaded classes (readDocument lim classes format document)) h) }
 
   module _ (h : lim .words ≤ length work) (left : List ℕ) (w : left ≡ workAfter lim work) where
-    document-told : (o : Outcome Tree) → loaded classes (readDocument lim classes document) ≡ o → (answer : Reading) → answer ≡ reading o
-        → DocumentReading lim classes document work (after (readingNumbers answer) [] left)
+    document-told : (o : Outcome Tree) → loaded classes (readDocument lim classes format document) ≡ o → (answer : Reading) → answer ≡ reading o
+        → DocumentReading lim classes format document work (after (readingNumbers answer) [] left)
     unfolding documentReads
     document-told o e answer a =
         record {
@@ -107,19 +108,19 @@ module _ (lim : Limits) (classes : Classes) (document work : List ℕ) where
               left-as lim (λ d. 1) _ work (readingNumbers answer) left
               (ap readingNumbers a
               ∙ reading-numbers o
-              ∙ ap (numbersOf (λ d. 1)) (sym (lent-enough lim work (loaded classes (readDocument lim classes document)) h ∙ e)))
+              ∙ ap (numbersOf (λ d. 1)) (sym (lent-enough lim work (loaded classes (readDocument lim classes format document)) h ∙ e)))
               w;
         }
 
     pub document-unloaded : loads classes ≡ false
-        → DocumentReading lim classes document work (after (readingNumbers (Unreadable BadClasses)) [] left)
+        → DocumentReading lim classes format document work (after (readingNumbers (Unreadable BadClasses)) [] left)
     unfolding reading
     document-unloaded e = document-told (refused BadClasses) (unloaded-is classes _ e) (Unreadable BadClasses) refl
 
-    pub document-answered : Loads classes → (r : DocumentRead) → DocumentReads lim classes document r
-        → DocumentReading lim classes document work (after (readingNumbers (r .answer)) [] left)
+    pub document-answered : Loads classes → (r : DocumentRead) → DocumentReads lim classes format document r
+        → DocumentReading lim classes format document work (after (readingNumbers (r .answer)) [] left)
     document-answered load r d =
-        document-told (readDocument lim classes document) (loaded-is classes _ load) (r .answer) (sym (document-answer lim classes document r d))
+        document-told (readDocument lim classes format document) (loaded-is classes _ load) (r .answer) (sym (document-answer lim classes format document r d))
 
 -- looking for a label
 module _ (s : List ℕ) (o : Outcome Part) where

@@ -1,7 +1,7 @@
 -- What one field of a document says, by numbers: how many nodes are read, how many levels are open, how many bytes are left.
 --   ends : the end field's answer is `endAnswer`
 --   node-misfit, node-misnamed, node-misplaced, node-here : the cases of any other field
-use Prim.Native.Nat.{ℕ, suc, _+_, _-_, _*_, _≤_, _<_}
+use Prim.Native.Nat.{ℕ, suc, _+_, _-_, _*_, _%_, _≤_, _<_}
 use native.Mathlib.Numerals.{add-one}
 use native.Mathlib.Omega.{arith}
 use mathlib.Core.Bool.{Bool, true, false, not, _&&_, _||_}
@@ -10,7 +10,7 @@ use mathlib.Core.Path.{_≡_, refl, sym, _∙_, ap, ap₂}
 use lib.Dec.{eqb, leb, ltb, eqb·suc-zero}
 use lib.ListN.{length, getD, take, drop, length-drop}
 use lib.Seq.{slice, slice-empty, slice-cons, length-take-le}
-use borrow.Author.Tests.{leb-true, leb-false, ltb-false, eqb-false, eq-eqb, ne-eqb, le-leb, lt-leb, lt-ltb, le-ltb}
+use borrow.Author.Tests.{leb-true, leb-false, ltb-false, eqb-false, eq-eqb, ne-eqb, le-leb, lt-leb}
 use Rattle.grammar.specs.Limits.{Limits}
 use Rattle.grammar.specs.Names.{Classes, isName}
 use Rattle.grammar.specs.Fields.{Field, Fields, _then_, fieldsOf}
@@ -22,22 +22,19 @@ use Rattle.grammar.specs.ReadDocument.{
   documentEndTag,
   Node,
   Opened,
-  nothingRead,
   withNode,
   badNode,
   readNode,
   readNodeFields,
-  readNodes,
   isNodeTag,
 }
-use Rattle.grammar.specs.declared.Refusal.the-variants.{InputTooLong, BadField, BadName, BadTree, BytesAfterEnd}
+use Rattle.grammar.specs.declared.Refusal.the-variants.{BadField, BadName, BadTree, BytesAfterEnd}
 use Rattle.grammar.specs.declared.Reading.the-variants.{Readable, Refused as Unreadable}
 use Rattle.theory.proofs.lists.BoolLaws.{or-false}
 use Rattle.theory.proofs.bytes.FieldBytes.{fields-empty, fields-tag, fields-half, fields-front, fields-past}
-use Rattle.reader.specs.DocumentNodes.{outcomeOf, headAt}
+use Rattle.reader.specs.DocumentNodes.{shapeOf, nodeFrom, outcomeOf}
 use Rattle.reader.specs.DocumentSteps.{endAnswer, badCounts, Sized, restOf, restWith}
 use Rattle.reader.proofs.FieldReading.{slice-part}
-use Rattle.reader.specs.FieldAt.{TagBefore}
 
 -- a list is empty when its length is 0
 empty-length : {A : Type 0} (l : List A) → isEmpty l ≡ eqb (length l) 0
@@ -217,6 +214,19 @@ third-fails true true c e = e
 third-fails true false c e = refl
 third-fails false b c e = refl
 
+-- what a shape tells
+shape-text : (text : Bool) (children : ℕ) → children < 256 → leb 256 (shapeOf text children) ≡ text
+shape-text true children h = le-leb 256 (256 + children) (omega arith)
+shape-text false children h = lt-leb 256 children h
+
+pub shape-children : (text : Bool) (children : ℕ) → children < 256 → shapeOf text children % 256 ≡ children
+shape-children true children h = omega arith
+shape-children false children h = omega arith
+
+pub shape-small : (text : Bool) (children : ℕ) → children < 256 → shapeOf text children < 512
+shape-small true children h = omega arith
+shape-small false children h = omega arith
+
 -- the value of a field, and the name behind its first byte
 module _ (s : List ℕ) (from to : ℕ) (order : from ≤ to) (within : to ≤ length s) where
   abbrev value : List ℕ
@@ -310,16 +320,7 @@ module _ (s : List ℕ) (from to : ℕ) (order : from ≤ to) (within : to ≤ l
       pub node-misnamed : isName classes name ≡ false → restWith lim classes field rest o ≡ refused BadName
       node-misnamed p = node-tried false p (badCounts lim (length (o .nodes)) (getD s from 0) (length (o .toCome))) refl
 
-      module _ (before : TagBefore s from tag) (nodes depth children : ℕ) (counted : children ≡ getD s from 0)
-          (sized : Sized o nodes depth) where
-        head-here : head ≡ headAt s (from + 1) (to - (from + 1))
-        head-here =
-            let behind = before .behind in
-            let at : from - 3 ≡ from + 1 - 4 = omega arith in
-            ap
-            (λ (t : ℕ). record { name = name; text = eqb t (nodeTag true) })
-            (sym (before .tagged) ∙ ap (λ (i : ℕ). getD s i 0) at)
-
+      module _ (nodes depth children : ℕ) (counted : children ≡ getD s from 0) (sized : Sized o nodes depth) where
         here : (bad : Bool) → badCounts lim nodes children depth ≡ bad
             → badCounts lim (length (o .nodes)) (getD s from 0) (length (o .toCome)) ≡ bad
         here bad e = rw (sized .read, sized .open-levels, ← counted) e
@@ -328,28 +329,13 @@ module _ (s : List ℕ) (from to : ℕ) (order : from ≤ to) (within : to ≤ l
             → restWith lim classes field rest o ≡ refused BadTree
         node-misplaced p q = node-tried true p true (here true q)
 
-        pub node-here : isName classes name ≡ true → badCounts lim nodes children depth ≡ false
+        pub node-here : children < 256 → isName classes name ≡ true → badCounts lim nodes children depth ≡ false
             → restWith lim classes field rest o
-            ≡ restOf lim classes (withNode o (record { head = headAt s (from + 1) (to - (from + 1)); children = children })) rest
-        node-here p q =
+            ≡ restOf lim classes (withNode o (nodeFrom s (from + 1) (to - (from + 1)) (shapeOf (eqb tag (nodeTag true)) children))) rest
+        node-here small p q =
+            let text = eqb tag (nodeTag true) in
             node-tried true p false (here false q)
             ∙ ap₂
-            (λ (h : Head) (k : ℕ). restOf lim classes (withNode o (record { head = h; children = k })) rest)
-            head-here
-            (sym counted)
-
--- the length of the input comes first
-module _ (lim : Limits) (classes : Classes) (bytes : List ℕ) where
-  pub reads-long : lim .input < length bytes → readNodes lim classes bytes ≡ refused InputTooLong
-  unfolding readNodes
-  reads-long h =
-      ap
-      (λ (b : Bool). turnBack b InputTooLong >> readNodeFields lim classes nothingRead (fieldsOf bytes))
-      (lt-ltb (lim .input) (length bytes) h)
-
-  pub reads-short : length bytes ≤ lim .input → readNodes lim classes bytes ≡ readNodeFields lim classes nothingRead (fieldsOf bytes)
-  unfolding readNodes
-  reads-short h =
-      ap
-      (λ (b : Bool). turnBack b InputTooLong >> readNodeFields lim classes nothingRead (fieldsOf bytes))
-      (le-ltb (lim .input) (length bytes) h)
+            (λ (b : Bool) (k : ℕ). restOf lim classes (withNode o (record { head = record { name = name; text = b }; children = k })) rest)
+            (sym (shape-text text children small))
+            (sym (shape-children text children small ∙ counted))

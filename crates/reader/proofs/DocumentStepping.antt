@@ -59,13 +59,13 @@ pub says-also : (lim : Limits) (classes : Classes) (s : List ℕ) (at from nodes
 says-also lim classes s at from nodes depth whole whole′ (NodeHere f t k) h e n =
     record {
       forward = let p = n .forward in omega arith;
-      behind = n .behind;
       order = n .order;
       within = n .within;
       room = n .room;
       some-level = n .some-level;
       level = n .level;
       few = n .few;
+      small = n .small;
       goes = λ o z. e o ∙ n .goes o z;
     }
 says-also lim classes s at from nodes depth whole whole′ (Stop answer) h e n = λ o z. e o ∙ n o z

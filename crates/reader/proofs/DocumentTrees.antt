@@ -1,6 +1,7 @@
 -- Nodes that reading gives are one whole tree: read backwards, each node finds its children among the trees behind it, and one
 -- tree is left. (So a stack of what the nodes behind gave never runs out, and ends with one.)
---   complete : readNodes lim classes bytes ≡ given ns → (treeCount ns ≡ 1) × Enough ns
+--   document-nodes : readNodesAs lim classes format bytes ≡ given ns → ns are the nodes of the tree that the document reads as
+--   complete : readNodesAs lim classes format bytes ≡ given ns → (treeCount ns ≡ 1) × Enough ns
 use Prim.Native.Nat.{ℕ, zero, suc, _+_, _-_, _≤_}
 use native.Mathlib.Omega.{arith}
 use mathlib.Core.List.{List, [], _∷_, _++_, append-assoc, append-nil}
@@ -9,11 +10,18 @@ use mathlib.Core.Path.{_≡_, refl, sym, _∙_, ap, subst}
 use lib.ListN.{length, drop, getElem?}
 use Rattle.grammar.specs.Limits.{Limits}
 use Rattle.grammar.specs.Names.{Classes}
-use Rattle.grammar.specs.Outcome.{given}
+use Rattle.grammar.specs.Outcome.{Outcome, given, _>>=_}
 use Rattle.grammar.specs.Tree.{Tree, node, Forest, []ᵗ, _∷ᵗ_, trees}
-use Rattle.grammar.specs.ReadDocument.{Node, readNodes, otherTrees, forestOf}
+use Rattle.grammar.specs.ReadDocument.{Node, otherTrees, forestOf, treeOf, readDocumentFile}
+use Rattle.grammar.specs.ReadText.{readText}
+use Rattle.grammar.specs.Documents.{readDocument}
 use Rattle.grammar.specs.WriteDocument.{nodesOf, nodesOfAll}
+use Rattle.grammar.specs.declared.Format.{Format}
+use Rattle.grammar.specs.declared.Format.the-variants.{DocumentFile, XmlText}
+use Rattle.theory.proofs.bytes.OutcomeLaws.{was-given, given-eq}
+use Rattle.theory.proofs.bytes.DocumentBytes.{tree-of-nodes}
 use Rattle.theory.proofs.bytes.DocumentWithin.{nodes-were}
+use Rattle.reader.specs.DocumentNodes.{readNodesAs}
 use Rattle.reader.specs.NodeTrees.{treeCount, Enough}
 
 -- nodes make at most as many trees as they are
@@ -67,10 +75,23 @@ mutual
   forest-enough (t ∷ᵗ ts) ns h =
       subst Enough (sym (append-assoc (nodesOf t) (nodesOfAll ts) ns)) (tree-enough t (nodesOfAll ts ++ ns) (forest-enough ts ns h))
 
-pub complete : (lim : Limits) (classes : Classes) (bytes : List ℕ) (ns : List Node) → readNodes lim classes bytes ≡ given ns
+-- the nodes that are read are those of the document's tree
+pub document-nodes : (lim : Limits) (classes : Classes) (format : Format) (bytes : List ℕ) (ns : List Node)
+    → readNodesAs lim classes format bytes ≡ given ns
+    → (t : Tree) × (ns ≡ nodesOf t) × (readDocument lim classes format bytes ≡ given t)
+unfolding readDocument readDocumentFile
+document-nodes lim classes DocumentFile bytes ns e =
+    let (t, made, shallow) = nodes-were lim classes bytes ns e in
+    (t, made, ap (λ (x : Outcome (List Node)). x >>= treeOf) e ∙ ap treeOf made ∙ tree-of-nodes t)
+document-nodes lim classes XmlText bytes ns e =
+    let (t, read, made) = was-given (readText lim classes bytes) (λ d. given (nodesOf d)) ns e in
+    (t, sym (given-eq made), read)
+
+pub complete : (lim : Limits) (classes : Classes) (format : Format) (bytes : List ℕ) (ns : List Node)
+    → readNodesAs lim classes format bytes ≡ given ns
     → (treeCount ns ≡ 1) × Enough ns
 unfolding treeCount
-complete lim classes bytes ns e =
-    let (t, made, shallow) = nodes-were lim classes bytes ns e in
+complete lim classes format bytes ns e =
+    let (t, made, read) = document-nodes lim classes format bytes ns e in
     let whole : nodesOf t ++ [] ≡ ns = append-nil (nodesOf t) ∙ sym made in
     (ap treeCount (sym whole) ∙ tree-one t [], subst Enough whole (tree-enough t [] tt))

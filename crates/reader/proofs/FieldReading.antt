@@ -2,7 +2,7 @@
 --   field-found : fieldAt s at ≡ Found tag from to → FoundField s at tag from to
 --   field-none : fieldAt s at ≡ NoBytes → (length s ≤ at) × (fieldsOf (drop at s) ≡ noBytes)
 --   field-past : fieldAt s at ≡ PastEnd → (at < length s) × (fieldsOf (drop at s) ≡ pastEnd)
-use Prim.Native.Nat.{ℕ, _+_, _≤_, _<_}
+use Prim.Native.Nat.{ℕ, _+_, _-_, _≤_, _<_}
 use native.Mathlib.Numerals.{add-one}
 use native.Mathlib.Omega.{arith}
 use mathlib.Core.Bool.{Bool, true, false}
@@ -34,6 +34,11 @@ module _ (s : List ℕ) (at : ℕ) where
 -- the part of a list that begins at a place, by its length
 pub slice-part : {A : Type 0} (f n : ℕ) (l : List A) → f ≤ length l → slice f (f + n) l ≡ take n (drop f l)
 slice-part f n l h = ap (drop f) (take-add f n l) ∙ drop-at (take f l) (take n (drop f l)) f (length-take-le f l h)
+
+pub slice-taken : {A : Type 0} (f t : ℕ) (l : List A) → f ≤ t → t ≤ length l → slice f t l ≡ take (t - f) (drop f l)
+slice-taken f t l p q =
+    let whole : t ≡ f + (t - f) = omega arith in
+    ap (λ (k : ℕ). slice f k l) whole ∙ slice-part f (t - f) l (omega arith)
 
 -- the bytes of a field
 pub field-length : (tag : ℕ) (value : List ℕ) → length (fieldBytes tag value) ≡ 3 + length value

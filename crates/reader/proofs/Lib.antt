@@ -7,10 +7,17 @@ pub mod LoadedClasses
 pub mod LetterLaws
 pub mod NameReading
 pub mod FieldReading
+pub mod TextReading
+pub mod TagPlaces
+pub mod TextPlaces
 pub mod OpenLevels
+pub mod OpenElements
+pub mod TextLoop
+pub mod FirstNodes
 pub mod DocumentFields
 pub mod DocumentStepping
 pub mod DocumentLoop
+pub mod DocumentLengths
 pub mod DocumentTrees
 pub mod DocumentAnswers
 pub mod AnswerLaws

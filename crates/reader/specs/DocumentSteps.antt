@@ -1,5 +1,5 @@
 -- The steps of reading a document: the next field, and the open levels after a node.
-use Prim.Native.Nat.{ℕ, zero, suc, _-_, _≤_, _<_}
+use Prim.Native.Nat.{ℕ, zero, suc, _-_, _%_, _≤_, _<_}
 use mathlib.Core.Bool.{Bool, true, false, _||_}
 use mathlib.Core.List.{List, [], _∷_}
 use mathlib.Core.Path.{_≡_}
@@ -15,7 +15,7 @@ use Rattle.grammar.specs.declared.Reading.{Reading}
 use Rattle.grammar.specs.declared.Reading.the-variants.{Readable, Refused as Unreadable}
 use Rattle.reader.specs.declared.documents.Step.{Step}
 use Rattle.reader.specs.declared.documents.Step.the-variants.{Node as NodeHere, Stop}
-use Rattle.reader.specs.DocumentNodes.{headAt, outcomeOf}
+use Rattle.reader.specs.DocumentNodes.{nodeFrom, outcomeOf}
 
 -- what an end field says: the size of its value, how many levels are open, how many bytes are left after it
 unfoldable pub endAnswer : ℕ → ℕ → ℕ → Reading
@@ -48,22 +48,22 @@ restWith lim classes f rest o = readNode lim classes o f >>= λ more. restOf lim
 
 -- A node is read: `whole` goes on behind it. Its name stands after `at`.
 pub record NodeStep (lim : Limits) (classes : Classes) (s : List ℕ) (at nodes depth : ℕ) (whole : Opened → Outcome (List Node))
-    (from to children : ℕ) : Type 0 where
+    (from to shape : ℕ) : Type 0 where
   pub forward : at < from
-  pub behind : 4 ≤ from
   pub order : from ≤ to
   pub within : to ≤ length s
   pub room : nodes < lim .nodes
   pub some-level : 0 < depth
   pub level : depth ≤ lim .levels
-  pub few : children ≤ childLimit
+  pub few : shape % 256 ≤ childLimit
+  pub small : shape < 512
   pub goes : (o : Opened) → Sized o nodes depth
       → whole o
-      ≡ restOf lim classes (withNode o (record { head = headAt s from (to - from); children = children })) (fieldsOf (drop to s))
+      ≡ restOf lim classes (withNode o (nodeFrom s from (to - from) shape)) (fieldsOf (drop to s))
 
 -- what a step says of the rest of a document, `whole`, whatever was read before it
 abbrev pub StepSays : Limits → Classes → List ℕ → ℕ → ℕ → ℕ → (Opened → Outcome (List Node)) → Step → Type 0
-StepSays lim classes s at nodes depth whole (NodeHere from to children) = NodeStep lim classes s at nodes depth whole from to children
+StepSays lim classes s at nodes depth whole (NodeHere from to shape) = NodeStep lim classes s at nodes depth whole from to shape
 StepSays lim classes s at nodes depth whole (Stop answer) = (o : Opened) → Sized o nodes depth → whole o ≡ outcomeOf answer (o .nodes)
 
 -- the open levels, innermost first: the array has them outermost first

@@ -5,6 +5,7 @@ pub mod ContentAt
 pub mod DocumentNodes
 pub mod NodeTrees
 pub mod DocumentSteps
+pub mod TextSteps
 pub mod TableIndex
 pub mod Held
 pub mod NamePlaces

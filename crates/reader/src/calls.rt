@@ -9,6 +9,7 @@ use crate::limits::limits_of;
 use crate::refusals::number_of;
 use crate::tables::read_table;
 use crate::work::clear_work;
+use grammar::Format;
 use grammar::Reading;
 use grammar::Refusal;
 use grammar::Size;
@@ -36,8 +37,14 @@ pub fn table_reads(size: Size, classes: &[u8], table: &[u8], work: &mut [u32]) -
 }
 
 // Does a document read?
-pub fn document_reads(size: Size, classes: &[u8], document: &[u8], work: &mut [u32]) -> Reading
-    ensures { λ r. ⌜ DocumentReading (sizeLimits size) (now (classes .entry)) (now (document .entry)) (now (work .entry))
+pub fn document_reads(
+    size: Size,
+    classes: &[u8],
+    format: Format,
+    document: &[u8],
+    work: &mut [u32],
+) -> Reading
+    ensures { λ r. ⌜ DocumentReading (sizeLimits size) (now (classes .entry)) format (now (document .entry)) (now (work .entry))
         (after (readingNumbers r) [] (now (work .exit))) ⌝ }
 {
     let limits = limits_of(size);
@@ -48,7 +55,7 @@ pub fn document_reads(size: Size, classes: &[u8], document: &[u8], work: &mut [u
     if !classes_load(classes) {
         return Reading::Refused(Refusal::BadClasses);
     }
-    let read = read_document(limits, classes, document);
+    let read = read_document(limits, classes, format, document);
     read.answer
 }
 

@@ -1,15 +1,18 @@
-// Document files: nodes parent before children, left to right, then the end.
+// Documents of either format; and document files: nodes parent before children, left to right, then the end.
+ghost use mathlib.Core.Bool.{true};
 ghost use mathlib.Core.Path.{_≡_};
-ghost use Prim.Native.Nat.{_≤_, _<_};
-ghost use lib.ListN.{length, drop};
+ghost use Prim.Native.Nat.{_-_, _≤_, _<_};
+ghost use lib.Dec.{eqb};
+ghost use lib.ListN.{length, drop, set};
 ghost use lib.Seq.{slice};
 ghost use Rattle.grammar.specs.Limits.{inputLimit};
 ghost use Rattle.grammar.specs.LimitSets.{limitsOf, Within};
 ghost use Rattle.grammar.specs.Fields.{fieldsOf};
-ghost use Rattle.grammar.specs.ReadDocument.{nothingRead, isNodeTag};
-ghost use Rattle.reader.specs.DocumentNodes.{firstNodes, outcomeOf, NodesIndexed, NodesFound, DocumentReads};
+ghost use Rattle.grammar.specs.Documents.{formatNumbered};
+ghost use Rattle.grammar.specs.ReadDocument.{nodeTag, nothingRead, isNodeTag};
+ghost use Rattle.reader.specs.DocumentNodes.{shapeOf, firstNodes, outcomeOf, NodesIndexed, NodesFound, DocumentReads};
 ghost use Rattle.reader.specs.DocumentSteps.{endAnswer, badCounts, restOf, restWith, StepSays, Open, Closed, LevelsAfter};
-ghost use Rattle.reader.specs.FieldAt.{TagBefore};
+use crate::elements::read_tags;
 use crate::fields::FieldAt;
 use crate::fields::field_at;
 use crate::limits::CHILDREN;
@@ -20,23 +23,35 @@ use crate::numbers::wide;
 use crate::tags::DOCUMENT_END_TAG;
 use crate::tags::NODE_TAG;
 use crate::tags::TEXT_NODE_TAG;
+use grammar::Format;
 use grammar::Reading;
 use grammar::Refusal;
 use grammar::SizeLimits;
 
+// The format that a number stands for in calls from C: 1 XML text, any other number a document file.
+pub fn format_numbered(number: u32) -> Format
+    ensures { λ r. ⌜ r ≡ formatNumbered number ⌝ }
+{
+    if number == 1 {
+        return Format::XmlText;
+    }
+    Format::DocumentFile
+}
+
 // What the next field says.
 enum Step {
-    // A node: where its name begins and ends, and how many children it has.
+    // A node: where its name begins and ends, and its shape.
     Node(usize, usize, usize),
     // The document ends here, with this answer.
     Stop(Reading),
 }
 
-// The nodes of a document in file order: where each name stands, and how many children each has.
+// The nodes of a document in file order: where each name stands, and the shape of each: how many children it has, and 256 more if it
+// holds text.
 pub struct DocumentIndex {
     pub names: [u16; 2048],
     pub sizes: [u16; 2048],
-    pub children: [u16; 2048],
+    pub shapes: [u16; 2048],
     pub nodes: usize,
 }
 
@@ -94,6 +109,17 @@ fn is_node_tag(tag: u8) -> bool
     tag == TEXT_NODE_TAG
 }
 
+// A node's shape, by its tag and how many children it has.
+fn shape_of(tag: u8, children: usize) -> usize
+    requires { ⌜ children < 256 ⌝ }
+    ensures { λ r. ⌜ r ≡ shapeOf (eqb tag (nodeTag true)) children ⌝ }
+{
+    if tag == TEXT_NODE_TAG {
+        return 256 + children;
+    }
+    children
+}
+
 // What a field other than the end says.
 fn node_of(
     limits: SizeLimits,
@@ -106,7 +132,6 @@ fn node_of(
     depth: usize,
 ) -> Step
     requires { ⌜ 256 ≤ length (now classes) ⌝ }
-    requires { ⌜ TagBefore (now s) from tag ⌝ }
     requires { ⌜ (from ≤ to) × (to ≤ length (now s)) ⌝ }
     ensures { λ r. ⌜ StepSays (limitsOf limits) (now (classes .entry)) (now (s .entry)) from nodes depth
         (restWith (limitsOf limits) (now (classes .entry)) (record { tag = tag; value = slice from to (now (s .entry)) })
@@ -128,7 +153,7 @@ fn node_of(
         if bad_node(limits, nodes, children, depth) {
             return Step::Stop(Reading::Refused(Refusal::BadTree));
         }
-        Step::Node(name, to, children)
+        Step::Node(name, to, shape_of(tag, children))
     } else {
         Step::Stop(Reading::Refused(Refusal::BadName))
     }
@@ -188,6 +213,27 @@ fn after_node(coming: &mut [usize], depth: usize, children: usize) -> usize
     closed_depth(coming, depth + 1)
 }
 
+// Stores a node behind the first ones.
+pub fn put_node(
+    names: &mut [u16],
+    sizes: &mut [u16],
+    shapes: &mut [u16],
+    nodes: usize,
+    from: usize,
+    to: usize,
+    shape: usize,
+)
+    requires { ⌜ (from ≤ to) × (to ≤ inputLimit) × (shape < 512) ⌝ }
+    requires { ⌜ (nodes < length (now names)) × (nodes < length (now sizes)) × (nodes < length (now shapes)) ⌝ }
+    ensures name { λ r. ⌜ now (names .exit) ≡ set (now (names .entry)) nodes from ⌝ }
+    ensures size { λ r. ⌜ now (sizes .exit) ≡ set (now (sizes .entry)) nodes (to - from) ⌝ }
+    ensures shape { λ r. ⌜ now (shapes .exit) ≡ set (now (shapes .entry)) nodes shape ⌝ }
+{
+    names[nodes] = from as u16;
+    sizes[nodes] = (to - from) as u16;
+    shapes[nodes] = shape as u16;
+}
+
 // The fields of a document, front to back.
 fn read_fields(
     limits: SizeLimits,
@@ -195,16 +241,16 @@ fn read_fields(
     s: &[u8],
     names: &mut [u16],
     sizes: &mut [u16],
-    children: &mut [u16],
+    shapes: &mut [u16],
 ) -> NodesRead
     requires { ⌜ 256 ≤ length (now classes) ⌝ }
     requires { ⌜ Within limits ⌝ }
     requires { ⌜ (length (now s) ≤ inputLimit) × (limits .nodes ≤ length (now names)) × (limits .nodes ≤ length (now sizes))
-        × (limits .nodes ≤ length (now children)) ⌝ }
+        × (limits .nodes ≤ length (now shapes)) ⌝ }
     ensures answer { λ r. ⌜ restOf (limitsOf limits) (now (classes .entry)) nothingRead (fieldsOf (now (s .entry)))
-        ≡ outcomeOf (r .answer) (firstNodes (now (s .entry)) (now (names .exit)) (now (sizes .exit)) (now (children .exit)) (r .nodes)) ⌝ }
+        ≡ outcomeOf (r .answer) (firstNodes (now (s .entry)) (now (names .exit)) (now (sizes .exit)) (now (shapes .exit)) (r .nodes)) ⌝ }
     ensures few { λ r. ⌜ r .nodes ≤ limits .nodes ⌝ }
-    ensures index { λ r. ⌜ NodesIndexed (now (s .entry)) (now (names .exit)) (now (sizes .exit)) (now (children .exit)) (r .nodes) ⌝ }
+    ensures index { λ r. ⌜ NodesIndexed (now (s .entry)) (now (names .exit)) (now (sizes .exit)) (now (shapes .exit)) (r .nodes) ⌝ }
 {
     let mut nodes: usize = 0;
     let mut at: usize = 0;
@@ -213,13 +259,11 @@ fn read_fields(
     let mut depth: usize = 1;
     loop {
         match step_at(limits, classes, s, at, nodes, depth) {
-            Step::Node(from, to, count) => {
-                names[nodes] = from as u16;
-                sizes[nodes] = (to - from) as u16;
-                children[nodes] = count as u16;
+            Step::Node(from, to, shape) => {
+                put_node(names, sizes, shapes, nodes, from, to, shape);
                 nodes += 1;
                 at = to;
-                let more = after_node(&mut coming, depth, count);
+                let more = after_node(&mut coming, depth, shape % 256);
                 depth = more;
             }
             Step::Stop(answer) => {
@@ -232,20 +276,21 @@ fn read_fields(
     }
 }
 
-// The nodes of a document, into lent arrays.
+// The nodes of a document of either format, into lent arrays.
 pub fn read_nodes(
     limits: SizeLimits,
     classes: &[u8],
+    format: Format,
     s: &[u8],
     names: &mut [u16],
     sizes: &mut [u16],
-    children: &mut [u16],
+    shapes: &mut [u16],
 ) -> NodesRead
     requires { ⌜ 256 ≤ length (now classes) ⌝ }
     requires { ⌜ Within limits ⌝ }
-    requires { ⌜ (limits .nodes ≤ length (now names)) × (limits .nodes ≤ length (now sizes)) × (limits .nodes ≤ length (now children)) ⌝ }
-    ensures { λ r. ⌜ NodesFound (limitsOf limits) (now (classes .entry)) (now (s .entry)) (now (names .exit)) (now (sizes .exit))
-        (now (children .exit)) r ⌝ }
+    requires { ⌜ (limits .nodes ≤ length (now names)) × (limits .nodes ≤ length (now sizes)) × (limits .nodes ≤ length (now shapes)) ⌝ }
+    ensures { λ r. ⌜ NodesFound (limitsOf limits) (now (classes .entry)) format (now (s .entry)) (now (names .exit)) (now (sizes .exit))
+        (now (shapes .exit)) r ⌝ }
 {
     if INPUT < s.len() {
         return NodesRead {
@@ -253,26 +298,37 @@ pub fn read_nodes(
             nodes: 0,
         };
     }
-    read_fields(limits, classes, s, names, sizes, children)
+    match format {
+        Format::DocumentFile => read_fields(limits, classes, s, names, sizes, shapes),
+        Format::XmlText => read_tags(limits, classes, s, names, sizes, shapes),
+    }
 }
 
-// The nodes of a document.
-pub fn read_document(limits: SizeLimits, classes: &[u8], s: &[u8]) -> DocumentRead
+// The nodes of a document of either format.
+pub fn read_document(limits: SizeLimits, classes: &[u8], format: Format, s: &[u8]) -> DocumentRead
     requires { ⌜ 256 ≤ length (now classes) ⌝ }
     requires { ⌜ Within limits ⌝ }
-    ensures { λ r. ⌜ DocumentReads (limitsOf limits) (now (classes .entry)) (now (s .entry)) r ⌝ }
+    ensures { λ r. ⌜ DocumentReads (limitsOf limits) (now (classes .entry)) format (now (s .entry)) r ⌝ }
 {
     let mut names = [0u16; 2048];
     let mut sizes = [0u16; 2048];
-    let mut children = [0u16; 2048];
-    let read = read_nodes(limits, classes, s, &mut names, &mut sizes, &mut children);
+    let mut shapes = [0u16; 2048];
+    let read = read_nodes(
+        limits,
+        classes,
+        format,
+        s,
+        &mut names,
+        &mut sizes,
+        &mut shapes,
+    );
     let answer = read.answer;
     DocumentRead {
         answer: answer,
         index: DocumentIndex {
             names: names,
             sizes: sizes,
-            children: children,
+            shapes: shapes,
             nodes: read.nodes,
         },
     }

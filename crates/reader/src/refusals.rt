@@ -23,6 +23,8 @@ pub fn number_of(refusal: Refusal) -> u32
         Refusal::NoDocument => 13,
         Refusal::ResultTooLarge => 14,
         Refusal::OutputTooShort => 15,
+        Refusal::BadText => 16,
+        Refusal::BadEndTag => 17,
         Refusal::BadClasses => 18,
     }
 }

@@ -7,11 +7,11 @@ use mathlib.Core.Bool.{false}
 use mathlib.Core.List.{List, [], _∷_, _++_, map, append-assoc, append-nil}
 use mathlib.Core.Path.{_≡_, sym, _∙_, ap, subst}
 use lib.ListN.{length, length-drop, length-append, List·getD-map, getD, set, take, drop, replicate, drop-of-length-le}
-use lib.Seq.{drop-cons, drop-at, length-take-le, getD-take, take-suc-set, append-snoc}
+use lib.Seq.{drop-cons, drop-at, length-take-le, take-suc-set, append-snoc}
 use Rattle.grammar.specs.ReadDocument.{Node}
 use Rattle.reader.specs.NodeTrees.{treeCount, Enough}
 use Rattle.reader.proofs.DocumentTrees.{trees-few}
-use Rattle.sampling.specs.SampleNodes.{parentsFrom, parentsOf, CountedTree}
+use Rattle.sampling.specs.SampleNodes.{parentsFrom, parentsOf, kidCount, CountedTree}
 use Rattle.sampling.proofs.FillLaws.{filled, fill-long}
 
 pub record Passing (ns : List Node) (parents pending : List ℕ) (top i : ℕ) : Type 0 where
@@ -36,13 +36,13 @@ passing-start ns parents pending top e z one enough =
       upto = omega arith;
     }
 
-module _ (ns : List Node) (children : List ℕ) (counts : map (λ (m : Node). m .children) ns ≡ take (length ns) children)
-    (parents pending : List ℕ) (top i : ℕ) (h : i < length ns) (p : Passing ns parents pending top i) where
+module _ (ns : List Node) (shapes : List ℕ)
+    (counts : (i : ℕ) → i < length ns → kidCount shapes i ≡ getD (map (λ (m : Node). m .children) ns) i 0) (parents pending : List ℕ) (top i : ℕ) (h : i < length ns) (p : Passing ns parents pending top i) where
   abbrev rest : List Node
   rest = drop (suc i) ns
 
   abbrev kids : ℕ
-  kids = getD children i 0
+  kids = kidCount shapes i
 
   record FirstLeft : Type 0 where
     node : Node
@@ -55,10 +55,7 @@ module _ (ns : List Node) (children : List ℕ) (counts : map (λ (m : Node). m 
       record {
         node = getD ns i none;
         split = drop-cons ns i none h;
-        many =
-            sym (List·getD-map (λ (m : Node). m .children) ns i none)
-            ∙ ap (λ (l : List ℕ). getD l i 0) counts
-            ∙ getD-take (length ns) children i 0 h;
+        many = sym (counts i h ∙ List·getD-map (λ (m : Node). m .children) ns i none);
       }
 
   record RoomForKids : Type 0 where
@@ -134,21 +131,21 @@ passing-end ns parents pending top i h p =
     ∙ ap (λ (l : List Node). take i parents ++ parentsFrom i (drop top pending) l) (drop-of-length-le ns h)
     ∙ append-nil (take i parents))
 
--- the same over an array of child counts
-module _ {children : List ℕ} {n : ℕ} (q : CountedTree children n) {parents pending : List ℕ} {top i : ℕ} (long : length parents ≡ 2048)
+-- the same over an array of shapes
+module _ {shapes : List ℕ} {n : ℕ} (q : CountedTree shapes n) {parents pending : List ℕ} {top i : ℕ} (long : length parents ≡ 2048)
     (wide : length pending ≡ 2048) (few : n ≤ 2048) (h : i < n) (p : Passing (q .list) parents pending top i) where
-  counts : map (λ (m : Node). m .children) (q .list) ≡ take (length (q .list)) children
-  counts = q .counts ∙ ap (λ (k : ℕ). take k children) (sym (q .many))
+  counts : (i : ℕ) → i < length (q .list) → kidCount shapes i ≡ getD (map (λ (m : Node). m .children) (q .list)) i 0
+  counts i b = let m = q .many in q .counts i (omega arith)
 
-  pub step-room : (getD children i 0 ≤ top + 1) × (top < 2048)
+  pub step-room : (kidCount shapes i ≤ top + 1) × (top < 2048)
   step-room =
       let m = q .many in
-      let r = passing-room (q .list) children counts parents pending top i (omega arith) p (omega arith) in
+      let r = passing-room (q .list) shapes counts parents pending top i (omega arith) p (omega arith) in
       (r .0, omega arith)
 
-  pub step-next : (more : List ℕ) → more ≡ filled pending (top + 1 - getD children i 0) (top + 1) i
-      → Passing (q .list) (set parents i (getD pending top 0)) more (top + 1 - getD children i 0) (i + 1)
+  pub step-next : (more : List ℕ) → more ≡ filled pending (top + 1 - kidCount shapes i) (top + 1) i
+      → Passing (q .list) (set parents i (getD pending top 0)) more (top + 1 - kidCount shapes i) (i + 1)
   step-next more e =
       let m = q .many in
-      subst (λ (l : List ℕ). Passing (q .list) (set parents i (getD pending top 0)) l (top + 1 - getD children i 0) (i + 1)) (sym e)
-      (passing-next (q .list) children counts parents pending top i (omega arith) p (omega arith) (omega arith))
+      subst (λ (l : List ℕ). Passing (q .list) (set parents i (getD pending top 0)) l (top + 1 - kidCount shapes i) (i + 1)) (sym e)
+      (passing-next (q .list) shapes counts parents pending top i (omega arith) p (omega arith) (omega arith))

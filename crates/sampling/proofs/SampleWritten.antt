@@ -114,7 +114,8 @@ taken-place l c h m =
     let d : t < c = omega arith in
     (t, d, sym (getD-take c l t 0 d) ∙ at-else (take c l) t 0 at)
 
-module _ {s names sizes parents types firsts : List ℕ} {n count : ℕ} (q : SampleHeld s names sizes parents types firsts n count) where
+module _ {s names sizes shapes parents types firsts : List ℕ} {n count : ℕ}
+    (q : SampleHeld s names sizes shapes parents types firsts n count) where
   abbrev ns : List Node
   ns = q .whole .list
 
@@ -159,10 +160,10 @@ module _ {s names sizes parents types firsts : List ℕ} {n count : ℕ} (q : Sa
   unfolding gathered
   content-same k = ap (λ (l : List Content). choiceOf (distinct sameContent l)) (among-same k)
 
-  text-same : (k : ℕ) → textIn s names types n k ≡ textOfType ns d k
+  text-same : (k : ℕ) → textIn shapes types n k ≡ textOfType ns d k
   text-same k =
-      any-on (markIn s names) (markAt ns) (keep (λ (j : ℕ). eqb (getD types j 0) k) (numbersBelow n))
-      (λ i m. q .whole .marks-are i (numbers-below n i .0 (kept (λ (j : ℕ). eqb (getD types j 0) k) (numbersBelow n) m .0)))
+      any-on (markIn shapes) (markAt ns) (keep (λ (j : ℕ). eqb (getD types j 0) k) (numbersBelow n))
+      (λ i m. q .marks-are i (numbers-below n i .0 (kept (λ (j : ℕ). eqb (getD types j 0) k) (numbersBelow n) m .0)))
       ∙ ap (anyPass (markAt ns)) (of-type-same k)
 
   names-same : (i j : ℕ) → i < n → j < n → sameNameIn s names sizes i j ≡ sameNamed ns d i j
@@ -216,7 +217,7 @@ module _ {s names sizes parents types firsts : List ℕ} {n count : ℕ} (q : Sa
         taken-below x (subst (List·Memᴰ x) (sym firsts-same) (distinct-was (sameNamed ns d) (firstsOf ns d) m))
 
     abbrev rule : ℕ → Rule
-    rule = ruleIn s names parents types labels n
+    rule = ruleIn shapes parents types labels n
 
     rule-same : (t : ℕ) → t < count → rule t ≡ ruleOfNode ns d (getD firsts t 0)
     rule-same t h =
@@ -228,7 +229,7 @@ module _ {s names sizes parents types firsts : List ℕ} {n count : ℕ} (q : Sa
         ∙ ap (place (sameNameIn s names sizes) i) labels-distinct
         ∙ place-agree (sameNameIn s names sizes) (sameNamed ns d) i (labelNodes ns d) (λ y m. names-same i y b (labelled-below y m)) in
         let c : contentIn parents types n t ≡ contentOfType ns d (typeAt ns d i) = content-same t ∙ ap (contentOfType ns d) a in
-        let m : textIn s names types n t ≡ textOfType ns d (typeAt ns d i) = text-same t ∙ ap (textOfType ns d) a in
+        let m : textIn shapes types n t ≡ textOfType ns d (typeAt ns d i) = text-same t ∙ ap (textOfType ns d) a in
         λ k. record { type = a k; label = e k; content = c k; text = m k }
 
     labels-same : joinedOf (labelField s names sizes lfirsts) (numbersBelow lcount) ≡ joinedOf (fieldBytes 0x10) (map (nameAt ns) (labelNodes ns d))
@@ -303,8 +304,8 @@ module _ {s names sizes parents types firsts : List ℕ} {n count : ℕ} (q : Sa
         o
 
 -- what the writing asks of the arrays
-module _ {s names sizes parents types firsts : List ℕ} {n count : ℕ} (r : SampleReady s names sizes parents types firsts n count)
-    (few : count ≤ 128) where
+module _ {s names sizes shapes parents types firsts : List ℕ} {n count : ℕ}
+    (r : SampleReady s names sizes shapes parents types firsts n count) (few : count ≤ 128) where
   nodes-held : NodesHeld parents types n
   nodes-held =
       let w = r .held .whole in
@@ -322,16 +323,8 @@ module _ {s names sizes parents types firsts : List ℕ} {n count : ℕ} (r : Sa
         bytes = λ j k. let b = r .held .typed .small j k in omega arith;
       }
 
-  marks-held : MarksHeld s names types n
-  marks-held =
-      let w = r .held .whole in
-      record {
-        few = w .few;
-        names-held = w .names-held;
-        types-held = r .held .types-held;
-        behind = w .behind;
-        within = λ i h. let b = w .within i h in omega arith;
-      }
+  marks-held : MarksHeld shapes types n
+  marks-held = record { few = r .held .whole .few; shapes-held = r .held .shapes-held; types-held = r .held .types-held }
 
   keys-held : {keys : List ℕ} → 2048 ≤ length keys → (i : ℕ) → i < n → KeyAt s names sizes keys i
   keys-held long i h =
@@ -344,7 +337,7 @@ module _ {s names sizes parents types firsts : List ℕ} {n count : ℕ} (r : Sa
   pub firsts-keys : {keys : List ℕ} → 2048 ≤ length keys → KeysAt s names sizes keys firsts count
   firsts-keys long = record { few = r .held .firsts-held; each = λ t h. keys-held long (getD firsts t 0) (first-below (r .held) t h) }
 
-  pub rules-held : {labels : List ℕ} → count ≤ length labels → RulesHeld s names parents types labels n count
+  pub rules-held : {labels : List ℕ} → count ≤ length labels → RulesHeld shapes parents types labels n count
   rules-held held = record { nodes = nodes-held; marks = marks-held; few = few; labels-held = held }
 
   module _ {labels lfirsts : List ℕ} {lcount : ℕ} (l : LabelledTo s names sizes firsts labels lfirsts lcount count) where

@@ -16,34 +16,34 @@ use Rattle.theory.proofs.lists.ListLaws.{any-found, any-of, kept, keep-mem, num
 use Rattle.sampling.specs.SampleNodes.{markIn}
 use Rattle.sampling.specs.SampleTable.{textIn}
 
-module _ (s names types : List ℕ) (k : ℕ) where
+module _ (shapes types : List ℕ) (k : ℕ) where
   abbrev ofType : ℕ → Bool
   ofType j = eqb (getD types j 0) k
 
   -- the nodes of the type up to here hold no text
   abbrev pub NoText : ℕ → Type 0
-  NoText i = (j : ℕ) → j < i → getD types j 0 ≡ k → markIn s names j ≡ false
+  NoText i = (j : ℕ) → j < i → getD types j 0 ≡ k → markIn shapes j ≡ false
 
   pub text-none : NoText 0
   text-none j h = absurd (omega arith)
 
   module _ {i : ℕ} (so-far : NoText i) where
     pub text-other : (getD types i 0 ≡ k → ⊥) → NoText (i + 1)
-    text-other e = below-more (λ j. getD types j 0 ≡ k → markIn s names j ≡ false) i so-far (λ o. absurd (e o))
+    text-other e = below-more (λ j. getD types j 0 ≡ k → markIn shapes j ≡ false) i so-far (λ o. absurd (e o))
 
-    pub text-plain : markIn s names i ≡ false → NoText (i + 1)
-    text-plain e = below-more (λ j. getD types j 0 ≡ k → markIn s names j ≡ false) i so-far (λ o. e)
+    pub text-plain : markIn shapes i ≡ false → NoText (i + 1)
+    text-plain e = below-more (λ j. getD types j 0 ≡ k → markIn shapes j ≡ false) i so-far (λ o. e)
 
   module _ (n : ℕ) where
-    pub text-found : (i : ℕ) → i < n → getD types i 0 ≡ k → markIn s names i ≡ true → true ≡ textIn s names types n k
+    pub text-found : (i : ℕ) → i < n → getD types i 0 ≡ k → markIn shapes i ≡ true → true ≡ textIn shapes types n k
     text-found i h o e =
-        sym (any-of (markIn s names) (keep-mem ofType (numbers-below n i .1 h) (eq-eqb (getD types i 0) k o)) e)
+        sym (any-of (markIn shapes) (keep-mem ofType (numbers-below n i .1 h) (eq-eqb (getD types i 0) k o)) e)
 
-    pub text-absent : NoText n → false ≡ textIn s names types n k
+    pub text-absent : NoText n → false ≡ textIn shapes types n k
     text-absent none =
         sym
-        (false-of (textIn s names types n k)
+        (false-of (textIn shapes types n k)
         (λ e.
-        let (i, m, on) = any-found (markIn s names) (keep ofType (numbersBelow n)) e in
+        let (i, m, on) = any-found (markIn shapes) (keep ofType (numbersBelow n)) e in
         let (o, t) = kept ofType (numbersBelow n) m in
         not-both on (none i (numbers-below n i .0 o) (eqb-true (getD types i 0) k t))))

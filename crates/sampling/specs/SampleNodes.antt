@@ -1,10 +1,10 @@
 -- A document's nodes in file order: the parent of each, and the visit that comes to each. The nodes still to come are told apart by
 -- what their parents left for them, nearest first: a node takes what stands first, and leaves its own, once for each child.
-use Prim.Native.Nat.{ℕ, zero, suc, _+_, _-_, _≤_, _<_}
-use mathlib.Core.Bool.{Bool, true, false, _&&_}
+use Prim.Native.Nat.{ℕ, zero, suc, _+_, _-_, _%_, _≤_, _<_}
+use mathlib.Core.Bool.{Bool, false, _&&_}
 use mathlib.Core.List.{List, [], _∷_, _++_, map}
 use mathlib.Core.Path.{_≡_}
-use lib.Dec.{eqb}
+use lib.Dec.{eqb, leb}
 use lib.ListN.{length, getD, take, drop, replicate}
 use Rattle.grammar.specs.Lists.{anyPass, keep, distinct, place, numbersFrom, numbersBelow}
 use Rattle.grammar.specs.Names.{Name, sameName}
@@ -13,7 +13,7 @@ use Rattle.grammar.specs.ReadContent.{sameContent}
 use Rattle.grammar.specs.Outcome.{given}
 use Rattle.grammar.specs.Tree.{Tree}
 use Rattle.grammar.specs.Table.{Rule, Table}
-use Rattle.grammar.specs.ReadDocument.{nodeTag, Node, forestOf, firstTrees, treeOf}
+use Rattle.grammar.specs.ReadDocument.{Node, forestOf, firstTrees, treeOf}
 use Rattle.grammar.specs.Sample.{Visit, rootNames, samePath, sequenceOf}
 use Rattle.theory.specs.SamplePaths.{pathType}
 use Rattle.reader.specs.NodeTrees.{treeCount, Enough}
@@ -127,10 +127,17 @@ module _ (ns : List Node) (d : Tree) where
   abbrev pub sampleOfNodes : Table
   sampleOfNodes = record { labels = map (nameAt ns) labelNodes; starts = zero ∷ []; rules = map ruleOfNode firstsOf }
 
--- nodes of one tree, with the child counts that an array holds
-pub record CountedTree (children : List ℕ) (n : ℕ) : Type 0 where
+-- how many children a node has, and whether it holds text: its shape tells
+abbrev pub kidCount : List ℕ → ℕ → ℕ
+kidCount shapes i = getD shapes i 0 % 256
+
+abbrev pub markIn : List ℕ → ℕ → Bool
+markIn shapes i = leb 256 (getD shapes i 0)
+
+-- nodes of one tree, with the child counts that an array of shapes holds
+pub record CountedTree (shapes : List ℕ) (n : ℕ) : Type 0 where
   pub list : List Node
-  pub counts : map (λ (m : Node). m .children) list ≡ take n children
+  pub counts : (i : ℕ) → i < n → kidCount shapes i ≡ getD (map (λ (m : Node). m .children) list) i 0
   pub many : length list ≡ n
   pub one : treeCount list ≡ 1
   pub enough : Enough list
@@ -138,10 +145,6 @@ pub record CountedTree (children : List ℕ) (n : ℕ) : Type 0 where
 -- a node's name, where the arrays say
 abbrev pub nameIn : (s names sizes : List ℕ) → ℕ → Name
 nameIn s names sizes i = take (getD sizes i 0) (drop (getD names i 0) s)
-
--- whether a node holds text: its tag, four bytes before its name, tells
-abbrev pub markIn : (s names : List ℕ) → ℕ → Bool
-markIn s names i = eqb (getD s (getD names i 0 - 4) 0) (nodeTag true)
 
 -- equal keys and equal names
 abbrev pub sameKey : (s names sizes keys : List ℕ) → ℕ → ℕ → Bool
@@ -159,7 +162,7 @@ pub record KeysAt (s names sizes keys firsts : List ℕ) (count : ℕ) : Type 0 
   pub few : count ≤ length firsts
   pub each : (t : ℕ) → t < count → KeyAt s names sizes keys (getD firsts t 0)
 
--- The nodes that arrays hold are those of one tree: where the names stand, behind the nodes' tags, and what the parents are.
+-- The nodes that arrays hold are those of one tree: where the names stand, and what the parents are.
 pub record Whole (s names sizes parents : List ℕ) (n : ℕ) : Type 0 where
   pub list : List Node
   pub tree : Tree
@@ -168,9 +171,7 @@ pub record Whole (s names sizes parents : List ℕ) (n : ℕ) : Type 0 where
   pub enough : Enough list
   pub many : length list ≡ n
   pub names-are : (i : ℕ) → i < n → nameIn s names sizes i ≡ nameAt list i
-  pub marks-are : (i : ℕ) → i < n → markIn s names i ≡ markAt list i
   pub parents-are : take n parents ≡ parentsOf list
-  pub behind : (i : ℕ) → i < n → 4 ≤ getD names i 0
   pub within : (i : ℕ) → i < n → getD names i 0 + getD sizes i 0 ≤ length s
   pub few : n ≤ 2048
   pub names-held : n ≤ length names

@@ -17,34 +17,34 @@ use Rattle.grammar.specs.Size.{contentTooLarge}
 use Rattle.grammar.specs.Names.{Classes}
 use Rattle.grammar.specs.Outcome.{given, refused}
 use Rattle.grammar.specs.Tree.{Tree}
-use Rattle.grammar.specs.ReadDocument.{readNodes}
 use Rattle.grammar.specs.Sample.{sample}
 use Rattle.grammar.specs.Widen.{sampleTable}
+use Rattle.grammar.specs.declared.Format.{Format}
 use Rattle.grammar.specs.declared.Refusal.the-variants.{ResultTooLarge}
 use Rattle.theory.specs.Alternatives.{gathered}
 use Rattle.reader.specs.declared.documents.DocumentIndex.{DocumentIndex}
 use Rattle.reader.specs.ExprAt.{_upTo_, exprAt}
-use Rattle.reader.specs.DocumentNodes.{nodesIn, NodesIndexed}
+use Rattle.reader.specs.DocumentNodes.{nodesIn, readNodesAs, NodesIndexed}
 use Rattle.writer.specs.declared.writing.Drafted.{Drafted}
 use Rattle.writer.specs.declared.writing.Drafted.the-variants.{Length, TooLarge}
 use Rattle.writer.specs.Tables.{restBytes}
-use Rattle.sampling.specs.SampleNodes.{nameIn, markIn, kidsOf, Whole, TypedTo}
+use Rattle.sampling.specs.SampleNodes.{nameIn, markIn, markAt, kidsOf, Whole, TypedTo}
 use Rattle.sampling.specs.SampleContents.{NodesHeld, sequencesAmong, ruleEnd}
 
 -- the content of a type, whether any node of it holds text, and its rule
 abbrev pub contentIn : (parents types : List ℕ) → ℕ → ℕ → Content
 contentIn parents types n k = choiceOf (gathered [] (sequencesAmong parents types n k (numbersBelow n)))
 
-abbrev pub textIn : (s names types : List ℕ) → ℕ → ℕ → Bool
-textIn s names types n k = anyPass (markIn s names) (keep (λ (j : ℕ). eqb (getD types j 0) k) (numbersBelow n))
+abbrev pub textIn : (shapes types : List ℕ) → ℕ → ℕ → Bool
+textIn shapes types n k = anyPass (markIn shapes) (keep (λ (j : ℕ). eqb (getD types j 0) k) (numbersBelow n))
 
-abbrev pub ruleIn : (s names parents types labels : List ℕ) → ℕ → ℕ → Rule
-ruleIn s names parents types labels n k =
+abbrev pub ruleIn : (shapes parents types labels : List ℕ) → ℕ → ℕ → Rule
+ruleIn shapes parents types labels n k =
     record {
       type = k;
       label = getD labels k 0;
       content = contentIn parents types n k;
-      text = textIn s names types n k;
+      text = textIn shapes types n k;
     }
 
 -- the content stands in a draft from the second place on; or it is too large
@@ -53,13 +53,11 @@ ContentMade draft c (Length stop) =
     (exprAt draft 2 ≡ just (c upTo stop)) × (stop ≤ ruleEnd) × (contentTooLarge large c ≡ false)
 ContentMade draft c TooLarge = contentTooLarge large c ≡ true
 
--- the arrays hold the types of nodes, and where their tags stand
-pub record MarksHeld (s names types : List ℕ) (n : ℕ) : Type 0 where
+-- the arrays hold the shapes and the types of nodes
+pub record MarksHeld (shapes types : List ℕ) (n : ℕ) : Type 0 where
   pub few : n ≤ 2048
-  pub names-held : n ≤ length names
+  pub shapes-held : n ≤ length shapes
   pub types-held : n ≤ length types
-  pub behind : (i : ℕ) → i < n → 4 ≤ getD names i 0
-  pub within : (i : ℕ) → i < n → getD names i 0 ≤ length s
 
 -- the field of a label, by number
 abbrev pub labelField : (s names sizes firsts : List ℕ) → ℕ → List ℕ
@@ -70,16 +68,18 @@ abbrev pub startBytes : (ℕ → Rule) → ℕ → List ℕ
 startBytes rule count = fieldBytes startTag (0 ∷ []) ++ restBytes rule count
 
 -- the arrays hold what the rules are made of: the nodes, and the label of each type
-pub record RulesHeld (s names parents types labels : List ℕ) (n count : ℕ) : Type 0 where
+pub record RulesHeld (shapes parents types labels : List ℕ) (n count : ℕ) : Type 0 where
   pub nodes : NodesHeld parents types n
-  pub marks : MarksHeld s names types n
+  pub marks : MarksHeld shapes types n
   pub few : count ≤ 128
   pub labels-held : count ≤ length labels
 
 -- the arrays hold the nodes of a tree and their types
-pub record SampleHeld (s names sizes parents types firsts : List ℕ) (n count : ℕ) : Type 0 where
+pub record SampleHeld (s names sizes shapes parents types firsts : List ℕ) (n count : ℕ) : Type 0 where
   pub whole : Whole s names sizes parents n
+  pub marks-are : (i : ℕ) → i < n → markIn shapes i ≡ markAt (whole .list) i
   pub typed : TypedTo (whole .list) (whole .tree) types firsts count n
+  pub shapes-held : n ≤ length shapes
   pub types-held : n ≤ length types
   pub firsts-held : count ≤ length firsts
 
@@ -92,13 +92,14 @@ SampleDrafted lim d before after (Length n) =
     × (n ≤ inputLimit)
 SampleDrafted lim d before after TooLarge = sampleTable lim d ≡ refused ResultTooLarge
 
--- a document's nodes, read under some classes, are those that an index holds
+-- a document's nodes, read under some classes from some format, are those that an index holds
 pub record HoldsNodes (lim : Limits) (s : List ℕ) (ix : DocumentIndex) : Type 0 where
   pub classes : Classes
-  pub reads : readNodes lim classes s ≡ given (nodesIn s ix)
-  pub indexed : NodesIndexed s (ix .names) (ix .sizes) (ix .children) (ix .nodes)
+  pub format : Format
+  pub reads : readNodesAs lim classes format s ≡ given (nodesIn s ix)
+  pub indexed : NodesIndexed s (ix .names) (ix .sizes) (ix .shapes) (ix .nodes)
 
 -- the arrays hold the nodes of a tree and their types, and no node has too many children
-pub record SampleReady (s names sizes parents types firsts : List ℕ) (n count : ℕ) : Type 0 where
-  pub held : SampleHeld s names sizes parents types firsts n count
+pub record SampleReady (s names sizes shapes parents types firsts : List ℕ) (n count : ℕ) : Type 0 where
+  pub held : SampleHeld s names sizes shapes parents types firsts n count
   pub kids-few : (i : ℕ) → i < n → length (kidsOf (held .whole .list) i) ≤ childLimit

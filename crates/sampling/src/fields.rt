@@ -55,8 +55,7 @@ fn put_rest(
     draft: &mut [u8],
     at: usize,
     scratch: &mut [u8],
-    s: &[u8],
-    names: &[u16],
+    shapes: &[u16],
     parents: &[u16],
     types: &[u16],
     nodes: usize,
@@ -64,19 +63,18 @@ fn put_rest(
     count: usize,
 ) -> Drafted
     requires { ⌜ (at ≤ inputLimit) × (inputLimit ≤ length (now draft)) × (scratchBytes ≤ length (now scratch))
-        × RulesHeld (now s) (now names) (now parents) (now types) (now labels) nodes count ⌝ }
+        × RulesHeld (now shapes) (now parents) (now types) (now labels) nodes count ⌝ }
     ensures { λ r. ⌜ TablePut (now (draft .entry)) at
-        (ruleIn (now (s .entry)) (now (names .entry)) (now (parents .entry)) (now (types .entry)) (now (labels .entry)) nodes) count
+        (ruleIn (now (shapes .entry)) (now (parents .entry)) (now (types .entry)) (now (labels .entry)) nodes) count
         (restBytes
-        (ruleIn (now (s .entry)) (now (names .entry)) (now (parents .entry)) (now (types .entry)) (now (labels .entry)) nodes) count)
+        (ruleIn (now (shapes .entry)) (now (parents .entry)) (now (types .entry)) (now (labels .entry)) nodes) count)
         (now (draft .exit)) r ⌝ }
 {
     match put_rules(
         draft,
         at,
         scratch,
-        s,
-        names,
+        shapes,
         parents,
         types,
         nodes,
@@ -93,8 +91,7 @@ pub fn put_start(
     draft: &mut [u8],
     at: usize,
     scratch: &mut [u8],
-    s: &[u8],
-    names: &[u16],
+    shapes: &[u16],
     parents: &[u16],
     types: &[u16],
     nodes: usize,
@@ -102,11 +99,11 @@ pub fn put_start(
     count: usize,
 ) -> Drafted
     requires { ⌜ (at ≤ inputLimit) × (inputLimit ≤ length (now draft)) × (scratchBytes ≤ length (now scratch))
-        × RulesHeld (now s) (now names) (now parents) (now types) (now labels) nodes count ⌝ }
+        × RulesHeld (now shapes) (now parents) (now types) (now labels) nodes count ⌝ }
     ensures { λ r. ⌜ TablePut (now (draft .entry)) at
-        (ruleIn (now (s .entry)) (now (names .entry)) (now (parents .entry)) (now (types .entry)) (now (labels .entry)) nodes) count
+        (ruleIn (now (shapes .entry)) (now (parents .entry)) (now (types .entry)) (now (labels .entry)) nodes) count
         (startBytes
-        (ruleIn (now (s .entry)) (now (names .entry)) (now (parents .entry)) (now (types .entry)) (now (labels .entry)) nodes) count)
+        (ruleIn (now (shapes .entry)) (now (parents .entry)) (now (types .entry)) (now (labels .entry)) nodes) count)
         (now (draft .exit)) r ⌝ }
 {
     let root = [0u8; 1];
@@ -116,8 +113,7 @@ pub fn put_start(
             draft,
             end,
             scratch,
-            s,
-            names,
+            shapes,
             parents,
             types,
             nodes,

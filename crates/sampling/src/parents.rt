@@ -19,9 +19,9 @@ fn leave(pending: &mut [u16], from: usize, to: usize, number: u16)
 }
 
 // The parent of each node; the root counts as its own. What the parents left for the nodes to come stands at the end, nearest first.
-pub fn parents_of(children: &[u16], nodes: usize) -> [u16; 2048]
-    requires { ⌜ (nodes ≤ 2048) × (nodes ≤ length (now children)) × CountedTree (now children) nodes ⌝ }
-    ensures { λ r. ⌜ ((q : CountedTree (now (children .entry)) nodes) → take nodes r ≡ parentsOf (q .list)) ⌝ }
+pub fn parents_of(shapes: &[u16], nodes: usize) -> [u16; 2048]
+    requires { ⌜ (nodes ≤ 2048) × (nodes ≤ length (now shapes)) × CountedTree (now shapes) nodes ⌝ }
+    ensures { λ r. ⌜ ((q : CountedTree (now (shapes .entry)) nodes) → take nodes r ≡ parentsOf (q .list)) ⌝ }
 {
     let mut parents = [0u16; 2048];
     let mut pending = [0u16; 2048];
@@ -29,7 +29,7 @@ pub fn parents_of(children: &[u16], nodes: usize) -> [u16; 2048]
     let mut i: usize = 0;
     while i < nodes {
         parents[i] = pending[top];
-        let rest = top + 1 - children[i] as usize;
+        let rest = top + 1 - shapes[i] as usize % 256;
         leave(&mut pending, rest, top + 1, i as u16);
         top = rest;
         i += 1;

@@ -44,8 +44,7 @@ pub fn put_rules(
     draft: &mut [u8],
     at: usize,
     scratch: &mut [u8],
-    s: &[u8],
-    names: &[u16],
+    shapes: &[u16],
     parents: &[u16],
     types: &[u16],
     nodes: usize,
@@ -53,16 +52,16 @@ pub fn put_rules(
     count: usize,
 ) -> Drafted
     requires { ⌜ (at ≤ inputLimit) × (inputLimit ≤ length (now draft)) × (scratchBytes ≤ length (now scratch))
-        × RulesHeld (now s) (now names) (now parents) (now types) (now labels) nodes count ⌝ }
+        × RulesHeld (now shapes) (now parents) (now types) (now labels) nodes count ⌝ }
     ensures { λ r. ⌜ RulesPut (now (draft .entry)) at
-        (ruleIn (now (s .entry)) (now (names .entry)) (now (parents .entry)) (now (types .entry)) (now (labels .entry)) nodes) count
+        (ruleIn (now (shapes .entry)) (now (parents .entry)) (now (types .entry)) (now (labels .entry)) nodes) count
         (now (draft .exit)) r ⌝ }
 {
     let mut end = at;
     let mut k: usize = 0;
     while k < count {
         let l = labels[k];
-        let text = type_text(s, names, types, nodes, k);
+        let text = type_text(shapes, types, nodes, k);
         match put_rule(draft, end, scratch, parents, types, nodes, k, l, text) {
             Drafted::TooLarge => {
                 return Drafted::TooLarge;

@@ -8,16 +8,15 @@ use crate::paths::types_of;
 use grammar::SizeLimits;
 use reader::documents::DocumentIndex;
 use writer::writing::Drafted;
-ghost use Prim.Native.Nat.{ℕ, _≤_};
+ghost use Prim.Native.Nat.{_≤_};
 ghost use mathlib.Core.Path.{_≡_};
-ghost use lib.ListN.{length, getD};
+ghost use lib.ListN.{length};
 ghost use Rattle.grammar.specs.Limits.{inputLimit};
 ghost use Rattle.grammar.specs.LimitSets.{limitsOf, Within};
 ghost use Rattle.grammar.specs.Outcome.{given};
 ghost use Rattle.grammar.specs.Tree.{Tree};
 ghost use Rattle.grammar.specs.ReadDocument.{treeOf};
 ghost use Rattle.reader.specs.DocumentNodes.{nodesIn};
-ghost use Rattle.sampling.specs.SampleContents.{scratchBytes};
 ghost use Rattle.sampling.specs.SampleTable.{SampleHeld, SampleReady, SampleDrafted, HoldsNodes};
 
 // Writes the sample of nodes whose types are found, unless there are too many types.
@@ -27,36 +26,35 @@ fn write_sample(
     s: &[u8],
     names: &[u16],
     sizes: &[u16],
+    shapes: &[u16],
     parents: &[u16],
     types: &[u16],
     firsts: &[u16],
-    keys: &[u16],
-    scratch: &mut [u8],
     nodes: usize,
     count: usize,
 ) -> Drafted
     requires { ⌜ Within limits ⌝ }
-    requires { ⌜ (inputLimit ≤ length (now draft)) × (scratchBytes ≤ length (now scratch)) × (2048 ≤ length (now keys))
-        × ((i : ℕ) → getD (now keys) i 0 ≡ 0)
-        × SampleReady (now s) (now names) (now sizes) (now parents) (now types) (now firsts) nodes count ⌝ }
-    ensures { λ r. ⌜ ((q : SampleHeld (now (s .entry)) (now (names .entry)) (now (sizes .entry)) (now (parents .entry))
-        (now (types .entry)) (now (firsts .entry)) nodes count)
+    requires { ⌜ (inputLimit ≤ length (now draft))
+        × SampleReady (now s) (now names) (now sizes) (now shapes) (now parents) (now types) (now firsts) nodes count ⌝ }
+    ensures { λ r. ⌜ ((q : SampleHeld (now (s .entry)) (now (names .entry)) (now (sizes .entry)) (now (shapes .entry))
+        (now (parents .entry)) (now (types .entry)) (now (firsts .entry)) nodes count)
         → SampleDrafted (limitsOf limits) (q .whole .tree) (now (draft .entry)) (now (draft .exit)) r) ⌝ }
 {
     if limits.rules < count {
         return Drafted::TooLarge;
     }
-    let found = labels_of(s, names, sizes, keys, firsts, count);
+    let keys = [0u16; 2048];
+    let found = labels_of(s, names, sizes, &keys, firsts, count);
     let labels = found.of;
     let named = found.firsts;
-    match put_labels(draft, s, names, sizes, keys, &named, found.count) {
+    let mut scratch = [0u8; SCRATCH];
+    match put_labels(draft, s, names, sizes, &keys, &named, found.count) {
         Drafted::TooLarge => Drafted::TooLarge,
         Drafted::Length(end) => put_start(
             draft,
             end,
-            scratch,
-            s,
-            names,
+            &mut scratch,
+            shapes,
             parents,
             types,
             nodes,
@@ -80,25 +78,22 @@ pub fn sample_table(
 {
     let names = index.names;
     let sizes = index.sizes;
-    let children = index.children;
+    let shapes = index.shapes;
     let nodes = index.nodes;
-    let parents = parents_of(&children, nodes);
+    let parents = parents_of(&shapes, nodes);
     let types = types_of(document, &names, &sizes, &parents, nodes);
     let of = types.of;
     let firsts = types.firsts;
-    let keys = [0u16; 2048];
-    let mut scratch = [0u8; SCRATCH];
     write_sample(
         limits,
         draft,
         document,
         &names,
         &sizes,
+        &shapes,
         &parents,
         &of,
         &firsts,
-        &keys,
-        &mut scratch,
         nodes,
         types.count,
     )

@@ -1,24 +1,22 @@
 // Whether a type of a sample is for text: any of its nodes holds text.
-use reader::tags::TEXT_NODE_TAG;
-ghost use Prim.Native.Nat.{_≤_, _<_};
+ghost use Prim.Native.Nat.{_<_};
 ghost use mathlib.Core.Path.{_≡_};
-ghost use lib.ListN.{length, getD};
+ghost use lib.ListN.{length};
 ghost use Rattle.sampling.specs.SampleNodes.{markIn};
 ghost use Rattle.sampling.specs.SampleTable.{textIn, MarksHeld};
 
-// Whether a node holds text: its tag, four bytes before its name, tells.
-fn holds_text(s: &[u8], names: &[u16], i: usize) -> bool
-    requires { ⌜ (i < length (now names)) × (4 ≤ getD (now names) i 0) × (getD (now names) i 0 ≤ length (now s)) ⌝ }
-    ensures { λ r. ⌜ r ≡ markIn (now (s .entry)) (now (names .entry)) i ⌝ }
+// Whether a node holds text: its shape tells.
+fn holds_text(shapes: &[u16], i: usize) -> bool
+    requires { ⌜ i < length (now shapes) ⌝ }
+    ensures { λ r. ⌜ r ≡ markIn (now (shapes .entry)) i ⌝ }
 {
-    let from = names[i] as usize;
-    s[from - 4] == TEXT_NODE_TAG
+    256 <= shapes[i]
 }
 
 // Whether any node of a type holds text.
-pub fn type_text(s: &[u8], names: &[u16], types: &[u16], nodes: usize, k: usize) -> bool
-    requires { ⌜ MarksHeld (now s) (now names) (now types) nodes ⌝ }
-    ensures { λ r. ⌜ r ≡ textIn (now (s .entry)) (now (names .entry)) (now (types .entry)) nodes k ⌝ }
+pub fn type_text(shapes: &[u16], types: &[u16], nodes: usize, k: usize) -> bool
+    requires { ⌜ MarksHeld (now shapes) (now types) nodes ⌝ }
+    ensures { λ r. ⌜ r ≡ textIn (now (shapes .entry)) (now (types .entry)) nodes k ⌝ }
 {
     let mut i: usize = 0;
     while i < nodes {
@@ -26,7 +24,7 @@ pub fn type_text(s: &[u8], names: &[u16], types: &[u16], nodes: usize, k: usize)
             i += 1;
             continue;
         }
-        if holds_text(s, names, i) {
+        if holds_text(shapes, i) {
             return true;
         }
         i += 1;

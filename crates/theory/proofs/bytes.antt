@@ -4,10 +4,15 @@ pub mod ReadSteps
 pub mod NodeSteps
 pub mod TableBytes
 pub mod DocumentBytes
+pub mod TextTags
+pub mod TextElements
+pub mod TextWithin
 pub mod ReadWithin
 pub mod ClassLaws
 pub mod WrittenBytes
 pub mod DocumentWithin
+pub mod TreeRead
+pub mod TextBytes
 pub mod CountedTables
 pub mod NumberedTable
 pub mod FormsNumbered

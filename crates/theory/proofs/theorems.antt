@@ -8,3 +8,4 @@ pub mod CallPromises
 pub mod SizedPromises
 pub mod AnyLimits
 pub mod PaperTheorem
+pub mod TextTheorem

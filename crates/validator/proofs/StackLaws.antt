@@ -1,6 +1,6 @@
 -- The stack of type sets: from a word on, set by set, stand the types of the trees of the nodes from a place on (`Stacked`). One node more
 -- takes its children's sets and leaves its own (`stack-next`); when all nodes are gone through, the root's set is left (`stack-root`).
-use Prim.Native.Nat.{ℕ, zero, suc, _+_, _*_, _-_, _≤_, _<_}
+use Prim.Native.Nat.{ℕ, zero, suc, _+_, _*_, _-_, _%_, _≤_, _<_}
 use native.Mathlib.Omega.{arith}
 use native.Mathlib.Nat.{add-zero}
 use native.Mathlib.Numerals.{add-one}
@@ -23,7 +23,7 @@ use Rattle.sets.specs.Sets.{member, wordsAt, storeAt}
 use Rattle.sets.proofs.FourWords.{four-stored}
 use Rattle.sets.proofs.SetLaws.{length-words, word-of, words-store, drop-store}
 use Rattle.reader.proofs.DocumentAnswers.{nodes-count, node-held}
-use Rattle.reader.specs.DocumentNodes.{headAt, nodeAt, nodesIn}
+use Rattle.reader.specs.DocumentNodes.{nodeAt, nodesIn}
 use Rattle.reader.specs.declared.documents.DocumentIndex.{DocumentIndex}
 use Rattle.reader.specs.NodeTrees.{treeCount}
 use Rattle.reader.proofs.DocumentTrees.{trees-few, enough-at}
@@ -147,7 +147,7 @@ stack-root g ns words top one stacked t e = go (forestOf ns) refl
 module _ (d : List ℕ) (nodes : DocumentIndex) (known : KnownNodes d nodes) (i at : ℕ) (before : at + 1 ≡ i)
     (inside : i ≤ nodes .nodes) where
   round-node : Node
-  round-node = nodeAt d (nodes .names) (nodes .sizes) (nodes .children) at
+  round-node = nodeAt d (nodes .names) (nodes .sizes) (nodes .shapes) at
 
   round-held : getElem? (nodesIn d nodes) at ≡ just round-node
   unfolding round-node
@@ -159,13 +159,13 @@ module _ (d : List ℕ) (nodes : DocumentIndex) (known : KnownNodes d nodes) (i 
       ∙ ap₂ (λ (n : Node) (k : ℕ). n ∷ drop k (nodesIn d nodes)) (at-else (nodesIn d nodes) at round-node round-held)
       (sym (add-one at) ∙ before)
 
-  pub round-enough : getD (nodes .children) at 0 ≤ treeCount (drop i (nodesIn d nodes))
+  pub round-enough : getD (nodes .shapes) at 0 % 256 ≤ treeCount (drop i (nodesIn d nodes))
   unfolding round-node
   round-enough =
-      subst (λ (k : ℕ). getD (nodes .children) at 0 ≤ treeCount (drop k (nodesIn d nodes))) (sym (add-one at) ∙ before)
+      subst (λ (k : ℕ). getD (nodes .shapes) at 0 % 256 ≤ treeCount (drop k (nodesIn d nodes))) (sym (add-one at) ∙ before)
       (enough-at (nodesIn d nodes) at round-node (known .enough) round-held)
 
-  pub round-count : treeCount (drop at (nodesIn d nodes)) ≡ suc (treeCount (drop i (nodesIn d nodes)) - getD (nodes .children) at 0)
+  pub round-count : treeCount (drop at (nodesIn d nodes)) ≡ suc (treeCount (drop i (nodesIn d nodes)) - getD (nodes .shapes) at 0 % 256)
   unfolding treeCount round-node
   round-count = ap treeCount round-drop
 
@@ -178,10 +178,10 @@ module _ (d : List ℕ) (nodes : DocumentIndex) (known : KnownNodes d nodes) (i 
 
   -- the node's set was made before its children's, and then brought to its place
   pub round-stacked : (g : Table) (words made after : List ℕ) (top base to : ℕ)
-      → Stacked g (drop i (nodesIn d nodes)) words top → base + 4 ≡ top → to ≡ base + 4 * getD (nodes .children) at 0
+      → Stacked g (drop i (nodesIn d nodes)) words top → base + 4 ≡ top → to ≡ base + 4 * (getD (nodes .shapes) at 0 % 256)
       → setAt made base
-      ≡ holds (typesFor g (headAt d (getD (nodes .names) at 0) (getD (nodes .sizes) at 0))
-      (testsAt words (base + 4) (getD (nodes .children) at 0)) (g .rules))
+      ≡ holds (typesFor g (nodeAt d (nodes .names) (nodes .sizes) (nodes .shapes) at .head)
+      (testsAt words (base + 4) (getD (nodes .shapes) at 0 % 256)) (g .rules))
       → drop (base + 4) made ≡ drop (base + 4) words
       → Brought made base to after → Stacked g (drop at (nodesIn d nodes)) after to
   unfolding round-node
@@ -190,15 +190,15 @@ module _ (d : List ℕ) (nodes : DocumentIndex) (known : KnownNodes d nodes) (i 
       (stack-next g round-node (drop i (nodesIn d nodes)) words top round-enough stacked after to (omega arith)
       (brought .there
       ∙ types
-      ∙ ap (λ (k : ℕ). holds (typesFor g (round-node .head) (testsAt words k (getD (nodes .children) at 0)) (g .rules))) place)
+      ∙ ap (λ (k : ℕ). holds (typesFor g (round-node .head) (testsAt words k (getD (nodes .shapes) at 0 % 256)) (g .rules))) place)
       (brought .behind ∙ drop-behind words made (base + 4) kept (to + 4) (omega arith)))
 
 -- there is room for the set of the node before a place, before its children's sets and at its place
-pub round-room : (d names sizes children : List ℕ) (n i top : ℕ) (known : KnownNodes d (indexOf names sizes children n)) → 0 < i → i ≤ n
-    → top + 4 * treeCount (drop i (nodesIn d (indexOf names sizes children n))) ≡ 4 * n
-    → (4 ≤ top) × (top + 4 * getD children (i - 1) 0 ≤ 4 * n) × (n ≤ 2048)
-round-room d names sizes children n i top known some inside e =
-    let nodes = indexOf names sizes children n in
+pub round-room : (d names sizes shapes : List ℕ) (n i top : ℕ) (known : KnownNodes d (indexOf names sizes shapes n)) → 0 < i → i ≤ n
+    → top + 4 * treeCount (drop i (nodesIn d (indexOf names sizes shapes n))) ≡ 4 * n
+    → (4 ≤ top) × (top + 4 * (getD shapes (i - 1) 0 % 256) ≤ 4 * n) × (n ≤ 2048)
+round-room d names sizes shapes n i top known some inside e =
+    let nodes = indexOf names sizes shapes n in
     let before : i - 1 + 1 ≡ i = omega arith in
     let enough = round-enough d nodes known i (i - 1) before inside in
     let trees = round-few d nodes known i (i - 1) before inside in

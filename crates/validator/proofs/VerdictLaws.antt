@@ -14,9 +14,11 @@ use Rattle.grammar.specs.Answers.{verdictNumbers, numbersOf, bit, verdict}
 use Rattle.grammar.specs.Calls.{workAfter, after, answered, tableReads, tableLetsIn, tableIsOfKind}
 use Rattle.grammar.specs.Promises.{Membership, KindTest}
 use Rattle.grammar.specs.ReadTable.{readTable}
-use Rattle.grammar.specs.ReadDocument.{readDocument, treeOf}
+use Rattle.grammar.specs.ReadDocument.{treeOf}
+use Rattle.grammar.specs.Documents.{readDocument}
 use Rattle.grammar.specs.Membership.{letsIn}
 use Rattle.grammar.specs.KindTests.{isOfKind}
+use Rattle.grammar.specs.declared.Format.{Format}
 use Rattle.grammar.specs.declared.Refusal.{Refusal}
 use Rattle.grammar.specs.declared.Refusal.the-variants.{WorkTooShort, BadClasses}
 use Rattle.grammar.specs.declared.Reading.{Reading}
@@ -50,62 +52,64 @@ module _ (lim : Limits) (o : Outcome Bool) (work : List ℕ) where
       left-as lim bit o work (verdictNumbers answer) left (ap verdictNumbers a ∙ verdict-numbers same ∙ ap (numbersOf bit) (sym e)) w
 
 -- letting in
-module _ (lim : Limits) (classes : Classes) (table document : List ℕ) where
-  lets-in-short : (work : List ℕ) → length work < lim .words → tableLetsIn lim classes table document work ≡ refused WorkTooShort
+module _ (lim : Limits) (classes : Classes) (table : List ℕ) (format : Format) (document : List ℕ) where
+  lets-in-short : (work : List ℕ) → length work < lim .words → tableLetsIn lim classes table format document work ≡ refused WorkTooShort
   unfolding tableLetsIn tableReads
   lets-in-short work h =
-      ap (λ (o : Outcome Table). o >>= λ g. (readDocument lim classes document >>= λ d. given (letsIn g d)))
+      ap (λ (o : Outcome Table). o >>= λ g. (readDocument lim classes format document >>= λ d. given (letsIn g d)))
       (lent-short lim work (loaded classes (readTable lim classes table)) h)
 
   lets-in-enough : (work : List ℕ) → lim .words ≤ length work
-      → tableLetsIn lim classes table document work ≡ letsInOf lim classes table document
+      → tableLetsIn lim classes table format document work ≡ letsInOf lim classes table format document
   unfolding tableLetsIn tableReads letsInOf
   lets-in-enough work h =
-      ap (λ (o : Outcome Table). o >>= λ g. (readDocument lim classes document >>= λ d. given (letsIn g d)))
+      ap (λ (o : Outcome Table). o >>= λ g. (readDocument lim classes format document >>= λ d. given (letsIn g d)))
       (lent-enough lim work (loaded classes (readTable lim classes table)) h)
       ∙ loaded-then classes (readTable lim classes table) _
 
-  pub unloaded-refuses : loads classes ≡ false → Undecided BadClasses ≡ verdict (letsInOf lim classes table document)
+  pub unloaded-refuses : loads classes ≡ false → Undecided BadClasses ≡ verdict (letsInOf lim classes table format document)
   unfolding letsInOf verdict
   unloaded-refuses e = sym (ap verdict (unloaded-is classes _ e))
 
   module _ (load : Loads classes) (r : Reading) (index : List ℕ) (so : Reads table (readTable lim classes table) r index) where
-    pub table-refuses : (q : Refusal) → r ≡ Unreadable q → Undecided q ≡ verdict (letsInOf lim classes table document)
+    pub table-refuses : (q : Refusal) → r ≡ Unreadable q → Undecided q ≡ verdict (letsInOf lim classes table format document)
     unfolding letsInOf verdict
     table-refuses q e =
         sym (ap verdict (loaded-is classes _ load)
-        ∙ ap (λ (o : Outcome Table). verdict (o >>= λ g. (readDocument lim classes document >>= λ d. given (letsIn g d))))
+        ∙ ap (λ (o : Outcome Table). verdict (o >>= λ g. (readDocument lim classes format document >>= λ d. given (letsIn g d))))
         (table-refused lim classes table r index so q e))
 
-    module _ (e : r ≡ Readable) (f : DocumentRead) (reads : DocumentReads lim classes document f) where
+    module _ (e : r ≡ Readable) (f : DocumentRead) (reads : DocumentReads lim classes format document f) where
       found : TableFound lim classes table index
       found = table-found lim classes table r index so load e
 
-      lets-in-from : (o : Outcome Tree) → readDocument lim classes document ≡ o
-          → letsInOf lim classes table document ≡ (o >>= λ d. given (letsIn (found .some .table) d))
+      lets-in-from : (o : Outcome Tree) → readDocument lim classes format document ≡ o
+          → letsInOf lim classes table format document ≡ (o >>= λ d. given (letsIn (found .some .table) d))
       unfolding letsInOf
       lets-in-from o p =
           loaded-is classes _ load
           ∙ given-then (readTable lim classes table) (found .some .table)
-          (λ g. (readDocument lim classes document >>= λ d. given (letsIn g d))) (found .read)
+          (λ g. (readDocument lim classes format document >>= λ d. given (letsIn g d))) (found .read)
           ∙ ap (λ (x : Outcome Tree). x >>= λ d. given (letsIn (found .some .table) d)) p
 
-      pub document-refuses : (q : Refusal) → f .answer ≡ Unreadable q → Undecided q ≡ verdict (letsInOf lim classes table document)
+      pub document-refuses : (q : Refusal) → f .answer ≡ Unreadable q → Undecided q ≡ verdict (letsInOf lim classes table format document)
       unfolding verdict
-      document-refuses q p = sym (ap verdict (lets-in-from (refused q) (document-unread lim classes document f reads q p)))
+      document-refuses q p = sym (ap verdict (lets-in-from (refused q) (document-unread lim classes format document f reads q p)))
 
       module _ (p : f .answer ≡ Readable) where
         pub nodes-known : KnownNodes document (f .index)
         nodes-known =
-            let c = complete lim classes document (nodesIn document (f .index)) (nodes-read lim classes document f reads p) in
+            let read = nodes-read lim classes format document f reads p in
+            let c = complete lim classes format document (nodesIn document (f .index)) read in
             record { indexed = reads .indexed; one-tree = c .0; enough = c .1 }
 
         pub decided : NoneAbove lim large → (answer : Verdict) (says-yes : Bool) → answer ≡ verdict (given says-yes)
             → ((g : Table) → Held large table index g → (t : Tree) → treeOf (nodesIn document (f .index)) ≡ given t
             → says-yes ≡ letsIn g t)
-            → answer ≡ verdict (letsInOf lim classes table document)
+            → answer ≡ verdict (letsInOf lim classes table format document)
         decided none-above answer says-yes a says =
-            let t = document-tree lim classes document (nodesIn document (f .index)) (nodes-read lim classes document f reads p) in
+            let read = nodes-read lim classes format document f reads p in
+            let t = document-tree lim classes format document (nodesIn document (f .index)) read in
             a
             ∙ ap (λ (b : Bool). verdict (given b)) (says (found .some .table) (held-roomier none-above (found .some .held)) (t .0) (t .1))
             ∙ sym (ap verdict (lets-in-from (given (t .0)) (t .2)))
@@ -158,15 +162,17 @@ module _ (lim : Limits) (classes : Classes) (kind : Kind) (table : List ℕ) whe
         (so-answered lim _ work (isOfKindOf lim classes kind table) (kind-enough work h) left w answer a)
 
 -- the whole call of membership
-module _ (lim : Limits) (classes : Classes) (table document work : List ℕ) where
+module _ (lim : Limits) (classes : Classes) (table : List ℕ) (format : Format) (document work : List ℕ) where
   pub lets-in-unanswered : length work < lim .words
-      → Membership lim classes table document work (after (verdictNumbers (Undecided WorkTooShort)) [] work)
+      → Membership lim classes table format document work (after (verdictNumbers (Undecided WorkTooShort)) [] work)
   lets-in-unanswered h =
-      membership lim classes table document work _ (unanswered lim _ work (lets-in-short lim classes table document work h) h)
+      membership lim classes table format document work _
+      (unanswered lim _ work (lets-in-short lim classes table format document work h) h)
 
   pub lets-in-answered : lim .words ≤ length work → (left : List ℕ) → left ≡ workAfter lim work → (answer : Verdict)
-      → answer ≡ verdict (letsInOf lim classes table document)
-      → Membership lim classes table document work (after (verdictNumbers answer) [] left)
+      → answer ≡ verdict (letsInOf lim classes table format document)
+      → Membership lim classes table format document work (after (verdictNumbers answer) [] left)
   lets-in-answered h left w answer a =
-      membership lim classes table document work _
-      (so-answered lim _ work (letsInOf lim classes table document) (lets-in-enough lim classes table document work h) left w answer a)
+      membership lim classes table format document work _
+      (so-answered lim _ work (letsInOf lim classes table format document)
+      (lets-in-enough lim classes table format document work h) left w answer a)

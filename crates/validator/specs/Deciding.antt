@@ -7,16 +7,17 @@ use Rattle.grammar.specs.Names.{Classes, loads}
 use Rattle.grammar.specs.Kinds.{Kind}
 use Rattle.grammar.specs.Outcome.{Outcome, given, _>>=_, _>>_, turnBack}
 use Rattle.grammar.specs.ReadTable.{readTable}
-use Rattle.grammar.specs.ReadDocument.{readDocument}
+use Rattle.grammar.specs.Documents.{readDocument}
 use Rattle.grammar.specs.Membership.{letsIn}
 use Rattle.grammar.specs.KindTests.{isOfKind}
+use Rattle.grammar.specs.declared.Format.{Format}
 use Rattle.grammar.specs.declared.Refusal.the-variants.{BadClasses}
 
-unfoldable pub letsInOf : Limits → Classes → (table document : List ℕ) → Outcome Bool
-letsInOf lim classes table document = do
+unfoldable pub letsInOf : Limits → Classes → (table : List ℕ) → Format → (document : List ℕ) → Outcome Bool
+letsInOf lim classes table format document = do
   turnBack (not (loads classes)) BadClasses
   g ← readTable lim classes table
-  d ← readDocument lim classes document
+  d ← readDocument lim classes format document
   given (letsIn g d)
 
 unfoldable pub isOfKindOf : Limits → Classes → Kind → List ℕ → Outcome Bool

@@ -17,12 +17,12 @@ use Rattle.reader.specs.Held.{Held}
 use Rattle.walks.specs.TypeSets.{setAt}
 
 -- the index of so many nodes in arrays
-abbrev pub indexOf : (names sizes children : List ℕ) → ℕ → DocumentIndex
-indexOf names sizes children nodes = record { names = names; sizes = sizes; children = children; nodes = nodes }
+abbrev pub indexOf : (names sizes shapes : List ℕ) → ℕ → DocumentIndex
+indexOf names sizes shapes nodes = record { names = names; sizes = sizes; shapes = shapes; nodes = nodes }
 
 -- the nodes are one whole tree
 pub record KnownNodes (d : List ℕ) (nodes : DocumentIndex) : Type 0 where
-  pub indexed : NodesIndexed d (nodes .names) (nodes .sizes) (nodes .children) (nodes .nodes)
+  pub indexed : NodesIndexed d (nodes .names) (nodes .sizes) (nodes .shapes) (nodes .nodes)
   pub one-tree : treeCount (nodesIn d nodes) ≡ 1
   pub enough : Enough (nodesIn d nodes)
 

@@ -3,6 +3,7 @@
 use crate::deciding::read_and_decide;
 use crate::deciding::read_and_test_local;
 use crate::deciding::read_and_test_single_type;
+use grammar::Format;
 use grammar::Refusal;
 use grammar::Size;
 use grammar::Verdict;
@@ -20,18 +21,26 @@ pub fn lets_in(
     size: Size,
     classes: &[u8],
     table: &[u8],
+    format: Format,
     document: &[u8],
     work: &mut [u32],
 ) -> Verdict
-    ensures { λ r. ⌜ Membership (sizeLimits size) (now (classes .entry)) (now (table .entry)) (now (document .entry)) (now (work .entry))
-        (after (verdictNumbers r) [] (now (work .exit))) ⌝ }
+    ensures { λ r. ⌜ Membership (sizeLimits size) (now (classes .entry)) (now (table .entry)) format (now (document .entry))
+        (now (work .entry)) (after (verdictNumbers r) [] (now (work .exit))) ⌝ }
 {
     let limits = limits_of(size);
     if work.len() < limits.words {
         return Verdict::Refused(Refusal::WorkTooShort);
     }
     let words = limits.words;
-    let answer = read_and_decide(limits, classes, table, document, &mut work[0..words]);
+    let answer = read_and_decide(
+        limits,
+        classes,
+        table,
+        format,
+        document,
+        &mut work[0..words],
+    );
     clear_work(limits, work);
     answer
 }

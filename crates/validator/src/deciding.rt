@@ -1,5 +1,6 @@
 // Reading the inputs of a call, and deciding.
 use crate::membership::lets_in_read;
+use grammar::Format;
 use grammar::Reading;
 use grammar::Refusal;
 use grammar::SizeLimits;
@@ -34,12 +35,14 @@ pub fn read_and_decide(
     limits: SizeLimits,
     classes: &[u8],
     table: &[u8],
+    format: Format,
     document: &[u8],
     words: &mut [u32],
 ) -> Verdict
     requires { ⌜ Within limits ⌝ }
     requires { ⌜ 8192 ≤ length (now words) ⌝ }
-    ensures { λ r. ⌜ r ≡ verdict (letsInOf (limitsOf limits) (now (classes .entry)) (now (table .entry)) (now (document .entry))) ⌝ }
+    ensures { λ r. ⌜ r ≡ verdict (letsInOf (limitsOf limits) (now (classes .entry)) (now (table .entry)) format
+        (now (document .entry))) ⌝ }
 {
     if !classes_load(classes) {
         return Verdict::Refused(Refusal::BadClasses);
@@ -51,14 +54,15 @@ pub fn read_and_decide(
     }
     let mut names = [0u16; 2048];
     let mut sizes = [0u16; 2048];
-    let mut children = [0u16; 2048];
+    let mut shapes = [0u16; 2048];
     let found = read_nodes(
         limits,
         classes,
+        format,
         document,
         &mut names,
         &mut sizes,
-        &mut children,
+        &mut shapes,
     );
     let complete = found.answer;
     if let Reading::Refused(r) = complete {
@@ -71,7 +75,7 @@ pub fn read_and_decide(
         document,
         &names,
         &sizes,
-        &children,
+        &shapes,
         nodes,
         words,
     ))

@@ -15,7 +15,6 @@ use reader::limits::CONTENT;
 use reader::numbers::wide;
 use reader::numbers::wider;
 use reader::rules::for_text;
-use reader::tags::TEXT_NODE_TAG;
 use sets::four::Set4;
 use sets::words::has;
 use sets::words::put;
@@ -180,22 +179,21 @@ fn bring(words: &mut [u32], from: usize, to: usize)
     }
 }
 
-// Goes through the nodes from the last to the first, and answers where the root's set then stands. A node's tag, four bytes before its
-// name, tells whether it holds text.
+// Goes through the nodes from the last to the first, and answers where the root's set then stands.
 fn root_types(
     table: &[u8],
     index: &[u16; 899],
     document: &[u8],
     names: &[u16; 2048],
     sizes: &[u16; 2048],
-    children: &[u16; 2048],
+    shapes: &[u16; 2048],
     nodes: usize,
     words: &mut [u32],
 ) -> usize
     requires { ⌜ (SomeHeld large (now table) (now index))
-        × (KnownNodes (now document) (indexOf (now names) (now sizes) (now children) nodes)) × (8192 ≤ length (now words)) ⌝ }
+        × (KnownNodes (now document) (indexOf (now names) (now sizes) (now shapes) nodes)) × (8192 ≤ length (now words)) ⌝ }
     ensures { λ r. ⌜ RootTypes (now (table .entry)) (now (index .entry)) (now (document .entry))
-        (indexOf (now (names .entry)) (now (sizes .entry)) (now (children .entry)) nodes) (now (words .exit)) r ⌝ }
+        (indexOf (now (names .entry)) (now (sizes .entry)) (now (shapes .entry)) nodes) (now (words .exit)) r ⌝ }
 {
     let mut marks = [0u8; CONTENT];
     let by_key = chained_labels(table, index);
@@ -207,14 +205,14 @@ fn root_types(
         let at = i - 1;
         let from = wider(names[at]);
         let to = from + wider(sizes[at]);
-        let count = wider(children[at]);
-        let text = document[from - 4] == TEXT_NODE_TAG;
+        let shape = wider(shapes[at]);
+        let count = shape % 256;
         let label = label_of(&document[from..to], table, index, &by_key);
         let base = top - 4;
         let node = NodeSets {
             at: base,
             children: count,
-            text,
+            text: 256 <= shape,
         };
         put_types(
             table,
@@ -257,16 +255,16 @@ pub fn lets_in_read(
     document: &[u8],
     names: &[u16; 2048],
     sizes: &[u16; 2048],
-    children: &[u16; 2048],
+    shapes: &[u16; 2048],
     nodes: usize,
     words: &mut [u32],
 ) -> bool
     requires { ⌜ (SomeHeld large (now table) (now index))
-        × (KnownNodes (now document) (indexOf (now names) (now sizes) (now children) nodes)) × (8192 ≤ length (now words)) ⌝ }
+        × (KnownNodes (now document) (indexOf (now names) (now sizes) (now shapes) nodes)) × (8192 ≤ length (now words)) ⌝ }
     ensures { λ r. ⌜ ((g : Table) → Held large (now (table .entry)) (now (index .entry)) g → (t : Tree)
-        → treeOf (nodesIn (now (document .entry)) (indexOf (now (names .entry)) (now (sizes .entry)) (now (children .entry)) nodes))
+        → treeOf (nodesIn (now (document .entry)) (indexOf (now (names .entry)) (now (sizes .entry)) (now (shapes .entry)) nodes))
         ≡ given t → r ≡ letsIn g t) ⌝ }
 {
-    let at = root_types(table, index, document, names, sizes, children, nodes, words);
+    let at = root_types(table, index, document, names, sizes, shapes, nodes, words);
     some_start(index, words, at)
 }

@@ -11,6 +11,8 @@ use grammar::Written;
 use reader::calls::document_reads;
 use reader::calls::label_name;
 use reader::calls::table_reads;
+use reader::documents::format_numbered;
+use reader::limits::size_numbered;
 use reader::refusals::number_of;
 use validator::calls::is_local;
 use validator::calls::is_single_type;
@@ -20,6 +22,14 @@ use widening::calls::widen_local_by_document;
 use widening::calls::widen_local_by_table;
 use widening::calls::widen_single_type_by_document;
 use widening::calls::widen_single_type_by_table;
+
+// A case's call, and the numbers that the call takes: the size, the caller's label and the format of the document.
+pub struct Asked {
+    pub call: u8,
+    pub size: u32,
+    pub label: u32,
+    pub format: u32,
+}
 
 // A refusal's number or 0, the value, and the checksum of what was written or, for a name, of the part that came back.
 pub struct Told {
@@ -121,45 +131,57 @@ fn label_told(size: Size, classes: &[u8], table: &[u8], label: usize, work: &mut
     of_name(refusal, table, name)
 }
 
-// The widening of this number, of the first input by the second.
+// The widening that is asked for, of the first input by the second.
 fn widened(
-    call: u8,
-    size: Size,
+    asked: Asked,
     classes: &[u8],
     first: &[u8],
     second: &[u8],
     out: &mut [u8],
     work: &mut [u32],
 ) -> Written {
+    let size = size_numbered(asked.size);
+    let format = format_numbered(asked.format);
+    let call = asked.call;
     match call {
         8 => widen_local_by_table(size, classes, first, second, out, work),
-        9 => widen_local_by_document(size, classes, first, second, out, work),
+        9 => widen_local_by_document(size, classes, first, format, second, out, work),
         10 => widen_single_type_by_table(size, classes, first, second, out, work),
-        _ => widen_single_type_by_document(size, classes, first, second, out, work),
+        _ => widen_single_type_by_document(size, classes, first, format, second, out, work),
     }
 }
 
-// Runs the call of this number on its classes, inputs and lent slices.
+// Runs the call that is asked for on its classes, inputs and lent slices.
 pub fn answer(
-    call: u8,
-    size: Size,
+    asked: Asked,
     classes: &[u8],
-    label: u32,
     first: &[u8],
     second: &[u8],
     out: &mut [u8],
     work: &mut [u32],
 ) -> Told {
+    let size = size_numbered(asked.size);
+    let format = format_numbered(asked.format);
+    let call = asked.call;
     match call {
         1 => of_reading(table_reads(size, classes, first, work), byte_sum(out)),
-        2 => of_reading(document_reads(size, classes, first, work), byte_sum(out)),
-        3 => label_told(size, classes, first, label as usize, work),
-        4 => of_verdict(lets_in(size, classes, first, second, work), byte_sum(out)),
+        2 => of_reading(
+            document_reads(size, classes, format, first, work),
+            byte_sum(out),
+        ),
+        3 => label_told(size, classes, first, asked.label as usize, work),
+        4 => of_verdict(
+            lets_in(size, classes, first, format, second, work),
+            byte_sum(out),
+        ),
         5 => of_verdict(is_local(size, classes, first, work), byte_sum(out)),
         6 => of_verdict(is_single_type(size, classes, first, work), byte_sum(out)),
-        7 => of_written(sample(size, classes, first, out, work), byte_sum(out)),
+        7 => of_written(
+            sample(size, classes, format, first, out, work),
+            byte_sum(out),
+        ),
         8..=11 => of_written(
-            widened(call, size, classes, first, second, out, work),
+            widened(asked, classes, first, second, out, work),
             byte_sum(out),
         ),
         _ => Told {

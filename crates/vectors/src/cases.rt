@@ -1,6 +1,7 @@
 // Cases, read from standard input, front to back.
 ghost use Prim.Native.Nat.{_≤_};
 ghost use lib.ListN.{length};
+use crate::answers::Asked;
 use crate::answers::Told;
 use crate::answers::answer;
 use crate::fills::fill_output;
@@ -10,7 +11,6 @@ use crate::sums::word_sum;
 use libc::STDIN_FILENO;
 use libc::STDOUT_FILENO;
 use reader::ascii::ASCII;
-use reader::limits::size_numbered;
 
 // The next byte; 0 where the input has ended.
 fn read_byte() -> u8 {
@@ -62,10 +62,8 @@ fn print_line(call: u8, told: Told, worksum: u32) {
 
 // Fills the lent slices, runs the call and prints the line.
 fn run(
-    call: u8,
-    size: u32,
+    asked: Asked,
     classes: &[u8],
-    label: u32,
     word: u32,
     first: &[u8],
     second: &[u8],
@@ -74,30 +72,14 @@ fn run(
 ) {
     fill_output(out);
     fill_work(work, word);
-    let told = answer(
-        call,
-        size_numbered(size),
-        classes,
-        label,
-        first,
-        second,
-        out,
-        work,
-    );
+    let call = asked.call;
+    let told = answer(asked, classes, first, second, out, work);
     let worksum = word_sum(work);
     print_line(call, told, worksum);
 }
 
 // Reads the inputs of a case and runs it, with lent slices of these lengths.
-fn run_lent(
-    call: u8,
-    size: u32,
-    classes: &[u8],
-    words: usize,
-    word: u32,
-    bytes: usize,
-    label: u32,
-) -> bool {
+fn run_lent(asked: Asked, classes: &[u8], words: usize, word: u32, bytes: usize) -> bool {
     let mut first = [0u8; 65600];
     let mut second = [0u8; 65600];
     let mut out = [0u8; 33000];
@@ -111,10 +93,8 @@ fn run_lent(
     let n = read_input(&mut first);
     let m = read_input(&mut second);
     run(
-        call,
-        size,
+        asked,
         classes,
-        label,
         word,
         &first[0..n],
         &second[0..m],
@@ -129,16 +109,13 @@ fn run_under(call: u8, size: u32, classes: &[u8]) -> bool {
     let words = read_number();
     let word = read_number();
     let bytes = read_number();
-    let label = read_number();
-    run_lent(
-        call,
-        size,
-        classes,
-        words as usize,
-        word,
-        bytes as usize,
-        label,
-    )
+    let asked = Asked {
+        call: call,
+        size: size,
+        label: read_number(),
+        format: read_number(),
+    };
+    run_lent(asked, classes, words as usize, word, bytes as usize)
 }
 
 // Reads a case and runs it; false after the last one. The number 2^32 - 1 of classes stands for those of the base, which do not follow.

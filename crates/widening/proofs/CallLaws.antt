@@ -14,7 +14,7 @@ use Rattle.grammar.specs.Kinds.{Kind}
 use Rattle.grammar.specs.Outcome.{Outcome, given, refused, _>>=_, _>>_, turnBack}
 use Rattle.grammar.specs.Answers.{Numbers, writtenNumbers, numbersOf, written}
 use Rattle.grammar.specs.ReadTable.{readTable}
-use Rattle.grammar.specs.ReadDocument.{readDocument}
+use Rattle.grammar.specs.Documents.{readDocument}
 use Rattle.grammar.specs.Widen.{widen, sampleTable}
 use Rattle.grammar.specs.Calls.{
   workAfter,
@@ -29,6 +29,7 @@ use Rattle.grammar.specs.Calls.{
   widened,
 }
 use Rattle.grammar.specs.Promises.{Sampling, Widening}
+use Rattle.grammar.specs.declared.Format.{Format}
 use Rattle.grammar.specs.declared.Source.{Source}
 use Rattle.grammar.specs.declared.Refusal.the-variants.{WorkTooShort, BadClasses}
 use Rattle.grammar.specs.declared.Written.{Written}
@@ -80,33 +81,33 @@ module _ (l : SizeLimits) where
       ∙ sym (loaded-then classes o k)
 
   -- the sample
-  module _ (classes : Classes) (document out work : List ℕ) where
+  module _ (classes : Classes) (format : Format) (document out work : List ℕ) where
     abbrev sample-steps : Tree → Outcome (List ℕ)
     sample-steps d = sampleTable lim d >>= λ g. writtenTo out g
 
     pub sample-unanswered : length work < lim .words
-        → Sampling lim classes document out work (after (writtenNumbers (Refused WorkTooShort)) out work)
+        → Sampling lim classes format document out work (after (writtenNumbers (Refused WorkTooShort)) out work)
     unfolding documentSample documentReads
     sample-unanswered h =
-        sampling lim classes (sized-agree l) document out work _
+        sampling lim classes (sized-agree l) format document out work _
         (left-short _ out work
-        (ap (λ (o : Outcome Tree). o >>= sample-steps) (lent-short lim work (loaded classes (readDocument lim classes document)) h))
+        (ap (λ (o : Outcome Tree). o >>= sample-steps) (lent-short lim work (loaded classes (readDocument lim classes format document)) h))
         h)
 
     sample-enough : lim .words ≤ length work
-        → documentSample lim classes document out work ≡ (sampledFrom lim classes document >>= writtenTo out)
+        → documentSample lim classes format document out work ≡ (sampledFrom lim classes format document >>= writtenTo out)
     unfolding documentSample documentReads sampledFrom sampleOf
     sample-enough h =
-        ap (λ (o : Outcome Tree). o >>= sample-steps) (lent-enough lim work (loaded classes (readDocument lim classes document)) h)
-        ∙ tried-then-last classes (readDocument lim classes document) sample-steps (sampleOf lim classes document) (writtenTo out)
-        (then-last (readDocument lim classes document) (λ d. sampleTable lim d) (writtenTo out))
+        ap (λ (o : Outcome Tree). o >>= sample-steps) (lent-enough lim work (loaded classes (readDocument lim classes format document)) h)
+        ∙ tried-then-last classes (readDocument lim classes format document) sample-steps (sampleOf lim classes format document) (writtenTo out)
+        (then-last (readDocument lim classes format document) (λ d. sampleTable lim d) (writtenTo out))
 
     pub sample-answered : lim .words ≤ length work → (answer : Written) (left workLeft : List ℕ)
-        → HandedOver (sampledFrom lim classes document) out left answer → workLeft ≡ workAfter lim work
-        → Sampling lim classes document out work (after (writtenNumbers answer) left workLeft)
+        → HandedOver (sampledFrom lim classes format document) out left answer → workLeft ≡ workAfter lim work
+        → Sampling lim classes format document out work (after (writtenNumbers answer) left workLeft)
     sample-answered h answer left workLeft d w =
-        sampling lim classes (sized-agree l) document out work _
-        (left-handed _ out work (sampledFrom lim classes document) (sample-enough h) answer left workLeft d w)
+        sampling lim classes (sized-agree l) format document out work _
+        (left-handed _ out work (sampledFrom lim classes format document) (sample-enough h) answer left workLeft d w)
 
   -- a widening
   module _ (classes : Classes) (kind : Kind) (source : Source) (old addition out work : List ℕ) where

@@ -19,11 +19,13 @@ use Rattle.grammar.specs.Least.{byTable, byDocument}
 use Rattle.grammar.specs.Outcome.{Outcome, given, refused, _>>=_}
 use Rattle.grammar.specs.Answers.{written}
 use Rattle.grammar.specs.ReadTable.{readTable}
-use Rattle.grammar.specs.ReadDocument.{readDocument, treeOf}
+use Rattle.grammar.specs.Documents.{readDocument}
+use Rattle.grammar.specs.ReadDocument.{treeOf}
 use Rattle.grammar.specs.WriteTable.{tableBytes}
 use Rattle.grammar.specs.Sample.{sample}
 use Rattle.grammar.specs.Widen.{widen, widenByTable, sampleTable}
 use Rattle.grammar.specs.Calls.{outAfter, writtenTo, readAddition}
+use Rattle.grammar.specs.declared.Format.{Format}
 use Rattle.grammar.specs.declared.Source.{Source}
 use Rattle.grammar.specs.declared.Source.the-variants.{Table as aTable, Document as aDocument}
 use Rattle.grammar.specs.declared.Refusal.{Refusal}
@@ -34,7 +36,7 @@ use Rattle.grammar.specs.declared.Written.{Written}
 use Rattle.grammar.specs.declared.Written.the-variants.{Length, Refused}
 use Rattle.theory.proofs.bytes.OutcomeLaws.{given-then, no-fault, was-given, given-eq}
 use Rattle.theory.proofs.bytes.NumberedTable.{sized-agree}
-use Rattle.theory.proofs.bytes.DocumentWithin.{document-within}
+use Rattle.theory.proofs.bytes.TreeRead.{tree-within}
 use Rattle.theory.proofs.theorems.ResultWithin.{sample-read-back}
 use Rattle.theory.proofs.theorems.CallPromises.{loaded-is, unloaded-is}
 use Rattle.reader.specs.TableIndex.{Reads}
@@ -158,10 +160,10 @@ module _ (l : SizeLimits) (classes : Classes) where
 
   -- under classes that do not load
   module _ (e : loads classes ≡ false) (draft : List ℕ) where
-    pub sampled-unloaded : (document : List ℕ) → InDraft (sampledFrom lim classes document) draft (Refused BadClasses)
+    pub sampled-unloaded : (format : Format) (document : List ℕ) → InDraft (sampledFrom lim classes format document) draft (Refused BadClasses)
     unfolding sampledFrom
-    sampled-unloaded document =
-        unmade (sampledFrom lim classes document) draft BadClasses (unloaded-is classes (sampleOf lim classes document) e)
+    sampled-unloaded format document =
+        unmade (sampledFrom lim classes format document) draft BadClasses (unloaded-is classes (sampleOf lim classes format document) e)
 
     pub widened-unloaded : (source : Source) (kind : Kind) (old addition : List ℕ)
         → InDraft (widenedFrom lim classes source kind old addition) draft (Refused BadClasses)
@@ -180,10 +182,10 @@ module _ (l : SizeLimits) (classes : Classes) where
       go (refused r) = refl
       go (given a) = refl
 
-  by-document : (kind : Kind) (g : Table) (document : List ℕ)
-      → widenedBy lim classes aDocument kind g document ≡ (sampleOf lim classes document >>= λ a. widenByTable lim kind g a)
+  by-document : (format : Format) (kind : Kind) (g : Table) (document : List ℕ)
+      → widenedBy lim classes (aDocument format) kind g document ≡ (sampleOf lim classes format document >>= λ a. widenByTable lim kind g a)
   unfolding widenedBy readAddition widen sampleOf
-  by-document kind g document = go (readDocument lim classes document)
+  by-document format kind g document = go (readDocument lim classes format document)
     where
       go : (o : Outcome Tree) → ((o >>= λ d. given (byDocument d)) >>= widen lim kind g)
           ≡ ((o >>= λ d. sampleTable lim d) >>= λ a. widenByTable lim kind g a)
@@ -191,77 +193,77 @@ module _ (l : SizeLimits) (classes : Classes) where
       go (given d) = refl
 
   -- the sample of a document
-  module _ (document : List ℕ) (f : DocumentRead) (reads : DocumentReads lim classes document f) where
+  module _ (format : Format) (document : List ℕ) (f : DocumentRead) (reads : DocumentReads lim classes format document f) where
     pub document-refuses : (draft : List ℕ) (q : Refusal) → f .answer ≡ Unreadable q
-        → InDraft (sampleOf lim classes document) draft (Refused q)
+        → InDraft (sampleOf lim classes format document) draft (Refused q)
     unfolding sampleOf
     document-refuses draft q e =
-        unmade (sampleOf lim classes document) draft q
-        (ap (λ (o : Outcome Tree). o >>= λ d. sampleTable lim d) (document-unread lim classes document f reads q e))
+        unmade (sampleOf lim classes format document) draft q
+        (ap (λ (o : Outcome Tree). o >>= λ d. sampleTable lim d) (document-unread lim classes format document f reads q e))
 
     module _ (e : f .answer ≡ Readable) where
       pub nodes-indexed : HoldsNodes lim document (f .index)
-      nodes-indexed = record { classes = classes; reads = nodes-read lim classes document f reads e; indexed = reads .indexed }
+      nodes-indexed = record { classes = classes; format = format; reads = nodes-read lim classes format document f reads e; indexed = reads .indexed }
 
       module _ (before draft : List ℕ) (m : Drafted)
           (s : (d : Tree) → treeOf (nodesIn document (f .index)) ≡ given d → SampleDrafted lim d before draft m) where
-        abbrev tree-read : (t : Tree) × (treeOf (nodesIn document (f .index)) ≡ given t) × (readDocument lim classes document ≡ given t)
-        tree-read = document-tree lim classes document (nodesIn document (f .index)) (nodes-read lim classes document f reads e)
+        abbrev tree-read : (t : Tree) × (treeOf (nodesIn document (f .index)) ≡ given t) × (readDocument lim classes format document ≡ given t)
+        tree-read = document-tree lim classes format document (nodesIn document (f .index)) (nodes-read lim classes format document f reads e)
 
-        sample-is : sampleOf lim classes document ≡ sampleTable lim (tree-read .0)
+        sample-is : sampleOf lim classes format document ≡ sampleTable lim (tree-read .0)
         unfolding sampleOf
-        sample-is = given-then (readDocument lim classes document) (tree-read .0) (λ d. sampleTable lim d) (tree-read .2)
+        sample-is = given-then (readDocument lim classes format document) (tree-read .0) (λ d. sampleTable lim d) (tree-read .2)
 
         sample-drafted : (x : Drafted) → m ≡ x → SampleDrafted lim (tree-read .0) before draft x
         sample-drafted x p = subst (SampleDrafted lim (tree-read .0) before draft) p (s (tree-read .0) (tree-read .1))
 
-        pub sample-too-large : m ≡ Undrafted → InDraft (sampleOf lim classes document) draft (Refused ResultTooLarge)
-        sample-too-large p = unmade (sampleOf lim classes document) draft ResultTooLarge (sample-is ∙ sample-drafted Undrafted p)
+        pub sample-too-large : m ≡ Undrafted → InDraft (sampleOf lim classes format document) draft (Refused ResultTooLarge)
+        sample-too-large p = unmade (sampleOf lim classes format document) draft ResultTooLarge (sample-is ∙ sample-drafted Undrafted p)
 
-        pub sample-made : (n : ℕ) → m ≡ DraftedTo n → InDraft (sampleOf lim classes document) draft (Length n)
+        pub sample-made : (n : ℕ) → m ≡ DraftedTo n → InDraft (sampleOf lim classes format document) draft (Length n)
         sample-made n p =
             let d = sample-drafted (DraftedTo n) p in
-            made (sampleOf lim classes document) draft (sample (tree-read .0)) n (drop n before) (sample-is ∙ d .0) (d .2) (d .1)
+            made (sampleOf lim classes format document) draft (sample (tree-read .0)) n (drop n before) (sample-is ∙ d .0) (d .2) (d .1)
 
   -- its bytes read as the sample
-  sample-reads-back : (document : List ℕ) (a : Table) → sampleOf lim classes document ≡ given a
+  sample-reads-back : (format : Format) (document : List ℕ) (a : Table) → sampleOf lim classes format document ≡ given a
       → readTable lim classes (tableBytes a) ≡ given a
   unfolding sampleOf
-  sample-reads-back document a e =
-      let (d, p, q) = was-given (readDocument lim classes document) (λ d. sampleTable lim d) a e in
-      sample-read-back lim classes (sized-agree l) d (document-within lim classes document d p) a q
+  sample-reads-back format document a e =
+      let (d, p, q) = was-given (readDocument lim classes format document) (λ d. sampleTable lim d) a e in
+      sample-read-back lim classes (sized-agree l) d (tree-within lim classes format document d p) a q
 
   -- widening by the sample of a document, whose bytes stand at the front of a draft
-  module _ (kind : Kind) (g : Table) (document drafted : List ℕ) (answer : Written)
-      (i : InDraft (sampleOf lim classes document) drafted answer) (draft : List ℕ) where
-    pub sample-refuses : (q : Refusal) → answer ≡ Refused q → InDraft (widenedBy lim classes aDocument kind g document) draft (Refused q)
+  module _ (kind : Kind) (g : Table) (format : Format) (document drafted : List ℕ) (answer : Written)
+      (i : InDraft (sampleOf lim classes format document) drafted answer) (draft : List ℕ) where
+    pub sample-refuses : (q : Refusal) → answer ≡ Refused q → InDraft (widenedBy lim classes (aDocument format) kind g document) draft (Refused q)
     sample-refuses q e =
-        unmade (widenedBy lim classes aDocument kind g document) draft q
-        (by-document kind g document
+        unmade (widenedBy lim classes (aDocument format) kind g document) draft q
+        (by-document format kind g document
         ∙ ap (λ (o : Outcome Table). o >>= λ a. widenByTable lim kind g a)
-        (was-unmade (sampleOf lim classes document) drafted answer i q e))
+        (was-unmade (sampleOf lim classes format document) drafted answer i q e))
 
     pub by-sample : (n : ℕ) → answer ≡ Length n → (m : ℕ) → m ≡ n → (said : Written)
         → InDraft (widenedBy lim classes aTable kind g (take m drafted)) draft said
-        → InDraft (widenedBy lim classes aDocument kind g document) draft said
+        → InDraft (widenedBy lim classes (aDocument format) kind g document) draft said
     by-sample n e m same said d =
-        let (a, p, size) = was-made (sampleOf lim classes document) drafted answer i n e in
+        let (a, p, size) = was-made (sampleOf lim classes format document) drafted answer i n e in
         let back : readTable lim classes (take m drafted) ≡ given a =
         ap (readTable lim classes) (ap (λ (k : ℕ). take k drafted) (same ∙ size) ∙ i .bytes a p)
-        ∙ sample-reads-back document a p in
+        ∙ sample-reads-back format document a p in
         subst (λ (x : Outcome Table). InDraft x draft said)
         (by-table kind g (take m drafted)
         ∙ given-then (readTable lim classes (take m drafted)) a (λ a. widenByTable lim kind g a) back
-        ∙ sym (by-document kind g document ∙ given-then (sampleOf lim classes document) a (λ a. widenByTable lim kind g a) p))
+        ∙ sym (by-document format kind g document ∙ given-then (sampleOf lim classes format document) a (λ a. widenByTable lim kind g a) p))
         d
 
   -- under classes that load
   module _ (load : Loads classes) where
-    pub sampled-loaded : (document draft : List ℕ) (answer : Written) → InDraft (sampleOf lim classes document) draft answer
-        → InDraft (sampledFrom lim classes document) draft answer
+    pub sampled-loaded : (format : Format) (document draft : List ℕ) (answer : Written) → InDraft (sampleOf lim classes format document) draft answer
+        → InDraft (sampledFrom lim classes format document) draft answer
     unfolding sampledFrom
-    sampled-loaded document draft answer d =
-        subst (λ (x : Outcome Table). InDraft x draft answer) (sym (loaded-is classes (sampleOf lim classes document) load)) d
+    sampled-loaded format document draft answer d =
+        subst (λ (x : Outcome Table). InDraft x draft answer) (sym (loaded-is classes (sampleOf lim classes format document) load)) d
 
     -- reading a table and going on with it
     module _ (table : List ℕ) (r : Reading) (index : List ℕ) (so : Reads table (readTable lim classes table) r index)

@@ -11,18 +11,19 @@ use Rattle.grammar.specs.Kinds.{Kind}
 use Rattle.grammar.specs.Outcome.{Outcome, given, _>>=_, _>>_, turnBack}
 use Rattle.grammar.specs.Answers.{written}
 use Rattle.grammar.specs.ReadTable.{readTable}
-use Rattle.grammar.specs.ReadDocument.{readDocument}
+use Rattle.grammar.specs.Documents.{readDocument}
 use Rattle.grammar.specs.WriteTable.{tableBytes}
 use Rattle.grammar.specs.Widen.{widen, sampleTable}
 use Rattle.grammar.specs.Calls.{outAfter, writtenTo, readAddition}
+use Rattle.grammar.specs.declared.Format.{Format}
 use Rattle.grammar.specs.declared.Source.{Source}
 use Rattle.grammar.specs.declared.Refusal.the-variants.{BadClasses}
 use Rattle.grammar.specs.declared.Written.{Written}
 use Rattle.grammar.specs.declared.Written.the-variants.{Length, Refused}
 
-unfoldable pub sampleOf : Limits → Classes → List ℕ → Outcome Table
-sampleOf lim classes document = do
-  d ← readDocument lim classes document
+unfoldable pub sampleOf : Limits → Classes → Format → List ℕ → Outcome Table
+sampleOf lim classes format document = do
+  d ← readDocument lim classes format document
   sampleTable lim d
 
 -- a table that was read, widened
@@ -32,11 +33,11 @@ widenedBy lim classes source kind g addition = do
   widen lim kind g a
 
 -- The classes are tried before an input.
-unfoldable pub sampledFrom : Limits → Classes → List ℕ → Outcome Table
+unfoldable pub sampledFrom : Limits → Classes → Format → List ℕ → Outcome Table
 unfolding loads sampleOf
-sampledFrom lim classes document = do
+sampledFrom lim classes format document = do
   turnBack (not (loads classes)) BadClasses
-  sampleOf lim classes document
+  sampleOf lim classes format document
 
 unfoldable pub widenedFrom : Limits → Classes → Source → Kind → List ℕ → List ℕ → Outcome Table
 unfolding loads widenedBy

@@ -3,6 +3,7 @@
 use crate::drafting::deliver;
 use crate::drafting::draft_sample;
 use crate::drafting::draft_widened;
+use grammar::Format;
 use grammar::Refusal;
 use grammar::Size;
 use grammar::Source;
@@ -23,11 +24,12 @@ ghost use Rattle.results.specs.Widened.{kindOf};
 pub fn sample(
     size: Size,
     classes: &[u8],
+    format: Format,
     document: &[u8],
     out: &mut [u8],
     work: &mut [u32],
 ) -> Written
-    ensures { λ r. ⌜ Sampling (sizeLimits size) (now (classes .entry)) (now (document .entry)) (now (out .entry)) (now (work .entry))
+    ensures { λ r. ⌜ Sampling (sizeLimits size) (now (classes .entry)) format (now (document .entry)) (now (out .entry)) (now (work .entry))
         (after (writtenNumbers r) (now (out .exit)) (now (work .exit))) ⌝ }
 {
     let limits = limits_of(size);
@@ -35,7 +37,7 @@ pub fn sample(
         return Written::Refused(Refusal::WorkTooShort);
     }
     let mut draft = [0u8; INPUT];
-    let made = draft_sample(limits, classes, document, &mut draft);
+    let made = draft_sample(limits, classes, format, document, &mut draft);
     clear_work(limits, work);
     deliver(&draft, made, out)
 }
@@ -127,18 +129,19 @@ pub fn widen_local_by_document(
     size: Size,
     classes: &[u8],
     old: &[u8],
+    format: Format,
     document: &[u8],
     out: &mut [u8],
     work: &mut [u32],
 ) -> Written
-    ensures { λ r. ⌜ Widening (sizeLimits size) (now (classes .entry)) local aDocument (now (old .entry)) (now (document .entry))
-        (now (out .entry)) (now (work .entry)) (after (writtenNumbers r) (now (out .exit)) (now (work .exit))) ⌝ }
+    ensures { λ r. ⌜ Widening (sizeLimits size) (now (classes .entry)) local (aDocument format) (now (old .entry))
+        (now (document .entry)) (now (out .entry)) (now (work .entry)) (after (writtenNumbers r) (now (out .exit)) (now (work .exit))) ⌝ }
 {
     widen(
         size,
         classes,
         Kind::Local,
-        Source::Document,
+        Source::Document(format),
         old,
         document,
         out,
@@ -151,18 +154,19 @@ pub fn widen_single_type_by_document(
     size: Size,
     classes: &[u8],
     old: &[u8],
+    format: Format,
     document: &[u8],
     out: &mut [u8],
     work: &mut [u32],
 ) -> Written
-    ensures { λ r. ⌜ Widening (sizeLimits size) (now (classes .entry)) singleType aDocument (now (old .entry)) (now (document .entry))
-        (now (out .entry)) (now (work .entry)) (after (writtenNumbers r) (now (out .exit)) (now (work .exit))) ⌝ }
+    ensures { λ r. ⌜ Widening (sizeLimits size) (now (classes .entry)) singleType (aDocument format) (now (old .entry))
+        (now (document .entry)) (now (out .entry)) (now (work .entry)) (after (writtenNumbers r) (now (out .exit)) (now (work .exit))) ⌝ }
 {
     widen(
         size,
         classes,
         Kind::SingleType,
-        Source::Document,
+        Source::Document(format),
         old,
         document,
         out,

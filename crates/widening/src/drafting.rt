@@ -1,4 +1,5 @@
 // A call's table made in a draft, so that a refusal leaves the output as it came, and handed over.
+use grammar::Format;
 use grammar::Reading;
 use grammar::Refusal;
 use grammar::SizeLimits;
@@ -91,12 +92,18 @@ fn read_and_widen(
 }
 
 // Reads a document and makes its sample in the draft.
-fn read_and_sample(limits: SizeLimits, classes: &[u8], document: &[u8], draft: &mut [u8]) -> Written
+fn read_and_sample(
+    limits: SizeLimits,
+    classes: &[u8],
+    format: Format,
+    document: &[u8],
+    draft: &mut [u8],
+) -> Written
     requires { ⌜ Loads (now classes) ⌝ }
     requires { ⌜ (Within limits) × (inputLimit ≤ length (now draft)) ⌝ }
-    ensures { λ r. ⌜ InDraft (sampleOf (limitsOf limits) (now (classes .entry)) (now (document .entry))) (now (draft .exit)) r ⌝ }
+    ensures { λ r. ⌜ InDraft (sampleOf (limitsOf limits) (now (classes .entry)) format (now (document .entry))) (now (draft .exit)) r ⌝ }
 {
-    let found = read_document(limits, classes, document);
+    let found = read_document(limits, classes, format, document);
     let readable = found.answer;
     if let Reading::Refused(r) = readable {
         return Written::Refused(r);
@@ -114,6 +121,7 @@ fn widen_by_sample(
     kind: Kind,
     old: &[u8],
     index: &[u16; 899],
+    format: Format,
     document: &[u8],
     words: &mut [u32],
     draft: &mut [u8],
@@ -122,11 +130,11 @@ fn widen_by_sample(
     requires { ⌜ (Within limits) × (SomeHeld (limitsOf limits) (now old) (now index)) × (12288 ≤ length (now words))
         × (inputLimit ≤ length (now draft)) ⌝ }
     ensures { λ r. ⌜ ((g : Table) → Held (limitsOf limits) (now (old .entry)) (now (index .entry)) g
-        → InDraft (widenedBy (limitsOf limits) (now (classes .entry)) aDocument (kindOf kind) g (now (document .entry)))
+        → InDraft (widenedBy (limitsOf limits) (now (classes .entry)) (aDocument format) (kindOf kind) g (now (document .entry)))
         (now (draft .exit)) r) ⌝ }
 {
     let mut sample = [0u8; INPUT];
-    match read_and_sample(limits, classes, document, &mut sample) {
+    match read_and_sample(limits, classes, format, document, &mut sample) {
         Written::Refused(r) => Written::Refused(r),
         Written::Length(n) => read_and_widen(
             limits,
@@ -145,16 +153,17 @@ fn widen_by_sample(
 pub fn draft_sample(
     limits: SizeLimits,
     classes: &[u8],
+    format: Format,
     document: &[u8],
     draft: &mut [u8],
 ) -> Written
     requires { ⌜ (Within limits) × (inputLimit ≤ length (now draft)) ⌝ }
-    ensures { λ r. ⌜ InDraft (sampledFrom (limitsOf limits) (now (classes .entry)) (now (document .entry))) (now (draft .exit)) r ⌝ }
+    ensures { λ r. ⌜ InDraft (sampledFrom (limitsOf limits) (now (classes .entry)) format (now (document .entry))) (now (draft .exit)) r ⌝ }
 {
     if !classes_load(classes) {
         return Written::Refused(Refusal::BadClasses);
     }
-    read_and_sample(limits, classes, document, draft)
+    read_and_sample(limits, classes, format, document, draft)
 }
 
 // Tries the classes, then reads the old table, then the addition of either sort, and makes the result in the draft.
@@ -182,12 +191,13 @@ pub fn draft_widened(
     }
     match source {
         Source::Table => read_and_widen(limits, classes, kind, old, &index, addition, words, draft),
-        Source::Document => widen_by_sample(
+        Source::Document(format) => widen_by_sample(
             limits,
             classes,
             kind,
             old,
             &index,
+            format,
             addition,
             words,
             draft,

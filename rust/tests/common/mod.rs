@@ -1,8 +1,9 @@
-//! Tables and documents in bytes, and the classes that most tests lend.
+//! Tables and documents in bytes, and the classes and the format that most tests take.
 
-use cogarrune::Classes;
+use cogarrune::{Classes, Format};
 
 pub const ASCII: &Classes = &Classes::ASCII;
+pub const FILE: Format = Format::DocumentFile;
 
 pub const NONE: &[u8] = &[0];
 pub const EMPTY: &[u8] = &[1];

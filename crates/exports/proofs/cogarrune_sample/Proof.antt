@@ -1,6 +1,8 @@
 -- `cogarrune_sample` meets its contract.
-use mathlib.Core.Path.{ap}
+use mathlib.Core.Path.{ap, subst}
 use Rattle.grammar.specs.LimitSets.{sizeLimits, sizeNumbered}
+use Rattle.grammar.specs.Documents.{formatNumbered}
+use Rattle.grammar.specs.declared.Format.{Format}
 use Rattle.grammar.specs.Calls.{after}
 use Rattle.grammar.specs.Answers.{writtenNumbers}
 use Rattle.grammar.specs.Promises.{Sampling}
@@ -13,6 +15,9 @@ use Rattle.exports.proofs.cogarrune_sample.Tie as tie
 
 size-numbered-requires : tie.Need-size-numbered-requires
 size-numbered-requires c κs = search needs
+
+format-numbered-requires : tie.Need-format-numbered-requires
+format-numbered-requires c κs = search needs
 
 sample-requires : tie.Need-sample-requires
 sample-requires c κs = search needs
@@ -28,18 +33,19 @@ same-length-2 c = search needs
 
 returns : tie.Need-returns
 returns c =
-    let a = c .before .before .before .before .before .before .before .before .before .before .before .before .before .args in
+    let a = c .before .before .before .before .before .before .before .before .before .before .before .before .before .before .args in
     let m = c .before .before .before .before .before .sample in
-    let told = sampling-sized (ap sizeLimits (c .before .before .before .before .before .before .before .before .size-numbered .ensures)) (m .ensures) in
-    retold (λ n. Sampling (sizeLimits (sizeNumbered (a .size))) (a .classes .now) (a .document .now) (a .out .now) (a .work .now) (after n (m .last .1 .1 .1 .0) (m .last .1 .1 .1 .1 .0)))
+    let told = subst (λ (f : Format). Sampling (sizeLimits (sizeNumbered (a .size))) (a .classes .now) f (a .document .now) (a .out .now) (a .work .now) (after (writtenNumbers (m .result)) (m .last .1 .1 .1 .1 .0) (m .last .1 .1 .1 .1 .1 .0))) (c .before .before .before .before .before .before .before .before .format-numbered .ensures) (sampling-sized (ap sizeLimits (c .before .before .before .before .before .before .before .before .before .size-numbered .ensures)) (m .ensures)) in
+    retold (λ n. Sampling (sizeLimits (sizeNumbered (a .size))) (a .classes .now) (formatNumbered (a .format)) (a .document .now) (a .out .now) (a .work .now) (after n (m .last .1 .1 .1 .1 .0) (m .last .1 .1 .1 .1 .1 .0)))
     (writtenNumbers (m .result)) _ (c .of-written .ensures)
-    (sampled-value (sizeNumbered (a .size)) (a .classes .now) (a .document .now) (a .out .now) (a .work .now) _ _ _ told) told
+    (sampled-value (sizeNumbered (a .size)) (a .classes .now) (formatNumbered (a .format)) (a .document .now) (a .out .now) (a .work .now) _ _ _ told) told
 
 pub cogarrune-sample-spec : {M : Type 1} → statement M
 cogarrune-sample-spec =
     tie.close
     (tie.spec
     size-numbered-requires
+    format-numbered-requires
     sample-requires
     of-written-requires
     same-length

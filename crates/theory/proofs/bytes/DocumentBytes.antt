@@ -1,5 +1,5 @@
 -- A document that a file can hold is read back from its bytes:
---   document-read-back : DocumentWithin lim classes d → readDocument lim classes (documentBytes d) ≡ given d
+--   document-read-back : DocumentWithin lim classes d → readDocumentFile lim classes (documentBytes d) ≡ given d
 -- (As in tables, what is written are numbers: they are bytes where the limits are those of bytes, `document-bytes-small`.)
 -- The nodes of a tree make that tree alone:
 --   tree-of-nodes : treeOf (nodesOf d) ≡ given d
@@ -41,7 +41,7 @@ use Rattle.grammar.specs.ReadDocument.{
   otherTrees,
   forestOf,
   treeOf,
-  readDocument,
+  readDocumentFile,
 }
 use Rattle.grammar.specs.WriteDocument.{nodesOf, nodesOfAll, nodeBytes, documentBytes}
 use Rattle.grammar.specs.WithinLimits.{NodeWithin, DocumentWithin}
@@ -175,14 +175,14 @@ module _ (lim : Limits) (classes : Classes) where
   nodes-read-back : (d : Tree) → DocumentWithin lim classes d → readNodes lim classes (documentBytes d) ≡ given (nodesOf d)
   unfolding readNodes documentBytes closed
   nodes-read-back d h =
-      let few = h .nodes in
-      let shallow = h .levels in
+      let few = h .tree .nodes in
+      let shallow = h .tree .levels in
       no-fault (ltb (lim .input) (length (documentBytes d))) InputTooLong _
       (le-ltb (lim .input) (length (documentBytes d)) (h .size))
-      ∙ tree-read d [] 0 [] (h .each-node) (omega arith) (omega arith) (fieldBytes documentEndTag [])
+      ∙ tree-read d [] 0 [] (h .tree .each-node) (omega arith) (omega arith) (fieldBytes documentEndTag [])
       ∙ end-step (nodesOf d)
 
-  pub document-read-back : (d : Tree) → DocumentWithin lim classes d → readDocument lim classes (documentBytes d) ≡ given d
-  unfolding readDocument
+  pub document-read-back : (d : Tree) → DocumentWithin lim classes d → readDocumentFile lim classes (documentBytes d) ≡ given d
+  unfolding readDocumentFile
   document-read-back d h =
       given-then (readNodes lim classes (documentBytes d)) (nodesOf d) treeOf (nodes-read-back d h) ∙ tree-of-nodes d

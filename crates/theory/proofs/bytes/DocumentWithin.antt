@@ -1,6 +1,6 @@
 -- A document that is read is within the limits, and its bytes are those that were read:
---   document-within : readDocument lim classes bytes ≡ given d → DocumentWithin lim classes d
---   document-was : AreBytes bytes → readDocument lim classes bytes ≡ given d → documentBytes d ≡ bytes
+--   document-within : readDocumentFile lim classes bytes ≡ given d → DocumentWithin lim classes d
+--   document-was : AreBytes bytes → readDocumentFile lim classes bytes ≡ given d → documentBytes d ≡ bytes
 -- The nodes that are read are those of one tree (nodes-were). Each visit of a tree comes to one of its nodes (visit-node).
 use Prim.Native.Nat.{ℕ, zero, suc, _+_, _≤_}
 use native.Mathlib.Omega.{arith}
@@ -46,7 +46,7 @@ use Rattle.grammar.specs.ReadDocument.{
   readNodeFields,
   readNodes,
   treeOf,
-  readDocument,
+  readDocumentFile,
 }
 use Rattle.grammar.specs.WriteDocument.{nodesOf, nodesOfAll, nodeBytes, documentBytes}
 use Rattle.grammar.specs.WithinLimits.{NodeWithin, DocumentWithin}
@@ -293,7 +293,7 @@ module _ (lim : Limits) (classes : Classes) where
         let (t, made, shallow) = root-filled (w .later) (w .filled) in
         (t, w .whole ∙ made, shallow)
 
-  module _ (bytes : List ℕ) (d : Tree) (read : readDocument lim classes bytes ≡ given d) where
+  module _ (bytes : List ℕ) (d : Tree) (read : readDocumentFile lim classes bytes ≡ given d) where
     -- what was read: bytes few enough, and the nodes of the document
     record Was : Type 0 where
       nodes : List Node
@@ -303,7 +303,7 @@ module _ (lim : Limits) (classes : Classes) where
       levels : depth d ≤ lim .levels
 
     was : Was
-    unfolding readDocument
+    unfolding readDocumentFile
     was =
         let (ns, p, q) = was-given (readNodes lim classes bytes) treeOf d read in
         let (t, made, shallow) = nodes-were bytes ns p in
@@ -328,8 +328,11 @@ module _ (lim : Limits) (classes : Classes) where
         let short = was .short in
         let size = was .ends .size ∙ ap length bytes-are in
         record {
-          each-node = subst (Each (NodeWithin lim classes)) (sym (was .ends .whole) ∙ was .made) (was .ends .each);
-          nodes = subst (λ (ns : List Node). length ns ≤ lim .nodes) (was .made) (was .ends .few (omega arith));
-          levels = was .levels;
+          tree =
+              record {
+                each-node = subst (Each (NodeWithin lim classes)) (sym (was .ends .whole) ∙ was .made) (was .ends .each);
+                nodes = subst (λ (ns : List Node). length ns ≤ lim .nodes) (was .made) (was .ends .few (omega arith));
+                levels = was .levels;
+              };
           size = omega arith;
         }

@@ -1,6 +1,6 @@
 -- The sample of a document within the limits is a table that a file can hold, if it is not too large:
---   sample-within : LimitsAgree lim → DocumentWithin lim classes d → sampleTable lim d ≡ given g → TableWithin lim classes g
--- A document that is read is within the limits (document-within).
+--   sample-within : LimitsAgree lim → TreeWithin lim classes d → sampleTable lim d ≡ given g → TableWithin lim classes g
+-- A document that is read is within the limits (document-tree-within).
 use Prim.Native.Nat.{ℕ, zero, _≤_, _<_}
 use native.Mathlib.Omega.{arith}
 use mathlib.Core.Bool.{true}
@@ -17,7 +17,7 @@ use Rattle.grammar.specs.Tree.{Tree, node}
 use Rattle.grammar.specs.Table.{Rule, Table}
 use Rattle.grammar.specs.Outcome.{given}
 use Rattle.grammar.specs.declared.Refusal.the-variants.{ResultTooLarge}
-use Rattle.grammar.specs.WithinLimits.{NameWithin, TableWithin, DocumentWithin}
+use Rattle.grammar.specs.WithinLimits.{NameWithin, TableWithin, TreeWithin}
 use Rattle.grammar.specs.UsedLabels.{usedLabels, withUsedLabels}
 use Rattle.grammar.specs.Size.{tooLarge}
 use Rattle.grammar.specs.Sample.{Visit, visits, samePath, pathsOf, namesOf, contentAt, ruleAt, sample}
@@ -149,7 +149,7 @@ module _ (d : Tree) where
       let c = numbers-length zero (length (sample d .labels)) in
       omega arith
 
-module _ (lim : Limits) (classes : Classes) (agree : LimitsAgree lim) (d : Tree) (within : DocumentWithin lim classes d) where
+module _ (lim : Limits) (classes : Classes) (agree : LimitsAgree lim) (d : Tree) (within : TreeWithin lim classes d) where
   sample-numbered : Numbered lim classes (sample d)
   unfolding allDistinct
   sample-numbered =

@@ -207,7 +207,7 @@ module _ (lim : Limits) (classes : Classes) (agree : BytesAgree lim classes) whe
       (fields-small (λ (n : Node). nodeTag (n .head .text)) (λ (n : Node). n .children ∷ n .head .name) (nodesOf d)
       (λ n. node-tag-small (n .head .text)) (omega arith)
       (λ n m.
-      let w = within .each-node n m in
+      let w = within .tree .each-node n m in
       let a = agree .children in
       let b = w .children in
       small-cons (n .children) (n .head .name) (omega arith)

@@ -34,7 +34,7 @@ use Rattle.grammar.specs.Tree.{Tree}
 use Rattle.grammar.specs.Table.{Rule, Table}
 use Rattle.grammar.specs.ReadContent.{isProper, areProper}
 use Rattle.grammar.specs.ReadDocument.{Node}
-use Rattle.grammar.specs.WithinLimits.{NameWithin, ContentWithin, RuleWithin, TableWithin, NodeWithin, DocumentWithin}
+use Rattle.grammar.specs.WithinLimits.{NameWithin, ContentWithin, RuleWithin, TableWithin, NodeWithin, TreeWithin, DocumentWithin}
 use Rattle.theory.specs.Conditions.{Counted, AllCounted}
 use Rattle.theory.proofs.lists.BoolLaws.{and-left, and-right, and-intro}
 use Rattle.theory.proofs.contents.ProperContents.{proper-operands}
@@ -123,14 +123,17 @@ module _ {lim lim′ : Limits} (none-above : NoneAbove lim lim′) where
   node-roomier within =
       record { name = name-roomier (within .name); children = le-trans (within .children) (none-above .children) }
 
-  pub document-roomier : {classes : Classes} {d : Tree} → DocumentWithin lim classes d → DocumentWithin lim′ classes d
-  document-roomier within =
+  pub tree-roomier : {classes : Classes} {d : Tree} → TreeWithin lim classes d → TreeWithin lim′ classes d
+  tree-roomier within =
       record {
         each-node = λ n m. node-roomier (within .each-node n m);
         nodes = le-trans (within .nodes) (none-above .nodes);
         levels = le-trans (within .levels) (none-above .levels);
-        size = le-trans (within .size) (none-above .input);
       }
+
+  pub document-roomier : {classes : Classes} {d : Tree} → DocumentWithin lim classes d → DocumentWithin lim′ classes d
+  document-roomier within =
+      record { tree = tree-roomier (within .tree); size = le-trans (within .size) (none-above .input) }
 
 pub none-above-self : (lim : Limits) → NoneAbove lim lim
 none-above-self lim =

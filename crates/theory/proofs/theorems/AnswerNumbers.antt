@@ -35,6 +35,8 @@ use Rattle.grammar.specs.declared.Refusal.the-variants.{
   NoDocument,
   ResultTooLarge,
   OutputTooShort,
+  BadText,
+  BadEndTag,
   BadClasses,
 }
 use Rattle.grammar.specs.declared.Written.the-variants.{Length, Refused as Unwritten}
@@ -56,6 +58,8 @@ number-positive BytesAfterEnd = omega arith
 number-positive NoDocument = omega arith
 number-positive ResultTooLarge = omega arith
 number-positive OutputTooShort = omega arith
+number-positive BadText = omega arith
+number-positive BadEndTag = omega arith
 number-positive BadClasses = omega arith
 
 -- the refusals by their numbers; the first stands at those of none
@@ -77,8 +81,8 @@ numbered =
     ∷ NoDocument
     ∷ ResultTooLarge
     ∷ OutputTooShort
-    ∷ WorkTooShort
-    ∷ WorkTooShort
+    ∷ BadText
+    ∷ BadEndTag
     ∷ BadClasses
     ∷ []
 
@@ -102,6 +106,8 @@ number-back BytesAfterEnd = refl
 number-back NoDocument = refl
 number-back ResultTooLarge = refl
 number-back OutputTooShort = refl
+number-back BadText = refl
+number-back BadEndTag = refl
 number-back BadClasses = refl
 
 pub number-same : (q r : Refusal) → number q ≡ number r → q ≡ r

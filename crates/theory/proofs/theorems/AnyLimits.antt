@@ -16,6 +16,7 @@ use Rattle.grammar.specs.Promises.{Membership, KindTest, Sampling, Widening}
 use Rattle.grammar.specs.declared.Size.{Size}
 use Rattle.grammar.specs.declared.Size.the-variants.{Small, Standard, Large}
 use Rattle.grammar.specs.declared.SizeLimits.{SizeLimits}
+use Rattle.grammar.specs.declared.Format.{Format}
 use Rattle.grammar.specs.declared.Source.{Source}
 use Rattle.theory.proofs.bytes.NumberedTable.{sized-agree}
 use Rattle.theory.proofs.theorems.CallPromises.{membership, kind-test, sampling, widening}
@@ -40,12 +41,14 @@ others-within l words rules nodes levels = record { rules = rules; nodes = nodes
 
 -- Every answer that is as the definition gives it keeps the demands.
 pub record Demands (lim : Limits) (classes : Classes) : Type 0 where
-  pub lets-in : (table document work : List ℕ) (left : After Numbers)
-      → left ≡ answered lim bit (tableLetsIn lim classes table document work) work → Membership lim classes table document work left
+  pub lets-in : (table : List ℕ) (format : Format) (document work : List ℕ) (left : After Numbers)
+      → left ≡ answered lim bit (tableLetsIn lim classes table format document work) work
+      → Membership lim classes table format document work left
   pub is-of-kind : (kind : Kind) (table work : List ℕ) (left : After Numbers)
       → left ≡ answered lim bit (tableIsOfKind lim classes kind table work) work → KindTest lim classes kind table work left
-  pub samples : (document out work : List ℕ) (left : After Numbers)
-      → left ≡ wrote lim (documentSample lim classes document out work) out work → Sampling lim classes document out work left
+  pub samples : (format : Format) (document out work : List ℕ) (left : After Numbers)
+      → left ≡ wrote lim (documentSample lim classes format document out work) out work
+      → Sampling lim classes format document out work left
   pub widens : (kind : Kind) (source : Source) (old addition out work : List ℕ) (left : After Numbers)
       → left ≡ wrote lim (widened lim classes kind source old addition out work) out work
       → Widening lim classes kind source old addition out work left

@@ -20,7 +20,7 @@ use Rattle.grammar.specs.Kinds.{Kind, local, singleType, OfKind}
 use Rattle.grammar.specs.Least.{Addition, Added}
 use Rattle.grammar.specs.Outcome.{Outcome, given, refused, _>>=_, _>>_, turnBack}
 use Rattle.grammar.specs.ReadTable.{readTable}
-use Rattle.grammar.specs.ReadDocument.{readDocument}
+use Rattle.grammar.specs.Documents.{readDocument}
 use Rattle.grammar.specs.WriteTable.{tableBytes}
 use Rattle.grammar.specs.Membership.{letsIn}
 use Rattle.grammar.specs.KindTests.{isOfKind}
@@ -43,13 +43,14 @@ use Rattle.grammar.specs.Calls.{
   widened,
 }
 use Rattle.grammar.specs.Promises.{Decides, Membership, KindTest, Sampling, Widening}
+use Rattle.grammar.specs.declared.Format.{Format}
 use Rattle.grammar.specs.declared.Source.{Source}
 use Rattle.grammar.specs.declared.Refusal.the-variants.{WorkTooShort, BadClasses, NoDocument, OutputTooShort}
 use Rattle.theory.proofs.bytes.OutcomeLaws.{given-then, no-fault, was-given, had-no-fault, given-eq}
 use Rattle.theory.proofs.theorems.AnswerNumbers.{numbers-given, numbers-refused}
 use Rattle.theory.proofs.matching.Membership.{lets-in}
 use Rattle.theory.proofs.tables.KindTests.{is-local, is-single-type}
-use Rattle.theory.proofs.bytes.DocumentWithin.{document-within}
+use Rattle.theory.proofs.bytes.TreeRead.{tree-within}
 use Rattle.theory.proofs.sample.SampleDocument.{sample-lets-in}
 use Rattle.theory.proofs.theorems.ResultWithin.{sample-read-back}
 use Rattle.theory.proofs.theorems.WidenLeast.{sampled}
@@ -152,16 +153,16 @@ module _ (lim : Limits) (o : Outcome (List ℕ)) (out work : List ℕ) (left : A
 
 module _ (lim : Limits) (classes : Classes) where
   -- membership and kind
-  pub membership : (table document work : List ℕ) (left : After Numbers)
-      → left ≡ answered lim bit (tableLetsIn lim classes table document work) work → Membership lim classes table document work left
+  pub membership : (table : List ℕ) (format : Format) (document work : List ℕ) (left : After Numbers)
+      → left ≡ answered lim bit (tableLetsIn lim classes table format document work) work → Membership lim classes table format document work left
   unfolding answered tableLetsIn tableReads numbersOf
-  membership table document work left s =
+  membership table format document work left s =
       record {
         settled = s;
         decides = λ g d p q h l.
             decided (letsIn g d) (lets-in g d) (left .answer)
             (ap (λ (a : After Numbers). a .answer) s
-            ∙ ap (λ (o : Outcome Table). numbersOf bit (o >>= λ g. (readDocument lim classes document >>= λ d. given (letsIn g d))))
+            ∙ ap (λ (o : Outcome Table). numbersOf bit (o >>= λ g. (readDocument lim classes format document >>= λ d. given (letsIn g d))))
             (lent-loaded lim classes work (readTable lim classes table) h l ∙ p)
             ∙ ap (λ (o : Outcome Tree). numbersOf bit (o >>= λ d. given (letsIn g d))) q);
       }
@@ -180,20 +181,20 @@ module _ (lim : Limits) (classes : Classes) where
       }
 
   module _ (agree : LimitsAgree lim) where
-    pub sampling : (document out work : List ℕ) (left : After Numbers)
-        → left ≡ wrote lim (documentSample lim classes document out work) out work → Sampling lim classes document out work left
+    pub sampling : (format : Format) (document out work : List ℕ) (left : After Numbers)
+        → left ≡ wrote lim (documentSample lim classes format document out work) out work → Sampling lim classes format document out work left
     unfolding documentSample documentReads
-    sampling document out work left s =
+    sampling format document out work left s =
         record {
           settled = s;
           reads = λ z d p.
               let bytes = take (left .answer .value) (left .out) in
               let f =
-              lent-given lim classes work (readDocument lim classes document) (λ d. (sampleTable lim d >>= λ g. writtenTo out g)) bytes
-              (wrote-bytes lim (documentSample lim classes document out work) out work left s z) d p in
+              lent-given lim classes work (readDocument lim classes format document) (λ d. (sampleTable lim d >>= λ g. writtenTo out g)) bytes
+              (wrote-bytes lim (documentSample lim classes format document out work) out work left s z) d p in
               let (g, q, w) = was-given (sampleTable lim d) (λ g. writtenTo out g) bytes f in
               ap (readTable lim classes) (sym (written-bytes out g bytes w))
-              ∙ sample-read-back lim classes agree d (document-within lim classes document d p) g q
+              ∙ sample-read-back lim classes agree d (tree-within lim classes format document d p) g q
               ∙ ap (λ (x : Table). given x) (sampled lim d g q);
           lets-in = λ d p. sample-lets-in d;
         }

@@ -13,7 +13,7 @@ use Rattle.grammar.specs.Least.{byTable}
 use Rattle.grammar.specs.Outcome.{Outcome, given, _>>=_}
 use Rattle.grammar.specs.Answers.{numberAfter}
 use Rattle.grammar.specs.ReadTable.{readTable}
-use Rattle.grammar.specs.ReadDocument.{readDocument}
+use Rattle.grammar.specs.ReadDocument.{readDocumentFile}
 use Rattle.grammar.specs.Widen.{widen}
 use Rattle.grammar.specs.Calls.{tableReads, readAddition, widened, writtenTo}
 use Rattle.grammar.specs.declared.Source.the-variants.{Table as aTable}
@@ -45,10 +45,10 @@ pub record WidenedByE (kind : Kind) (g result : Table) : Type 0 where
 pub record PaperTheorem : Type 0 where
   pub p1-length : length p1Bytes ≡ 17
   pub p1-table : readTable standard asciiClasses p1Bytes ≡ given p1Table
-  pub p2-document : readDocument standard asciiClasses p2Bytes ≡ given p2Document
+  pub p2-document : readDocumentFile standard asciiClasses p2Bytes ≡ given p2Document
   pub p2-let-in : LetsIn p1Table p2Document
   pub p3-table : numberAfter (readTable standard asciiClasses []) ≡ 3
-  pub p3-document : numberAfter (readDocument standard asciiClasses []) ≡ 3
+  pub p3-document : numberAfter (readDocumentFile standard asciiClasses []) ≡ 3
   pub p4 : (kind : Kind) (out work : List ℕ) → 16384 ≤ length work
       → numberAfter (widened standard asciiClasses kind aTable eBytes eBytes out work) ≡ 13
   pub p5-local : (result : Table) × WidenedByE local p5Table result × LetsIn result p5Document

@@ -17,7 +17,7 @@ use Rattle.grammar.specs.Least.{byDocument}
 use Rattle.grammar.specs.Outcome.{given}
 use Rattle.grammar.specs.ReadTable.{readTable}
 use Rattle.grammar.specs.WriteTable.{tableBytes}
-use Rattle.grammar.specs.WithinLimits.{NameWithin, TableWithin, DocumentWithin}
+use Rattle.grammar.specs.WithinLimits.{NameWithin, TableWithin, TreeWithin}
 use Rattle.grammar.specs.Widen.{form, reducedUnion, widenByTable, sampleTable, widen}
 use Rattle.theory.proofs.bytes.OutcomeLaws.{was-given}
 use Rattle.theory.proofs.bytes.FieldBytes.{AreBytes}
@@ -62,7 +62,7 @@ module _ (lim : Limits) (classes : Classes) (agree : LimitsAgree lim) where
       result-bytes bytes = table-bytes-small lim classes bytes result result-within
 
   -- a document's sample, and a widening by a document
-  module _ (d : Tree) (document : DocumentWithin lim classes d) where
+  module _ (d : Tree) (document : TreeWithin lim classes d) where
     module _ (g : Table) (e : sampleTable lim d ≡ given g) where
       pub sample-read-back : readTable lim classes (tableBytes g) ≡ given g
       sample-read-back = table-read-back lim classes g (sample-within lim classes agree d document g e)

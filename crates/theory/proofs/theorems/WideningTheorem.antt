@@ -14,18 +14,19 @@ use Rattle.grammar.specs.Kinds.{Kind}
 use Rattle.grammar.specs.Least.{Addition, byTable, byDocument, Added}
 use Rattle.grammar.specs.Outcome.{Outcome, given, refused, _>>=_}
 use Rattle.grammar.specs.ReadTable.{readTable}
-use Rattle.grammar.specs.ReadDocument.{readDocument}
+use Rattle.grammar.specs.Documents.{readDocument}
 use Rattle.grammar.specs.Sample.{sample}
 use Rattle.grammar.specs.WriteTable.{tableBytes}
 use Rattle.grammar.specs.Widen.{widen, widenByTable, sampleTable}
 use Rattle.grammar.specs.Claim.{WritesLeast}
 use Rattle.grammar.specs.Calls.{readAddition}
+use Rattle.grammar.specs.declared.Format.{Format}
 use Rattle.grammar.specs.declared.Source.{Source}
 use Rattle.grammar.specs.declared.Source.the-variants.{Table as aTable, Document as aDocument}
 use Rattle.grammar.specs.declared.Refusal.the-variants.{NoDocument}
 use Rattle.theory.proofs.bytes.OutcomeLaws.{was-given, given-eq}
 use Rattle.theory.proofs.bytes.ReadWithin.{read-within}
-use Rattle.theory.proofs.bytes.DocumentWithin.{document-within}
+use Rattle.theory.proofs.bytes.TreeRead.{tree-within}
 use Rattle.theory.proofs.bytes.SampleWithin.{sample-within}
 use Rattle.theory.proofs.sample.SampleDocument.{sample-lets-in}
 use Rattle.theory.proofs.theorems.ResultWithin.{result-read-back, document-result-read-back}
@@ -45,12 +46,12 @@ module _ (lim : Limits) (classes : Classes) (agree : LimitsAgree lim) (kind : Ki
         least = widened-by-table lim classes kind old addition old-within addition-within result e;
       }
 
-  by-document : (d : Tree) (result : Table) → readDocument lim classes addedBytes ≡ given d
+  by-document : (format : Format) (d : Tree) (result : Table) → readDocument lim classes format addedBytes ≡ given d
       → widen lim kind old (byDocument d) ≡ given result → WritesLeast lim classes kind old (byDocument d) (tableBytes result)
   unfolding widen
-  by-document d result q e =
+  by-document format d result q e =
       let old-within = read-within lim classes oldBytes old p in
-      let within = document-within lim classes addedBytes d q in
+      let within = tree-within lim classes format addedBytes d q in
       record {
         result = result;
         reads = document-result-read-back lim classes agree d within kind old old-within result e;
@@ -63,37 +64,38 @@ module _ (lim : Limits) (classes : Classes) (agree : LimitsAgree lim) (kind : Ki
   thirteen-by-table addition q =
       no-document lim classes kind old addition (read-within lim classes oldBytes old p) (read-within lim classes addedBytes addition q)
 
-  never-by-document : (d : Tree) → readDocument lim classes addedBytes ≡ given d → widen lim kind old (byDocument d) ≡ refused NoDocument → ⊥
+  never-by-document : (format : Format) (d : Tree) → readDocument lim classes format addedBytes ≡ given d
+      → widen lim kind old (byDocument d) ≡ refused NoDocument → ⊥
   unfolding widen
-  never-by-document d q e = go (sampleTable lim d) refl e
+  never-by-document format d q e = go (sampleTable lim d) refl e
     where
       go : (o : Outcome Table) → sampleTable lim d ≡ o → (o >>= λ g. widenByTable lim kind old g) ≡ refused NoDocument → ⊥
       go (refused r) s f = sampled-thirteen lim d (s ∙ f)
       go (given g) s f =
           no-document lim classes kind old g (read-within lim classes oldBytes old p)
-          (sample-within lim classes agree d (document-within lim classes addedBytes d q) g s)
+          (sample-within lim classes agree d (tree-within lim classes format addedBytes d q) g s)
           .0
           f
           d
           (inr (subst (λ (h : Table). LetsIn h d) (sym (sampled lim d g s)) (sample-lets-in d)))
 
-  thirteen-by-document : (document : Tree) → readDocument lim classes addedBytes ≡ given document
+  thirteen-by-document : (format : Format) (document : Tree) → readDocument lim classes format addedBytes ≡ given document
       → (widen lim kind old (byDocument document) ≡ refused NoDocument) ↔ ((d : Tree) → LetsIn old d ⊎ LetsIn (sample document) d → ⊥)
-  thirteen-by-document document q =
-      (λ e. absurd (never-by-document document q e), λ none. absurd (none document (inr (sample-lets-in document))))
+  thirteen-by-document format document q =
+      (λ e. absurd (never-by-document format document q e), λ none. absurd (none document (inr (sample-lets-in document))))
 
 -- a fact of every addition that reads, from one of tables and one of documents
 of-addition : (lim : Limits) (classes : Classes) (source : Source) (bytes : List ℕ) (addition : Addition) (Fact : Addition → Type 0)
     → ((g : Table) → readTable lim classes bytes ≡ given g → Fact (byTable g))
-    → ((d : Tree) → readDocument lim classes bytes ≡ given d → Fact (byDocument d))
+    → ((format : Format) (d : Tree) → readDocument lim classes format bytes ≡ given d → Fact (byDocument d))
     → readAddition lim classes source bytes ≡ given addition → Fact addition
 unfolding readAddition
 of-addition lim classes aTable bytes addition Fact table document q =
     let (g, r, e) = was-given (readTable lim classes bytes) (λ g. given (byTable g)) addition q in
     subst Fact (given-eq e) (table g r)
-of-addition lim classes aDocument bytes addition Fact table document q =
-    let (d, r, e) = was-given (readDocument lim classes bytes) (λ d. given (byDocument d)) addition q in
-    subst Fact (given-eq e) (document d r)
+of-addition lim classes (aDocument format) bytes addition Fact table document q =
+    let (d, r, e) = was-given (readDocument lim classes format bytes) (λ d. given (byDocument d)) addition q in
+    subst Fact (given-eq e) (document format d r)
 
 pub widening-theorem : (lim : Limits) (classes : Classes) → LimitsAgree lim → (kind : Kind) (source : Source) (oldBytes addedBytes : List ℕ)
     (old : Table) (addition : Addition) (result : Table) → readTable lim classes oldBytes ≡ given old
@@ -103,7 +105,7 @@ widening-theorem lim classes agree kind source oldBytes addedBytes old addition 
     of-addition lim classes source addedBytes addition
     (λ a. widen lim kind old a ≡ given result → WritesLeast lim classes kind old a (tableBytes result))
     (λ g r. by-table lim classes agree kind oldBytes addedBytes old p g result r)
-    (λ d r. by-document lim classes agree kind oldBytes addedBytes old p d result r)
+    (λ format d r. by-document lim classes agree kind oldBytes addedBytes old p format d result r)
     q
 
 pub thirteen : (lim : Limits) (classes : Classes) → LimitsAgree lim → (kind : Kind) (source : Source) (oldBytes addedBytes : List ℕ)
@@ -114,5 +116,5 @@ thirteen lim classes agree kind source oldBytes addedBytes old addition p q =
     of-addition lim classes source addedBytes addition
     (λ a. (widen lim kind old a ≡ refused NoDocument) ↔ ((d : Tree) → LetsIn old d ⊎ Added a d → ⊥))
     (λ g r. thirteen-by-table lim classes agree kind oldBytes addedBytes old p g r)
-    (λ d r. thirteen-by-document lim classes agree kind oldBytes addedBytes old p d r)
+    (λ format d r. thirteen-by-document lim classes agree kind oldBytes addedBytes old p format d r)
     q

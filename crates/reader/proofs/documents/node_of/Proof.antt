@@ -1,11 +1,15 @@
 -- `documents::node_of` meets its contract: each way through the code is a case of `readNode`.
-use Prim.Native.Nat.{_+_}
+use Prim.Native.Nat.{ℕ, _+_, _-_, _%_}
 use native.Mathlib.Omega.{arith}
-use mathlib.Core.Path.{sym, _∙_}
+use mathlib.Core.Path.{sym, _∙_, ap}
 use Rattle.grammar.specs.LimitSets.{limitsOf}
 use Rattle.grammar.specs.Fields.{fieldsOf}
+use mathlib.Core.Bool.{true}
+use lib.Dec.{eqb}
 use lib.ListN.{drop}
-use Rattle.reader.specs.TableIndex.{part}
+use Rattle.grammar.specs.ReadDocument.{nodeTag, withNode}
+use Rattle.reader.specs.DocumentNodes.{nodeFrom}
+use Rattle.reader.specs.DocumentSteps.{restOf}
 use Rattle.reader.proofs.DocumentFields.{
   node-foreign,
   node-short,
@@ -14,6 +18,8 @@ use Rattle.reader.proofs.DocumentFields.{
   node-misplaced,
   node-here,
   good-counts,
+  shape-children,
+  shape-small,
 }
 use borrow.Author.Tests.{not-true, not-false}
 use Rattle.reader.proofs.documents.node_of.Statement.{statement}
@@ -24,7 +30,7 @@ returns c =
     let a = c .before .before .before .before .args in
     let s = a .s .now in
     let lim = limitsOf (a .limits) in
-    let p = c .before .before .before .before .pre .1 .1 in
+    let p = c .before .before .before .before .pre .1 in
     λ o z.
     node-foreign s (a .from) (a .to) (p .0) (p .1) lim (a .classes .now) (a .tag) (fieldsOf (drop (a .to) s)) o
     (sym (c .before .is-node-tag .ensures) ∙ not-true (c .before .is-node-tag .result) (c .if1 .taken))
@@ -34,7 +40,7 @@ returns-2 c =
     let a = c .before .before .before .before .before .args in
     let s = a .s .now in
     let lim = limitsOf (a .limits) in
-    let p = c .before .before .before .before .before .pre .1 .1 in
+    let p = c .before .before .before .before .before .pre .1 in
     λ o z. node-short s (a .from) (a .to) (p .0) (p .1) lim (a .classes .now) (a .tag) (fieldsOf (drop (a .to) s)) o (omega arith)
 
 returns-3 : tie.Need-returns-3
@@ -42,7 +48,7 @@ returns-3 c =
     let a = c .before .before .before .before .before .before .args in
     let s = a .s .now in
     let lim = limitsOf (a .limits) in
-    let p = c .before .before .before .before .before .before .pre .1 .1 in
+    let p = c .before .before .before .before .before .before .pre .1 in
     λ o z. node-long s (a .from) (a .to) (p .0) (p .1) lim (a .classes .now) (a .tag) (fieldsOf (drop (a .to) s)) o (omega arith)
 
 is-name-requires : tie.Need-is-name-requires
@@ -53,39 +59,51 @@ returns-4 c =
     let a = c .before .before .before .before .before .before .before .before .before .before .before .before .before .args in
     let s = a .s .now in
     let lim = limitsOf (a .limits) in
-    let p = c .before .before .before .before .before .before .before .before .before .before .before .before .before .pre .1 .1 in
+    let p = c .before .before .before .before .before .before .before .before .before .before .before .before .before .pre .1 in
     λ o z.
     node-misplaced s (a .from) (a .to) (p .0) (p .1) lim (a .classes .now) (a .tag) (fieldsOf (drop (a .to) s)) o
     (sym (c .before .before .before .before .before .before .before .before .before .before .is-node-tag .ensures) ∙ not-false (c .before .before .before .before .before .before .before .before .before .before .is-node-tag .result) (c .before .before .before .before .before .before .before .before .before .if1 .left)) (omega arith) (omega arith)
-    (c .before .before .before .before .before .before .before .before .before .before .before .before .before .pre .1 .0) (a .nodes) (a .depth) (c .before .before .before .before .before .wide .result) (c .before .before .before .before .before .wide .ensures .0) z
+    (a .nodes) (a .depth) (c .before .before .before .before .before .wide .result) (c .before .before .before .before .before .wide .ensures .0) z
     (sym (c .before .before .before .is-name .ensures) ∙ c .before .before .if4 .taken)
     (sym (c .before .bad-node .ensures) ∙ c .if5 .taken)
 
+shape-of-requires : tie.Need-shape-of-requires
+shape-of-requires c κs =
+    let good = sym (c .before .bad-node .ensures) ∙ c .if5 .left in
+    let few = good-counts (limitsOf (c .before .before .before .before .before .before .before .before .before .before .before .before .before .args .limits)) (c .before .before .before .before .before .before .before .before .before .before .before .before .before .args .nodes) (c .before .before .before .before .before .wide .result) (c .before .before .before .before .before .before .before .before .before .before .before .before .before .args .depth) good .few in
+    omega arith
+
 returns-5 : tie.Need-returns-5
 returns-5 c =
-    let a = c .before .before .before .before .before .before .before .before .before .before .before .before .before .args in
+    let a = c .before .before .before .before .before .before .before .before .before .before .before .before .before .before .args in
     let s = a .s .now in
     let lim = limitsOf (a .limits) in
-    let p = c .before .before .before .before .before .before .before .before .before .before .before .before .before .pre .1 .1 in
-    let behind = c .before .before .before .before .before .before .before .before .before .before .before .before .before .pre .1 .0 .behind in
-    let good = sym (c .before .bad-node .ensures) ∙ c .if5 .left in
-    let counts = good-counts lim (a .nodes) (c .before .before .before .before .before .wide .result) (a .depth) good in
+    let p = c .before .before .before .before .before .before .before .before .before .before .before .before .before .before .pre .1 in
+    let good = sym (c .before .before .bad-node .ensures) ∙ c .before .if5 .left in
+    let counts = good-counts lim (a .nodes) (c .before .before .before .before .before .before .wide .result) (a .depth) good in
+    let shape = c .shape-of .ensures in
+    let text = eqb (a .tag) (nodeTag true) in
+    let few = counts .few in
+    let children = shape-children text (c .before .before .before .before .before .before .wide .result) (omega arith) in
+    let small = shape-small text (c .before .before .before .before .before .before .wide .result) (omega arith) in
+    let rest = ap (λ (k : ℕ). k % 256) shape in
     record {
       forward = omega arith;
-      behind = omega arith;
       order = omega arith;
       within = p .1;
       room = counts .room;
       some-level = counts .some-level;
       level = counts .level;
-      few = counts .few;
+      few = omega arith;
+      small = omega arith;
       goes =
           λ o z.
           node-here s (a .from) (a .to) (p .0) (p .1) lim (a .classes .now) (a .tag) (fieldsOf (drop (a .to) s)) o
-          (sym (c .before .before .before .before .before .before .before .before .before .before .is-node-tag .ensures) ∙ not-false (c .before .before .before .before .before .before .before .before .before .before .is-node-tag .result) (c .before .before .before .before .before .before .before .before .before .if1 .left)) (omega arith) (omega arith)
-          (c .before .before .before .before .before .before .before .before .before .before .before .before .before .pre .1 .0) (a .nodes) (a .depth) (c .before .before .before .before .before .wide .result) (c .before .before .before .before .before .wide .ensures .0) z
-          (sym (c .before .before .before .is-name .ensures) ∙ c .before .before .if4 .taken)
-          good;
+          (sym (c .before .before .before .before .before .before .before .before .before .before .before .is-node-tag .ensures) ∙ not-false (c .before .before .before .before .before .before .before .before .before .before .before .is-node-tag .result) (c .before .before .before .before .before .before .before .before .before .before .if1 .left)) (omega arith) (omega arith)
+          (a .nodes) (a .depth) (c .before .before .before .before .before .before .wide .result) (c .before .before .before .before .before .before .wide .ensures .0) z (omega arith)
+          (sym (c .before .before .before .before .is-name .ensures) ∙ c .before .before .before .if4 .taken)
+          good
+          ∙ ap (λ (k : ℕ). restOf lim (a .classes .now) (withNode o (nodeFrom s (a .from + 1) (a .to - (a .from + 1)) k)) (fieldsOf (drop (a .to) s))) (sym shape);
     }
 
 returns-6 : tie.Need-returns-6
@@ -93,7 +111,7 @@ returns-6 c =
     let a = c .before .before .before .before .before .before .before .before .before .before .before .args in
     let s = a .s .now in
     let lim = limitsOf (a .limits) in
-    let p = c .before .before .before .before .before .before .before .before .before .before .before .pre .1 .1 in
+    let p = c .before .before .before .before .before .before .before .before .before .before .before .pre .1 in
     λ o z.
     node-misnamed s (a .from) (a .to) (p .0) (p .1) lim (a .classes .now) (a .tag) (fieldsOf (drop (a .to) s)) o
     (sym (c .before .before .before .before .before .before .before .before .is-node-tag .ensures) ∙ not-false (c .before .before .before .before .before .before .before .before .is-node-tag .result) (c .before .before .before .before .before .before .before .if1 .left)) (omega arith) (omega arith)
@@ -118,5 +136,6 @@ node-of-spec =
     is-name-requires
     (λ c κs. tt)
     returns-4
+    shape-of-requires
     returns-5
     returns-6)

@@ -1,9 +1,9 @@
--- `documents::read_nodes` meets its contract: the input's length comes first, then its fields.
+-- `documents::read_nodes` meets its contract: the input's length comes first, then its fields or its tags.
 use native.Mathlib.Omega.{arith}
 use mathlib.Core.Path.{_∙_}
 use borrow.Author.Needs.{needs}
 use Rattle.grammar.specs.LimitSets.{limitsOf}
-use Rattle.reader.proofs.DocumentFields.{reads-long, reads-short}
+use Rattle.reader.proofs.DocumentLengths.{document-long, file-fields, text-tags}
 use Rattle.reader.proofs.documents.read_nodes.Statement.{statement}
 use Rattle.reader.proofs.documents.read_nodes.Tie as tie
 
@@ -11,19 +11,22 @@ returns : tie.Need-returns
 returns c =
     let a = c .before .before .before .before .before .before .args in
     record {
-      outcome = reads-long (limitsOf (a .limits)) (a .classes .now) (a .s .now) (c .if1 .taken);
+      outcome = document-long (limitsOf (a .limits)) (a .classes .now) (a .format) (a .s .now) (c .if1 .taken);
       few = omega arith;
-      indexed =
-          record {
-            few = omega arith;
-            behind = λ i h. absurd (omega arith);
-            within = λ i h. absurd (omega arith);
-            counts = λ i h. absurd (omega arith);
-          };
+      indexed = record { few = omega arith; within = λ i h. absurd (omega arith); counts = λ i h. absurd (omega arith) };
     }
+
+enum-told : tie.Need-enum-told
+enum-told c = search needs
 
 read-fields-requires : tie.Need-read-fields-requires
 read-fields-requires c κs = search needs
+
+enum-told-2 : tie.Need-enum-told-2
+enum-told-2 c = search needs
+
+read-tags-requires : tie.Need-read-tags-requires
+read-tags-requires c κs = search needs
 
 same-length : tie.Need-same-length
 same-length c = search needs
@@ -36,10 +39,31 @@ same-length-3 c = search needs
 
 returns-2 : tie.Need-returns-2
 returns-2 c =
-    let a = c .before .before .before .before .before .before .before .before .before .before .before .before .before .before .before .before .args in
+    let a = c .before .before .before .before .before .before .before .before .before .before .before .before .before .before .before .before .before .before .args in
     let read = c .before .before .before .before .before .before .read-fields .ensures in
     record {
-      outcome = reads-short (limitsOf (a .limits)) (a .classes .now) (a .s .now) (c .before .before .before .before .before .before .before .before .before .before .if1 .left) ∙ read .0;
+      outcome =
+          file-fields (limitsOf (a .limits)) (a .classes .now) (a .format) (a .s .now) (c .before .before .before .before .before .before .before .before .before .before .before .before .if1 .left) (c .before .before .before .before .before .before .before .before .before .before .enum-told .given .1) ∙ read .0;
+      few = read .1 .0;
+      indexed = read .1 .1;
+    }
+
+same-length-4 : tie.Need-same-length-4
+same-length-4 c = search needs
+
+same-length-5 : tie.Need-same-length-5
+same-length-5 c = search needs
+
+same-length-6 : tie.Need-same-length-6
+same-length-6 c = search needs
+
+returns-3 : tie.Need-returns-3
+returns-3 c =
+    let a = c .before .before .before .before .before .before .before .before .before .before .before .before .before .before .before .before .before .before .args in
+    let read = c .before .before .before .before .before .before .read-tags .ensures in
+    record {
+      outcome =
+          text-tags (limitsOf (a .limits)) (a .classes .now) (a .format) (a .s .now) (c .before .before .before .before .before .before .before .before .before .before .before .before .if1 .left) (c .before .before .before .before .before .before .before .before .before .before .enum-told2 .given .1) ∙ read .0;
       few = read .1 .0;
       indexed = read .1 .1;
     }
@@ -47,4 +71,17 @@ returns-2 c =
 pub read-nodes-spec : {M : Type 1} → statement M
 read-nodes-spec =
     tie.close
-    (tie.spec returns read-fields-requires same-length same-length-2 same-length-3 returns-2)
+    (tie.spec
+    returns
+    enum-told
+    read-fields-requires
+    enum-told-2
+    read-tags-requires
+    same-length
+    same-length-2
+    same-length-3
+    returns-2
+    same-length-4
+    same-length-5
+    same-length-6
+    returns-3)

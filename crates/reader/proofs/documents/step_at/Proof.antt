@@ -11,7 +11,6 @@ use Rattle.reader.specs.DocumentNodes.{outcomeOf}
 use Rattle.reader.specs.DocumentSteps.{restOf, restWith}
 use Rattle.reader.proofs.FieldReading.{field-found, field-none, field-past}
 use Rattle.reader.proofs.DocumentStepping.{stops-none, stops-past, stops-end, goes-with, says-also}
-use Rattle.reader.proofs.TableReading.{found-tag}
 use Rattle.reader.proofs.documents.step_at.Statement.{statement}
 use Rattle.reader.proofs.documents.step_at.Tie as tie
 
@@ -41,7 +40,7 @@ node-of-requires c κs =
     let a = c .before .before .before .before .before .before .before .args in
     let tagged = sym (c .before .before .before .before .field-at .ensures) ∙ c .before .before .tag .given .1 in
     let found = field-found (a .s .now) (a .at) tagged in
-    (c .before .before .before .before .before .before .before .pre, (found-tag found, (found .order, found .within)))
+    (c .before .before .before .before .before .before .before .pre, (found .order, found .within))
 
 returns-2 : tie.Need-returns-2
 returns-2 c =

@@ -69,10 +69,20 @@ returns-16 : tie.Need-returns-16
 unfolding number
 returns-16 c = sym (ap number (c .enum-told16 .given .1))
 
+returns-17 : tie.Need-returns-17
+unfolding number
+returns-17 c = sym (ap number (c .enum-told17 .given .1))
+
+returns-18 : tie.Need-returns-18
+unfolding number
+returns-18 c = sym (ap number (c .enum-told18 .given .1))
+
 pub number-of-spec : {M : Type 1} → statement M
 number-of-spec =
     tie.close
     (tie.spec
+    (λ c. search needs)
+    (λ c. search needs)
     (λ c. search needs)
     (λ c. search needs)
     (λ c. search needs)
@@ -104,4 +114,6 @@ number-of-spec =
     returns-13
     returns-14
     returns-15
-    returns-16)
+    returns-16
+    returns-17
+    returns-18)

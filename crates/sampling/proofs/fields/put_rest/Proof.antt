@@ -31,8 +31,8 @@ part-put-field-end c = search needs
 
 put-field-requires : tie.Need-put-field-requires
 put-field-requires c κs =
-    let a = c .before .before .before .before .before .before .before .before .before .before .before .before .before .before .before .before .before .before .before .before .args in
-    let rule = ruleIn (a .s .now) (a .names .now) (a .parents .now) (a .types .now) (a .labels .now) (a .nodes) in
+    let a = c .before .before .before .before .before .before .before .before .before .before .before .before .before .before .before .before .before .before .before .args in
+    let rule = ruleIn (a .shapes .now) (a .parents .now) (a .types .now) (a .labels .now) (a .nodes) in
     let h = table-length-is (a .draft .now) (a .at) rule (a .count) (rulesBytes rule (a .count)) (fieldBytes 0x1F []) (c .before .before .before .before .before .before .before .before .before .before .put-rules .last .0) [] (c .before .before .before .before .before .before .before .before .before .before .put-rules .result) (c .before .before .before .before .before .before .before .before .before .before .put-rules .ensures) (c .before .before .before .before .end .given .1) in
     let w : length (c .before .before .before .before .before .before .before .before .before .before .put-rules .last .0) ≡ length (a .draft .now) = search needs in
     (h .1, omega arith)
@@ -45,8 +45,8 @@ same-length-2 c = search needs
 
 returns : tie.Need-returns
 returns c =
-    let a = c .before .before .before .before .before .before .before .before .before .before .before .before .before .before .before .before .args in
-    let rule = ruleIn (a .s .now) (a .names .now) (a .parents .now) (a .types .now) (a .labels .now) (a .nodes) in
+    let a = c .before .before .before .before .before .before .before .before .before .before .before .before .before .before .before .args in
+    let rule = ruleIn (a .shapes .now) (a .parents .now) (a .types .now) (a .labels .now) (a .nodes) in
     table-over (a .draft .now) (a .at) rule (a .count) (rulesBytes rule (a .count)) (fieldBytes 0x1F []) (c .before .before .before .before .before .before .put-rules .last .0) (c .before .before .before .before .before .before .put-rules .last .0) (c .before .before .before .before .before .before .put-rules .result) (c .before .before .before .before .before .before .put-rules .ensures) (c .enum-told .given .1)
 
 same-length-3 : tie.Need-same-length-3
@@ -57,8 +57,8 @@ same-length-4 c = search needs
 
 returns-2 : tie.Need-returns-2
 returns-2 c =
-    let a = c .before .before .before .before .before .before .before .before .before .before .before .before .before .before .before .before .before .before .before .before .before .before .before .args in
-    let rule = ruleIn (a .s .now) (a .names .now) (a .parents .now) (a .types .now) (a .labels .now) (a .nodes) in
+    let a = c .before .before .before .before .before .before .before .before .before .before .before .before .before .before .before .before .before .before .before .before .before .before .args in
+    let rule = ruleIn (a .shapes .now) (a .parents .now) (a .types .now) (a .labels .now) (a .nodes) in
     table-then (a .draft .now) (a .at) rule (a .count) (rulesBytes rule (a .count)) (fieldBytes 0x1F []) (c .before .before .before .before .before .before .before .before .before .before .before .before .before .put-rules .last .0) (c .before .before .put-field .last .0) (c .before .before .before .before .before .before .before .before .before .before .before .before .before .put-rules .result) (c .before .before .before .before .before .before .before .before .before .before .before .before .before .put-rules .ensures) (c .before .before .before .before .before .before .before .end .given .1) (c .before .before .put-field .result) (c .before .before .put-field .ensures)
 
 pub put-rest-spec : {M : Type 1} → statement M

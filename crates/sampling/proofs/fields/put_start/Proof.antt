@@ -25,19 +25,19 @@ enum-known-end c = search needs
 
 put-rest-requires : tie.Need-put-rest-requires
 put-rest-requires c κs =
-    let a = c .before .before .before .before .before .before .before .before .before .before .before .before .before .before .before .before .before .args in
-    let rule = ruleIn (a .s .now) (a .names .now) (a .parents .now) (a .types .now) (a .labels .now) (a .nodes) in
+    let a = c .before .before .before .before .before .before .before .before .before .before .before .before .before .before .before .before .args in
+    let rule = ruleIn (a .shapes .now) (a .parents .now) (a .types .now) (a .labels .now) (a .nodes) in
     let h = put-length-is (a .draft .now) (a .at) rule (a .count) (fieldBytes 0x11 (0 ∷ [])) (restBytes rule (a .count)) (c .before .before .before .before .before .before .before .put-field .last .0) [] (c .before .before .before .before .before .before .before .put-field .result) (c .before .before .before .before .before .before .before .put-field .ensures) (c .before .before .before .end .given .1) in
     let w : length (c .before .before .before .before .before .before .before .put-field .last .0) ≡ length (a .draft .now) = search needs in
-    (h .1, omega arith, c .before .before .before .before .before .before .before .before .before .before .before .before .before .before .before .before .before .pre .2, c .before .before .before .before .before .before .before .before .before .before .before .before .before .before .before .before .before .pre .3)
+    (h .1, omega arith, c .before .before .before .before .before .before .before .before .before .before .before .before .before .before .before .before .pre .2, c .before .before .before .before .before .before .before .before .before .before .before .before .before .before .before .before .pre .3)
 
 same-length : tie.Need-same-length
 same-length c = search needs
 
 returns : tie.Need-returns
 returns c =
-    let a = c .before .before .before .before .before .before .before .before .before .before .before .before .before .before .args in
-    let rule = ruleIn (a .s .now) (a .names .now) (a .parents .now) (a .types .now) (a .labels .now) (a .nodes) in
+    let a = c .before .before .before .before .before .before .before .before .before .before .before .before .before .args in
+    let rule = ruleIn (a .shapes .now) (a .parents .now) (a .types .now) (a .labels .now) (a .nodes) in
     put-over (a .draft .now) (a .at) rule (a .count) (fieldBytes 0x11 (0 ∷ [])) (restBytes rule (a .count)) (c .before .before .before .before .put-field .last .0) (c .before .before .before .before .put-field .last .0) (c .before .before .before .before .put-field .result) (c .before .before .before .before .put-field .ensures) (c .enum-told .given .1)
 
 same-length-2 : tie.Need-same-length-2
@@ -48,8 +48,8 @@ same-length-3 c = search needs
 
 returns-2 : tie.Need-returns-2
 returns-2 c =
-    let a = c .before .before .before .before .before .before .before .before .before .before .before .before .before .before .before .before .before .before .before .before .before .before .args in
-    let rule = ruleIn (a .s .now) (a .names .now) (a .parents .now) (a .types .now) (a .labels .now) (a .nodes) in
+    let a = c .before .before .before .before .before .before .before .before .before .before .before .before .before .before .before .before .before .before .before .before .before .args in
+    let rule = ruleIn (a .shapes .now) (a .parents .now) (a .types .now) (a .labels .now) (a .nodes) in
     put-then (a .draft .now) (a .at) rule (a .count) (fieldBytes 0x11 (0 ∷ [])) (restBytes rule (a .count)) (c .before .before .before .before .before .before .before .before .before .before .before .before .put-field .last .0) (c .before .before .before .before .put-rest .last .0) (c .before .before .before .before .before .before .before .before .before .before .before .before .put-field .result) (c .before .before .before .before .before .before .before .before .before .before .before .before .put-field .ensures) (c .before .before .before .before .before .before .before .before .end .given .1) (c .before .before .before .before .put-rest .result) (c .before .before .before .before .put-rest .ensures)
 
 pub put-start-spec : {M : Type 1} → statement M

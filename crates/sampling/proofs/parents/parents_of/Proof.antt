@@ -10,14 +10,14 @@ use Rattle.sampling.proofs.parents.parents_of.Statement.{statement}
 use Rattle.sampling.proofs.parents.parents_of.Tie as tie
 
 abbrev Inv-loop : tie.InvT-loop
-Inv-loop children nodes parents₀ pending₀ top₀ i₀ parents pending top i =
+Inv-loop shapes nodes parents₀ pending₀ top₀ i₀ parents pending top i =
     (length parents ≡ 2048)
     × (length pending ≡ 2048)
     × (i ≤ nodes)
-    × ((q : CountedTree children nodes) → Passing (q .list) parents pending top i)
+    × ((q : CountedTree shapes nodes) → Passing (q .list) parents pending top i)
 
 abbrev μ-loop : tie.MeasureT-loop
-μ-loop children nodes parents₀ pending₀ top₀ i₀ parents pending top i = nodes - i
+μ-loop shapes nodes parents₀ pending₀ top₀ i₀ parents pending top i = nodes - i
 
 loop-holds : tie.Need-loop-holds Inv-loop μ-loop
 loop-holds c = (refl, refl, omega arith, λ q. passing-start (q .list) _ _ _ refl refl (q .one) (q .enough))

@@ -18,23 +18,23 @@ use Rattle.sampling.proofs.rules.put_rules.Statement.{statement}
 use Rattle.sampling.proofs.rules.put_rules.Tie as tie
 
 abbrev Inv-loop : tie.InvT-loop
-Inv-loop draft₀ at scratch₀ s names parents types nodes labels count end₀ k₀ draft scratch end k =
+Inv-loop draft₀ at scratch₀ shapes parents types nodes labels count end₀ k₀ draft scratch end k =
     (k ≤ count)
     × (end ≤ inputLimit)
     × (length draft ≡ length draft₀)
     × (length scratch ≡ length scratch₀)
-    × Put draft₀ at (joinedOf (numberedField (ruleIn s names parents types labels nodes)) (numbersBelow k)) draft end
-    × ((j : ℕ) → j < k → contentTooLarge large (ruleIn s names parents types labels nodes j .content) ≡ false)
+    × Put draft₀ at (joinedOf (numberedField (ruleIn shapes parents types labels nodes)) (numbersBelow k)) draft end
+    × ((j : ℕ) → j < k → contentTooLarge large (ruleIn shapes parents types labels nodes j .content) ≡ false)
 
 abbrev μ-loop : tie.MeasureT-loop
-μ-loop draft₀ at scratch₀ s names parents types nodes labels count end₀ k₀ draft scratch end k = count - k
+μ-loop draft₀ at scratch₀ shapes parents types nodes labels count end₀ k₀ draft scratch end k = count - k
 
 loop-holds : tie.Need-loop-holds Inv-loop μ-loop
 loop-holds c =
-    let a = c .before .before .before .before .before .before .before .args in
-    let rule = ruleIn (a .s .now) (a .names .now) (a .parents .now) (a .types .now) (a .labels .now) (a .nodes) in (
+    let a = c .before .before .before .before .before .before .args in
+    let rule = ruleIn (a .shapes .now) (a .parents .now) (a .types .now) (a .labels .now) (a .nodes) in (
       omega arith,
-      c .before .before .before .before .before .before .before .pre .0,
+      c .before .before .before .before .before .before .pre .0,
       refl,
       refl,
       up-start (numberedField rule) (a .draft .now) (a .at) (omega arith),
@@ -42,14 +42,14 @@ loop-holds c =
     )
 
 shared-slice-read-l : tie.Need-shared-slice-read-l Inv-loop μ-loop
-shared-slice-read-l c = let held = c .before .before .before .before .before .before .before .before .before .before .pre .3 .labels-held in omega arith
+shared-slice-read-l c = let held = c .before .before .before .before .before .before .before .before .before .pre .3 .labels-held in omega arith
 
 type-text-requires : tie.Need-type-text-requires Inv-loop μ-loop
-type-text-requires c κs = c .before .before .before .before .before .before .before .before .before .before .pre .3 .marks
+type-text-requires c κs = c .before .before .before .before .before .before .before .before .before .pre .3 .marks
 
 put-rule-requires : tie.Need-put-rule-requires Inv-loop μ-loop
 put-rule-requires c κs =
-    let p = c .before .before .before .before .before .before .before .before .before .before .before .before .before .pre in
+    let p = c .before .before .before .before .before .before .before .before .before .before .before .before .pre in
     let l = c .before .before .before .before .before .loop .inv in
     let u = l .2 in
     let v = l .3 in
@@ -67,9 +67,9 @@ same-length-2 c = search needs
 
 returns : tie.Need-returns Inv-loop μ-loop
 returns c =
-    let a = c .before .before .before .before .before .before .before .before .before .before .before .before .before .before .before .before .before .before .before .before .args in
+    let a = c .before .before .before .before .before .before .before .before .before .before .before .before .before .before .before .before .before .before .before .args in
     let l = c .before .before .before .before .before .before .before .before .before .before .before .before .loop in
-    let rule = ruleIn (a .s .now) (a .names .now) (a .parents .now) (a .types .now) (a .labels .now) (a .nodes) in
+    let rule = ruleIn (a .shapes .now) (a .parents .now) (a .types .now) (a .labels .now) (a .nodes) in
     let put = c .before .before .before .before .before .before .put-rule in
     let written = rule-marked (l .draft) (put .last .0) (l .end) (put .result) (rule (l .k)) _ (c .before .before .before .before .before .before .before .before .before .type-text .ensures) (put .ensures) in
     rules-stop rule (l .k) (l .inv .4) (put .last .0) (put .result) written (c .enum-told .given .1) (a .count) (c .before .before .before .before .before .before .before .before .before .before .before .loop-test .taken)
@@ -78,17 +78,17 @@ enum-known-more : tie.Need-enum-known-more Inv-loop μ-loop
 enum-known-more c = search needs
 
 add-k : tie.Need-add-k Inv-loop μ-loop
-add-k c = let few = c .before .before .before .before .before .before .before .before .before .before .before .before .before .before .before .before .before .before .before .before .before .pre .3 .few in omega arith
+add-k c = let few = c .before .before .before .before .before .before .before .before .before .before .before .before .before .before .before .before .before .before .before .before .pre .3 .few in omega arith
 
 loop-less : tie.Need-loop-less Inv-loop μ-loop
-loop-less c = let few = c .before .before .before .before .before .before .before .before .before .before .before .before .before .before .before .before .before .before .before .before .before .pre .3 .few in omega arith
+loop-less c = let few = c .before .before .before .before .before .before .before .before .before .before .before .before .before .before .before .before .before .before .before .before .pre .3 .few in omega arith
 
 loop-again : tie.Need-loop-again Inv-loop μ-loop
 unfolding contentTooLarge standard large
 loop-again c =
-    let a = c .before .before .before .before .before .before .before .before .before .before .before .before .before .before .before .before .before .before .before .before .before .args in
+    let a = c .before .before .before .before .before .before .before .before .before .before .before .before .before .before .before .before .before .before .before .before .args in
     let l = c .before .before .before .before .before .before .before .before .before .before .before .before .before .loop in
-    let rule = ruleIn (a .s .now) (a .names .now) (a .parents .now) (a .types .now) (a .labels .now) (a .nodes) in
+    let rule = ruleIn (a .shapes .now) (a .parents .now) (a .types .now) (a .labels .now) (a .nodes) in
     let put = c .before .before .before .before .before .before .before .put-rule in
     let written = rule-marked (l .draft) (put .last .0) (l .end) (put .result) (rule (l .k)) _ (c .before .before .before .before .before .before .before .before .before .before .type-text .ensures) (put .ensures) in
     let r = rules-more rule (l .k) (l .inv .4) (put .last .0) (put .result) written (c .before .more .given .1) in (
@@ -109,9 +109,9 @@ same-length-4 c = search needs
 returns-2 : tie.Need-returns-2 Inv-loop μ-loop
 unfolding contentTooLarge standard large
 returns-2 c =
-    let a = c .before .before .before .before .before .before .before .before .before .args in
+    let a = c .before .before .before .before .before .before .before .before .args in
     let l = c .before .loop in
-    let rule = ruleIn (a .s .now) (a .names .now) (a .parents .now) (a .types .now) (a .labels .now) (a .nodes) in
+    let rule = ruleIn (a .shapes .now) (a .parents .now) (a .types .now) (a .labels .now) (a .nodes) in
     let z : l .k ≡ a .count = omega arith in (
       subst (λ (n : ℕ). Put (a .draft .now) (a .at) (joinedOf (numberedField rule) (numbersBelow n)) (l .draft) (l .end)) z (l .inv .4),
       l .inv .1,

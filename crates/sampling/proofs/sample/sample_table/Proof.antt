@@ -1,10 +1,9 @@
 -- `sample_table` meets its contract.
 use native.Mathlib.Omega.{arith}
-use mathlib.Core.Path.{_≡_}
+use mathlib.Core.Path.{_≡_, sym}
 use lib.ListN.{length}
 use Rattle.sampling.proofs.SampleIndexed.{index-counted, index-tree, index-whole, index-held, index-ready}
 use borrow.Author.Needs.{needs}
-use Rattle.theory.proofs.lists.ListLaws.{zeros-at}
 use Rattle.sampling.proofs.sample.sample_table.Statement.{statement}
 use Rattle.sampling.proofs.sample.sample_table.Tie as tie
 use Rattle.sampling.proofs.sample.sample_table.Reads as reads
@@ -57,8 +56,8 @@ names-long c = search needs
 sizes-long : (c : Start) → length (c .args .index .sizes) ≡ 2048
 sizes-long c = search needs
 
-counts-long : (c : Start) → length (c .args .index .children) ≡ 2048
-counts-long c = search needs
+shapes-long : (c : Start) → length (c .args .index .shapes) ≡ 2048
+shapes-long c = search needs
 
 parents-long : (c : AfterParents) → length (c .parents-of .result) ≡ 2048
 parents-long c = search needs
@@ -78,9 +77,9 @@ parents-of-requires c κs =
     let a = start .args in
     let s = a .document .now in
     let x = start .pre .1 .1 in
-    let lc = counts-long start in
+    let lc = shapes-long start in
     let f = x .indexed .few in
-    (f, omega arith, index-counted _ s (a .index) x (omega arith))
+    (f, omega arith, index-counted _ s (a .index) x)
 
 slice-aggregate-types-of : tie.Need-slice-aggregate-types-of
 slice-aggregate-types-of c = search needs
@@ -94,13 +93,11 @@ slice-aggregate-types-of-3 c = search needs
 types-of-requires : tie.Need-types-of-requires
 types-of-requires c κs =
     let at-parents = c .before .before .before in
-    let start = at-parents .before .before .before .before .before .before .before in
+    let start = c .before .before .before .before .before .before .before .before .before .before in
     let a = start .args in
     let s = a .document .now in
     let x = start .pre .1 .1 in
-    let lc = counts-long start in
-    let f = x .indexed .few in
-    let ps = at-parents .parents-of .ensures (index-counted _ s (a .index) x (omega arith)) in
+    let ps = at-parents .parents-of .ensures (index-counted _ s (a .index) x) in
     index-whole _ s (a .index) x (at-parents .parents-of .result) ps (parents-long at-parents) (names-long start) (sizes-long start)
     (index-tree _ s (a .index) x .0) (index-tree _ s (a .index) x .1)
 
@@ -111,7 +108,7 @@ slice-aggregate-write-sample-2 : tie.Need-slice-aggregate-write-sample-2
 slice-aggregate-write-sample-2 c = search needs
 
 slice-aggregate-write-sample-3 : tie.Need-slice-aggregate-write-sample-3
-slice-aggregate-write-sample-3 c = search needs
+slice-aggregate-write-sample-3 c = sym (shapes-long (c .before .before .before .before .before .before .before .before .before .before .before .before .before .before .before .before .before))
 
 slice-aggregate-write-sample-4 : tie.Need-slice-aggregate-write-sample-4
 slice-aggregate-write-sample-4 c = search needs
@@ -122,47 +119,40 @@ slice-aggregate-write-sample-5 c = search needs
 slice-aggregate-write-sample-6 : tie.Need-slice-aggregate-write-sample-6
 slice-aggregate-write-sample-6 c = search needs
 
-slice-aggregate-write-sample-7 : tie.Need-slice-aggregate-write-sample-7
-slice-aggregate-write-sample-7 c = search needs
-
 write-sample-requires : tie.Need-write-sample-requires
 write-sample-requires c κs =
-    let at-types = c .before .before .before .before .before .before .before .before .before .before in
-    let at-parents = at-types .before .before .before .before in
-    let start = at-parents .before .before .before .before .before .before .before in
+    let at-types = c .before .before .before .before .before .before .before .before .before in
+    let at-parents = c .before .before .before .before .before .before .before .before .before .before .before .before .before in
+    let start = c .before .before .before .before .before .before .before .before .before .before .before .before .before .before .before .before .before .before .before .before in
     let a = start .args in
     let s = a .document .now in
     let x = start .pre .1 .1 in
-    let lc = counts-long start in
-    let f = x .indexed .few in
-    let ps = at-parents .parents-of .ensures (index-counted _ s (a .index) x (omega arith)) in
+    let ps = at-parents .parents-of .ensures (index-counted _ s (a .index) x) in
     let lp = parents-long at-parents in
     let types = at-types .types-of in
     let ready =
     index-ready _ s (a .index) x (at-parents .parents-of .result) ps lp (names-long start) (sizes-long start) (types .result .of)
-    (types .result .firsts) (types .result .count) (types-long at-types) (firsts-long at-types) (types .ensures) in
-    (start .pre .0, (start .pre .1 .0, omega arith, omega arith, zeros-at 2048, ready))
+    (types .result .firsts) (types .result .count) (shapes-long start) (types-long at-types) (firsts-long at-types) (types .ensures) in
+    (start .pre .0, (start .pre .1 .0, ready))
 
 same-length : tie.Need-same-length
 same-length c = search needs
 
 returns : tie.Need-returns
 returns c =
-    let at-types = c .before .before .before .before .before .before .before .before .before .before .before .before .before .before in
-    let at-parents = at-types .before .before .before .before in
-    let start = at-parents .before .before .before .before .before .before .before in
+    let at-types = c .before .before .before .before .before .before .before .before .before .before .before .before in
+    let at-parents = c .before .before .before .before .before .before .before .before .before .before .before .before .before .before .before .before in
+    let start = c .before .before .before .before .before .before .before .before .before .before .before .before .before .before .before .before .before .before .before .before .before .before .before in
     let a = start .args in
     let s = a .document .now in
     let x = start .pre .1 .1 in
-    let lc = counts-long start in
-    let f = x .indexed .few in
-    let ps = at-parents .parents-of .ensures (index-counted _ s (a .index) x (omega arith)) in
+    let ps = at-parents .parents-of .ensures (index-counted _ s (a .index) x) in
     let lp = parents-long at-parents in
     let types = at-types .types-of in
     λ d e.
-    c .before .before .before .write-sample .ensures
+    c .before .before .write-sample .ensures
     (index-held _ s (a .index) x (at-parents .parents-of .result) ps lp (names-long start) (sizes-long start) (types .result .of)
-    (types .result .firsts) (types .result .count) (types-long at-types) (firsts-long at-types) (types .ensures) d e)
+    (types .result .firsts) (types .result .count) (shapes-long start) (types-long at-types) (firsts-long at-types) (types .ensures) d e)
 
 pub sample-table-spec : {M : Type 1} → statement M
 sample-table-spec =
@@ -180,7 +170,6 @@ sample-table-spec =
     slice-aggregate-write-sample-4
     slice-aggregate-write-sample-5
     slice-aggregate-write-sample-6
-    slice-aggregate-write-sample-7
     write-sample-requires
     same-length
     returns)

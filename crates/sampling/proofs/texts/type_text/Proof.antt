@@ -7,54 +7,51 @@ use Rattle.sampling.proofs.texts.type_text.Statement.{statement}
 use Rattle.sampling.proofs.texts.type_text.Tie as tie
 
 abbrev Inv-loop : tie.InvT-loop
-Inv-loop s names types nodes k i₀ i = (i ≤ nodes) × NoText s names types k i
+Inv-loop shapes types nodes k i₀ i = (i ≤ nodes) × NoText shapes types k i
 
 abbrev μ-loop : tie.MeasureT-loop
-μ-loop s names types nodes k i₀ i = nodes - i
+μ-loop shapes types nodes k i₀ i = nodes - i
 
 loop-holds : tie.Need-loop-holds Inv-loop μ-loop
 loop-holds c =
-    let a = c .before .before .before .args in
-    (omega arith, text-none (a .s .now) (a .names .now) (a .types .now) (a .k))
+    let a = c .before .before .args in
+    (omega arith, text-none (a .shapes .now) (a .types .now) (a .k))
 
 mul-if1 : tie.Need-mul-if1 Inv-loop μ-loop
-mul-if1 c = let few = c .before .before .before .before .before .pre .few in omega arith
+mul-if1 c = let few = c .before .before .before .before .pre .few in omega arith
 
 shared-slice-read-if1 : tie.Need-shared-slice-read-if1 Inv-loop μ-loop
-shared-slice-read-if1 c = let held = c .before .before .before .before .before .before .pre .types-held in omega arith
+shared-slice-read-if1 c = let held = c .before .before .before .before .before .pre .types-held in omega arith
 
 cast-if1 : tie.Need-cast-if1 Inv-loop μ-loop
-cast-if1 c = omega (arith, c .shared-slice-known4 .given (c .before .before .loop .i))
+cast-if1 c = omega (arith, c .shared-slice-known3 .given (c .before .before .loop .i))
 
 loop-again : tie.Need-loop-again Inv-loop μ-loop
 loop-again c =
-    let a = c .before .before .before .before .before .before .before .args in
-    (omega arith, text-other (a .s .now) (a .names .now) (a .types .now) (a .k) (c .before .before .before .loop .inv .1) (c .if1 .taken))
+    let a = c .before .before .before .before .before .before .args in
+    (omega arith, text-other (a .shapes .now) (a .types .now) (a .k) (c .before .before .before .loop .inv .1) (c .if1 .taken))
 
 holds-text-requires : tie.Need-holds-text-requires Inv-loop μ-loop
 holds-text-requires c κs =
-    let p = c .before .before .before .before .before .before .before .pre in
-    let held = p .names-held in
-    let h = c .before .before .loop-test .taken in
-    (omega arith, p .behind (c .before .before .before .loop .i) h, p .within (c .before .before .before .loop .i) h)
+    let held = c .before .before .before .before .before .before .pre .shapes-held in omega arith
 
 returns : tie.Need-returns Inv-loop μ-loop
 returns c =
-    let a = c .before .before .before .before .before .before .before .before .before .args in
-    text-found (a .s .now) (a .names .now) (a .types .now) (a .k) (a .nodes) (c .before .before .before .before .before .loop .i) (c .before .before .before .before .loop-test .taken) (c .before .before .if1 .left)
+    let a = c .before .before .before .before .before .before .before .before .args in
+    text-found (a .shapes .now) (a .types .now) (a .k) (a .nodes) (c .before .before .before .before .before .loop .i) (c .before .before .before .before .loop-test .taken) (c .before .before .if1 .left)
     (sym (c .before .holds-text .ensures) ∙ c .if2 .taken)
 
 loop-again-2 : tie.Need-loop-again-2 Inv-loop μ-loop
 loop-again-2 c =
-    let a = c .before .before .before .before .before .before .before .before .before .args in (
+    let a = c .before .before .before .before .before .before .before .before .args in (
       omega arith,
-      text-plain (a .s .now) (a .names .now) (a .types .now) (a .k) (c .before .before .before .before .before .loop .inv .1) (sym (c .before .holds-text .ensures) ∙ c .if2 .left),
+      text-plain (a .shapes .now) (a .types .now) (a .k) (c .before .before .before .before .before .loop .inv .1) (sym (c .before .holds-text .ensures) ∙ c .if2 .left),
     )
 
 returns-2 : tie.Need-returns-2 Inv-loop μ-loop
 returns-2 c =
-    let a = c .before .before .before .before .before .args in
-    text-absent (a .s .now) (a .names .now) (a .types .now) (a .k) (a .nodes) (λ j h. c .before .loop .inv .1 j (omega arith))
+    let a = c .before .before .before .before .args in
+    text-absent (a .shapes .now) (a .types .now) (a .k) (a .nodes) (λ j h. c .before .loop .inv .1 j (omega arith))
 
 pub type-text-spec : {M : Type 1} → statement M
 type-text-spec =

@@ -14,7 +14,7 @@ limits-of-requires : tie.Need-limits-of-requires
 limits-of-requires c κs = search needs
 
 returns : tie.Need-returns
-returns c = membership-sized (c .before .before .limits-of .ensures .0) (laws.lets-in-unanswered (limitsOf (c .before .before .limits-of .result)) (c .before .before .before .before .before .before .before .args .classes .now) (c .before .before .before .before .before .before .before .args .table .now) (c .before .before .before .before .before .before .before .args .document .now) (c .before .before .before .before .before .before .before .args .work .now) (c .if1 .taken))
+returns c = membership-sized (c .before .before .limits-of .ensures .0) (laws.lets-in-unanswered (limitsOf (c .before .before .limits-of .result)) (c .before .before .before .before .before .before .before .args .classes .now) (c .before .before .before .before .before .before .before .args .table .now) (c .before .before .before .before .before .before .before .args .format) (c .before .before .before .before .before .before .before .args .document .now) (c .before .before .before .before .before .before .before .args .work .now) (c .if1 .taken))
 
 sub-read-and-decide : tie.Need-sub-read-and-decide
 sub-read-and-decide c = search needs
@@ -37,8 +37,8 @@ same-length c = search needs
 returns-2 : tie.Need-returns-2
 returns-2 c =
     membership-sized (c .before .before .before .before .before .before .before .before .before .before .limits-of .ensures .0)
-    (laws.lets-in-answered (limitsOf (c .before .before .before .before .before .before .before .before .before .before .limits-of .result)) (c .before .before .before .before .before .before .before .before .before .before .before .before .before .before .before .args .classes .now) (c .before .before .before .before .before .before .before .before .before .before .before .before .before .before .before .args .table .now) (c .before .before .before .before .before .before .before .before .before .before .before .before .before .before .before .args .document .now) (c .before .before .before .before .before .before .before .before .before .before .before .before .before .before .before .args .work .now) (c .before .before .before .before .before .before .before .before .if1 .left) _
-    (c .before .before .clear-work .ensures ∙ lent-cleared (limitsOf (c .before .before .before .before .before .before .before .before .before .before .limits-of .result)) (c .before .before .before .before .before .before .before .before .before .before .before .before .before .before .before .args .work .now) (c .before .before .before .before .before .before .read-and-decide .last .1 .1 .1 .1 .0) (c .before .before .before .before .before .before .before .before .before .before .limits-of .result .words - 0) (omega arith) (c .before .before .before .before .before .before .before .before .if1 .left) (c .before .before .before .before .before .before .read-and-decide .kept .1 .1 .1 .1 .0))
+    (laws.lets-in-answered (limitsOf (c .before .before .before .before .before .before .before .before .before .before .limits-of .result)) (c .before .before .before .before .before .before .before .before .before .before .before .before .before .before .before .args .classes .now) (c .before .before .before .before .before .before .before .before .before .before .before .before .before .before .before .args .table .now) (c .before .before .before .before .before .before .before .before .before .before .before .before .before .before .before .args .format) (c .before .before .before .before .before .before .before .before .before .before .before .before .before .before .before .args .document .now) (c .before .before .before .before .before .before .before .before .before .before .before .before .before .before .before .args .work .now) (c .before .before .before .before .before .before .before .before .if1 .left) _
+    (c .before .before .clear-work .ensures ∙ lent-cleared (limitsOf (c .before .before .before .before .before .before .before .before .before .before .limits-of .result)) (c .before .before .before .before .before .before .before .before .before .before .before .before .before .before .before .args .work .now) (c .before .before .before .before .before .before .read-and-decide .last .1 .1 .1 .1 .1 .0) (c .before .before .before .before .before .before .before .before .before .before .limits-of .result .words - 0) (omega arith) (c .before .before .before .before .before .before .before .before .if1 .left) (c .before .before .before .before .before .before .read-and-decide .kept .1 .1 .1 .1 .1 .0))
     (c .before .before .before .before .before .before .read-and-decide .result) (c .before .before .before .before .before .before .read-and-decide .ensures))
 
 pub lets-in-spec : {M : Type 1} → statement M

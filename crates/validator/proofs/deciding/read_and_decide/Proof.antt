@@ -17,14 +17,14 @@ use Rattle.validator.proofs.VerdictLaws as laws
 use Rattle.validator.proofs.deciding.read_and_decide.Statement.{statement}
 use Rattle.validator.proofs.deciding.read_and_decide.Tie as tie
 
-abbrev readInto : (names sizes children : List ℕ) → NodesRead → DocumentRead
-readInto names sizes children r = record { answer = r .answer; index = indexOf names sizes children (r .nodes) }
+abbrev readInto : (names sizes shapes : List ℕ) → NodesRead → DocumentRead
+readInto names sizes shapes r = record { answer = r .answer; index = indexOf names sizes shapes (r .nodes) }
 
 classes-load-requires : tie.Need-classes-load-requires
 classes-load-requires c κs = search needs
 
 returns : tie.Need-returns
-returns c = laws.unloaded-refuses (limitsOf (c .before .before .before .before .before .before .args .limits)) (c .before .before .before .before .before .before .args .classes .now) (c .before .before .before .before .before .before .args .table .now) (c .before .before .before .before .before .before .args .document .now) (does-not-load (c .before .before .before .before .before .before .args .classes .now) (c .before .classes-load .ensures) (c .if1 .taken))
+returns c = laws.unloaded-refuses (limitsOf (c .before .before .before .before .before .before .args .limits)) (c .before .before .before .before .before .before .args .classes .now) (c .before .before .before .before .before .before .args .table .now) (c .before .before .before .before .before .before .args .format) (c .before .before .before .before .before .before .args .document .now) (does-not-load (c .before .before .before .before .before .before .args .classes .now) (c .before .classes-load .ensures) (c .if1 .taken))
 
 read-table-requires : tie.Need-read-table-requires
 read-table-requires c κs = let all = all-classed (c .before .before .before .before .before .before .before .args .classes .now) (does-load (c .before .before .before .before .before .before .before .args .classes .now) (c .before .before .classes-load .ensures) (c .before .if1 .left)) in (omega arith, c .before .before .before .before .before .before .before .pre .0)
@@ -33,7 +33,7 @@ enum-known-readable : tie.Need-enum-known-readable
 enum-known-readable c = search needs
 
 returns-2 : tie.Need-returns-2
-returns-2 c = laws.table-refuses (limitsOf (c .before .before .before .before .before .before .before .before .before .before .before .args .limits)) (c .before .before .before .before .before .before .before .before .before .before .before .args .classes .now) (c .before .before .before .before .before .before .before .before .before .before .before .args .table .now) (c .before .before .before .before .before .before .before .before .before .before .before .args .document .now) (does-load (c .before .before .before .before .before .before .before .before .before .before .before .args .classes .now) (c .before .before .before .before .before .before .classes-load .ensures) (c .before .before .before .before .before .if1 .left)) (c .before .before .before .read-table .result) _ (c .before .before .before .read-table .ensures) _ (c .before .readable .given .1)
+returns-2 c = laws.table-refuses (limitsOf (c .before .before .before .before .before .before .before .before .before .before .before .args .limits)) (c .before .before .before .before .before .before .before .before .before .before .before .args .classes .now) (c .before .before .before .before .before .before .before .before .before .before .before .args .table .now) (c .before .before .before .before .before .before .before .before .before .before .before .args .format) (c .before .before .before .before .before .before .before .before .before .before .before .args .document .now) (does-load (c .before .before .before .before .before .before .before .before .before .before .before .args .classes .now) (c .before .before .before .before .before .before .classes-load .ensures) (c .before .before .before .before .before .if1 .left)) (c .before .before .before .read-table .result) _ (c .before .before .before .read-table .ensures) _ (c .before .readable .given .1)
 
 enum-told : tie.Need-enum-told
 enum-told c = search needs
@@ -63,8 +63,8 @@ enum-known-complete c = search needs
 
 returns-3 : tie.Need-returns-3
 returns-3 c =
-    laws.document-refuses (limitsOf (c .before .before .before .before .before .before .before .before .before .before .before .before .before .before .before .before .before .before .before .before .args .limits)) (c .before .before .before .before .before .before .before .before .before .before .before .before .before .before .before .before .before .before .before .before .args .classes .now) (c .before .before .before .before .before .before .before .before .before .before .before .before .before .before .before .before .before .before .before .before .args .table .now) (c .before .before .before .before .before .before .before .before .before .before .before .before .before .before .before .before .before .before .before .before .args .document .now) (does-load (c .before .before .before .before .before .before .before .before .before .before .before .before .before .before .before .before .before .before .before .before .args .classes .now) (c .before .before .before .before .before .before .before .before .before .before .before .before .before .before .before .classes-load .ensures) (c .before .before .before .before .before .before .before .before .before .before .before .before .before .before .if1 .left)) (c .before .before .before .before .before .before .before .before .before .before .before .before .read-table .result) _ (c .before .before .before .before .before .before .before .before .before .before .before .before .read-table .ensures) (c .before .before .before .before .before .before .before .before .before .before .enum-told .given .1)
-    (readInto (c .before .before .before .before .before .before .read-nodes .last .1 .1 .1 .0) (c .before .before .before .before .before .before .read-nodes .last .1 .1 .1 .1 .0) (c .before .before .before .before .before .before .read-nodes .last .1 .1 .1 .1 .1 .0) (c .before .before .before .before .before .before .read-nodes .result))
+    laws.document-refuses (limitsOf (c .before .before .before .before .before .before .before .before .before .before .before .before .before .before .before .before .before .before .before .before .args .limits)) (c .before .before .before .before .before .before .before .before .before .before .before .before .before .before .before .before .before .before .before .before .args .classes .now) (c .before .before .before .before .before .before .before .before .before .before .before .before .before .before .before .before .before .before .before .before .args .table .now) (c .before .before .before .before .before .before .before .before .before .before .before .before .before .before .before .before .before .before .before .before .args .format) (c .before .before .before .before .before .before .before .before .before .before .before .before .before .before .before .before .before .before .before .before .args .document .now) (does-load (c .before .before .before .before .before .before .before .before .before .before .before .before .before .before .before .before .before .before .before .before .args .classes .now) (c .before .before .before .before .before .before .before .before .before .before .before .before .before .before .before .classes-load .ensures) (c .before .before .before .before .before .before .before .before .before .before .before .before .before .before .if1 .left)) (c .before .before .before .before .before .before .before .before .before .before .before .before .read-table .result) _ (c .before .before .before .before .before .before .before .before .before .before .before .before .read-table .ensures) (c .before .before .before .before .before .before .before .before .before .before .enum-told .given .1)
+    (readInto (c .before .before .before .before .before .before .read-nodes .last .1 .1 .1 .1 .0) (c .before .before .before .before .before .before .read-nodes .last .1 .1 .1 .1 .1 .0) (c .before .before .before .before .before .before .read-nodes .last .1 .1 .1 .1 .1 .1 .0) (c .before .before .before .before .before .before .read-nodes .result))
     (c .before .before .before .before .before .before .read-nodes .ensures) _ (c .before .complete .given .1)
 
 enum-told-2 : tie.Need-enum-told-2
@@ -73,8 +73,8 @@ enum-told-2 c = search needs
 lets-in-read-requires : tie.Need-lets-in-read-requires
 lets-in-read-requires c κs = (
   some-roomier (within-large (c .before .before .before .before .before .before .before .before .before .before .before .before .before .before .before .before .before .before .before .before .before .before .before .before .pre .0)) (table-found (limitsOf (c .before .before .before .before .before .before .before .before .before .before .before .before .before .before .before .before .before .before .before .before .before .before .before .before .args .limits)) (c .before .before .before .before .before .before .before .before .before .before .before .before .before .before .before .before .before .before .before .before .before .before .before .before .args .classes .now) (c .before .before .before .before .before .before .before .before .before .before .before .before .before .before .before .before .before .before .before .before .before .before .before .before .args .table .now) (c .before .before .before .before .before .before .before .before .before .before .before .before .before .before .before .before .read-table .result) _ (c .before .before .before .before .before .before .before .before .before .before .before .before .before .before .before .before .read-table .ensures) (does-load (c .before .before .before .before .before .before .before .before .before .before .before .before .before .before .before .before .before .before .before .before .before .before .before .before .args .classes .now) (c .before .before .before .before .before .before .before .before .before .before .before .before .before .before .before .before .before .before .before .classes-load .ensures) (c .before .before .before .before .before .before .before .before .before .before .before .before .before .before .before .before .before .before .if1 .left)) (c .before .before .before .before .before .before .before .before .before .before .before .before .before .before .enum-told .given .1) .some),
-  laws.nodes-known (limitsOf (c .before .before .before .before .before .before .before .before .before .before .before .before .before .before .before .before .before .before .before .before .before .before .before .before .args .limits)) (c .before .before .before .before .before .before .before .before .before .before .before .before .before .before .before .before .before .before .before .before .before .before .before .before .args .classes .now) (c .before .before .before .before .before .before .before .before .before .before .before .before .before .before .before .before .before .before .before .before .before .before .before .before .args .table .now) (c .before .before .before .before .before .before .before .before .before .before .before .before .before .before .before .before .before .before .before .before .before .before .before .before .args .document .now) (does-load (c .before .before .before .before .before .before .before .before .before .before .before .before .before .before .before .before .before .before .before .before .before .before .before .before .args .classes .now) (c .before .before .before .before .before .before .before .before .before .before .before .before .before .before .before .before .before .before .before .classes-load .ensures) (c .before .before .before .before .before .before .before .before .before .before .before .before .before .before .before .before .before .before .if1 .left)) (c .before .before .before .before .before .before .before .before .before .before .before .before .before .before .before .before .read-table .result) _ (c .before .before .before .before .before .before .before .before .before .before .before .before .before .before .before .before .read-table .ensures) (c .before .before .before .before .before .before .before .before .before .before .before .before .before .before .enum-told .given .1)
-      (readInto (c .before .before .before .before .before .before .before .before .before .before .read-nodes .last .1 .1 .1 .0) (c .before .before .before .before .before .before .before .before .before .before .read-nodes .last .1 .1 .1 .1 .0) (c .before .before .before .before .before .before .before .before .before .before .read-nodes .last .1 .1 .1 .1 .1 .0) (c .before .before .before .before .before .before .before .before .before .before .read-nodes .result))
+  laws.nodes-known (limitsOf (c .before .before .before .before .before .before .before .before .before .before .before .before .before .before .before .before .before .before .before .before .before .before .before .before .args .limits)) (c .before .before .before .before .before .before .before .before .before .before .before .before .before .before .before .before .before .before .before .before .before .before .before .before .args .classes .now) (c .before .before .before .before .before .before .before .before .before .before .before .before .before .before .before .before .before .before .before .before .before .before .before .before .args .table .now) (c .before .before .before .before .before .before .before .before .before .before .before .before .before .before .before .before .before .before .before .before .before .before .before .before .args .format) (c .before .before .before .before .before .before .before .before .before .before .before .before .before .before .before .before .before .before .before .before .before .before .before .before .args .document .now) (does-load (c .before .before .before .before .before .before .before .before .before .before .before .before .before .before .before .before .before .before .before .before .before .before .before .before .args .classes .now) (c .before .before .before .before .before .before .before .before .before .before .before .before .before .before .before .before .before .before .before .classes-load .ensures) (c .before .before .before .before .before .before .before .before .before .before .before .before .before .before .before .before .before .before .if1 .left)) (c .before .before .before .before .before .before .before .before .before .before .before .before .before .before .before .before .read-table .result) _ (c .before .before .before .before .before .before .before .before .before .before .before .before .before .before .before .before .read-table .ensures) (c .before .before .before .before .before .before .before .before .before .before .before .before .before .before .enum-told .given .1)
+      (readInto (c .before .before .before .before .before .before .before .before .before .before .read-nodes .last .1 .1 .1 .1 .0) (c .before .before .before .before .before .before .before .before .before .before .read-nodes .last .1 .1 .1 .1 .1 .0) (c .before .before .before .before .before .before .before .before .before .before .read-nodes .last .1 .1 .1 .1 .1 .1 .0) (c .before .before .before .before .before .before .before .before .before .before .read-nodes .result))
       (c .before .before .before .before .before .before .before .before .before .before .read-nodes .ensures) (c .before .before .before .before .before .enum-told2 .given .1),
   c .before .before .before .before .before .before .before .before .before .before .before .before .before .before .before .before .before .before .before .before .before .before .before .before .pre .1,
 )
@@ -87,8 +87,8 @@ same-length c = search needs
 
 returns-4 : tie.Need-returns-4
 returns-4 c =
-    laws.decided (limitsOf (c .before .before .before .before .before .before .before .before .before .before .before .before .before .before .before .before .before .before .before .before .before .before .before .before .before .before .before .before .args .limits)) (c .before .before .before .before .before .before .before .before .before .before .before .before .before .before .before .before .before .before .before .before .before .before .before .before .before .before .before .before .args .classes .now) (c .before .before .before .before .before .before .before .before .before .before .before .before .before .before .before .before .before .before .before .before .before .before .before .before .before .before .before .before .args .table .now) (c .before .before .before .before .before .before .before .before .before .before .before .before .before .before .before .before .before .before .before .before .before .before .before .before .before .before .before .before .args .document .now) (does-load (c .before .before .before .before .before .before .before .before .before .before .before .before .before .before .before .before .before .before .before .before .before .before .before .before .before .before .before .before .args .classes .now) (c .before .before .before .before .before .before .before .before .before .before .before .before .before .before .before .before .before .before .before .before .before .before .before .classes-load .ensures) (c .before .before .before .before .before .before .before .before .before .before .before .before .before .before .before .before .before .before .before .before .before .before .if1 .left)) (c .before .before .before .before .before .before .before .before .before .before .before .before .before .before .before .before .before .before .before .before .read-table .result) _ (c .before .before .before .before .before .before .before .before .before .before .before .before .before .before .before .before .before .before .before .before .read-table .ensures) (c .before .before .before .before .before .before .before .before .before .before .before .before .before .before .before .before .before .before .enum-told .given .1)
-    (readInto (c .before .before .before .before .before .before .before .before .before .before .before .before .before .before .read-nodes .last .1 .1 .1 .0) (c .before .before .before .before .before .before .before .before .before .before .before .before .before .before .read-nodes .last .1 .1 .1 .1 .0) (c .before .before .before .before .before .before .before .before .before .before .before .before .before .before .read-nodes .last .1 .1 .1 .1 .1 .0) (c .before .before .before .before .before .before .before .before .before .before .before .before .before .before .read-nodes .result))
+    laws.decided (limitsOf (c .before .before .before .before .before .before .before .before .before .before .before .before .before .before .before .before .before .before .before .before .before .before .before .before .before .before .before .before .args .limits)) (c .before .before .before .before .before .before .before .before .before .before .before .before .before .before .before .before .before .before .before .before .before .before .before .before .before .before .before .before .args .classes .now) (c .before .before .before .before .before .before .before .before .before .before .before .before .before .before .before .before .before .before .before .before .before .before .before .before .before .before .before .before .args .table .now) (c .before .before .before .before .before .before .before .before .before .before .before .before .before .before .before .before .before .before .before .before .before .before .before .before .before .before .before .before .args .format) (c .before .before .before .before .before .before .before .before .before .before .before .before .before .before .before .before .before .before .before .before .before .before .before .before .before .before .before .before .args .document .now) (does-load (c .before .before .before .before .before .before .before .before .before .before .before .before .before .before .before .before .before .before .before .before .before .before .before .before .before .before .before .before .args .classes .now) (c .before .before .before .before .before .before .before .before .before .before .before .before .before .before .before .before .before .before .before .before .before .before .before .classes-load .ensures) (c .before .before .before .before .before .before .before .before .before .before .before .before .before .before .before .before .before .before .before .before .before .before .if1 .left)) (c .before .before .before .before .before .before .before .before .before .before .before .before .before .before .before .before .before .before .before .before .read-table .result) _ (c .before .before .before .before .before .before .before .before .before .before .before .before .before .before .before .before .before .before .before .before .read-table .ensures) (c .before .before .before .before .before .before .before .before .before .before .before .before .before .before .before .before .before .before .enum-told .given .1)
+    (readInto (c .before .before .before .before .before .before .before .before .before .before .before .before .before .before .read-nodes .last .1 .1 .1 .1 .0) (c .before .before .before .before .before .before .before .before .before .before .before .before .before .before .read-nodes .last .1 .1 .1 .1 .1 .0) (c .before .before .before .before .before .before .before .before .before .before .before .before .before .before .read-nodes .last .1 .1 .1 .1 .1 .1 .0) (c .before .before .before .before .before .before .before .before .before .before .before .before .before .before .read-nodes .result))
     (c .before .before .before .before .before .before .before .before .before .before .before .before .before .before .read-nodes .ensures) (c .before .before .before .before .before .before .before .before .before .enum-told2 .given .1) (within-large (c .before .before .before .before .before .before .before .before .before .before .before .before .before .before .before .before .before .before .before .before .before .before .before .before .before .before .before .before .pre .0)) (c .yes-or-no .result) (c .before .before .before .lets-in-read .result) (c .yes-or-no .ensures)
     (c .before .before .before .lets-in-read .ensures)
 

@@ -14,7 +14,7 @@ limits-of-requires c κs = search needs
 returns : tie.Need-returns
 returns c =
     let a = c .before .before .before .before .before .before .before .args in
-    sampling-sized (c .before .before .limits-of .ensures .0) (laws.sample-unanswered (c .before .before .limits-of .result) (a .classes .now) (a .document .now) (a .out .now) (a .work .now) (c .if1 .taken))
+    sampling-sized (c .before .before .limits-of .ensures .0) (laws.sample-unanswered (c .before .before .limits-of .result) (a .classes .now) (a .format) (a .document .now) (a .out .now) (a .work .now) (c .if1 .taken))
 
 slice-aggregate-draft-sample : tie.Need-slice-aggregate-draft-sample
 slice-aggregate-draft-sample c = search needs
@@ -32,7 +32,7 @@ deliver-requires : tie.Need-deliver-requires
 deliver-requires c κs =
     let a = c .before .before .before .before .before .before .before .before .before .before .before .before .before .before .before .before .args in
     let d = c .before .before .before .before .before .before .before .draft-sample in
-    (d .kept .1 .1 .1 .0, drafts.fits (sampledFrom (limitsOf (c .before .before .before .before .before .before .before .before .before .before .before .limits-of .result)) (a .classes .now) (a .document .now)) _ (d .result) (d .ensures))
+    (d .kept .1 .1 .1 .1 .0, drafts.fits (sampledFrom (limitsOf (c .before .before .before .before .before .before .before .before .before .before .before .limits-of .result)) (a .classes .now) (a .format) (a .document .now)) _ (d .result) (d .ensures))
 
 same-length : tie.Need-same-length
 same-length c = search needs
@@ -44,8 +44,8 @@ returns-2 : tie.Need-returns-2
 returns-2 c =
     let a = c .before .before .before .before .before .before .before .before .before .before .before .before .before .before .before .before .before .before .before .args in
     sampling-sized (c .before .before .before .before .before .before .before .before .before .before .before .before .before .before .limits-of .ensures .0)
-    (laws.sample-answered (c .before .before .before .before .before .before .before .before .before .before .before .before .before .before .limits-of .result) (a .classes .now) (a .document .now) (a .out .now) (a .work .now) (c .before .before .before .before .before .before .before .before .before .before .before .before .if1 .left) (c .before .before .deliver .result) _ _
-    (c .before .before .deliver .ensures (sampledFrom (limitsOf (c .before .before .before .before .before .before .before .before .before .before .before .before .before .before .limits-of .result)) (a .classes .now) (a .document .now)) (c .before .before .before .before .before .before .before .before .before .before .draft-sample .ensures)) (c .before .before .before .before .before .before .before .clear-work .ensures))
+    (laws.sample-answered (c .before .before .before .before .before .before .before .before .before .before .before .before .before .before .limits-of .result) (a .classes .now) (a .format) (a .document .now) (a .out .now) (a .work .now) (c .before .before .before .before .before .before .before .before .before .before .before .before .if1 .left) (c .before .before .deliver .result) _ _
+    (c .before .before .deliver .ensures (sampledFrom (limitsOf (c .before .before .before .before .before .before .before .before .before .before .before .before .before .before .limits-of .result)) (a .classes .now) (a .format) (a .document .now)) (c .before .before .before .before .before .before .before .before .before .before .draft-sample .ensures)) (c .before .before .before .before .before .before .before .clear-work .ensures))
 
 pub sample-spec : {M : Type 1} → statement M
 sample-spec =

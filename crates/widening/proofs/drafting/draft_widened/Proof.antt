@@ -45,16 +45,16 @@ read-and-widen-requires c κs =
     let (within, words, draft) = c .before .before .before .before .before .before .before .before .before .before .before .before .before .before .before .before .pre in
     (load, (within, table-found (limitsOf (a .limits)) (a .classes .now) (a .old .now) (t .result) _ (t .ensures) load (c .before .before .before .before .before .enum-told .given .1) .some, words, draft))
 
-enum-told-3 : tie.Need-enum-told-3
-enum-told-3 c = search needs
+enum-known-source : tie.Need-enum-known-source
+enum-known-source c = search needs
 
 widen-by-sample-requires : tie.Need-widen-by-sample-requires
 widen-by-sample-requires c κs =
-    let a = c .before .before .before .before .before .before .before .before .before .before .before .before .before .before .before .before .args in
-    let t = c .before .before .before .before .before .before .before .read-table in
-    let load = does-load (a .classes .now) (c .before .before .before .before .before .before .before .before .before .before .classes-load .ensures) (c .before .before .before .before .before .before .before .before .before .if1 .left) in
-    let (within, words, draft) = c .before .before .before .before .before .before .before .before .before .before .before .before .before .before .before .before .pre in
-    (load, (within, table-found (limitsOf (a .limits)) (a .classes .now) (a .old .now) (t .result) _ (t .ensures) load (c .before .before .before .before .before .enum-told .given .1) .some, words, draft))
+    let a = c .before .before .before .before .before .before .before .before .before .before .before .before .before .before .before .before .before .args in
+    let t = c .before .before .before .before .before .before .before .before .read-table in
+    let load = does-load (a .classes .now) (c .before .before .before .before .before .before .before .before .before .before .before .classes-load .ensures) (c .before .before .before .before .before .before .before .before .before .before .if1 .left) in
+    let (within, words, draft) = c .before .before .before .before .before .before .before .before .before .before .before .before .before .before .before .before .before .pre in
+    (load, (within, table-found (limitsOf (a .limits)) (a .classes .now) (a .old .now) (t .result) _ (t .ensures) load (c .before .before .before .before .before .before .enum-told .given .1) .some, words, draft))
 
 same-length : tie.Need-same-length
 same-length c = search needs
@@ -77,10 +77,10 @@ same-length-4 c = search needs
 
 returns-4 : tie.Need-returns-4
 returns-4 c =
-    let a = c .before .before .before .before .before .before .before .before .before .before .before .before .before .before .before .before .before .before .before .before .before .args in
-    let t = c .before .before .before .before .before .before .before .before .before .before .before .before .read-table in
+    let a = c .before .before .before .before .before .before .before .before .before .before .before .before .before .before .before .before .before .before .before .before .before .before .args in
+    let t = c .before .before .before .before .before .before .before .before .before .before .before .before .before .read-table in
     let m = c .before .before .before .before .widen-by-sample in
-    laws.old-goes-on (a .limits) (a .classes .now) (does-load (a .classes .now) (c .before .before .before .before .before .before .before .before .before .before .before .before .before .before .before .classes-load .ensures) (c .before .before .before .before .before .before .before .before .before .before .before .before .before .before .if1 .left)) (a .source) (kindOf (a .kind)) (a .old .now) (a .addition .now) (t .result) _ (t .ensures) _ (c .before .before .before .before .before .before .before .before .before .before .enum-told .given .1) aDocument (c .before .before .before .before .before .before .before .before .enum-told3 .given .1) (m .result) (m .ensures)
+    laws.old-goes-on (a .limits) (a .classes .now) (does-load (a .classes .now) (c .before .before .before .before .before .before .before .before .before .before .before .before .before .before .before .before .classes-load .ensures) (c .before .before .before .before .before .before .before .before .before .before .before .before .before .before .before .if1 .left)) (a .source) (kindOf (a .kind)) (a .old .now) (a .addition .now) (t .result) _ (t .ensures) _ (c .before .before .before .before .before .before .before .before .before .before .before .enum-told .given .1) (aDocument _) (c .before .before .before .before .before .before .before .before .before .source .given .1) (m .result) (m .ensures)
 
 pub draft-widened-spec : {M : Type 1} → statement M
 draft-widened-spec =
@@ -94,7 +94,7 @@ draft-widened-spec =
     enum-told
     enum-told-2
     read-and-widen-requires
-    enum-told-3
+    enum-known-source
     widen-by-sample-requires
     same-length
     same-length-2

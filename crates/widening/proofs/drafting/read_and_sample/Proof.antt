@@ -15,7 +15,7 @@ enum-known-readable c = search needs
 returns : tie.Need-returns
 returns c =
     let d = c .before .before .before .read-document in
-    laws.document-refuses (c .before .before .before .before .before .before .before .args .limits) (c .before .before .before .before .before .before .before .args .classes .now) (c .before .before .before .before .before .before .before .args .document .now) (d .result) (d .ensures) _ _ (c .before .readable .given .1)
+    laws.document-refuses (c .before .before .before .before .before .before .before .args .limits) (c .before .before .before .before .before .before .before .args .classes .now) (c .before .before .before .before .before .before .before .args .format) (c .before .before .before .before .before .before .before .args .document .now) (d .result) (d .ensures) _ _ (c .before .readable .given .1)
 
 enum-told : tie.Need-enum-told
 enum-told c = search needs
@@ -23,7 +23,7 @@ enum-told c = search needs
 sample-table-requires : tie.Need-sample-table-requires
 sample-table-requires c κs =
     let d = c .before .before .before .read-document in
-    (c .before .before .before .before .before .before .before .pre .1 .0, (c .before .before .before .before .before .before .before .pre .1 .1, laws.nodes-indexed (c .before .before .before .before .before .before .before .args .limits) (c .before .before .before .before .before .before .before .args .classes .now) (c .before .before .before .before .before .before .before .args .document .now) (d .result) (d .ensures) (c .before .enum-told .given .1)))
+    (c .before .before .before .before .before .before .before .pre .1 .0, (c .before .before .before .before .before .before .before .pre .1 .1, laws.nodes-indexed (c .before .before .before .before .before .before .before .args .limits) (c .before .before .before .before .before .before .before .args .classes .now) (c .before .before .before .before .before .before .before .args .format) (c .before .before .before .before .before .before .before .args .document .now) (d .result) (d .ensures) (c .before .enum-told .given .1)))
 
 enum-told-2 : tie.Need-enum-told-2
 enum-told-2 c = search needs
@@ -39,7 +39,7 @@ returns-2 c =
     let a = c .before .before .before .before .before .before .before .before .before .before .before .before .args in
     let d = c .before .before .before .before .before .before .before .before .read-document in
     let s = c .before .before .before .before .sample-table in
-    laws.sample-too-large (a .limits) (a .classes .now) (a .document .now) (d .result) (d .ensures) (c .before .before .before .before .before .before .enum-told .given .1) (a .draft .now) _ (s .result) (s .ensures) (c .enum-told2 .given .1)
+    laws.sample-too-large (a .limits) (a .classes .now) (a .format) (a .document .now) (d .result) (d .ensures) (c .before .before .before .before .before .before .enum-told .given .1) (a .draft .now) _ (s .result) (s .ensures) (c .enum-told2 .given .1)
 
 same-length-2 : tie.Need-same-length-2
 same-length-2 c = search needs
@@ -49,7 +49,7 @@ returns-3 c =
     let a = c .before .before .before .before .before .before .before .before .before .before .before .before .before .args in
     let d = c .before .before .before .before .before .before .before .before .before .read-document in
     let s = c .before .before .before .before .before .sample-table in
-    laws.sample-made (a .limits) (a .classes .now) (a .document .now) (d .result) (d .ensures) (c .before .before .before .before .before .before .before .enum-told .given .1) (a .draft .now) _ (s .result) (s .ensures) _ (c .before .n .given .1)
+    laws.sample-made (a .limits) (a .classes .now) (a .format) (a .document .now) (d .result) (d .ensures) (c .before .before .before .before .before .before .before .enum-told .given .1) (a .draft .now) _ (s .result) (s .ensures) _ (c .before .n .given .1)
 
 pub read-and-sample-spec : {M : Type 1} → statement M
 read-and-sample-spec =

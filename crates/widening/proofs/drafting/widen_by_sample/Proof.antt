@@ -29,7 +29,7 @@ part-read-and-widen-start c = search needs
 part-read-and-widen-end : tie.Need-part-read-and-widen-end
 part-read-and-widen-end c =
     let s = c .before .before .before .before .before .read-and-sample in
-    laws.made-fits (sampleOf (limitsOf (c .before .before .before .before .before .before .before .before .before .before .before .before .args .limits)) (c .before .before .before .before .before .before .before .before .before .before .before .before .args .classes .now) (c .before .before .before .before .before .before .before .before .before .before .before .before .args .document .now)) _ (s .result) (s .ensures) _ (c .before .before .n .given .1)
+    laws.made-fits (sampleOf (limitsOf (c .before .before .before .before .before .before .before .before .before .before .before .before .args .limits)) (c .before .before .before .before .before .before .before .before .before .before .before .before .args .classes .now) (c .before .before .before .before .before .before .before .before .before .before .before .before .args .format) (c .before .before .before .before .before .before .before .before .before .before .before .before .args .document .now)) _ (s .result) (s .ensures) _ (c .before .before .n .given .1)
 
 read-and-widen-requires : tie.Need-read-and-widen-requires
 read-and-widen-requires c κs = search needs
@@ -38,7 +38,7 @@ returns : tie.Need-returns
 returns c =
     let a = c .before .before .before .before .before .before .before .before .before .before .before .args in
     let s = c .before .before .before .before .read-and-sample in
-    λ g held. laws.sample-refuses (a .limits) (a .classes .now) (kindOf (a .kind)) g (a .document .now) _ (s .result) (s .ensures) _ _ (c .before .r .given .1)
+    λ g held. laws.sample-refuses (a .limits) (a .classes .now) (kindOf (a .kind)) g (a .format) (a .document .now) _ (s .result) (s .ensures) _ _ (c .before .r .given .1)
 
 same-length : tie.Need-same-length
 same-length c = search needs
@@ -51,7 +51,7 @@ returns-2 c =
     let a = c .before .before .before .before .before .before .before .before .before .before .before .before .before .before .before .before .before .before .before .before .args in
     let s = c .before .before .before .before .before .before .before .before .before .before .before .before .before .read-and-sample in
     let m = c .before .before .before .before .read-and-widen in
-    λ g held. laws.by-sample (a .limits) (a .classes .now) (kindOf (a .kind)) g (a .document .now) _ (s .result) (s .ensures) _ _ (c .before .before .before .before .before .before .before .before .before .before .n .given .1) _ (sub-zero _) (m .result) (m .ensures g held)
+    λ g held. laws.by-sample (a .limits) (a .classes .now) (kindOf (a .kind)) g (a .format) (a .document .now) _ (s .result) (s .ensures) _ _ (c .before .before .before .before .before .before .before .before .before .before .n .given .1) _ (sub-zero _) (m .result) (m .ensures g held)
 
 pub widen-by-sample-spec : {M : Type 1} → statement M
 widen-by-sample-spec =

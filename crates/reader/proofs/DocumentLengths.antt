@@ -1,0 +1,50 @@
+-- The length of a document, whatever its format, comes first; then its fields or its tags.
+use Prim.Native.Nat.{ℕ, _≤_, _<_}
+use mathlib.Core.Bool.{Bool, true}
+use mathlib.Core.List.{List}
+use mathlib.Core.Path.{_≡_, _∙_, ap}
+use lib.Dec.{ltb}
+use lib.ListN.{length}
+use borrow.Author.Tests.{lt-ltb, le-ltb}
+use Rattle.grammar.specs.Limits.{Limits}
+use Rattle.grammar.specs.Names.{Classes}
+use Rattle.grammar.specs.Fields.{fieldsOf}
+use Rattle.grammar.specs.Outcome.{refused, given, _>>=_, _>>_, turnBack}
+use Rattle.grammar.specs.ReadDocument.{nothingRead, readNodeFields, readNodes}
+use Rattle.grammar.specs.ReadText.{noElements, tagsOf, readTags, readText}
+use Rattle.grammar.specs.WriteDocument.{nodesOf}
+use Rattle.grammar.specs.declared.Format.{Format}
+use Rattle.grammar.specs.declared.Format.the-variants.{DocumentFile, XmlText}
+use Rattle.grammar.specs.declared.Refusal.the-variants.{InputTooLong}
+use Rattle.reader.specs.DocumentNodes.{readNodesAs}
+use Rattle.reader.specs.DocumentSteps.{restOf}
+use Rattle.reader.specs.TextSteps.{textNodes}
+
+module _ (lim : Limits) (classes : Classes) (format : Format) (bytes : List ℕ) where
+  pub document-long : lim .input < length bytes → readNodesAs lim classes format bytes ≡ refused InputTooLong
+  unfolding readNodes readText
+  document-long h = go format
+    where
+      long : ltb (lim .input) (length bytes) ≡ true
+      long = lt-ltb (lim .input) (length bytes) h
+
+      go : (f : Format) → readNodesAs lim classes f bytes ≡ refused InputTooLong
+      go DocumentFile = ap (λ (b : Bool). turnBack b InputTooLong >> readNodeFields lim classes nothingRead (fieldsOf bytes)) long
+      go XmlText =
+          ap (λ (b : Bool). (turnBack b InputTooLong >> readTags lim classes noElements (tagsOf bytes)) >>= λ d. given (nodesOf d)) long
+
+  module _ (h : length bytes ≤ lim .input) where
+    pub file-fields : format ≡ DocumentFile
+        → readNodesAs lim classes format bytes ≡ restOf lim classes nothingRead (fieldsOf bytes)
+    unfolding readNodes
+    file-fields e =
+        ap (λ (f : Format). readNodesAs lim classes f bytes) e
+        ∙ ap (λ (b : Bool). turnBack b InputTooLong >> readNodeFields lim classes nothingRead (fieldsOf bytes))
+        (le-ltb (lim .input) (length bytes) h)
+
+    pub text-tags : format ≡ XmlText → readNodesAs lim classes format bytes ≡ textNodes lim classes noElements (tagsOf bytes)
+    unfolding readText
+    text-tags e =
+        ap (λ (f : Format). readNodesAs lim classes f bytes) e
+        ∙ ap (λ (b : Bool). (turnBack b InputTooLong >> readTags lim classes noElements (tagsOf bytes)) >>= λ d. given (nodesOf d))
+        (le-ltb (lim .input) (length bytes) h)
