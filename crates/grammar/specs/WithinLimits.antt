@@ -45,11 +45,13 @@ pub record NodeWithin (lim : Limits) (classes : Classes) (n : Node) : Type 0 whe
   pub name : NameWithin lim classes (n .head .name)
   pub children : n .children ≤ lim .children
 
+-- the tree of a document, whatever its format
 pub record TreeWithin (lim : Limits) (classes : Classes) (d : Tree) : Type 0 where
   pub each-node : (n : Node) → List·Memᴰ n (nodesOf d) → NodeWithin lim classes n
   pub nodes : length (nodesOf d) ≤ lim .nodes
   pub levels : depth d ≤ lim .levels
 
+-- and of a document file
 pub record DocumentWithin (lim : Limits) (classes : Classes) (d : Tree) : Type 0 where
   pub tree : TreeWithin lim classes d
   pub size : length (documentBytes d) ≤ lim .input

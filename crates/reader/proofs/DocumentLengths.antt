@@ -2,7 +2,7 @@
 use Prim.Native.Nat.{ℕ, _≤_, _<_}
 use mathlib.Core.Bool.{Bool, true}
 use mathlib.Core.List.{List}
-use mathlib.Core.Path.{_≡_, _∙_, ap}
+use mathlib.Core.Path.{_≡_, ap}
 use lib.Dec.{ltb}
 use lib.ListN.{length}
 use borrow.Author.Tests.{lt-ltb, le-ltb}
@@ -16,7 +16,8 @@ use Rattle.grammar.specs.WriteDocument.{nodesOf}
 use Rattle.grammar.specs.declared.Format.{Format}
 use Rattle.grammar.specs.declared.Format.the-variants.{DocumentFile, XmlText}
 use Rattle.grammar.specs.declared.Refusal.the-variants.{InputTooLong}
-use Rattle.reader.specs.DocumentNodes.{readNodesAs}
+use Rattle.reader.specs.DocumentNodes.{readNodesAs, NodesFound}
+use Rattle.reader.specs.declared.documents.NodesRead.{NodesRead}
 use Rattle.reader.specs.DocumentSteps.{restOf}
 use Rattle.reader.specs.TextSteps.{textNodes}
 
@@ -33,18 +34,21 @@ module _ (lim : Limits) (classes : Classes) (format : Format) (bytes : List ℕ)
       go XmlText =
           ap (λ (b : Bool). (turnBack b InputTooLong >> readTags lim classes noElements (tagsOf bytes)) >>= λ d. given (nodesOf d)) long
 
-  module _ (h : length bytes ≤ lim .input) where
-    pub file-fields : format ≡ DocumentFile
-        → readNodesAs lim classes format bytes ≡ restOf lim classes nothingRead (fieldsOf bytes)
-    unfolding readNodes
-    file-fields e =
-        ap (λ (f : Format). readNodesAs lim classes f bytes) e
-        ∙ ap (λ (b : Bool). turnBack b InputTooLong >> readNodeFields lim classes nothingRead (fieldsOf bytes))
-        (le-ltb (lim .input) (length bytes) h)
+module _ (lim : Limits) (classes : Classes) (bytes : List ℕ) (h : length bytes ≤ lim .input) where
+  pub file-fields : readNodesAs lim classes DocumentFile bytes ≡ restOf lim classes nothingRead (fieldsOf bytes)
+  unfolding readNodes
+  file-fields =
+      ap (λ (b : Bool). turnBack b InputTooLong >> readNodeFields lim classes nothingRead (fieldsOf bytes))
+      (le-ltb (lim .input) (length bytes) h)
 
-    pub text-tags : format ≡ XmlText → readNodesAs lim classes format bytes ≡ textNodes lim classes noElements (tagsOf bytes)
-    unfolding readText
-    text-tags e =
-        ap (λ (f : Format). readNodesAs lim classes f bytes) e
-        ∙ ap (λ (b : Bool). (turnBack b InputTooLong >> readTags lim classes noElements (tagsOf bytes)) >>= λ d. given (nodesOf d))
-        (le-ltb (lim .input) (length bytes) h)
+  pub text-tags : readNodesAs lim classes XmlText bytes ≡ textNodes lim classes noElements (tagsOf bytes)
+  unfolding readText
+  text-tags =
+      ap (λ (b : Bool). (turnBack b InputTooLong >> readTags lim classes noElements (tagsOf bytes)) >>= λ d. given (nodesOf d))
+      (le-ltb (lim .input) (length bytes) h)
+
+-- what is found in one format is found in a format that is the same
+pub found-as : {lim : Limits} {classes : Classes} {format format′ : Format} {s names sizes shapes : List ℕ} {r : NodesRead} → format ≡ format′
+    → NodesFound lim classes format′ s names sizes shapes r
+    → NodesFound lim classes format s names sizes shapes r
+found-as e found = rw e found

@@ -10,6 +10,7 @@ pub mod FieldReading
 pub mod TextReading
 pub mod TagPlaces
 pub mod TextPlaces
+pub mod DocumentLengths
 pub mod OpenLevels
 pub mod OpenElements
 pub mod TextLoop
@@ -17,7 +18,6 @@ pub mod FirstNodes
 pub mod DocumentFields
 pub mod DocumentStepping
 pub mod DocumentLoop
-pub mod DocumentLengths
 pub mod DocumentTrees
 pub mod DocumentAnswers
 pub mod AnswerLaws

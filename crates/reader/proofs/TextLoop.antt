@@ -5,7 +5,7 @@ use native.Mathlib.Omega.{arith}
 use mathlib.Core.Bool.{Bool, true, false, not, _&&_, _||_}
 use mathlib.Core.List.{List, [], _∷_, append-nil}
 use mathlib.Core.Option.{Option, none as nothing, some as just}
-use mathlib.Core.Path.{_≡_, refl, sym, _∙_, ap, subst}
+use mathlib.Core.Path.{_≡_, refl, sym, _∙_, ap, ap₂, subst}
 use lib.Dec.{leb}
 use lib.ListN.{length, getD, set, take, drop, length-set}
 use lib.Seq.{slice}
@@ -38,6 +38,7 @@ use Rattle.grammar.specs.ReadText.{
   rootOf,
   readTags,
 }
+use Rattle.grammar.specs.declared.Format.the-variants.{XmlText}
 use Rattle.grammar.specs.declared.Refusal.{Refusal}
 use Rattle.grammar.specs.declared.Refusal.the-variants.{BadName, BadTree, BadText, BadEndTag}
 use Rattle.grammar.specs.declared.Reading.{Reading}
@@ -46,7 +47,7 @@ use Rattle.theory.proofs.bytes.TextElements.{nodesRead, nodesOfRoot, nodesOpene
 use Rattle.theory.proofs.bytes.TextWithin.{Allowed, element-was, kept-levels}
 use Rattle.reader.specs.declared.text.Tag.{Tag as TagHere}
 use Rattle.reader.specs.declared.text.Tag.the-variants.{Element as ElementHere, End}
-use Rattle.reader.specs.DocumentNodes.{firstNodes, NodesIndexed, outcomeOf}
+use Rattle.reader.specs.DocumentNodes.{firstNodes, NodesIndexed, NodesFound, outcomeOf}
 use Rattle.reader.specs.TextSteps.{
   elementTag,
   TagSays,
@@ -59,7 +60,9 @@ use Rattle.reader.specs.TextSteps.{
   textEnd,
   textNodes,
 }
+use Rattle.reader.specs.declared.documents.NodesRead.{NodesRead}
 use Rattle.reader.proofs.FieldReading.{slice-taken}
+use Rattle.reader.proofs.DocumentLengths.{text-tags}
 use Rattle.reader.proofs.OpenElements.{
   Standing,
   stands-none,
@@ -79,12 +82,19 @@ pub tag-says : (s : List ℕ) (at : ℕ) (found t : TagHere) → found ≡ t →
 tag-says s at found t e says = subst (TagSays s at) e says
 
 -- reading stops with an answer and so many nodes
-pub stopped : (lim : Limits) (s names sizes shapes : List ℕ) (nodes : ℕ) {whole : Outcome (List Node)} {answer told : Reading} {count : ℕ}
-    → told ≡ answer → count ≡ nodes → nodes ≤ lim .nodes → NodesIndexed s names sizes shapes nodes
-    → whole ≡ outcomeOf answer (firstNodes s names sizes shapes nodes)
-    → (whole ≡ outcomeOf told (firstNodes s names sizes shapes count))
-    × ((count ≤ lim .nodes) × NodesIndexed s names sizes shapes count)
-stopped lim s names sizes shapes nodes p q few indexed w = rw (p, q) (w, (few, indexed))
+pub stopped : (lim : Limits) (classes : Classes) (s names sizes shapes : List ℕ) (nodes : ℕ) → length s ≤ lim .input → {answer : Reading}
+    (r : NodesRead) → r .answer ≡ answer → r .nodes ≡ nodes → nodes ≤ lim .nodes → NodesIndexed s names sizes shapes nodes
+    → textNodes lim classes noElements (tagsOf s) ≡ outcomeOf answer (firstNodes s names sizes shapes nodes)
+    → NodesFound lim classes XmlText s names sizes shapes r
+stopped lim classes s names sizes shapes nodes short r p q few indexed w =
+    record {
+      outcome =
+          text-tags lim classes s short
+          ∙ w
+          ∙ ap₂ (λ (a : Reading) (n : ℕ). outcomeOf a (firstNodes s names sizes shapes n)) (sym p) (sym q);
+      few = subst (λ (n : ℕ). n ≤ lim .nodes) (sym q) few;
+      indexed = subst (NodesIndexed s names sizes shapes) (sym q) indexed;
+    }
 
 -- what the answer to an element means for what is read
 abbrev outcomeFor : Elements → Reading → Outcome Elements

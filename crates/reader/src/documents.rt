@@ -9,8 +9,9 @@ ghost use Rattle.grammar.specs.Limits.{inputLimit};
 ghost use Rattle.grammar.specs.LimitSets.{limitsOf, Within};
 ghost use Rattle.grammar.specs.Fields.{fieldsOf};
 ghost use Rattle.grammar.specs.Documents.{formatNumbered};
-ghost use Rattle.grammar.specs.ReadDocument.{nodeTag, nothingRead, isNodeTag};
-ghost use Rattle.reader.specs.DocumentNodes.{shapeOf, firstNodes, outcomeOf, NodesIndexed, NodesFound, DocumentReads};
+ghost use Rattle.grammar.specs.ReadDocument.{nodeTag, isNodeTag};
+ghost use Rattle.grammar.specs.declared.Format.the-variants.{DocumentFile};
+ghost use Rattle.reader.specs.DocumentNodes.{shapeOf, NodesFound, DocumentReads};
 ghost use Rattle.reader.specs.DocumentSteps.{endAnswer, badCounts, restOf, restWith, StepSays, Open, Closed, LevelsAfter};
 use crate::elements::read_tags;
 use crate::fields::FieldAt;
@@ -247,10 +248,8 @@ fn read_fields(
     requires { ⌜ Within limits ⌝ }
     requires { ⌜ (length (now s) ≤ inputLimit) × (limits .nodes ≤ length (now names)) × (limits .nodes ≤ length (now sizes))
         × (limits .nodes ≤ length (now shapes)) ⌝ }
-    ensures answer { λ r. ⌜ restOf (limitsOf limits) (now (classes .entry)) nothingRead (fieldsOf (now (s .entry)))
-        ≡ outcomeOf (r .answer) (firstNodes (now (s .entry)) (now (names .exit)) (now (sizes .exit)) (now (shapes .exit)) (r .nodes)) ⌝ }
-    ensures few { λ r. ⌜ r .nodes ≤ limits .nodes ⌝ }
-    ensures index { λ r. ⌜ NodesIndexed (now (s .entry)) (now (names .exit)) (now (sizes .exit)) (now (shapes .exit)) (r .nodes) ⌝ }
+    ensures { λ r. ⌜ NodesFound (limitsOf limits) (now (classes .entry)) DocumentFile (now (s .entry)) (now (names .exit))
+        (now (sizes .exit)) (now (shapes .exit)) r ⌝ }
 {
     let mut nodes: usize = 0;
     let mut at: usize = 0;

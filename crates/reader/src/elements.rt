@@ -6,9 +6,9 @@ ghost use lib.Seq.{slice};
 ghost use Rattle.grammar.specs.Limits.{inputLimit};
 ghost use Rattle.grammar.specs.LimitSets.{limitsOf, Within};
 ghost use Rattle.grammar.specs.Lists.{sameNumbers};
-ghost use Rattle.grammar.specs.ReadText.{noElements, tagsOf};
-ghost use Rattle.reader.specs.DocumentNodes.{firstNodes, outcomeOf, NodesIndexed};
-ghost use Rattle.reader.specs.TextSteps.{textNodes, elementAnswer, textEnd, innermost, fullAt, oneChildMore, closesAt, InnermostHeld};
+ghost use Rattle.grammar.specs.declared.Format.the-variants.{XmlText};
+ghost use Rattle.reader.specs.DocumentNodes.{NodesFound};
+ghost use Rattle.reader.specs.TextSteps.{elementAnswer, textEnd, innermost, fullAt, oneChildMore, closesAt, InnermostHeld};
 use crate::documents::NodesRead;
 use crate::documents::put_node;
 use crate::limits::CHILDREN;
@@ -154,10 +154,8 @@ pub fn read_tags(
     requires { ⌜ Within limits ⌝ }
     requires { ⌜ (length (now s) ≤ inputLimit) × (limits .nodes ≤ length (now names)) × (limits .nodes ≤ length (now sizes))
         × (limits .nodes ≤ length (now shapes)) ⌝ }
-    ensures answer { λ r. ⌜ textNodes (limitsOf limits) (now (classes .entry)) noElements (tagsOf (now (s .entry)))
-        ≡ outcomeOf (r .answer) (firstNodes (now (s .entry)) (now (names .exit)) (now (sizes .exit)) (now (shapes .exit)) (r .nodes)) ⌝ }
-    ensures few { λ r. ⌜ r .nodes ≤ limits .nodes ⌝ }
-    ensures index { λ r. ⌜ NodesIndexed (now (s .entry)) (now (names .exit)) (now (sizes .exit)) (now (shapes .exit)) (r .nodes) ⌝ }
+    ensures { λ r. ⌜ NodesFound (limitsOf limits) (now (classes .entry)) XmlText (now (s .entry)) (now (names .exit)) (now (sizes .exit))
+        (now (shapes .exit)) r ⌝ }
 {
     let mut nodes: usize = 0;
     let mut at: usize = 0;

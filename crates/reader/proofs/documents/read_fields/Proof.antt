@@ -9,6 +9,7 @@ use Rattle.grammar.specs.Fields.{fieldsOf}
 use Rattle.reader.specs.DocumentSteps.{restOf}
 use Rattle.reader.proofs.documents.read_fields.Statement.{statement}
 use Rattle.reader.proofs.documents.read_fields.Tie as tie
+use Rattle.reader.proofs.DocumentLengths.{file-fields}
 use Rattle.reader.proofs.DocumentLoop.{NodesSoFar, says-node, so-far-none, so-far-put, so-far-stop}
 
 abbrev Inv-loop : tie.InvT-loop
@@ -120,12 +121,18 @@ same-length-3 c = c .before .before .before .before .loop .inv .4
 
 returns : tie.Need-returns Inv-loop μ-loop
 returns c =
-    let l = c .before .before .before .before .loop in (
-      so-far-stop
-          (limitsOf (c .before .before .before .before .before .before .before .before .before .before .args .limits))
-          (c .before .before .before .before .before .before .before .before .before .before .args .classes .now)
+    let l = c .before .before .before .before .loop in
+    let lim = limitsOf (c .before .before .before .before .before .before .before .before .before .before .args .limits) in
+    let classes = c .before .before .before .before .before .before .before .before .before .before .args .classes .now in
+    let s = c .before .before .before .before .before .before .before .before .before .before .args .s .now in
+    record {
+      outcome =
+          file-fields lim classes s (c .before .before .before .before .before .before .before .before .before .before .pre .1 .1 .0)
+          ∙ so-far-stop
+          lim
+          classes
           (c .before .before .before .before .before .before .before .before .before .before .pre .1 .0 .nodes)
-          (c .before .before .before .before .before .before .before .before .before .before .args .s .now)
+          s
           (l .names)
           (l .sizes)
           (l .shapes)
@@ -136,9 +143,10 @@ returns c =
           (l .inv .0)
           (c .before .before .before .step-at .result)
           (c .before .answer .given .1)
-          (c .before .before .before .step-at .ensures),
-      (l .inv .0 .few, l .inv .0 .indexed),
-    )
+          (c .before .before .before .step-at .ensures);
+      few = l .inv .0 .few;
+      indexed = l .inv .0 .indexed;
+    }
 
 pub read-fields-spec : {M : Type 1} → statement M
 read-fields-spec =

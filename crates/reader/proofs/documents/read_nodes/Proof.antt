@@ -1,9 +1,8 @@
 -- `documents::read_nodes` meets its contract: the input's length comes first, then its fields or its tags.
 use native.Mathlib.Omega.{arith}
-use mathlib.Core.Path.{_∙_}
 use borrow.Author.Needs.{needs}
 use Rattle.grammar.specs.LimitSets.{limitsOf}
-use Rattle.reader.proofs.DocumentLengths.{document-long, file-fields, text-tags}
+use Rattle.reader.proofs.DocumentLengths.{document-long, found-as}
 use Rattle.reader.proofs.documents.read_nodes.Statement.{statement}
 use Rattle.reader.proofs.documents.read_nodes.Tie as tie
 
@@ -38,15 +37,7 @@ same-length-3 : tie.Need-same-length-3
 same-length-3 c = search needs
 
 returns-2 : tie.Need-returns-2
-returns-2 c =
-    let a = c .before .before .before .before .before .before .before .before .before .before .before .before .before .before .before .before .before .before .args in
-    let read = c .before .before .before .before .before .before .read-fields .ensures in
-    record {
-      outcome =
-          file-fields (limitsOf (a .limits)) (a .classes .now) (a .format) (a .s .now) (c .before .before .before .before .before .before .before .before .before .before .before .before .if1 .left) (c .before .before .before .before .before .before .before .before .before .before .enum-told .given .1) ∙ read .0;
-      few = read .1 .0;
-      indexed = read .1 .1;
-    }
+returns-2 c = found-as (c .before .before .before .before .before .before .before .before .before .before .enum-told .given .1) (c .before .before .before .before .before .before .read-fields .ensures)
 
 same-length-4 : tie.Need-same-length-4
 same-length-4 c = search needs
@@ -58,15 +49,7 @@ same-length-6 : tie.Need-same-length-6
 same-length-6 c = search needs
 
 returns-3 : tie.Need-returns-3
-returns-3 c =
-    let a = c .before .before .before .before .before .before .before .before .before .before .before .before .before .before .before .before .before .before .args in
-    let read = c .before .before .before .before .before .before .read-tags .ensures in
-    record {
-      outcome =
-          text-tags (limitsOf (a .limits)) (a .classes .now) (a .format) (a .s .now) (c .before .before .before .before .before .before .before .before .before .before .before .before .if1 .left) (c .before .before .before .before .before .before .before .before .before .before .enum-told2 .given .1) ∙ read .0;
-      few = read .1 .0;
-      indexed = read .1 .1;
-    }
+returns-3 c = found-as (c .before .before .before .before .before .before .before .before .before .before .enum-told2 .given .1) (c .before .before .before .before .before .before .read-tags .ensures)
 
 pub read-nodes-spec : {M : Type 1} → statement M
 read-nodes-spec =

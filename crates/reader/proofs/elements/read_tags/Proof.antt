@@ -80,7 +80,8 @@ same-length-3 c = c .before .before .before .before .before .loop .inv .4
 returns : tie.Need-returns Inv-loop μ-loop
 returns c =
     let told = c .ended .ensures in
-    stopped (limitsOf (c .before .before .before .before .before .before .before .before .before .before .before .args .limits)) (c .before .before .before .before .before .before .before .before .before .before .before .args .s .now) (c .before .before .before .before .before .loop .names) (c .before .before .before .before .before .loop .sizes) (c .before .before .before .before .before .loop .shapes) (c .before .before .before .before .before .loop .nodes) (told .0) (told .1)
+    stopped (limitsOf (c .before .before .before .before .before .before .before .before .before .before .before .args .limits)) (c .before .before .before .before .before .before .before .before .before .before .before .args .classes .now) (c .before .before .before .before .before .before .before .before .before .before .before .args .s .now) (c .before .before .before .before .before .loop .names) (c .before .before .before .before .before .loop .sizes) (c .before .before .before .before .before .loop .shapes) (c .before .before .before .before .before .loop .nodes)
+    (c .before .before .before .before .before .before .before .before .before .before .before .pre .1 .1 .0) (c .ended .result) (told .0) (told .1)
     (few-nodes (limitsOf (c .before .before .before .before .before .before .before .before .before .before .before .args .limits)) (c .before .before .before .before .before .before .before .before .before .before .before .args .classes .now) refl (c .before .before .before .before .before .before .before .before .before .before .before .pre .1 .0 .nodes) (c .before .before .before .before .before .before .before .before .before .before .before .args .s .now) (c .before .before .before .before .before .loop .names) (c .before .before .before .before .before .loop .sizes) (c .before .before .before .before .before .loop .shapes) (c .before .before .before .before .before .loop .nodes) (c .before .before .before .before .before .loop .at) (c .before .before .before .before .before .loop .places) (c .before .before .before .before .before .loop .depth) (c .before .before .before .before .before .loop .inv .0))
     (nodes-indexed (limitsOf (c .before .before .before .before .before .before .before .before .before .before .before .args .limits)) (c .before .before .before .before .before .before .before .before .before .before .before .args .classes .now) refl (c .before .before .before .before .before .before .before .before .before .before .before .pre .1 .0 .nodes) (c .before .before .before .before .before .before .before .before .before .before .before .args .s .now) (c .before .before .before .before .before .loop .names) (c .before .before .before .before .before .loop .sizes) (c .before .before .before .before .before .loop .shapes) (c .before .before .before .before .before .loop .nodes) (c .before .before .before .before .before .loop .at) (c .before .before .before .before .before .loop .places) (c .before .before .before .before .before .loop .depth) (c .before .before .before .before .before .loop .inv .0))
     (text-ends (limitsOf (c .before .before .before .before .before .before .before .before .before .before .before .args .limits)) (c .before .before .before .before .before .before .before .before .before .before .before .args .classes .now) refl (c .before .before .before .before .before .before .before .before .before .before .before .pre .1 .0 .nodes) (c .before .before .before .before .before .before .before .before .before .before .before .args .s .now) (c .before .before .before .before .before .loop .names) (c .before .before .before .before .before .loop .sizes) (c .before .before .before .before .before .loop .shapes) (c .before .before .before .before .before .loop .nodes) (c .before .before .before .before .before .loop .at) (c .before .before .before .before .before .loop .places) (c .before .before .before .before .before .loop .depth) (c .before .before .before .before .before .loop .inv .0) (subst (TagSays (c .before .before .before .before .before .before .before .before .before .before .before .args .s .now) (c .before .before .before .before .before .loop .at)) (c .before .before .enum-told .given .1) (c .before .before .before .before .tag-at .ensures)) ∙ ap (λ (a : Reading). outcomeOf a (firstNodes (c .before .before .before .before .before .before .before .before .before .before .before .args .s .now) (c .before .before .before .before .before .loop .names) (c .before .before .before .before .before .loop .sizes) (c .before .before .before .before .before .loop .shapes) (c .before .before .before .before .before .loop .nodes))) (sym (c .before .text-end .ensures)))
@@ -103,7 +104,8 @@ same-length-6 c = c .before .before .before .before .loop .inv .4
 returns-2 : tie.Need-returns-2 Inv-loop μ-loop
 returns-2 c =
     let told = c .ended2 .ensures in
-    stopped (limitsOf (c .before .before .before .before .before .before .before .before .before .before .args .limits)) (c .before .before .before .before .before .before .before .before .before .before .args .s .now) (c .before .before .before .before .loop .names) (c .before .before .before .before .loop .sizes) (c .before .before .before .before .loop .shapes) (c .before .before .before .before .loop .nodes) (told .0) (told .1)
+    stopped (limitsOf (c .before .before .before .before .before .before .before .before .before .before .args .limits)) (c .before .before .before .before .before .before .before .before .before .before .args .classes .now) (c .before .before .before .before .before .before .before .before .before .before .args .s .now) (c .before .before .before .before .loop .names) (c .before .before .before .before .loop .sizes) (c .before .before .before .before .loop .shapes) (c .before .before .before .before .loop .nodes)
+    (c .before .before .before .before .before .before .before .before .before .before .pre .1 .1 .0) (c .ended2 .result) (told .0) (told .1)
     (few-nodes (limitsOf (c .before .before .before .before .before .before .before .before .before .before .args .limits)) (c .before .before .before .before .before .before .before .before .before .before .args .classes .now) refl (c .before .before .before .before .before .before .before .before .before .before .pre .1 .0 .nodes) (c .before .before .before .before .before .before .before .before .before .before .args .s .now) (c .before .before .before .before .loop .names) (c .before .before .before .before .loop .sizes) (c .before .before .before .before .loop .shapes) (c .before .before .before .before .loop .nodes) (c .before .before .before .before .loop .at) (c .before .before .before .before .loop .places) (c .before .before .before .before .loop .depth) (c .before .before .before .before .loop .inv .0))
     (nodes-indexed (limitsOf (c .before .before .before .before .before .before .before .before .before .before .args .limits)) (c .before .before .before .before .before .before .before .before .before .before .args .classes .now) refl (c .before .before .before .before .before .before .before .before .before .before .pre .1 .0 .nodes) (c .before .before .before .before .before .before .before .before .before .before .args .s .now) (c .before .before .before .before .loop .names) (c .before .before .before .before .loop .sizes) (c .before .before .before .before .loop .shapes) (c .before .before .before .before .loop .nodes) (c .before .before .before .before .loop .at) (c .before .before .before .before .loop .places) (c .before .before .before .before .loop .depth) (c .before .before .before .before .loop .inv .0))
     (text-stray (limitsOf (c .before .before .before .before .before .before .before .before .before .before .args .limits)) (c .before .before .before .before .before .before .before .before .before .before .args .classes .now) refl (c .before .before .before .before .before .before .before .before .before .before .pre .1 .0 .nodes) (c .before .before .before .before .before .before .before .before .before .before .args .s .now) (c .before .before .before .before .loop .names) (c .before .before .before .before .loop .sizes) (c .before .before .before .before .loop .shapes) (c .before .before .before .before .loop .nodes) (c .before .before .before .before .loop .at) (c .before .before .before .before .loop .places) (c .before .before .before .before .loop .depth) (c .before .before .before .before .loop .inv .0) (subst (TagSays (c .before .before .before .before .before .before .before .before .before .before .args .s .now) (c .before .before .before .before .loop .at)) (c .before .enum-told2 .given .1) (c .before .before .before .tag-at .ensures)))
@@ -136,7 +138,8 @@ same-length-9 c = c .before .before .before .before .before .before .before .bef
 returns-3 : tie.Need-returns-3 Inv-loop μ-loop
 returns-3 c =
     let told = c .ended3 .ensures in
-    stopped (limitsOf (c .before .before .before .before .before .before .before .before .before .before .before .before .before .before .before .before .args .limits)) (c .before .before .before .before .before .before .before .before .before .before .before .before .before .before .before .before .args .s .now) (c .before .before .before .before .before .before .before .before .before .before .loop .names) (c .before .before .before .before .before .before .before .before .before .before .loop .sizes) (c .before .before .before .before .before .before .before .before .before .before .loop .shapes) (c .before .before .before .before .before .before .before .before .before .before .loop .nodes) (told .0) (told .1)
+    stopped (limitsOf (c .before .before .before .before .before .before .before .before .before .before .before .before .before .before .before .before .args .limits)) (c .before .before .before .before .before .before .before .before .before .before .before .before .before .before .before .before .args .classes .now) (c .before .before .before .before .before .before .before .before .before .before .before .before .before .before .before .before .args .s .now) (c .before .before .before .before .before .before .before .before .before .before .loop .names) (c .before .before .before .before .before .before .before .before .before .before .loop .sizes) (c .before .before .before .before .before .before .before .before .before .before .loop .shapes) (c .before .before .before .before .before .before .before .before .before .before .loop .nodes)
+    (c .before .before .before .before .before .before .before .before .before .before .before .before .before .before .before .before .pre .1 .1 .0) (c .ended3 .result) (told .0) (told .1)
     (few-nodes (limitsOf (c .before .before .before .before .before .before .before .before .before .before .before .before .before .before .before .before .args .limits)) (c .before .before .before .before .before .before .before .before .before .before .before .before .before .before .before .before .args .classes .now) refl (c .before .before .before .before .before .before .before .before .before .before .before .before .before .before .before .before .pre .1 .0 .nodes) (c .before .before .before .before .before .before .before .before .before .before .before .before .before .before .before .before .args .s .now) (c .before .before .before .before .before .before .before .before .before .before .loop .names) (c .before .before .before .before .before .before .before .before .before .before .loop .sizes) (c .before .before .before .before .before .before .before .before .before .before .loop .shapes) (c .before .before .before .before .before .before .before .before .before .before .loop .nodes) (c .before .before .before .before .before .before .before .before .before .before .loop .at) (c .before .before .before .before .before .before .before .before .before .before .loop .places) (c .before .before .before .before .before .before .before .before .before .before .loop .depth) (c .before .before .before .before .before .before .before .before .before .before .loop .inv .0))
     (nodes-indexed (limitsOf (c .before .before .before .before .before .before .before .before .before .before .before .before .before .before .before .before .args .limits)) (c .before .before .before .before .before .before .before .before .before .before .before .before .before .before .before .before .args .classes .now) refl (c .before .before .before .before .before .before .before .before .before .before .before .before .before .before .before .before .pre .1 .0 .nodes) (c .before .before .before .before .before .before .before .before .before .before .before .before .before .before .before .before .args .s .now) (c .before .before .before .before .before .before .before .before .before .before .loop .names) (c .before .before .before .before .before .before .before .before .before .before .loop .sizes) (c .before .before .before .before .before .before .before .before .before .before .loop .shapes) (c .before .before .before .before .before .before .before .before .before .before .loop .nodes) (c .before .before .before .before .before .before .before .before .before .before .loop .at) (c .before .before .before .before .before .before .before .before .before .before .loop .places) (c .before .before .before .before .before .before .before .before .before .before .loop .depth) (c .before .before .before .before .before .before .before .before .before .before .loop .inv .0))
     (text-unclosed (limitsOf (c .before .before .before .before .before .before .before .before .before .before .before .before .before .before .before .before .args .limits)) (c .before .before .before .before .before .before .before .before .before .before .before .before .before .before .before .before .args .classes .now) refl (c .before .before .before .before .before .before .before .before .before .before .before .before .before .before .before .before .pre .1 .0 .nodes) (c .before .before .before .before .before .before .before .before .before .before .before .before .before .before .before .before .args .s .now) (c .before .before .before .before .before .before .before .before .before .before .loop .names) (c .before .before .before .before .before .before .before .before .before .before .loop .sizes) (c .before .before .before .before .before .before .before .before .before .before .loop .shapes) (c .before .before .before .before .before .before .before .before .before .before .loop .nodes) (c .before .before .before .before .before .before .before .before .before .before .loop .at) (c .before .before .before .before .before .before .before .before .before .before .loop .places) (c .before .before .before .before .before .before .before .before .before .before .loop .depth) (c .before .before .before .before .before .before .before .before .before .before .loop .inv .0) (c .before .before .before .before .before .before .before .from .given .0 .0) (c .before .before .before .before .before .before .before .from .given .0 .1 .0) (c .before .before .before .before .before .before .before .from .given .0 .1 .1 .0) (tag-says (c .before .before .before .before .before .before .before .before .before .before .before .before .before .before .before .before .args .s .now) (c .before .before .before .before .before .before .before .before .before .before .loop .at) (c .before .before .before .before .before .before .before .before .before .tag-at .result) (End (c .before .before .before .before .before .before .before .from .given .0 .0) (c .before .before .before .before .before .before .before .from .given .0 .1 .0) (c .before .before .before .before .before .before .before .from .given .0 .1 .1 .0)) (c .before .before .before .before .before .before .before .from .given .1) (c .before .before .before .before .before .before .before .before .before .tag-at .ensures)) (sym (c .before .before .closes .ensures) ∙ not-true (c .before .before .closes .result) (c .before .if1 .taken)))
@@ -203,7 +206,8 @@ same-length-12 c = c .before .before .before .before .before .before .before .be
 returns-4 : tie.Need-returns-4 Inv-loop μ-loop
 returns-4 c =
     let told = c .ended4 .ensures in
-    stopped (limitsOf (c .before .before .before .before .before .before .before .before .before .before .before .before .before .before .before .before .before .before .before .args .limits)) (c .before .before .before .before .before .before .before .before .before .before .before .before .before .before .before .before .before .before .before .args .s .now) (c .before .before .before .before .before .before .before .before .before .before .before .before .before .loop .names) (c .before .before .before .before .before .before .before .before .before .before .before .before .before .loop .sizes) (c .before .before .before .before .before .before .before .before .before .before .before .before .before .loop .shapes) (c .before .before .before .before .before .before .before .before .before .before .before .before .before .loop .nodes) (told .0) (told .1)
+    stopped (limitsOf (c .before .before .before .before .before .before .before .before .before .before .before .before .before .before .before .before .before .before .before .args .limits)) (c .before .before .before .before .before .before .before .before .before .before .before .before .before .before .before .before .before .before .before .args .classes .now) (c .before .before .before .before .before .before .before .before .before .before .before .before .before .before .before .before .before .before .before .args .s .now) (c .before .before .before .before .before .before .before .before .before .before .before .before .before .loop .names) (c .before .before .before .before .before .before .before .before .before .before .before .before .before .loop .sizes) (c .before .before .before .before .before .before .before .before .before .before .before .before .before .loop .shapes) (c .before .before .before .before .before .before .before .before .before .before .before .before .before .loop .nodes)
+    (c .before .before .before .before .before .before .before .before .before .before .before .before .before .before .before .before .before .before .before .pre .1 .1 .0) (c .ended4 .result) (told .0) (told .1)
     (few-nodes (limitsOf (c .before .before .before .before .before .before .before .before .before .before .before .before .before .before .before .before .before .before .before .args .limits)) (c .before .before .before .before .before .before .before .before .before .before .before .before .before .before .before .before .before .before .before .args .classes .now) refl (c .before .before .before .before .before .before .before .before .before .before .before .before .before .before .before .before .before .before .before .pre .1 .0 .nodes) (c .before .before .before .before .before .before .before .before .before .before .before .before .before .before .before .before .before .before .before .args .s .now) (c .before .before .before .before .before .before .before .before .before .before .before .before .before .loop .names) (c .before .before .before .before .before .before .before .before .before .before .before .before .before .loop .sizes) (c .before .before .before .before .before .before .before .before .before .before .before .before .before .loop .shapes) (c .before .before .before .before .before .before .before .before .before .before .before .before .before .loop .nodes) (c .before .before .before .before .before .before .before .before .before .before .before .before .before .loop .at) (c .before .before .before .before .before .before .before .before .before .before .before .before .before .loop .places) (c .before .before .before .before .before .before .before .before .before .before .before .before .before .loop .depth) (c .before .before .before .before .before .before .before .before .before .before .before .before .before .loop .inv .0))
     (nodes-indexed (limitsOf (c .before .before .before .before .before .before .before .before .before .before .before .before .before .before .before .before .before .before .before .args .limits)) (c .before .before .before .before .before .before .before .before .before .before .before .before .before .before .before .before .before .before .before .args .classes .now) refl (c .before .before .before .before .before .before .before .before .before .before .before .before .before .before .before .before .before .before .before .pre .1 .0 .nodes) (c .before .before .before .before .before .before .before .before .before .before .before .before .before .before .before .before .before .before .before .args .s .now) (c .before .before .before .before .before .before .before .before .before .before .before .before .before .loop .names) (c .before .before .before .before .before .before .before .before .before .before .before .before .before .loop .sizes) (c .before .before .before .before .before .before .before .before .before .before .before .before .before .loop .shapes) (c .before .before .before .before .before .before .before .before .before .before .before .before .before .loop .nodes) (c .before .before .before .before .before .before .before .before .before .before .before .before .before .loop .at) (c .before .before .before .before .before .before .before .before .before .before .before .before .before .loop .places) (c .before .before .before .before .before .before .before .before .before .before .before .before .before .loop .depth) (c .before .before .before .before .before .before .before .before .before .before .before .before .before .loop .inv .0))
     (text-refused (limitsOf (c .before .before .before .before .before .before .before .before .before .before .before .before .before .before .before .before .before .before .before .args .limits)) (c .before .before .before .before .before .before .before .before .before .before .before .before .before .before .before .before .before .before .before .args .classes .now) refl (c .before .before .before .before .before .before .before .before .before .before .before .before .before .before .before .before .before .before .before .pre .1 .0 .nodes) (c .before .before .before .before .before .before .before .before .before .before .before .before .before .before .before .before .before .before .before .args .s .now) (c .before .before .before .before .before .before .before .before .before .before .before .before .before .loop .names) (c .before .before .before .before .before .before .before .before .before .before .before .before .before .loop .sizes) (c .before .before .before .before .before .before .before .before .before .before .before .before .before .loop .shapes) (c .before .before .before .before .before .before .before .before .before .before .before .before .before .loop .nodes) (c .before .before .before .before .before .before .before .before .before .before .before .before .before .loop .at) (c .before .before .before .before .before .before .before .before .before .before .before .before .before .loop .places) (c .before .before .before .before .before .before .before .before .before .before .before .before .before .loop .depth) (c .before .before .before .before .before .before .before .before .before .before .before .before .before .loop .inv .0) (c .before .before .before .before .before .before .before .before .before .before .from2 .given .0 .0) (c .before .before .before .before .before .before .before .before .before .before .from2 .given .0 .1 .0) (c .before .before .before .before .before .before .before .before .before .before .from2 .given .0 .1 .1 .0) (c .before .before .before .before .before .before .before .before .before .before .from2 .given .0 .1 .1 .1 .0) (tag-says (c .before .before .before .before .before .before .before .before .before .before .before .before .before .before .before .before .before .before .before .args .s .now) (c .before .before .before .before .before .before .before .before .before .before .before .before .before .loop .at) (c .before .before .before .before .before .before .before .before .before .before .before .before .tag-at .result) (Element (c .before .before .before .before .before .before .before .before .before .before .from2 .given .0 .0) (c .before .before .before .before .before .before .before .before .before .before .from2 .given .0 .1 .0) (c .before .before .before .before .before .before .before .before .before .before .from2 .given .0 .1 .1 .0) (c .before .before .before .before .before .before .before .before .before .before .from2 .given .0 .1 .1 .1 .0)) (c .before .before .before .before .before .before .before .before .before .before .from2 .given .1) (c .before .before .before .before .before .before .before .before .before .before .before .before .tag-at .ensures)) (c .before .before .before .before .before .before .is-full .result) (c .before .before .before .before .before .before .is-full .ensures) (c .before .before .before .before .element-answer .result) (c .before .before .before .before .element-answer .ensures) (c .before .before .answer .given .0 .0) (c .before .before .answer .given .1))
