@@ -13,7 +13,7 @@ use Rattle.grammar.specs.declared.Written.{Written}
 use Rattle.grammar.specs.declared.Written.the-variants.{Length, Refused as Unwritten}
 
 -- A refusal comes with its number and value 0; else the number is 0, and the value 1 for yes and readable, 0 for no, and the length
--- of a table written.
+-- of a table or of pages written.
 pub record Numbers : Type 0 where
   pub refusal : ℕ
   pub value : ℕ

@@ -19,6 +19,7 @@ use Rattle.grammar.specs.WriteTable.{tableBytes}
 use Rattle.grammar.specs.Membership.{letsIn}
 use Rattle.grammar.specs.KindTests.{isOfKind}
 use Rattle.grammar.specs.Widen.{widen, sampleTable}
+use Rattle.grammar.specs.Pages.{pageLayout, pages}
 use Rattle.grammar.specs.Answers.{Numbers, numbersOf, numberAfter}
 use Rattle.grammar.specs.declared.Format.{Format}
 use Rattle.grammar.specs.declared.Source.{Source}
@@ -40,12 +41,16 @@ unfoldable pub outAfter : Outcome (List ℕ) → List ℕ → List ℕ
 outAfter (refused r) out = out
 outAfter (given bytes) out = bytes ++ drop (length bytes) out
 
--- the finished table's bytes, if the output has room
+-- a result, if the output has room
+unfoldable pub roomFor : List ℕ → List ℕ → Outcome (List ℕ)
+roomFor out bytes = do
+  turnBack (ltb (length out) (length bytes)) OutputTooShort
+  given bytes
+
+-- the finished table's bytes
 unfoldable pub writtenTo : List ℕ → Table → Outcome (List ℕ)
-unfolding tableBytes
-writtenTo out g = do
-  turnBack (ltb (length out) (length (tableBytes g))) OutputTooShort
-  given (tableBytes g)
+unfolding roomFor tableBytes
+writtenTo out g = roomFor out (tableBytes g)
 
 -- a part of an input's own bytes
 pub record Part : Type 0 where
@@ -105,6 +110,13 @@ module _ (lim : Limits) (classes : Classes) where
     g ← tableReads table work
     given (isOfKind kind g)
 
+  -- any readable table as it was read
+  unfoldable pub tablePages : List ℕ → List ℕ → List ℕ → Outcome (List ℕ)
+  unfolding tableReads pages pageLayout roomFor
+  tablePages table out work = do
+    g ← tableReads table work
+    roomFor out (pages pageLayout g)
+
   unfoldable pub documentSample : Format → List ℕ → List ℕ → List ℕ → Outcome (List ℕ)
   unfolding documentReads sampleTable writtenTo
   documentSample format document out work = do
@@ -136,7 +148,7 @@ pub record After (Answer : Type 0) : Type 0 where
 abbrev pub after : {Answer : Type 0} → Answer → List ℕ → List ℕ → After Answer
 after answer out work = record { answer = answer; out = out; work = work }
 
--- by its outcome: a call that reads or decides, a call that writes a table
+-- by its outcome: a call that reads or decides, a call that writes a table or pages
 unfoldable pub answered : {A : Type 0} → Limits → (A → ℕ) → Outcome A → List ℕ → After Numbers
 unfolding numbersOf workAfter
 answered lim value o work = after (numbersOf value o) [] (workAfter lim work)

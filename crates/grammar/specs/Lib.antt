@@ -33,7 +33,9 @@ pub mod Tidy
 pub mod Size
 pub mod Widen
 pub mod Claim
+pub mod Listing
+pub mod Pages
+pub mod ReadPages
 pub mod Answers
 pub mod Calls
 pub mod Promises
-pub mod Listing

@@ -79,17 +79,21 @@ unfoldable pub textMark : Bool → Text
 unfolding ascii
 textMark text = elim text [ true ↦ ascii "#" | false ↦ [] ]
 
--- type, name and content for each rule
-unfoldable pub ruleLine : Table → Rule → Text
+-- type, name and content of a rule
+unfoldable pub ruleText : Table → Rule → Text
 unfolding typeText contentText textMark ascii
-ruleLine g r =
+ruleText g r =
     typeText (r .type)
     ++ ascii " "
     ++ getD (g .labels) (r .label) []
     ++ ascii " "
     ++ contentText (r .content)
     ++ textMark (r .text)
-    ++ ascii "\n"
+
+-- and for each rule they make a line
+unfoldable pub ruleLine : Table → Rule → Text
+unfolding ruleText ascii
+ruleLine g r = ruleText g r ++ ascii "\n"
 
 -- a first line `local`, the starts, the rules
 unfoldable pub localText : Table → Text

@@ -1,7 +1,7 @@
 -- What each public call promises, of what it leaves: for every input the answer and each lent slice, equal to what a definition
 -- gives (`settled`), and the demand itself.
 use Prim.Native.Nat.{ℕ, _+_, _*_, _≤_}
-use mathlib.Core.List.{List}
+use mathlib.Core.List.{List, map}
 use mathlib.Core.Logic.{_↔_, _⊎_}
 use mathlib.Core.Path.{_≡_}
 use lib.ListN.{length, take}
@@ -17,6 +17,9 @@ use Rattle.grammar.specs.ReadTable.{readTable}
 use Rattle.grammar.specs.Documents.{readDocument}
 use Rattle.grammar.specs.Sample.{sample}
 use Rattle.grammar.specs.Claim.{WritesLeast}
+use Rattle.grammar.specs.Listing.{ruleText}
+use Rattle.grammar.specs.Pages.{pageLayout}
+use Rattle.grammar.specs.ReadPages.{textsShown}
 use Rattle.grammar.specs.Answers.{Numbers, refusedBy, saysYes, saysNo, bit}
 use Rattle.grammar.specs.Calls.{
   Part,
@@ -31,6 +34,7 @@ use Rattle.grammar.specs.Calls.{
   labelName,
   tableLetsIn,
   tableIsOfKind,
+  tablePages,
   documentSample,
   readAddition,
   widened,
@@ -81,6 +85,12 @@ module _ (lim : Limits) (classes : Classes) where
     pub settled : left ≡ answered lim bit (tableIsOfKind lim classes kind table work) work
     pub decides : (g : Table) → readTable lim classes table ≡ given g → lim .words ≤ length work → Loads classes
         → Decides (left .answer) (OfKind kind g)
+
+  -- `pages`: from the bytes written the lister's text of each rule comes back.
+  pub record Paging (table out work : List ℕ) (left : After Numbers) : Type 0 where
+    pub settled : left ≡ wrote lim (tablePages lim classes table out work) out work
+    pub comes-back : left .answer .refusal ≡ 0 → (g : Table) → readTable lim classes table ≡ given g
+        → textsShown pageLayout (take (left .answer .value) (left .out)) ≡ map (ruleText g) (g .rules)
 
   -- `sample`: the bytes written read as the sample, which lets in the document.
   pub record Sampling (format : Format) (document out work : List ℕ) (left : After Numbers) : Type 0 where

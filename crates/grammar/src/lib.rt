@@ -36,7 +36,7 @@ pub enum Verdict {
     Refused(Refusal),
 }
 
-// How many bytes of a finished table were written.
+// How many bytes of a finished table, or of its pages, were written.
 pub enum Written {
     Length(usize),
     Refused(Refusal),
