@@ -8,13 +8,10 @@ use lib.Dec.{leb}
 use lib.ListN.{length, getD}
 use Rattle.grammar.specs.Limits.{Limits, NoneAbove, large}
 use Rattle.grammar.specs.Names.{Classes, loads, Loads}
-use Rattle.grammar.specs.Tree.{Tree}
 use Rattle.grammar.specs.Table.{Table}
 use Rattle.grammar.specs.Outcome.{Outcome, given, refused, _>>=_, _>>_, turnBack, number}
 use Rattle.grammar.specs.Answers.{Numbers, refusedBy, readingNumbers, numbersOf, reading, numberAfter}
 use Rattle.grammar.specs.ReadTable.{readTable}
-use Rattle.grammar.specs.Documents.{readDocument}
-use Rattle.grammar.specs.declared.Format.{Format}
 use Rattle.grammar.specs.Calls.{
   Part,
   workAfter,
@@ -25,10 +22,9 @@ use Rattle.grammar.specs.Calls.{
   answered,
   named,
   tableReads,
-  documentReads,
   labelName,
 }
-use Rattle.grammar.specs.Promises.{TableReading, DocumentReading, Naming, PartOf}
+use Rattle.grammar.specs.Promises.{TableReading, Naming, PartOf}
 use Rattle.grammar.specs.declared.Refusal.{Refusal}
 use Rattle.grammar.specs.declared.Refusal.the-variants.{WorkTooShort, BadClasses, OutOfRange}
 use Rattle.grammar.specs.declared.Reading.{Reading}
@@ -37,13 +33,10 @@ use Rattle.theory.proofs.theorems.AnswerNumbers.{reading-numbers}
 use Rattle.theory.proofs.theorems.CallPromises.{lent-short, lent-enough, loaded, loaded-is, loaded-then, unloaded-is}
 use Rattle.reader.specs.declared.label_places.LabelFound.{LabelFound}
 use Rattle.reader.specs.declared.label_places.LabelFound.the-variants.{At, Refused as Unfound}
-use Rattle.reader.specs.declared.documents.DocumentRead.{DocumentRead}
-use Rattle.reader.specs.DocumentNodes.{DocumentReads}
 use Rattle.reader.specs.TableIndex.{part, labelFrom, labelTo, labelCount, Inside, Reads}
 use Rattle.reader.specs.Held.{SomeHeld}
 use Rattle.reader.specs.LabelPlaces.{LabelSought, labelPart, nameBegins}
 use Rattle.reader.proofs.AnswerLaws.{was-unreadable}
-use Rattle.reader.proofs.DocumentAnswers.{document-answer}
 use Rattle.reader.proofs.LabelParts.{are-bytes, label-unloaded, label-unread, label-past}
 use Rattle.reader.proofs.LabelPlaceLaws.{place-found}
 use Rattle.reader.proofs.WorkLaws.{work-kept}
@@ -90,37 +83,6 @@ module _ (lim : Limits) (classes : Classes) (table work : List ℕ) where
     pub table-answered : Loads classes → (answer : Reading) → answer ≡ reading (readTable lim classes table)
         → TableReading lim classes table work (after (readingNumbers answer) [] left)
     table-answered load = table-told (readTable lim classes table) (loaded-is classes _ load)
-
-module _ (lim : Limits) (classes : Classes) (format : Format) (document work : List ℕ) where
-  pub document-unanswered : length work < lim .words
-      → DocumentReading lim classes format document work (after (readingNumbers (Unreadable WorkTooShort)) [] work)
-  unfolding documentReads readingNumbers
-  document-unanswered h =
-      record { settled = left-short lim (λ d. 1) _ work h (lent-short lim work (loaded classes (readDocument lim classes format document)) h) }
-
-  module _ (h : lim .words ≤ length work) (left : List ℕ) (w : left ≡ workAfter lim work) where
-    document-told : (o : Outcome Tree) → loaded classes (readDocument lim classes format document) ≡ o → (answer : Reading) → answer ≡ reading o
-        → DocumentReading lim classes format document work (after (readingNumbers answer) [] left)
-    unfolding documentReads
-    document-told o e answer a =
-        record {
-          settled =
-              left-as lim (λ d. 1) _ work (readingNumbers answer) left
-              (ap readingNumbers a
-              ∙ reading-numbers o
-              ∙ ap (numbersOf (λ d. 1)) (sym (lent-enough lim work (loaded classes (readDocument lim classes format document)) h ∙ e)))
-              w;
-        }
-
-    pub document-unloaded : loads classes ≡ false
-        → DocumentReading lim classes format document work (after (readingNumbers (Unreadable BadClasses)) [] left)
-    unfolding reading
-    document-unloaded e = document-told (refused BadClasses) (unloaded-is classes _ e) (Unreadable BadClasses) refl
-
-    pub document-answered : Loads classes → (r : DocumentRead) → DocumentReads lim classes format document r
-        → DocumentReading lim classes format document work (after (readingNumbers (r .answer)) [] left)
-    document-answered load r d =
-        document-told (readDocument lim classes format document) (loaded-is classes _ load) (r .answer) (sym (document-answer lim classes format document r d))
 
 -- looking for a label
 module _ (s : List ℕ) (o : Outcome Part) where

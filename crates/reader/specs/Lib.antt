@@ -2,10 +2,6 @@ pub mod FieldAt
 pub mod ExprAt
 pub mod Extents
 pub mod ContentAt
-pub mod DocumentNodes
-pub mod NodeTrees
-pub mod DocumentSteps
-pub mod TextSteps
 pub mod TableIndex
 pub mod Held
 pub mod NamePlaces

@@ -1,7 +1,6 @@
-// The public calls that read. A call that is lent too few words changes none; otherwise the words that it needs are zero after it, and
-// words beyond them never change.
+// The public calls that read a table. A call that is lent too few words changes none; otherwise the words that it needs are zero after
+// it, and words beyond them never change.
 use crate::classes::classes_load;
-use crate::documents::read_document;
 use crate::index::INDEX;
 use crate::label_places::LabelFound;
 use crate::label_places::find_label;
@@ -9,7 +8,6 @@ use crate::limits::limits_of;
 use crate::refusals::number_of;
 use crate::tables::read_table;
 use crate::work::clear_work;
-use grammar::Format;
 use grammar::Reading;
 use grammar::Refusal;
 use grammar::Size;
@@ -17,7 +15,7 @@ ghost use mathlib.Core.List.{[]};
 ghost use Rattle.grammar.specs.LimitSets.{sizeLimits};
 ghost use Rattle.grammar.specs.Answers.{readingNumbers};
 ghost use Rattle.grammar.specs.Calls.{after, labelName};
-ghost use Rattle.grammar.specs.Promises.{TableReading, DocumentReading, Naming, PartOf};
+ghost use Rattle.grammar.specs.Promises.{TableReading, Naming, PartOf};
 
 // Does a table read?
 pub fn table_reads(size: Size, classes: &[u8], table: &[u8], work: &mut [u32]) -> Reading
@@ -34,29 +32,6 @@ pub fn table_reads(size: Size, classes: &[u8], table: &[u8], work: &mut [u32]) -
     }
     let mut index = [0u16; INDEX];
     read_table(limits, classes, table, &mut index)
-}
-
-// Does a document read?
-pub fn document_reads(
-    size: Size,
-    classes: &[u8],
-    format: Format,
-    document: &[u8],
-    work: &mut [u32],
-) -> Reading
-    ensures { λ r. ⌜ DocumentReading (sizeLimits size) (now (classes .entry)) format (now (document .entry)) (now (work .entry))
-        (after (readingNumbers r) [] (now (work .exit))) ⌝ }
-{
-    let limits = limits_of(size);
-    if work.len() < limits.words {
-        return Reading::Refused(Refusal::WorkTooShort);
-    }
-    clear_work(limits, work);
-    if !classes_load(classes) {
-        return Reading::Refused(Refusal::BadClasses);
-    }
-    let read = read_document(limits, classes, format, document);
-    read.answer
 }
 
 // The name of a label, as a part of its table's own bytes; an empty part on a refusal, whose number is left behind `number`, else 0.

@@ -1,9 +1,7 @@
-// File readers. Every byte string has the one answer that the written meaning gives it.
+// Readers of tables, and what all readers share. Every byte string has the one answer that the written meaning gives it.
 pub mod ascii;
 pub mod calls;
 pub mod classes;
-pub mod documents;
-mod elements;
 pub mod expressions;
 pub mod fields;
 pub mod index;
@@ -18,5 +16,4 @@ pub mod rules;
 pub mod starts;
 pub mod tables;
 pub mod tags;
-mod text;
 pub mod work;

@@ -9,8 +9,8 @@ use mathlib.Core.Path.{_≡_, sym, _∙_, ap, subst}
 use lib.ListN.{length, length-drop, length-append, List·getD-map, getD, set, take, drop, replicate, drop-of-length-le}
 use lib.Seq.{drop-cons, drop-at, length-take-le, take-suc-set, append-snoc}
 use Rattle.grammar.specs.ReadDocument.{Node}
-use Rattle.reader.specs.NodeTrees.{treeCount, Enough}
-use Rattle.reader.proofs.DocumentTrees.{trees-few}
+use Rattle.documents.specs.NodeTrees.{treeCount, Enough}
+use Rattle.documents.proofs.DocumentTrees.{trees-few}
 use Rattle.sampling.specs.SampleNodes.{parentsFrom, parentsOf, kidCount, CountedTree}
 use Rattle.sampling.proofs.FillLaws.{filled, fill-long}
 

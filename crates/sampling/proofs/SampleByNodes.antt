@@ -58,7 +58,7 @@ use Rattle.theory.proofs.lists.NoTwo.{no-two-distinct}
 use Rattle.theory.proofs.trees.NameLaws.{name-refl, name-sym, name-trans}
 use Rattle.theory.proofs.trees.PathLaws.{SamePath, path-refl, path-sym, path-trans, path-parts, path-append}
 use Rattle.theory.proofs.sample.SampleRules.{path-types}
-use Rattle.reader.specs.NodeTrees.{treeCount, Enough}
+use Rattle.documents.specs.NodeTrees.{treeCount, Enough}
 use Rattle.sampling.specs.SampleNodes.{
   parentsFrom,
   parentsOf,

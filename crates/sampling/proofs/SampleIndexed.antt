@@ -10,11 +10,11 @@ use Rattle.grammar.specs.Outcome.{given}
 use Rattle.grammar.specs.Tree.{Tree}
 use Rattle.grammar.specs.ReadDocument.{Node, treeOf}
 use Rattle.theory.proofs.lists.ListLaws.{at-else}
-use Rattle.reader.specs.declared.documents.DocumentIndex.{DocumentIndex}
-use Rattle.reader.specs.DocumentNodes.{nodeAt, nodesIn}
-use Rattle.reader.specs.NodeTrees.{treeCount, Enough}
-use Rattle.reader.proofs.DocumentAnswers.{nodes-count, node-held, document-tree}
-use Rattle.reader.proofs.DocumentTrees.{complete}
+use Rattle.documents.specs.declared.documents.DocumentIndex.{DocumentIndex}
+use Rattle.documents.specs.DocumentNodes.{nodeAt, nodesIn}
+use Rattle.documents.specs.NodeTrees.{treeCount, Enough}
+use Rattle.documents.proofs.DocumentAnswers.{nodes-count, node-held, document-tree}
+use Rattle.documents.proofs.DocumentTrees.{complete}
 use Rattle.sampling.specs.SampleNodes.{kidCount, CountedTree, Whole, TypedTo, nameIn, nameAt, markIn, markAt, parentsOf}
 use Rattle.sampling.specs.SampleTable.{HoldsNodes, SampleHeld, SampleReady}
 use Rattle.sampling.proofs.SampleByNodes.{kids-count}

@@ -18,8 +18,8 @@ use Rattle.grammar.specs.Tree.{Tree, node, Forest, []ᵗ, _∷ᵗ_, trees}
 use Rattle.grammar.specs.ReadDocument.{Node, forestOf, firstTrees, otherTrees, treeOf}
 use Rattle.grammar.specs.Sample.{Visit, rootNames, visits, visitsAll}
 use Rattle.theory.proofs.bytes.OutcomeLaws.{given-eq}
-use Rattle.reader.specs.NodeTrees.{treeCount, Enough}
-use Rattle.reader.proofs.DocumentTrees.{forest-trees}
+use Rattle.documents.specs.NodeTrees.{treeCount, Enough}
+use Rattle.documents.proofs.DocumentTrees.{forest-trees}
 use Rattle.sampling.specs.SampleNodes.{parentsFrom, visitsFrom, pathsIn, childrenIn, namesIn, marksIn}
 
 -- the visits of trees, each with its own path above

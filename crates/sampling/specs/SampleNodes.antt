@@ -16,7 +16,7 @@ use Rattle.grammar.specs.Table.{Rule, Table}
 use Rattle.grammar.specs.ReadDocument.{Node, forestOf, firstTrees, treeOf}
 use Rattle.grammar.specs.Sample.{Visit, rootNames, samePath, sequenceOf}
 use Rattle.theory.specs.SamplePaths.{pathType}
-use Rattle.reader.specs.NodeTrees.{treeCount, Enough}
+use Rattle.documents.specs.NodeTrees.{treeCount, Enough}
 
 -- The parents of nodes of which the first has the number `i`, where the parents of those still to come are these.
 unfoldable pub parentsFrom : ℕ → List ℕ → List Node → List ℕ

@@ -22,9 +22,9 @@ use Rattle.grammar.specs.Widen.{sampleTable}
 use Rattle.grammar.specs.declared.Format.{Format}
 use Rattle.grammar.specs.declared.Refusal.the-variants.{ResultTooLarge}
 use Rattle.theory.specs.Alternatives.{gathered}
-use Rattle.reader.specs.declared.documents.DocumentIndex.{DocumentIndex}
 use Rattle.reader.specs.ExprAt.{_upTo_, exprAt}
-use Rattle.reader.specs.DocumentNodes.{nodesIn, readNodesAs, NodesIndexed}
+use Rattle.documents.specs.declared.documents.DocumentIndex.{DocumentIndex}
+use Rattle.documents.specs.DocumentNodes.{nodesIn, readNodesAs, NodesIndexed}
 use Rattle.writer.specs.declared.writing.Drafted.{Drafted}
 use Rattle.writer.specs.declared.writing.Drafted.the-variants.{Length, TooLarge}
 use Rattle.writer.specs.Tables.{restBytes}

@@ -5,8 +5,8 @@ use crate::labels::labels_of;
 use crate::limits::SCRATCH;
 use crate::parents::parents_of;
 use crate::paths::types_of;
+use documents::documents::DocumentIndex;
 use grammar::SizeLimits;
-use reader::documents::DocumentIndex;
 use writer::writing::Drafted;
 ghost use Prim.Native.Nat.{_≤_};
 ghost use mathlib.Core.Path.{_≡_};
@@ -16,7 +16,7 @@ ghost use Rattle.grammar.specs.LimitSets.{limitsOf, Within};
 ghost use Rattle.grammar.specs.Outcome.{given};
 ghost use Rattle.grammar.specs.Tree.{Tree};
 ghost use Rattle.grammar.specs.ReadDocument.{treeOf};
-ghost use Rattle.reader.specs.DocumentNodes.{nodesIn};
+ghost use Rattle.documents.specs.DocumentNodes.{nodesIn};
 ghost use Rattle.sampling.specs.SampleTable.{SampleHeld, SampleReady, SampleDrafted, HoldsNodes};
 
 // Writes the sample of nodes whose types are found, unless there are too many types.

@@ -22,11 +22,11 @@ use Rattle.theory.proofs.matching.MarkedRun.{run-matches}
 use Rattle.sets.specs.Sets.{member, wordsAt, storeAt}
 use Rattle.sets.proofs.FourWords.{four-stored}
 use Rattle.sets.proofs.SetLaws.{length-words, word-of, words-store, drop-store}
-use Rattle.reader.proofs.DocumentAnswers.{nodes-count, node-held}
-use Rattle.reader.specs.DocumentNodes.{nodeAt, nodesIn}
-use Rattle.reader.specs.declared.documents.DocumentIndex.{DocumentIndex}
-use Rattle.reader.specs.NodeTrees.{treeCount}
-use Rattle.reader.proofs.DocumentTrees.{trees-few, enough-at}
+use Rattle.documents.proofs.DocumentAnswers.{nodes-count, node-held}
+use Rattle.documents.specs.DocumentNodes.{nodeAt, nodesIn}
+use Rattle.documents.specs.declared.documents.DocumentIndex.{DocumentIndex}
+use Rattle.documents.specs.NodeTrees.{treeCount}
+use Rattle.documents.proofs.DocumentTrees.{trees-few, enough-at}
 use Rattle.walks.specs.TypeSets.{setAt, testsAt}
 use Rattle.validator.specs.NodeTypes.{typesFor}
 use Rattle.validator.specs.KnownDocument.{indexOf, KnownNodes, Brought}

@@ -28,14 +28,14 @@ use Rattle.grammar.specs.declared.Verdict.the-variants.{Refused as Undecided}
 use Rattle.theory.proofs.bytes.OutcomeLaws.{given-then}
 use Rattle.theory.proofs.theorems.AnswerNumbers.{verdict-numbers}
 use Rattle.theory.proofs.theorems.CallPromises.{membership, kind-test, lent-short, lent-enough, loaded, loaded-is, loaded-then, unloaded-is}
-use Rattle.reader.specs.DocumentNodes.{DocumentReads, nodesIn}
 use Rattle.reader.specs.TableIndex.{Reads}
-use Rattle.reader.specs.declared.documents.DocumentRead.{DocumentRead}
 use Rattle.reader.specs.Held.{Held}
 use Rattle.reader.proofs.CallLaws.{left-as, left-short}
-use Rattle.reader.proofs.DocumentTrees.{complete}
-use Rattle.reader.proofs.DocumentAnswers.{document-tree, nodes-read, document-unread}
 use Rattle.reader.proofs.TableFoundLaws.{TableFound, table-found, table-refused, held-roomier}
+use Rattle.documents.specs.DocumentNodes.{DocumentReads, nodesIn}
+use Rattle.documents.specs.declared.documents.DocumentRead.{DocumentRead}
+use Rattle.documents.proofs.DocumentTrees.{complete}
+use Rattle.documents.proofs.DocumentAnswers.{document-tree, nodes-read, document-unread}
 use Rattle.validator.specs.KnownDocument.{KnownNodes}
 use Rattle.validator.specs.Deciding.{letsInOf, isOfKindOf}
 

@@ -10,10 +10,10 @@ use Rattle.grammar.specs.Outcome.{given}
 use Rattle.grammar.specs.ReadDocument.{treeOf}
 use Rattle.grammar.specs.Membership.{typesOf}
 use Rattle.theory.specs.Marked.{holds}
-use Rattle.reader.specs.declared.documents.DocumentIndex.{DocumentIndex}
-use Rattle.reader.specs.DocumentNodes.{NodesIndexed, nodesIn}
-use Rattle.reader.specs.NodeTrees.{treeCount, Enough}
 use Rattle.reader.specs.Held.{Held}
+use Rattle.documents.specs.declared.documents.DocumentIndex.{DocumentIndex}
+use Rattle.documents.specs.DocumentNodes.{NodesIndexed, nodesIn}
+use Rattle.documents.specs.NodeTrees.{treeCount, Enough}
 use Rattle.walks.specs.TypeSets.{setAt}
 
 -- the index of so many nodes in arrays

@@ -1,5 +1,6 @@
 // Reading the inputs of a call, and deciding.
 use crate::membership::lets_in_read;
+use documents::documents::read_nodes;
 use grammar::Format;
 use grammar::Reading;
 use grammar::Refusal;
@@ -8,7 +9,6 @@ use grammar::Verdict;
 use kinds::kinds::local_table;
 use kinds::kinds::single_type_table;
 use reader::classes::classes_load;
-use reader::documents::read_nodes;
 use reader::index::INDEX;
 use reader::tables::read_table;
 ghost use mathlib.Core.Path.{_≡_};

@@ -4,14 +4,14 @@ ghost use Rattle.grammar.specs.Answers.{readingNumbers, verdictNumbers, written
 ghost use Rattle.vectors.specs.Checksum.{checksum};
 use crate::places::place_of;
 use crate::sums::byte_sum;
+use documents::calls::document_reads;
+use documents::documents::format_numbered;
 use grammar::Reading;
 use grammar::Size;
 use grammar::Verdict;
 use grammar::Written;
-use reader::calls::document_reads;
 use reader::calls::label_name;
 use reader::calls::table_reads;
-use reader::documents::format_numbered;
 use reader::limits::size_numbered;
 use reader::refusals::number_of;
 use validator::calls::is_local;

@@ -40,12 +40,12 @@ use Rattle.theory.proofs.bytes.TreeRead.{tree-within}
 use Rattle.theory.proofs.theorems.ResultWithin.{sample-read-back}
 use Rattle.theory.proofs.theorems.CallPromises.{loaded-is, unloaded-is}
 use Rattle.reader.specs.TableIndex.{Reads}
-use Rattle.reader.specs.DocumentNodes.{DocumentReads, nodesIn}
-use Rattle.reader.specs.declared.documents.DocumentRead.{DocumentRead}
 use Rattle.reader.specs.Held.{Held}
 use Rattle.reader.proofs.AnswerLaws.{fault, never-given, written-length, written-refused}
-use Rattle.reader.proofs.DocumentAnswers.{document-tree, nodes-read, document-unread}
 use Rattle.reader.proofs.TableFoundLaws.{TableFound, table-found, table-refused}
+use Rattle.documents.specs.DocumentNodes.{DocumentReads, nodesIn}
+use Rattle.documents.specs.declared.documents.DocumentRead.{DocumentRead}
+use Rattle.documents.proofs.DocumentAnswers.{document-tree, nodes-read, document-unread}
 use Rattle.writer.specs.declared.writing.Drafted.{Drafted}
 use Rattle.writer.specs.declared.writing.Drafted.the-variants.{Length as DraftedTo, TooLarge as Undrafted}
 use Rattle.sampling.specs.SampleTable.{SampleDrafted, HoldsNodes}

@@ -1,4 +1,5 @@
 // A call's table made in a draft, so that a refusal leaves the output as it came, and handed over.
+use documents::documents::read_document;
 use grammar::Format;
 use grammar::Reading;
 use grammar::Refusal;
@@ -6,7 +7,6 @@ use grammar::SizeLimits;
 use grammar::Source;
 use grammar::Written;
 use reader::classes::classes_load;
-use reader::documents::read_document;
 use reader::index::INDEX;
 use reader::limits::INPUT;
 use reader::tables::read_table;

@@ -9,9 +9,9 @@ use lib.ListN.{length-replicate}
 use borrow.Author.Needs.{needs}
 use Rattle.grammar.specs.LimitSets.{limitsOf}
 use Rattle.theory.proofs.tables.RoomierLimits.{within-large}
-use Rattle.reader.specs.declared.documents.DocumentRead.{DocumentRead}
-use Rattle.reader.specs.declared.documents.NodesRead.{NodesRead}
 use Rattle.reader.proofs.TableFoundLaws.{table-found, some-roomier}
+use Rattle.documents.specs.declared.documents.DocumentRead.{DocumentRead}
+use Rattle.documents.specs.declared.documents.NodesRead.{NodesRead}
 use Rattle.validator.specs.KnownDocument.{indexOf}
 use Rattle.validator.proofs.VerdictLaws as laws
 use Rattle.validator.proofs.deciding.read_and_decide.Statement.{statement}

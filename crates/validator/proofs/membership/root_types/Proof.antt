@@ -10,10 +10,10 @@ use Rattle.grammar.specs.Names.{Name, sameName}
 use Rattle.grammar.specs.Table.{Table}
 use Rattle.theory.specs.Marked.{holds}
 use Rattle.theory.proofs.lists.ListLaws.{part-of}
-use Rattle.reader.specs.DocumentNodes.{nodeAt, nodesIn}
 use Rattle.reader.specs.Held.{Held}
-use Rattle.reader.specs.NodeTrees.{treeCount}
 use Rattle.reader.specs.TableIndex.{part}
+use Rattle.documents.specs.DocumentNodes.{nodeAt, nodesIn}
+use Rattle.documents.specs.NodeTrees.{treeCount}
 use Rattle.walks.specs.TypeSets.{testsAt}
 use Rattle.validator.specs.KnownDocument.{indexOf}
 use Rattle.validator.specs.NodeTypes.{typesFor}

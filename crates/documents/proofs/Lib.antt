@@ -1,0 +1,14 @@
+pub mod TextReading
+pub mod TagPlaces
+pub mod TextPlaces
+pub mod DocumentLengths
+pub mod OpenLevels
+pub mod OpenElements
+pub mod TextLoop
+pub mod FirstNodes
+pub mod DocumentFields
+pub mod DocumentStepping
+pub mod DocumentLoop
+pub mod DocumentTrees
+pub mod DocumentAnswers
+pub mod CallLaws

@@ -1,0 +1,4 @@
+pub mod DocumentNodes
+pub mod NodeTrees
+pub mod DocumentSteps
+pub mod TextSteps
