@@ -29,7 +29,7 @@
  * Names are equal when they agree after A to Z become a to z: these 26 bytes, whatever their classes, and no others. A table of two labels
  * with equal names is refused (6); a document is let in or not whatever its letters' case. A table that is written spells each name as
  * it was met first: as the old table does, also where that label has no rule there; else as the addition does, a document's name as its
- * first node of that name. cogarrune_label_name gives a name as its own table spells it.
+ * first node of that name. cogarrune_label_name and cogarrune_pages give a name as its own table spells it.
  *
  * Documents. Directly before a document a call takes its format: COGARRUNE_DOCUMENT_FILE or COGARRUNE_XML_TEXT. Any other number counts as
  * COGARRUNE_DOCUMENT_FILE. The format is never guessed from the bytes. XML text is start tags, end tags and empty-element tags as XML 1.0
@@ -43,6 +43,14 @@
  * written has a rule 13 where a rule 13 of the inputs, or a node 32 of a document, stands behind it: one whose own content is not none
  * once it is reduced, of a type that is reached. Kinds do not look at text: a rule 12 and a rule 13 of one type and label are two rules.
  *
+ * Pages. cogarrune_pages writes on printed pages any table that reads: its rules as they are read, in the order of the file, nothing
+ * reduced or sorted, and nothing but rules. A page is 60 rows of 72 columns, and a column is a byte. The type, as t0, stands in columns 1
+ * to 3, the name in 5 to 27, the content in 29 to 72: (,) is a sequence, (|) a choice, () empty, ! none, and *, +, ? behind an operand are
+ * any number of, one or more of, optional. A # behind all of it marks a rule for text. A longer text goes on in further rows of its own
+ * columns, each row filled first. A rule takes as many rows as its longest text, also over a page's end. Each row is padded with spaces
+ * and ends in a line feed (0A): 73 bytes, so a page is 4,380. Blank rows, padded too, fill the last page. Without rules there is no page.
+ * The three texts of a rule, without the padding and joined with a space, are the lister's text for that rule.
+ *
  * Working memory. Every call is lent `work`, of at least as many words as its size needs, with any content. Afterwards just these words
  * are zero, with every refusal too (18 included), and words beyond are as they came. With fewer words the call answers refusal 1 and
  * changes none.
@@ -50,7 +58,8 @@
  * Answers. Every answer is one number: refusal x 2^32 + value. The refusal is 0, or the first fault found; then the value is 0, and
  * nothing is written to `out`. First 1 is tried, then 18, then the inputs one after the other: 2, and field by field, front to back, 3 to
  * 12. XML text, after 2, is tried tag by tag, front to back, each tag as a whole: 16, 17, 5, 11. It is never 3, 4 or 12, and no bytes
- * at all are 11. After the inputs come a caller's label number (8), then 13, 14 and 15. So the order is not that of the numbers.
+ * at all are 11. After the inputs come a caller's label number (8), then 13, 14 and 15, of which a sample can have 14 and 15, and pages 15
+ * alone. So the order is not that of the numbers.
  */
 #ifndef COGARRUNE_H
 #define COGARRUNE_H
@@ -76,8 +85,14 @@ enum cogarrune_format { COGARRUNE_DOCUMENT_FILE = 0, COGARRUNE_XML_TEXT = 1 };
 /* Stack that a thread should leave for a call: twice what the hardest inputs known take (tests/stack/run). */
 #define COGARRUNE_STACK_BYTES 1048576
 
-/* No input is longer, and no table written. An output of this many bytes is never too short. */
+/* No input is longer, and no table written. An output of this many bytes is never too short for a table. */
 #define COGARRUNE_MOST_BYTES 32768
+
+/* Pages may be longer than any table. At each size no table takes more bytes on pages than these, and some take as many: 19, 39 and 42
+ * pages. An output of this many bytes is never too short for the pages of a table. */
+#define COGARRUNE_PAGES_BYTES_SMALL 83220
+#define COGARRUNE_PAGES_BYTES_STANDARD 170820
+#define COGARRUNE_PAGES_BYTES_LARGE 183960
 
 /* The classes of plain ASCII names: letters and _ anywhere, digits, - and . not first, no other byte. They load. To lend them:
  *     static const uint8_t classes[256] = COGARRUNE_ASCII_CLASSES; */
@@ -120,7 +135,7 @@ enum cogarrune_refusal {
     COGARRUNE_BYTES_AFTER_END = 12,  /* bytes follow the end field */
     COGARRUNE_NO_DOCUMENT = 13,      /* the united tables derive no document */
     COGARRUNE_RESULT_TOO_LARGE = 14, /* the sample or the result breaks a limit of table files of that size */
-    COGARRUNE_OUTPUT_TOO_SHORT = 15  /* `out` is shorter than the result */
+    COGARRUNE_OUTPUT_TOO_SHORT = 15  /* `out` is shorter than what is to be written */
 };
 
 /* The two halves of an answer. */
@@ -134,6 +149,13 @@ static inline size_t cogarrune_name_length(uint32_t value) { return value & 0xFF
 /* Words that a call of a size needs. */
 static inline size_t cogarrune_words_of(uint32_t size) {
     return size == COGARRUNE_SMALL ? COGARRUNE_WORDS_SMALL : size == COGARRUNE_LARGE ? COGARRUNE_WORDS_LARGE : COGARRUNE_WORDS_STANDARD;
+}
+
+/* Bytes that the pages of a table take at most at a size. */
+static inline size_t cogarrune_pages_bytes_of(uint32_t size) {
+    return size == COGARRUNE_SMALL   ? COGARRUNE_PAGES_BYTES_SMALL
+           : size == COGARRUNE_LARGE ? COGARRUNE_PAGES_BYTES_LARGE
+                                     : COGARRUNE_PAGES_BYTES_STANDARD;
 }
 
 /* Does a table read? Value 1. */
@@ -182,6 +204,11 @@ uint64_t cogarrune_widen_single_type_by_table(uint32_t size, const uint8_t *clas
 uint64_t cogarrune_widen_single_type_by_document(uint32_t size, const uint8_t *classes, size_t classes_length, const uint8_t *old,
                                                  size_t old_length, uint32_t format, const uint8_t *document, size_t document_length,
                                                  uint8_t *out, size_t out_length, uint32_t *work, size_t work_length);
+
+/* Writes the pages of a table, as under Pages above. Value: how many bytes of `out` they take, 4,380 for each page; bytes past them stay as
+ * they came. It can be above COGARRUNE_MOST_BYTES; of a table without rules it is 0, and an output of length 0 will do. */
+uint64_t cogarrune_pages(uint32_t size, const uint8_t *classes, size_t classes_length, const uint8_t *table, size_t table_length,
+                         uint8_t *out, size_t out_length, uint32_t *work, size_t work_length);
 
 #ifdef __cplusplus
 }

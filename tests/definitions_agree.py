@@ -29,7 +29,7 @@ use Rattle.grammar.specs.Limits.{small, standard, large}
 use Rattle.grammar.specs.Names.{asciiClasses}
 use Rattle.grammar.specs.Kinds.{local, singleType}
 use Rattle.grammar.specs.Outcome.{given, refused}
-use Rattle.grammar.specs.Calls.{tableReads, documentReads, labelName, tableLetsIn, tableIsOfKind, documentSample, widened}
+use Rattle.grammar.specs.Calls.{tableReads, documentReads, labelName, tableLetsIn, tableIsOfKind, tablePages, documentSample, widened}
 use Rattle.grammar.specs.declared.Source.the-variants.{Table as aTable, Document as aDocument}
 use Rattle.grammar.specs.declared.Format.the-variants.{DocumentFile, XmlText}
 use Rattle.grammar.specs.Answers.{numberAfter}
@@ -81,6 +81,8 @@ def equation(case, refusal, value):
         inputs = f"{a} {text} {b}" if call == 4 else kind + a
         return name, f"{name} {fixed} {inputs} {work} ≡ {refused if refusal else 'given ' + ('true' if value else 'false')}"
     told = refused if refusal else "given " + numbers(generate.answer_of(case).written)
+    if call == generate.PAGES:
+        return "tablePages", f"tablePages {fixed} {a} {lent} {work} ≡ {told}"
     if call == 7:
         return "documentSample", f"documentSample {fixed} {text} {a} {lent} {work} ≡ {told}"
     return "widened", f"widened {fixed} {WIDENINGS[call].format(text)} {a} {b} {lent} {work} ≡ {told}"

@@ -41,7 +41,7 @@ pub enum Refusal {
     NoDocument,
     /// The sample or the result breaks a limit of table files of that size.
     ResultTooLarge,
-    /// The lent output is shorter than the result.
+    /// The lent output is shorter than what is to be written.
     OutputTooShort,
 }
 

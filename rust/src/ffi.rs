@@ -131,6 +131,17 @@ mod archive {
             work: *mut u32,
             work_length: usize,
         ) -> u64;
+        pub fn cogarrune_pages(
+            size: u32,
+            classes: *const u8,
+            classes_length: usize,
+            table: *const u8,
+            table_length: usize,
+            out: *mut u8,
+            out_length: usize,
+            work: *mut u32,
+            work_length: usize,
+        ) -> u64;
     }
 }
 
@@ -394,4 +405,21 @@ pub fn widen_single_type_by_document(
         out,
         work,
     )
+}
+
+pub fn pages(size: Size, classes: &[u8], table: &[u8], out: &mut [u8], work: &mut [u32]) -> u64 {
+    // SAFETY: as above.
+    unsafe {
+        archive::cogarrune_pages(
+            size.number(),
+            classes.as_ptr(),
+            classes.len(),
+            table.as_ptr(),
+            table.len(),
+            out.as_mut_ptr(),
+            out.len(),
+            work.as_mut_ptr(),
+            work.len(),
+        )
+    }
 }

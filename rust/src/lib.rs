@@ -17,6 +17,8 @@
 //! no node of XML text does. A node with text needs a rule for text; one without takes either. Widening keeps such marks: a result's
 //! rule is for text if one of the rules behind it is that has a document of its own.
 //!
+//! A table can be printed: [`pages`] gives its rules in rows of three columns, as text of 60 rows a page.
+//!
 //! ```
 //! use cogarrune::{lets_in, new_work, Classes, Format, Size, Verdict};
 //!
@@ -49,7 +51,8 @@ pub use classes::Classes;
 pub use format::Format;
 pub use size::Size;
 
-/// No input is longer, and no table written: an output of this many bytes is never too short.
+/// No input is longer, and no table written: an output of this many bytes is never too short for a table. For pages it may be; see
+/// [`Size::pages_bytes`].
 pub const MOST_BYTES: usize = 32_768;
 
 /// Working memory for any call of a size.
@@ -181,7 +184,41 @@ pub fn widen_single_type_by_document<'a>(
     written(answer, out)
 }
 
-/// The part of the output that a table takes, or the refusal.
+/// Writes a table on printed pages and gives their part of the output: its rules as they are read, in the order of the file, nothing
+/// reduced or sorted, and nothing but rules.
+///
+/// A page is 60 rows of 72 columns, and a column is a byte. The type stands in columns 1 to 3, the name in 5 to 27, as the table spells
+/// it, and the content in 29 to 72, as the lister writes it, with `#` behind it for a rule for text. A longer text goes on in further rows
+/// of its own columns, each row filled first. A rule takes as many rows as its longest text, also over a page's end. Each row is padded
+/// with spaces and ends in a line feed: 73 bytes, so a page is 4,380. Blank rows, padded too, fill the last page.
+///
+/// No rules take no page, so any output will do for them. Pages can be longer than any table: [`Size::pages_bytes`].
+///
+/// ```
+/// use cogarrune::{new_work, pages, Classes, Size};
+///
+/// let size = Size::Standard;
+/// let table = [0x10, 0, 1, b'a', 0x11, 0, 1, 0, 0x12, 0, 3, 0, 0, 1, 0x1F, 0, 0];
+/// let mut out = vec![0; size.pages_bytes()];
+/// let printed = pages(size, &Classes::ASCII, &table, &mut out, &mut new_work(size)).unwrap();
+/// let rows: Vec<&str> = std::str::from_utf8(printed).unwrap().lines().collect();
+/// assert_eq!(rows.len(), 60);
+/// assert_eq!(rows[0].trim_end(), "t0  a                       ()");
+/// assert!(rows.iter().all(|row| row.len() == 72));
+/// assert!(rows[1..].iter().all(|row| row.trim_end().is_empty()));
+/// ```
+pub fn pages<'a>(
+    size: Size,
+    classes: &Classes,
+    table: &[u8],
+    out: &'a mut [u8],
+    work: &mut [u32],
+) -> Result<&'a [u8], Refusal> {
+    let answer = ffi::pages(size, classes.as_bytes(), table, out, work);
+    written(answer, out)
+}
+
+/// The part of the output that a table or pages take, or the refusal.
 fn written(answer: u64, out: &[u8]) -> Result<&[u8], Refusal> {
     value_of(answer).map(|length| &out[..length])
 }

@@ -22,6 +22,16 @@ impl Size {
         }
     }
 
+    /// Bytes that the [`pages`](crate::pages) of a table take at most at this size: 19, 39 or 42 pages. Some tables take as many, and an
+    /// output of this many bytes is never too short for pages.
+    pub const fn pages_bytes(self) -> usize {
+        match self {
+            Size::Small => 83_220,
+            Size::Standard => 170_820,
+            Size::Large => 183_960,
+        }
+    }
+
     /// The number by which the archive knows it.
     pub(crate) const fn number(self) -> u32 {
         self as u32

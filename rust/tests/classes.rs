@@ -196,6 +196,13 @@ fn names_above_7f_go_through_every_call() {
         widen_single_type_by_document(STANDARD, &classes, &old, FILE, &added, &mut out, &mut work),
         Ok(&wide[..])
     );
+    // on pages a column is a byte: ü, ö and ß take two, so the content of `menü` stands a character before the usual column
+    let mut out = vec![0; STANDARD.pages_bytes()];
+    let printed = pages(STANDARD, &classes, &old, &mut out, &mut work).unwrap();
+    let rows: Vec<&str> = std::str::from_utf8(printed).unwrap().lines().collect();
+    assert_eq!(rows[0].trim_end(), "t0  menü                   t1");
+    assert_eq!(rows[1].trim_end(), "t1  größe                 ()");
+    assert!(rows.len() == 60 && rows.iter().all(|row| row.len() == 72));
 }
 
 /// The same names under the ASCII classes, in either input.
@@ -224,6 +231,7 @@ fn names_are_read_under_the_lent_classes() {
     assert_eq!(is_local(STANDARD, ASCII, &ours, &mut work), Err(Refusal::BadName));
     assert_eq!(is_single_type(STANDARD, ASCII, &ours, &mut work), Err(Refusal::BadName));
     assert_eq!(sample(STANDARD, ASCII, FILE, &our_list, &mut out, &mut work), bad);
+    assert_eq!(pages(STANDARD, ASCII, &ours, &mut out, &mut work), bad);
     for (old, addition) in [(&ours, &plain), (&plain, &ours)] {
         assert_eq!(
             widen_local_by_table(STANDARD, ASCII, old, addition, &mut out, &mut work),

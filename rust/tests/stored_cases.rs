@@ -120,6 +120,7 @@ fn answered(case: &mut Case, classes: &Classes) -> (Result<usize, Refusal>, u32)
         9 => widen_local_by_document(size, classes, first, case.format, second, out, work).map(<[u8]>::len),
         10 => widen_single_type_by_table(size, classes, first, second, out, work).map(<[u8]>::len),
         11 => widen_single_type_by_document(size, classes, first, case.format, second, out, work).map(<[u8]>::len),
+        12 => pages(size, classes, first, out, work).map(<[u8]>::len),
         other => panic!("no call {other}"),
     };
     (value, checksum(out.iter().map(|byte| u32::from(*byte))))

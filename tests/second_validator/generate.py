@@ -1,6 +1,7 @@
 """Cases for the calls of document 01, at the three sizes of Card 13, under the classes of Card 4, with
 names in several spellings (Card 8), with runs of neighbours in documents (Card 5), with text marks
-(Card 7) and with documents as XML text (Card 2), with the answers of reference.py.
+(Card 7) and with documents as XML text (Card 2), and for tables on printed pages (Card 1), with the
+answers of reference.py.
 
     python3 generate.py --write DIR [--seed N] [--count M]    writes DIR/cases.bin, DIR/expected.txt
     python3 generate.py --check DIR [--seed N] [--count M]    recomputes both and compares
@@ -12,12 +13,12 @@ names in several spellings (Card 8), with runs of neighbours in documents (Card 
                                                               expected.txt (a file may be missing)
 
 The made cases come first and are always the same; `--count` random cases follow, settled by
-`--seed`.  The same seed and count give the same files with every Python 3.
+`--seed`, then a further one of pages for each 18 of these.  The same seed and count give the same files with every Python 3.
 
 cases.bin, front to back; all numbers unsigned, high byte first:
 
     repeated for each case
-        1 byte   call, 1 to 11 (below)
+        1 byte   call, 1 to 12 (below)
         4 bytes  size: 0 small, 1 standard, 2 large; any other number counts as 1
         4 bytes  C, the number of classes lent, then so many bytes; C = FFFFFFFF stands for the 256
                  classes of document 01 (reference.ASCII), and no bytes follow
@@ -36,7 +37,7 @@ cases.bin, front to back; all numbers unsigned, high byte first:
          3 label_name(table, label)               9 widen_local_by_document(old, document)
          4 lets_in(table, document)              10 widen_single_type_by_table(old, addition)
          5 is_local(table)                       11 widen_single_type_by_document(old, document)
-         6 is_single_type(table)
+         6 is_single_type(table)                 12 pages(table)
 
 Before the call word i of the working slice is F, and byte i of the output is (165 + 7 * i) mod 256.
 
@@ -44,8 +45,8 @@ expected.txt has one line a case, five decimal numbers with one space between, t
 
     call refusal value outsum worksum
 
-refusal is 0 for none.  value is 1 for yes and for readable, 0 for no, the length of a table
-written, offset * 65,536 + length of a name (the offset within the table's bytes), 0 with a refusal.
+refusal is 0 for none.  value is 1 for yes and for readable, 0 for no, the length of a table or of
+pages written, offset * 65,536 + length of a name (the offset within the table's bytes), 0 with a refusal.
 outsum is the checksum of the whole output slice after the call; for call 3 it is that of the bytes
 of the part that came back.  worksum is the checksum of the whole working slice after the call.
 
@@ -67,17 +68,20 @@ sys.dont_write_bytecode = True
 sys.path.insert(0, os.path.dirname(os.path.abspath(__file__)))
 import reference as ref  # noqa: E402
 
-MOST_INPUT, MOST_OUTPUT, MOST_WORK, MOST_CLASSES = 65600, 33000, 32900, 300
+MOST_INPUT, MOST_OUTPUT, MOST_WORK, MOST_CLASSES = 65600, 190000, 32900, 300
+MOST_FOR_TABLES = 33000         # the longest output that is lent for a table; pages may be longer
 DEFAULT_SEED, DEFAULT_COUNT = 1, 1800
 
 SMALL, STANDARD, LARGE = SIZES = range(3)
 TABLE_READS, DOCUMENT_READS, LABEL_NAME, LETS_IN, IS_LOCAL, IS_SINGLE_TYPE, SAMPLE = range(1, 8)
-LOCAL_BY_TABLE, LOCAL_BY_DOCUMENT, SINGLE_BY_TABLE, SINGLE_BY_DOCUMENT = range(8, 12)
+LOCAL_BY_TABLE, LOCAL_BY_DOCUMENT, SINGLE_BY_TABLE, SINGLE_BY_DOCUMENT, PAGES = range(8, 13)
 CALL_NAMES = {1: 'table_reads', 2: 'document_reads', 3: 'label_name', 4: 'lets_in', 5: 'is_local',
               6: 'is_single_type', 7: 'sample', 8: 'widen_local_by_table',
               9: 'widen_local_by_document', 10: 'widen_single_type_by_table',
-              11: 'widen_single_type_by_document'}
-WRITING = (SAMPLE, LOCAL_BY_TABLE, LOCAL_BY_DOCUMENT, SINGLE_BY_TABLE, SINGLE_BY_DOCUMENT)
+              11: 'widen_single_type_by_document', 12: 'pages'}
+CALLS = tuple(call for call in CALL_NAMES if call != PAGES)     # those of all groups of cases but that of pages
+WRITING_TABLES = (SAMPLE, LOCAL_BY_TABLE, LOCAL_BY_DOCUMENT, SINGLE_BY_TABLE, SINGLE_BY_DOCUMENT)
+WRITING = (*WRITING_TABLES, PAGES)
 BY_TABLE = (LOCAL_BY_TABLE, SINGLE_BY_TABLE)
 BY_DOCUMENT = (LOCAL_BY_DOCUMENT, SINGLE_BY_DOCUMENT)
 DOCUMENT_FIRST = (DOCUMENT_READS, SAMPLE)       # the document is their only input; it is the second one of others
@@ -375,16 +379,17 @@ BEYOND_SMALL = (0, 0, 0, 1, 0, 4096, 0, 0, 20480)
 
 
 class Cases:
-    """The cases so far.  Working slices and fills change from case to case."""
+    """The cases so far.  Working slices and fills change from case to case, by turns."""
 
-    def __init__(self):
+    def __init__(self, first_turn=0):
         self.all = []
+        self.first_turn = first_turn
 
     def add(self, call, first, second=b'', label=0, out=None, work=None, fill=None, size=STANDARD, classes=ref.ASCII,
             format=ref.DOCUMENT_FILE):
         """`out`: None for a few bytes more than the result, 'exact', 'short' by one, or a length;
         only calls that write have an output."""
-        turn = len(self.all)
+        turn = self.first_turn + len(self.all)
         if work is None:
             beyond = BEYOND_SMALL if size == SMALL else BEYOND
             work = ref.limits_of(size).words + beyond[turn % len(beyond)]
@@ -683,7 +688,7 @@ def refusal_cases(cases):
             cases.add(((LETS_IN,) + BY_DOCUMENT)[len(cases.all) % 3], first, second)
 
     # 1, with good inputs, with bad ones, and with a short output.
-    for call in CALL_NAMES:
+    for call in CALLS:
         first, second = good_inputs(call)
         for work in (0, 1, 16383):
             cases.add(call, first, second, work=work, out=100)
@@ -1010,7 +1015,7 @@ def limit_cases(cases):
     # 32,768 and 32,769 bytes in all.
     cases.widen(padded_table(32768), E, out='exact')
     cases.add(LOCAL_BY_TABLE, padded_table(32768), E, out='short')
-    cases.add(SINGLE_BY_TABLE, E, padded_table(32768), out=MOST_OUTPUT)
+    cases.add(SINGLE_BY_TABLE, E, padded_table(32768), out=MOST_FOR_TABLES)
     for length in (32766, 32767):       # n00 gets one more operand of 2 bytes
         cases.widen(padded_table(length), table([0], [(0, 'n00', any_of(EMPTY))]), out='exact')
     for length in (32764, 32765):       # n63 gets a choice: 4 bytes more
@@ -1452,7 +1457,7 @@ def edge_cases_of_sizes(cases):
         if call in (TABLE_READS, DOCUMENT_READS):
             for size in beside_the_edge(refusals):
                 other_calls(cases, call, first, size, range(3 * number, 3 * number + (3 if short else 1)))
-    for call in CALL_NAMES:
+    for call in CALLS:
         for turn, (size, work, _) in enumerate(WORD_EDGES):
             cases.add(call, *good_inputs(call), size=size, work=work, fill=FILLS[turn % 5], out=400)
     for size in NO_SIZES:
@@ -1643,12 +1648,12 @@ def named_inputs(call, name):
 
 def in_turn(number):
     """Some call, each in its turn."""
-    return 1 + number % len(CALL_NAMES)
+    return CALLS[number % len(CALLS)]
 
 
 def loading_edges():
     """Each rule of the classes."""
-    for call in CALL_NAMES:
+    for call in CALLS:
         for classes in BAD_CLASSES:
             yield 18, call, *good_inputs(call), dict(classes=classes)
         for classes in (ref.ASCII, OWN, ALL_LETTERS):
@@ -1677,7 +1682,7 @@ def byte_class_edges():
 def lent_edges():
     """18 comes after 1 and before everything else, at every size; the words are cleared, the output is not touched."""
     over = bytes(ref.INPUT_BYTES + 1)
-    for call in CALL_NAMES:
+    for call in CALLS:
         good, bad = good_inputs(call), BAD_CLASSES[2 * call % len(BAD_CLASSES)]
         for size, words in ((SMALL, 12288), (STANDARD, 16384), (LARGE, 32768), (3, 16384)):
             for classes in (bad, BAD_CLASSES[call]):
@@ -1685,7 +1690,7 @@ def lent_edges():
                 yield 18, call, *good, dict(classes=classes, size=size, work=words, fill=0xFFFFFFFF, out=200)
             yield 18, call, *good, dict(classes=bad, size=size, work=words + 132, fill=0xDEADBEEF, out=0)
         yield 1, call, *good, dict(classes=bad, work=0, out=10)
-        yield 18, call, *good, dict(classes=bad, work=MOST_WORK, size=SMALL, fill=7, out=MOST_OUTPUT)
+        yield 18, call, *good, dict(classes=bad, work=MOST_WORK, size=SMALL, fill=7, out=MOST_FOR_TABLES)
         yield 18, call, over, good[1], dict(classes=bad, out=9)                         # 2
         if call in (LETS_IN, LOCAL_BY_TABLE, SINGLE_BY_DOCUMENT):
             yield 18, call, good[0], over, dict(classes=bad, out=9)
@@ -1703,7 +1708,7 @@ def lent_edges():
         yield 13, call, E, E, dict(classes=OWN)
         yield 18, call, star(63), EXTRA, dict(classes=BAD_CLASSES[10], out=0)              # 14
         yield 14, call, star(63), EXTRA, dict(classes=OWN, out=0)
-    for call in WRITING:
+    for call in WRITING_TABLES:
         yield 18, call, *good_inputs(call), dict(classes=BAD_CLASSES[20], out=0)           # 15
         yield 15, call, *good_inputs(call), dict(classes=OWN, out=0)
 
@@ -3074,7 +3079,7 @@ def text_limit_edges():
     # 32,768 bytes in all.
     full = with_all_marks(padded_table(32768))
     yield gives(full), LOCAL_BY_TABLE, full, E, dict(out='exact')
-    yield gives(full), SINGLE_BY_TABLE, E, full, dict(out=MOST_OUTPUT)
+    yield gives(full), SINGLE_BY_TABLE, E, full, dict(out=MOST_FOR_TABLES)
     yield refused(15), LOCAL_BY_TABLE, full, E, dict(out='short')
     root = choice(*[t(i) for i in range(1, 64)])
     near = padded_table(32767)
@@ -3629,6 +3634,562 @@ def xml_edges():
 def xml_cases(cases):
     for _, call, first, second, options in xml_edges():
         cases.add(call, first, second, **options)
+
+
+# ---------------------------------------------------------------- printed pages
+
+# An edge of printed pages is as one of letter case: the answer, written by hand, then the call, its two inputs, and what else `Cases.add`
+# is told; selftest.py holds the second validator to the answers.
+
+def prints(*rows):
+    """The answer with pages of these rows, written out by hand: here they are only padded, and the last page is filled."""
+    assert all(len(row) <= 72 for row in rows)
+    rows += ('',) * (-len(rows) % 60)
+    pages = ''.join(row.ljust(72) + '\n' for row in rows).encode('latin-1')
+    return ref.Answer(0, len(pages), pages)
+
+
+NO_PAGE = ref.Answer(0, 0, b'')
+NAME_23, NAME_46 = 'abcdefghijklmnopqrstuvw', 'abcdefghijklmnopqrstuvwxyz0123456789-ABCDEFGHI'
+NAME_63 = 'abcdefghijklmnopqrstuvwxyz0123456789-ABCDEFGHIJKLMNOPQRSTUVWXYZ'
+
+
+def in_order(count, first=0):
+    """A sequence of so many types, 0 to 9 again and again; its text has three characters for each, and one more."""
+    return seq(*[t(i % 10) for i in range(first, first + count)])
+
+
+def paper_pages():
+    """The tables of document 01."""
+    return [
+        (P1, 't0  a                       ()'),
+        (P5,
+         't0  block                   (t1,t2)',
+         't1  floor                   t3',
+         't2  lift                    t4',
+         't3  door                    t5',
+         't4  door                    t6',
+         't5  time                    ()',
+         't6  code                    ()'),
+        (P6,
+         't0  group                   (t1,t1)',
+         't1  group                   t2',
+         't2  card                    ()'),
+        (P7,
+         't0  list                    ((t1,t2)|t3)',
+         't1  door                    t4',
+         't2  card                    t2',
+         't3  door                    t5',
+         't4  time                    ()',
+         't5  code                    ()'),
+        (P8,
+         't0  list                    t1',
+         't1  door                    ()',
+         't1  lift                    ()'),
+        (LISTER_TABLE,
+         't0  list                    t1*',
+         't1  card                    (t2,t3?)',
+         't2  name                    ()',
+         't3  door                    ()'),
+        (NAME_TEXT,
+         't0  list                    t1*',
+         't1  card                    (t2,t3?)',
+         't2  name                    ()#',
+         't3  door                    ()'),
+        (OTHER_TEXT,
+         't0  list                    t1*#',
+         't1  card                    (t2,t3?)#',
+         't2  name                    ()',
+         't3  door                    ()#'),
+    ]
+
+
+def pages_as_read():
+    """Rules in file order, as they are: nothing is reduced, joined, tidied or sorted, and starts have no row."""
+    return [
+        # Types descend, and leap.
+        (table([3, 0], [(15, 'a', EMPTY), (7, 'b', t(15)), (3, 'c', t(7)), (0, 'd', t(3))]),
+         't15 a                       ()',
+         't7  b                       t15',
+         't3  c                       t7',
+         't0  d                       t3'),
+        (table([9], [(9, 'z', t(10)), (10, 'y', t(9)), (1, 'x', EMPTY), (10, 'y', EMPTY), (0, 'x', EMPTY)]),
+         't9  z                       t10',
+         't10 y                       t9',
+         't1  x                       ()',
+         't10 y                       ()',
+         't0  x                       ()'),
+        # The order of labels is not that of rules, and a label may have no rule.
+        (table([0], [(0, 'c', EMPTY), (1, 'a', EMPTY), (2, 'b', EMPTY)], ['unused', 'a', 'b', 'c']),
+         't0  c                       ()',
+         't1  a                       ()',
+         't2  b                       ()'),
+        # One rule three times, and with both tags.
+        (table([0], [(0, 'a', t(0))] * 3),
+         't0  a                       t0',
+         't0  a                       t0',
+         't0  a                       t0'),
+        (table([0], [(0, 'a', EMPTY), (0, 'a', EMPTY, TEXT), (0, 'a', EMPTY), (1, 'a', EMPTY, TEXT)]),
+         't0  a                       ()',
+         't0  a                       ()#',
+         't0  a                       ()',
+         't1  a                       ()#'),
+        # Unfruitful, unreached, without a start, and a type that has no rule.
+        (table([], [(0, 'list', seq(t(1), t(9))), (1, 'card', t(1)), (2, 'door', NONE), (3, 'lift', EMPTY, TEXT)]),
+         't0  list                    (t1,t9)',
+         't1  card                    t1',
+         't2  door                    !',
+         't3  lift                    ()#'),
+        # None, and every operator upon every other.
+        (table([0], [(0, 'a', NONE), (1, 'a', any_of(NONE)), (2, 'a', some_of(NONE)), (3, 'a', optional(NONE)), (4, 'a', NONE, TEXT),
+                     (5, 'a', seq(NONE, EMPTY)), (6, 'a', choice(NONE, NONE)), (7, 'a', choice(EMPTY, NONE, t(0)), TEXT)]),
+         't0  a                       !',
+         't1  a                       !*',
+         't2  a                       !+',
+         't3  a                       !?',
+         't4  a                       !#',
+         't5  a                       (!,())',
+         't6  a                       (!|!)',
+         't7  a                       (()|!|t0)#'),
+        (table([0], [(0, 'r', seq(any_of(seq(t(1), t(2))), some_of(choice(t(1), t(2))))), (1, 'a', choice(choice(t(1), t(1)), t(1))),
+                     (2, 'b', any_of(some_of(optional(t(3))))), (3, 'c', optional(some_of(any_of(EMPTY)))),
+                     (4, 'd', seq(seq(seq(EMPTY, EMPTY), EMPTY), choice(EMPTY, seq(t(15), NONE)))),
+                     (5, 'e', some_of(seq(any_of(EMPTY), t(1))))]),
+         't0  r                       ((t1,t2)*,(t1|t2)+)',
+         't1  a                       ((t1|t1)|t1)',
+         't2  b                       t3?+*',
+         't3  c                       ()*+?',
+         't4  d                       ((((),()),()),(()|(t15,!)))',
+         't5  e                       (()*,t1)+'),
+        # 32 deep.
+        (one_rule(deep(32)), 't0  list                    ()*******************************'),
+        (one_rule(b'\x07' * 31 + t(10)), 't0  list                    t10???????????????????????????????'),
+        (one_rule(b'\x03\x02\x01' * 31 + EMPTY),
+         't0  list                    ((),((),((),((),((),((),((),((),((),((),((),',
+         '                            ((),((),((),((),((),((),((),((),((),((),((),',
+         '                            ((),((),((),((),((),((),((),((),((),()))))))',
+         '                            )))))))))))))))))))))))))'),
+        # Names spelled as in the table, one spelling a name.
+        (table([0], [(0, 'CARD', t(1)), (1, 'List', t(2)), (2, 'dOOR', t(0)), (0, 'CARD', EMPTY), (1, 'List', EMPTY)]),
+         't0  CARD                    t1',
+         't1  List                    t2',
+         't2  dOOR                    t0',
+         't0  CARD                    ()',
+         't1  List                    ()'),
+        (table([0], [(0, '_', EMPTY), (1, 'T1', EMPTY), (2, 't2', t(2)), (3, 'a.b-c_9', EMPTY), (4, 'start', EMPTY), (5, 'local', EMPTY)]),
+         't0  _                       ()',
+         't1  T1                      ()',
+         't2  t2                      t2',
+         't3  a.b-c_9                 ()',
+         't4  start                   ()',
+         't5  local                   ()'),
+    ]
+
+
+def pages_with_long_names():
+    """A name of the column's width takes no further row, one of a byte more does."""
+    return [
+        (table([0], [(0, NAME_23[:-1], EMPTY)]),
+         't0  abcdefghijklmnopqrstuv  ()'),
+        (table([0], [(0, NAME_23, EMPTY)]),
+         't0  abcdefghijklmnopqrstuvw ()'),
+        (table([0], [(0, NAME_23 + 'x', EMPTY)]),
+         't0  abcdefghijklmnopqrstuvw ()',
+         '    x'),
+        (table([0], [(0, NAME_46[:-1], EMPTY)]),
+         't0  abcdefghijklmnopqrstuvw ()',
+         '    xyz0123456789-ABCDEFGH'),
+        (table([0], [(0, NAME_46, EMPTY)]),
+         't0  abcdefghijklmnopqrstuvw ()',
+         '    xyz0123456789-ABCDEFGHI'),
+        (table([0], [(0, NAME_46 + 'J', EMPTY)]),
+         't0  abcdefghijklmnopqrstuvw ()',
+         '    xyz0123456789-ABCDEFGHI',
+         '    J'),
+        (table([0], [(0, NAME_63[:-1], EMPTY)]),
+         't0  abcdefghijklmnopqrstuvw ()',
+         '    xyz0123456789-ABCDEFGHI',
+         '    JKLMNOPQRSTUVWXY'),
+        (table([0], [(0, NAME_63, EMPTY)]),
+         't0  abcdefghijklmnopqrstuvw ()',
+         '    xyz0123456789-ABCDEFGHI',
+         '    JKLMNOPQRSTUVWXYZ'),
+        # One below the other, with rules of one row before, between and after.
+        (table([0], [(0, 'a', t(1)), (1, NAME_63, t(2), TEXT), (2, 'b', t(3)), (10, NAME_23, NONE), (11, NAME_46, EMPTY, TEXT),
+                     (3, 'c', EMPTY)]),
+         't0  a                       t1',
+         't1  abcdefghijklmnopqrstuvw t2#',
+         '    xyz0123456789-ABCDEFGHI',
+         '    JKLMNOPQRSTUVWXYZ',
+         't2  b                       t3',
+         't10 abcdefghijklmnopqrstuvw !',
+         't11 abcdefghijklmnopqrstuvw ()#',
+         '    xyz0123456789-ABCDEFGHI',
+         't3  c                       ()'),
+        # A name whose later rows look like types.
+        (table([0], [(0, 't1' * 12, t(1)), (1, 't' * 47, t(1))]),
+         't0  t1t1t1t1t1t1t1t1t1t1t1t t1',
+         '    1',
+         't1  ttttttttttttttttttttttt t1',
+         '    ttttttttttttttttttttttt',
+         '    t'),
+    ]
+
+
+def pages_with_long_contents():
+    """A content of 43, 44, 45, 87, 88, 89 characters, with # and without; its # may stand alone."""
+    return [
+        (table([0], [(0, 'a', in_order(14))]),
+         't0  a                       (t0,t1,t2,t3,t4,t5,t6,t7,t8,t9,t0,t1,t2,t3)'),
+        (table([0], [(0, 'a', in_order(14), TEXT)]),
+         't0  a                       (t0,t1,t2,t3,t4,t5,t6,t7,t8,t9,t0,t1,t2,t3)#'),
+        (table([0], [(0, 'a', any_of(in_order(14)))]),
+         't0  a                       (t0,t1,t2,t3,t4,t5,t6,t7,t8,t9,t0,t1,t2,t3)*'),
+        (table([0], [(0, 'a', any_of(in_order(14)), TEXT)]),
+         't0  a                       (t0,t1,t2,t3,t4,t5,t6,t7,t8,t9,t0,t1,t2,t3)*',
+         '                            #'),
+        (table([0], [(0, 'a', optional(any_of(in_order(14))))]),
+         't0  a                       (t0,t1,t2,t3,t4,t5,t6,t7,t8,t9,t0,t1,t2,t3)*',
+         '                            ?'),
+        (table([0], [(0, 'a', optional(any_of(in_order(14))), TEXT)]),
+         't0  a                       (t0,t1,t2,t3,t4,t5,t6,t7,t8,t9,t0,t1,t2,t3)*',
+         '                            ?#'),
+        (table([0], [(0, 'a', seq(t(10), t(11), *[t(i) for i in range(2, 10)], t(0), t(1), t(2)))]),         # 42
+         't0  a                       (t10,t11,t2,t3,t4,t5,t6,t7,t8,t9,t0,t1,t2)'),
+        (table([0], [(0, 'a', in_order(15))]),                                                              # 46
+         't0  a                       (t0,t1,t2,t3,t4,t5,t6,t7,t8,t9,t0,t1,t2,t3,t',
+         '                            4)'),
+        (table([0], [(0, 'a', any_of(seq(*[t(i) for i in range(5, 10)], t(12), *[t(i) for i in range(8)], choice(t(13), EMPTY), t(3), t(4),
+                                         t(5), t(6), t(7), t(8), t(9), t(10), t(15))))]),
+         't0  a                       (t5,t6,t7,t8,t9,t12,t0,t1,t2,t3,t4,t5,t6,t7,',
+         '                            (t13|()),t3,t4,t5,t6,t7,t8,t9,t10,t15)*'),
+        (table([0], [(0, 'a', in_order(29))]),
+         't0  a                       (t0,t1,t2,t3,t4,t5,t6,t7,t8,t9,t0,t1,t2,t3,t',
+         '                            4,t5,t6,t7,t8,t9,t0,t1,t2,t3,t4,t5,t6,t7,t8)'),
+        (table([0], [(0, 'a', in_order(29), TEXT)]),
+         't0  a                       (t0,t1,t2,t3,t4,t5,t6,t7,t8,t9,t0,t1,t2,t3,t',
+         '                            4,t5,t6,t7,t8,t9,t0,t1,t2,t3,t4,t5,t6,t7,t8)',
+         '                            #'),
+        (table([0], [(0, 'a', some_of(in_order(29)))]),
+         't0  a                       (t0,t1,t2,t3,t4,t5,t6,t7,t8,t9,t0,t1,t2,t3,t',
+         '                            4,t5,t6,t7,t8,t9,t0,t1,t2,t3,t4,t5,t6,t7,t8)',
+         '                            +'),
+        # 175 and 176.
+        (table([0], [(0, 'a', in_order(58))]),
+         't0  a                       (t0,t1,t2,t3,t4,t5,t6,t7,t8,t9,t0,t1,t2,t3,t',
+         '                            4,t5,t6,t7,t8,t9,t0,t1,t2,t3,t4,t5,t6,t7,t8,',
+         '                            t9,t0,t1,t2,t3,t4,t5,t6,t7,t8,t9,t0,t1,t2,t3',
+         '                            ,t4,t5,t6,t7,t8,t9,t0,t1,t2,t3,t4,t5,t6,t7)'),
+        (table([0], [(0, 'a', in_order(58), TEXT), (1, 'b', EMPTY)]),
+         't0  a                       (t0,t1,t2,t3,t4,t5,t6,t7,t8,t9,t0,t1,t2,t3,t',
+         '                            4,t5,t6,t7,t8,t9,t0,t1,t2,t3,t4,t5,t6,t7,t8,',
+         '                            t9,t0,t1,t2,t3,t4,t5,t6,t7,t8,t9,t0,t1,t2,t3',
+         '                            ,t4,t5,t6,t7,t8,t9,t0,t1,t2,t3,t4,t5,t6,t7)#',
+         't1  b                       ()'),
+        # Name and content of several rows, the one longer and the other; a rule takes the rows of its longest text.
+        (table([0], [(0, NAME_46, any_of(in_order(14)), TEXT), (1, NAME_63, optional(any_of(in_order(14)))),
+                     (2, NAME_23 + 'x', in_order(29), TEXT), (3, 'a', EMPTY)]),
+         't0  abcdefghijklmnopqrstuvw (t0,t1,t2,t3,t4,t5,t6,t7,t8,t9,t0,t1,t2,t3)*',
+         '    xyz0123456789-ABCDEFGHI #',
+         't1  abcdefghijklmnopqrstuvw (t0,t1,t2,t3,t4,t5,t6,t7,t8,t9,t0,t1,t2,t3)*',
+         '    xyz0123456789-ABCDEFGHI ?',
+         '    JKLMNOPQRSTUVWXYZ',
+         't2  abcdefghijklmnopqrstuvw (t0,t1,t2,t3,t4,t5,t6,t7,t8,t9,t0,t1,t2,t3,t',
+         '    x                       4,t5,t6,t7,t8,t9,t0,t1,t2,t3,t4,t5,t6,t7,t8)',
+         '                            #',
+         't3  a                       ()'),
+        # Rows that are full to the last column, in all three.
+        (table([0], [(10, NAME_46, in_order(29)), (15, NAME_46, in_order(29))]),
+         't10 abcdefghijklmnopqrstuvw (t0,t1,t2,t3,t4,t5,t6,t7,t8,t9,t0,t1,t2,t3,t',
+         '    xyz0123456789-ABCDEFGHI 4,t5,t6,t7,t8,t9,t0,t1,t2,t3,t4,t5,t6,t7,t8)',
+         't15 abcdefghijklmnopqrstuvw (t0,t1,t2,t3,t4,t5,t6,t7,t8,t9,t0,t1,t2,t3,t',
+         '    xyz0123456789-ABCDEFGHI 4,t5,t6,t7,t8,t9,t0,t1,t2,t3,t4,t5,t6,t7,t8)'),
+    ]
+
+
+FOUR_ROWS = ('(t0,t1,t2,t3,t4,t5,t6,t7,t8,t9,t0,t1,t2,t3,t',
+             '4,t5,t6,t7,t8,t9,t0,t1,t2,t3,t4,t5,t6,t7,t8,',
+             't9,t0,t1,t2,t3,t4,t5,t6,t7,t8,t9,t0,t1,t2,t3',
+             ',t4,t5,t6,t7,t8,t9,t0,t1,t2,t3,t4,t5,t6,t7)#')
+FOUR_ROWS_OF_A = ('t1  a                       ' + FOUR_ROWS[0], *('                            ' + row for row in FOUR_ROWS[1:]))
+
+
+def full_pages_of_a_few_rules():
+    """59, 60 and 61 rows of at most 16 rules, and rules that break over a page's end after each of their rows."""
+    fours, one, two = [(1, 'a', in_order(58), TEXT)] * 15, (2, 'b', EMPTY), (2, 'b', any_of(in_order(14)), TEXT)
+    row_of_one = 't2  b                       ()'
+    rows_of_two = ('t2  b                       (t0,t1,t2,t3,t4,t5,t6,t7,t8,t9,t0,t1,t2,t3)*', '                            #')
+    return [
+        (table([0], fours), *FOUR_ROWS_OF_A * 15),
+        (table([0], fours + [one]), *FOUR_ROWS_OF_A * 15, row_of_one),
+        (table([0], [one] + fours), row_of_one, *FOUR_ROWS_OF_A * 15),
+        (table([0], fours[:7] + [one] + fours[7:]), *FOUR_ROWS_OF_A * 7, row_of_one, *FOUR_ROWS_OF_A * 8),
+        (table([0], [two] + fours), *rows_of_two, *FOUR_ROWS_OF_A * 15),
+        (table([0], fours[:14] + [two]), *FOUR_ROWS_OF_A * 14, *rows_of_two),
+        (table([0], [(3, NAME_63, NONE)] + fours),
+         't3  abcdefghijklmnopqrstuvw !', '    xyz0123456789-ABCDEFGHI', '    JKLMNOPQRSTUVWXYZ', *FOUR_ROWS_OF_A * 15),
+        (table([0], fours[:14] + [(3, NAME_63, NONE), one]), *FOUR_ROWS_OF_A * 14,
+         't3  abcdefghijklmnopqrstuvw !', '    xyz0123456789-ABCDEFGHI', '    JKLMNOPQRSTUVWXYZ', row_of_one),
+        (table([0], fours[:14] + [(3, NAME_63, NONE), two]), *FOUR_ROWS_OF_A * 14,
+         't3  abcdefghijklmnopqrstuvw !', '    xyz0123456789-ABCDEFGHI', '    JKLMNOPQRSTUVWXYZ', *rows_of_two),
+    ]
+
+
+def full_pages_of_many_rules():
+    """From the standard size on: pages filled by rules of one row, of two and of three, and types of two digits."""
+    def ones(count):
+        return [(63, 'a', EMPTY)] * count
+
+    a, doubled = 't63 a                       ()', ('t62 abcdefghijklmnopqrstuvw t63', '    x')
+    tripled = ('t61 abcdefghijklmnopqrstuvw t62#', '    xyz0123456789-ABCDEFGHI', '    JKLMNOPQRSTUVWXYZ')
+    two, three = (62, NAME_23 + 'x', t(63)), (61, NAME_63, t(62), TEXT)
+    return [
+        (table([0], ones(59)), *[a] * 59), (table([0], ones(60)), *[a] * 60), (table([0], ones(61)), *[a] * 61),
+        (table([0], ones(64)), *[a] * 64),
+        (table([0], [two] * 60), *doubled * 60), (table([0], [two] * 60 + ones(1)), *doubled * 60, a),
+        (table([0], ones(1) + [two] * 60), a, *doubled * 60), (table([0], [two] * 59 + ones(1)), *doubled * 59, a),
+        (table([0], [three] * 40), *tripled * 40), (table([0], ones(1) + [three] * 60), a, *tripled * 60),
+        (table([0], ones(2) + [three] * 40), a, a, *tripled * 40),
+        (table([0], ones(59) + [three]), *[a] * 59, *tripled), (table([0], ones(58) + [three]), *[a] * 58, *tripled),
+        (table([0], ones(57) + [three] + ones(1)), *[a] * 57, *tripled, a),
+        (table([0], ones(59) + [two] + ones(1)), *[a] * 59, *doubled, a),
+        (table([0], [(i, 'a', t(63 - i)) for i in (63, 62, 17, 16, 10, 9, 0)]),
+         't63 a                       t0', 't62 a                       t1', 't17 a                       t46',
+         't16 a                       t47', 't10 a                       t53', 't9  a                       t54',
+         't0  a                       t63'),
+    ]
+
+
+def pages_of_the_large_size():
+    """Types of three digits go on; 120 and 121 rules."""
+    a, b = 't99 a                       t127', ('t10 b                       t99', '0')
+    return [
+        (table([127], [(127, 'a', EMPTY)]),
+         't12 a                       ()',
+         '7'),
+        (table([0], [(99, 'a', t(100)), (100, 'b', t(127)), (9, 'c', t(64)), (64, 'd', t(9)), (110, 'e', t(119), TEXT), (127, 'f', t(0))]),
+         't99 a                       t100',
+         't10 b                       t127',
+         '0',
+         't9  c                       t64',
+         't64 d                       t9',
+         't11 e                       t119#',
+         '0',
+         't12 f                       t0',
+         '7'),
+        # With names and contents of one, two and three rows.
+        (table([0], [(127, NAME_23, any_of(in_order(14)), TEXT), (126, NAME_23 + 'x', in_order(14)), (125, NAME_63, EMPTY),
+                     (124, 'a', in_order(29), TEXT)]),
+         't12 abcdefghijklmnopqrstuvw (t0,t1,t2,t3,t4,t5,t6,t7,t8,t9,t0,t1,t2,t3)*',
+         '7                           #',
+         't12 abcdefghijklmnopqrstuvw (t0,t1,t2,t3,t4,t5,t6,t7,t8,t9,t0,t1,t2,t3)',
+         '6   x',
+         't12 abcdefghijklmnopqrstuvw ()',
+         '5   xyz0123456789-ABCDEFGHI',
+         '    JKLMNOPQRSTUVWXYZ',
+         't12 a                       (t0,t1,t2,t3,t4,t5,t6,t7,t8,t9,t0,t1,t2,t3,t',
+         '4                           4,t5,t6,t7,t8,t9,t0,t1,t2,t3,t4,t5,t6,t7,t8)',
+         '                            #'),
+        (table([0], [(100, 'a', seq(t(100), t(101), t(102), t(103), t(104), t(105), t(106), t(127), EMPTY))]),
+         't10 a                       (t100,t101,t102,t103,t104,t105,t106,t127,())',
+         '0'),
+        (table([0], [(99, 'a', seq(t(100), t(101), t(102), t(103), t(104), t(105), t(106), t(107), t(108)))]),
+         't99 a                       (t100,t101,t102,t103,t104,t105,t106,t107,t10',
+         '                            8)'),
+        (table([0], [(99, 'a', t(127))] * 120), *[a] * 120), (table([0], [(99, 'a', t(127))] * 121), *[a] * 121),
+        (table([0], [(99, 'a', t(127))] * 60), *[a] * 60), (table([0], [(99, 'a', t(127))] * 61), *[a] * 61),
+        (table([0], [(100, 'b', t(99))] * 60), *b * 60), (table([0], [(99, 'a', t(127))] + [(100, 'b', t(99))] * 60), a, *b * 60),
+        (table([0], [(99, 'a', t(127))] * 59 + [(100, 'b', t(99))]), *[a] * 59, *b),
+        (table([0], [(99, 'a', t(127))] * 128), *[a] * 128), (table([0], [(100, 'b', t(99))] * 128), *b * 128),
+    ]
+
+
+def pages_of_own_names():
+    """With the classes under which the names are names: a column is a byte, whatever the byte."""
+    return [
+        (OWN, OWN_TABLE,
+         't0  \x7f\x80\x81\x82\x83\x84\x85\x86\x87\x88\x89\x8a\x8b\x8c\x8d\x8e\x8f\x90\x91\x92\x93\x94\x95 (t1|t2)*',
+         '    \x96\x97\x98\x99\x9a\x9b\x9c\x9d\x9e\x9f\xa0\xa1\xa2\xa3\xa4\xa5\xa6\xa7\xa8\xa9\xaa\xab\xac',
+         '    \xad\xae\xaf\xb0\xb1\xb2\xb3\xb4\xb5\xb6\xb7\xb8\xb9\xba\xbb\xbc\xbd',
+         't1  \xbe\xbf\xc0\xc1\xc2\xc3\xc4\xc5\xc6\xc7\xc8\xc9\xca\xcb\xcc\xcd\xce\xcf\xd0\xd1\xd2\xd3\xd4 ()',
+         '    \xd5\xd6\xd7\xd8\xd9\xda\xdb\xdc\xdd\xde\xdf\xe0\xe1\xe2\xe3\xe4\xe5\xe6\xe7\xe8\xe9\xea\xeb',
+         '    \xec\xed\xee\xef\xf0\xf1\xf2\xf3\xf4\xf5\xf6\xf7\xf8\xf9\xfa\xfb\xfc',
+         't2  \xff\xfe\xfd#"&                  t1?'),
+        (OWN, OWN_OTHER,
+         't5  \xff\xfe\xfd#"&                  t6*',
+         't6  \xe9#                      ()'),
+        # 23 and 24 letters of two bytes each, and one cut between its bytes.
+        (OWN, table([0], [(0, '\xc3\xa9' * 11 + 'a', EMPTY), (1, '\xc3\xa9' * 12, EMPTY, TEXT)]),
+         't0  \xc3\xa9\xc3\xa9\xc3\xa9\xc3\xa9\xc3\xa9\xc3\xa9\xc3\xa9\xc3\xa9\xc3\xa9\xc3\xa9\xc3\xa9a ()',
+         't1  \xc3\xa9\xc3\xa9\xc3\xa9\xc3\xa9\xc3\xa9\xc3\xa9\xc3\xa9\xc3\xa9\xc3\xa9\xc3\xa9\xc3\xa9\xc3 ()#',
+         '    \xa9'),
+        # Bytes that elsewhere are white space, at the ends of names and of rows.
+        (OWN, table([0], [(0, '\xa0', EMPTY), (1, '\x85\xa0', EMPTY, TEXT), (2, 'a' * 22 + '\xa0' * 2 + 'a', EMPTY)]),
+         't0  \xa0                       ()',
+         't1  \x85\xa0                      ()#',
+         't2  aaaaaaaaaaaaaaaaaaaaaa\xa0 ()',
+         '    \xa0a'),
+        (OWN, table([0], [(0, '#', EMPTY), (1, '##', EMPTY, TEXT), (2, '\xff' * 63, NONE), (3, '&', EMPTY)]),
+         't0  #                       ()',
+         't1  ##                      ()#',
+         't2  \xff\xff\xff\xff\xff\xff\xff\xff\xff\xff\xff\xff\xff\xff\xff\xff\xff\xff\xff\xff\xff\xff\xff !',
+         '    \xff\xff\xff\xff\xff\xff\xff\xff\xff\xff\xff\xff\xff\xff\xff\xff\xff\xff\xff\xff\xff\xff\xff',
+         '    \xff\xff\xff\xff\xff\xff\xff\xff\xff\xff\xff\xff\xff\xff\xff\xff\xff',
+         't3  &                       ()'),
+        (ALL_LETTERS, table([0], [(0, '1-.:;@[]{}~^', EMPTY), (1, '0', t(0)), (2, '$%&\'"`\\', t(1)), (3, 'T', t(2))]),
+         't0  1-.:;@[]{}~^            ()',
+         't1  0                       t0',
+         't2  $%&\'"`\\                 t1',
+         't3  T                       t2'),
+        # Letters that are one name in a to z alone, spelled as they come.
+        (OWN, table([0], [(0, '\xe9', EMPTY), (1, '\xc9', EMPTY), (2, 'E\xe9', EMPTY)]),
+         't0  \xe9                       ()',
+         't1  \xc9                       ()',
+         't2  E\xe9                      ()'),
+    ]
+
+
+def printed_edges():
+    """Each table at one or two of the sizes at which it reads, with an output of just the length of its pages, and longer ones; a byte
+    less is 15."""
+    all_sizes = (paper_pages() + pages_as_read() + pages_with_long_names() + pages_with_long_contents() + full_pages_of_a_few_rules())
+    own = [(OWN, a_table, *rows) for a_table, *rows in pages_of_the_large_size()[:3]]
+    for number, (sizes, (classes, a_table, *rows)) in enumerate(
+            [(SIZES, (ref.ASCII, *told)) for told in all_sizes]
+            + [((STANDARD, LARGE), (ref.ASCII, *told)) for told in full_pages_of_many_rules()]
+            + [((LARGE,), (ref.ASCII, *told)) for told in pages_of_the_large_size()]
+            + [((LARGE,), told) for told in own] + [(SIZES, told) for told in pages_of_own_names()]):
+        told = prints(*rows)
+        for turn in range(min(2, len(sizes))):
+            size = sizes[(number + turn) % len(sizes)]
+            out = ('exact', None, told.value + 73, told.value + 4380, told.value + 1)[(number + turn) % 5]
+            yield told, PAGES, a_table, b'', dict(size=size, classes=classes, out=out)
+        yield refused(15), PAGES, a_table, b'', dict(size=sizes[(number + 2) % len(sizes)], classes=classes, out='short')
+
+
+def no_page_edges():
+    """No rules print no page, answered also with no room."""
+    labels = b''.join(label(name) for name in ('a', NAME_23, NAME_63))
+    for size in SIZES:
+        for number, data in enumerate((E, labels + E, start(0) + E, start(15) + start(0) + E, labels + start(1) + E)):
+            for out in (0, (1, 72, 73, 4380, 10000)[number]):
+                yield NO_PAGE, PAGES, data, b'', dict(size=size, out=out)
+        count = ref.limits_of(size).rules
+        full = b''.join(label(name) for name in names_of(count, 4)) + b''.join(start(i) for i in range(count)) + E
+        yield NO_PAGE, PAGES, full, b'', dict(size=size, out=0)
+    yield NO_PAGE, PAGES, label('\xe9') + E, b'', dict(classes=OWN, out=0)
+    yield refused(5), PAGES, label('\xe9') + E, b'', dict(out=0)
+    yield NO_PAGE, PAGES, E, b'', dict(out=0, size=SMALL, work=12288, fill=0xFFFFFFFF)
+    yield refused(1), PAGES, E, b'', dict(out=0, size=SMALL, work=12287, fill=0xFFFFFFFF)
+
+
+GOOD_PAGE = prints('t0  list                    t1*',
+                   't1  card                    ()')
+
+
+def lent_page_edges():
+    """Outputs about the length of the pages, words about those of each size, classes that do not load; the order of these."""
+    one, two = GOOD_PAGE, prints(*['t63 a                       ()'] * 61)
+    assert one.value == 4380 and two.value == 8760
+    sixty_one = table([0], [(63, 'a', EMPTY)] * 61)
+    for a_table, told, lengths in ((GOOD_TABLE, one, (4380, 4381, 4453, 8760, MOST_OUTPUT)),
+                                   (sixty_one, two, (8760, 8761, 33000, MOST_OUTPUT))):
+        for out in lengths:
+            yield told, PAGES, a_table, b'', dict(out=out)
+    for a_table, lengths in ((GOOD_TABLE, (0, 1, 2, 31, 72, 73, 145, 146, 147, 4307, 4378, 4379)),
+                             (sixty_one, (0, 4379, 4380, 4453, 8687, 8759))):
+        for out in lengths:
+            yield refused(15), PAGES, a_table, b'', dict(out=out)
+    for turn, (size, work, refusal) in enumerate(WORD_EDGES):
+        told = refused(1) if refusal else one
+        yield told, PAGES, GOOD_TABLE, b'', dict(size=size, work=work, fill=FILLS[turn % 5], out=5000)
+        yield refused(1 if refusal else 15), PAGES, GOOD_TABLE, b'', dict(size=size, work=work, fill=FILLS[(turn + 1) % 5], out=4379)
+    for work in (0, 1, 16383):
+        yield refused(1), PAGES, GOOD_TABLE, b'', dict(work=work, out=5000)
+        yield refused(1), PAGES, b'', b'', dict(work=work, out=0)
+        yield refused(1), PAGES, GOOD_TABLE, b'', dict(work=work, out=0, classes=BAD_CLASSES[work % 7])
+    for number, classes in enumerate(BAD_CLASSES):
+        yield refused(18), PAGES, GOOD_TABLE, b'', dict(classes=classes, size=SIZES[number % 3], out=(5000, 4380, 0)[number % 3])
+    for number, faulty in enumerate((bytes(32769), b'', b'\x99\x00\x00', label('?') + END, one_rule(b'\x08'), END + b'\x00')):
+        yield refused(18), PAGES, faulty, b'', dict(classes=BAD_CLASSES[3 * number], out=number)
+    for classes in (OWN, ALL_LETTERS):
+        yield one, PAGES, GOOD_TABLE, b'', dict(classes=classes)
+    yield refused(5), PAGES, GOOD_TABLE, b'', dict(classes=with_class(0, b'a'))
+    yield refused(5), PAGES, GOOD_TABLE, b'', dict(classes=with_class(1, b'l'), out=0)
+    yield refused(5), PAGES, OWN_TABLE, b'', dict(out=8000)
+    yield refused(15), PAGES, OWN_TABLE, b'', dict(classes=OWN, out=4379)
+    for size in NO_SIZES:       # each counts as the standard size
+        yield two, PAGES, sixty_one, b'', dict(size=size, out='exact')
+        yield refused(7), PAGES, flat_table(65), b'', dict(size=size)
+        yield refused(8), PAGES, HEAD + rule(64, 0, EMPTY) + END, b'', dict(size=size, out=5000)
+        yield refused(1), PAGES, sixty_one, b'', dict(size=size, work=16383, out=9000)
+
+
+def refused_page_edges():
+    """Tables that reading turns back, with room and with none: 15 comes after all of these."""
+    for refusal, tables in refused_tables().items():
+        for number, faulty in enumerate(tables):
+            yield refused(refusal), PAGES, faulty, b'', dict(out=(0, 4380, 100, 9000)[number % 4])
+    for faulty, size in ((padded_table(32769), STANDARD), (bytes(32769), SMALL), (E + bytes(32766), LARGE)):
+        yield refused(2), PAGES, faulty, b'', dict(size=size, out=0)
+    yield refused(12), PAGES, E + bytes(32765), b'', dict(out=0)
+    for number, (data, *refusals) in enumerate(table_edges() + text_rule_fields()):
+        for size in beside_the_edge(refusals):
+            if refusals[size]:
+                yield refused(refusals[size]), PAGES, data, b'', dict(size=size, out=(5000, 0)[number % 2])
+    # A table that reads at a larger size, and its pages there.
+    seventeen = some_rules(17, marked=no_rule)
+    rows = ['t%-2d %s                    ()' % (i % 16, ('list', 'card')[i % 2]) for i in range(17)]
+    for size in SIZES:
+        yield prints(*rows) if size else refused(7), PAGES, seventeen, b'', dict(size=size)
+
+
+def empties(count):
+    """Sequences of so many empties in all: of up to 255, the last of which is the next sequence, where there are more."""
+    if count <= 255:
+        return seq(*[EMPTY] * count)
+    return seq(*[EMPTY] * 254, empties(count - 254))
+
+
+def with_most_rows(full, middle, short):
+    """A table whose pages are the largest of its size: 1,010 empties have 3,037 characters and 70 rows with their #, and a byte less gives
+    69; one content has what is left; each other rule has the three rows of its name."""
+    contents = [empties(1010)] * full + [empties(count) for count in middle] + [EMPTY] * short
+    return label('n' * 63) + b''.join(rule(0, 0, content, text=True) for content in contents) + END
+
+
+# The size, the table, its rows, and the length of its pages, counted by hand.
+LARGEST = [
+    (SMALL, with_most_rows(16, [], 0), 16 * 70, 19 * 4380),
+    (STANDARD, with_most_rows(31, [781], 32), 31 * 70 + 54 + 32 * 3, 39 * 4380),
+    (LARGE, with_most_rows(31, [401], 96), 31 * 70 + 28 + 96 * 3, 42 * 4380),
+]
+
+
+def page_edges():
+    yield from printed_edges()
+    yield from no_page_edges()
+    yield from lent_page_edges()
+    yield from refused_page_edges()
+
+
+def page_cases(cases):
+    for _, call, first, second, options in page_edges():
+        cases.add(call, first, second, **options)
+    for size, a_table, _, length in LARGEST:
+        for out in (length, length - 1):
+            cases.add(PAGES, a_table, size=size, out=out)
+    cases.add(PAGES, LARGEST[0][1], size=LARGE, out=MOST_OUTPUT)
+    # Full tables, and every length of a name and of a content about the widths.
+    cases.add(PAGES, padded_table(32768), out='exact')
+    for size in SIZES:
+        cases.add(PAGES, flat_table(ref.limits_of(size).rules), size=size, out='exact')
+    for length in (1, 2, *range(20, 27), *range(44, 50), 61, 62, 63):
+        a_table = table([0], [(0, 'n' * length, any_of(t(1))), (1, 'b', EMPTY)])
+        cases.add(PAGES, a_table, size=SIZES[length % 3], out=('exact', 'short', None, 'exact')[length % 4])
+    for length in (*range(2, 34), *range(252, 262), *range(505, 515)):
+        a_table = table([0], [(0, 'a', empties(length), TEXT), (1, 'b', EMPTY)])
+        cases.add(PAGES, a_table, size=SIZES[length % 3], out=('exact', None)[length % 2])
 
 
 # ---------------------------------------------------------------- random cases
@@ -4204,7 +4765,37 @@ def random_question(add, numbers, case, first, limits, pool, respell):
         add(BY_DOCUMENT[numbers.below(2)], result, respell(random_document(numbers, first, pool)))
 
 
-def made_cases(cases):
+def longer_names(numbers, pool):
+    """The names, some of them again and again up to a length of their own."""
+    return [(name * 63)[:numbers.between(len(name), 63)] if numbers.chance(60) else name for name in pool]
+
+
+def with_longer_contents(numbers, a_table):
+    """The table with some contents as sequences of themselves, many times."""
+    parts = fields_of(a_table)
+    for place, part in enumerate(parts):
+        times = min(numbers.of((2, 10, 40, 255)), 1022 // max(1, len(part) - 5))
+        if part[0] in (0x12, 0x13) and times > 1 and numbers.chance(50):
+            parts[place] = field(part[0], part[3:5] + seq(*[part[5:]] * times))
+    return b''.join(parts)
+
+
+def random_pages(cases, numbers):
+    """One random case of pages: at times of a table with long names and long contents, at times of a damaged one."""
+    size = random_size(numbers)
+    classes, pool = random_lent(numbers)
+    if numbers.chance(50):
+        pool = longer_names(numbers, pool)
+    make, most = numbers.of((rich_table, random_table)), SELDOM[size] if numbers.chance(40) else 8
+    a_table = perhaps_marked(numbers, respelled(numbers, make(numbers, pool, most, random_limits(numbers, size)), classes))
+    if numbers.chance(70):
+        a_table = with_longer_contents(numbers, a_table)
+    if numbers.chance(15):
+        a_table = damaged(numbers, a_table)
+    cases.add(PAGES, a_table, size=size, classes=classes, out=numbers.of((None, None, None, 'exact', 'exact', 'short', 0)))
+
+
+def made_before_pages(cases):
     paper_cases(cases)
     refusal_cases(cases)
     byte_cases(cases)
@@ -4220,15 +4811,27 @@ def made_cases(cases):
     xml_cases(cases)
 
 
+def made_cases(cases):
+    made_before_pages(cases)
+    page_cases(cases)
+
+
+PAGES_CHOICE = 3    # numbers of their own, as those of XML text
+OTHERS_TO_PAGES = 18
+
+
 def all_cases(seed, count):
     cases = Cases()
-    made_cases(cases)
-    made = len(cases.all)
+    made_before_pages(cases)
+    drawn, printed = Cases(len(cases.all)), Cases()     # the cases of pages change no turn of the others
+    page_cases(cases)
     turn = 0
-    while len(cases.all) < made + count:
-        random_case(cases, Numbers(seed, turn))
+    while len(drawn.all) < count:
+        random_case(drawn, Numbers(seed, turn))
         turn += 1
-    return cases.all[:made + count]
+    for turn in range(count // OTHERS_TO_PAGES):
+        random_pages(printed, Numbers(seed, turn, PAGES_CHOICE))
+    return cases.all + drawn.all[:count] + printed.all
 
 
 def files(seed, count, calls):

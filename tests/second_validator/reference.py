@@ -1,4 +1,4 @@
-"""The second validator: every public call, written from document 01 and Cards 2, 4, 5, 7, 8 and 13 alone.
+"""The second validator: every public call, written from document 01 and Cards 1, 2, 4, 5, 7, 8 and 13 alone.
 
 Plain search, for reading next to the papers: derivations are tried directly, every step of a
 widening is made as a table, and refusals come in the paper's order.  Sentences of the papers
@@ -9,6 +9,7 @@ and nodes have their text marks, and a document comes as a document file or as X
 standard library only.
 
     python3 reference.py list DIR      the text that the lister prints in DIR (old.tbl, new.doc)
+    python3 reference.py pages DIR     the pages that the printing program prints in DIR (old.tbl)
 """
 
 import os
@@ -833,8 +834,8 @@ def table_bytes(table):
 
 # ---------------------------------------------------------------- the calls
 
-# refusal: the paper's number, 0 for none.  value: 1 yes or readable, 0 no, the length of a table
-# written, or offset * 65,536 + length of a name; 0 with a refusal.  written: the bytes that stand
+# refusal: the paper's number, 0 for none.  value: 1 yes or readable, 0 no, the length of a table or
+# of pages written, or offset * 65,536 + length of a name; 0 with a refusal.  written: the bytes that stand
 # at the beginning of the output afterwards.
 Answer = namedtuple('Answer', 'refusal value written')
 
@@ -857,7 +858,7 @@ def answered(limits, classes, work_len, question):
 
 
 def answered_in_bytes(limits, classes, work_len, out_len, made):
-    """The answer of a call that writes a table.  "The number comes with length 0 and an untouched
+    """The answer of a call that writes a table or pages.  "The number comes with length 0 and an untouched
     output." """
     try:
         try_lent(limits, classes, work_len)
@@ -963,6 +964,11 @@ def widen_single_type_by_document(limits, classes, old, format_, document, out_l
     return widen_by_document(limits, classes, old, format_, document, partial(to_single_type, limits), out_len, work_len)
 
 
+def pages(limits, classes, table, out_len, work_len):
+    """The table as read: nothing is united, reduced or sorted, so that there is no 13 and no 14."""
+    return answered_in_bytes(limits, classes, work_len, out_len, lambda: printed(read_table(limits, classes, table)))
+
+
 # ---------------------------------------------------------------- the lent slices afterwards
 
 def output_after(answer, output):
@@ -995,6 +1001,12 @@ def content_text(content):
     return content_text(content[1]) + {ANY: '*', SOME: '+', OPTIONAL: '?'}[operator]
 
 
+def texts_of(table, rule):
+    """Type, name and content of a rule; "The lister puts # after such a rule's content." """
+    mark = '#' if rule.text else ''
+    return (b't%d' % rule.type, table.labels[rule.label], (content_text(rule.content) + mark).encode('ascii'))
+
+
 def listing(old, document):
     """The lister's text for the bytes of old.tbl and new.doc; it keeps the second set, "the old
     classes, which the lister uses", and document files."""
@@ -1002,14 +1014,58 @@ def listing(old, document):
     if answer.refusal:
         return b'refused %d\n' % answer.refusal
     table = read_table(STANDARD, ASCII, answer.written)
-    lines = ['local']
+    lines = [b'local']
     for start in table.starts:
-        lines.append('start t%d' % start)
+        lines.append(b'start t%d' % start)
     for rule in table.rules:
-        # "The lister puts # after such a rule's content."
-        name, mark = table.labels[rule.label].decode('ascii'), '#' if rule.text else ''
-        lines.append('t%d %s %s%s' % (rule.type, name, content_text(rule.content), mark))
-    return ''.join(line + '\n' for line in lines).encode('ascii')
+        lines.append(b' '.join(texts_of(table, rule)))
+    return b''.join(line + b'\n' for line in lines)
+
+
+# ---------------------------------------------------------------- printed pages
+
+# "Print it 72 columns wide, 60 lines a page: type in columns 1 to 3, name in 5 to 27, content in 29 to
+# 72." A column is a byte. The first and the last column of each text:
+WIDTH, LINES = 72, 60
+PLACES = ((1, 3), (5, 27), (29, 72))
+
+# "Rows, in rule order, are padded to 72 with spaces and end in a line feed; blank rows, padded too, fill
+# the last page"
+BLANK_PAGE = (b' ' * WIDTH + b'\n') * LINES
+
+
+def printed(table):
+    """The pages of a table: blank ones, another as soon as a row is needed, into which every byte is put
+    at its row and column; "no rules print no page". """
+    paper = bytearray()
+    free = 0        # the first row that no rule has taken; rows are counted from 0, columns from 1
+    for rule in table.rules:
+        first_row = free
+        for (first, last), text in zip(PLACES, texts_of(table, rule)):
+            row, column = first_row, first
+            for byte in text:
+                # "A longer text goes on, each line filled first, to further lines of its own column"
+                if column > last:
+                    row, column = row + 1, first
+                while len(paper) <= row * (WIDTH + 1):
+                    paper += BLANK_PAGE
+                paper[row * (WIDTH + 1) + column - 1] = byte
+                column += 1
+            # "a rule takes as many rows as its longest text"
+            free = max(free, row + 1)
+    return bytes(paper)
+
+
+# The longest pages that a table has at the large size; those of the standard size have 170,820 bytes, of
+# the small one 83,220 (selftest.py).
+MOST_PAGES = 183960
+
+
+def print_out(old):
+    """The printing program's text for the bytes of old.tbl, at the lister's size and under its classes, with
+    its line for a refusal."""
+    answer = pages(STANDARD, ASCII, old, MOST_PAGES, STANDARD.words)
+    return b'refused %d\n' % answer.refusal if answer.refusal else answer.written
 
 
 def file_or_nothing(path):
@@ -1022,7 +1078,7 @@ def file_or_nothing(path):
 
 
 if __name__ == '__main__':
-    if len(sys.argv) != 3 or sys.argv[1] != 'list':
+    if len(sys.argv) != 3 or sys.argv[1] not in ('list', 'pages'):
         sys.exit(__doc__)
-    sys.stdout.buffer.write(listing(file_or_nothing(os.path.join(sys.argv[2], 'old.tbl')),
-                                    file_or_nothing(os.path.join(sys.argv[2], 'new.doc'))))
+    old_table, new_document = (file_or_nothing(os.path.join(sys.argv[2], name)) for name in ('old.tbl', 'new.doc'))
+    sys.stdout.buffer.write(listing(old_table, new_document) if sys.argv[1] == 'list' else print_out(old_table))

@@ -4,13 +4,14 @@
 
 The paper's P1 to P8, its edges and the lister's example; the edges of the three sizes, those of the classes, those of letter case, those
 of runs, those of text marks and those of XML text, numbered by hand; that XML text is read as expat reads it, and gives the answers of a
-document file of the same nodes; that a larger set gives the same answer wherever a smaller one gives one, and so do classes with more
-letters; that inputs with letters in the other case give the same answers, with every name written in its first spelling; that marks
-change no answer but letting in and, of what is written, no byte but the tags of rules; that widening by a document is widening by its
-sample, that both let it in, and that one more member of a run changes neither; that names of other letters, under classes that say so,
-give the answers of the names that they stand for; reading against bytes written; letting in against a listing of all derived documents; a
-sample's documents against what a run and a mark stand for, on all small trees; and widening against brute force on small tables, without
-marks and with: the result is of its kind, lets in what it must, and is least.
+document file of the same nodes; the edges of printed pages by what is written by hand, that the lister's lines come back from pages, and
+that no table has longer ones than those that are stored; that a larger set gives the same answer wherever a smaller one gives one, and so
+do classes with more letters; that inputs with letters in the other case give the same answers, with every name written in its first
+spelling; that marks change no answer but letting in and, of what is written, no byte but the tags of rules; that widening by a document is
+widening by its sample, that both let it in, and that one more member of a run changes neither; that names of other letters, under classes
+that say so, give the answers of the names that they stand for; reading against bytes written; letting in against a listing of all derived
+documents; a sample's documents against what a run and a mark stand for, on all small trees; and widening against brute force on small
+tables, without marks and with: the result is of its kind, lets in what it must, and is least.
 """
 
 import argparse
@@ -398,7 +399,7 @@ def sizes_by_hand():
         for size in gen.SIZES:
             case = gen.Case(call, size, C, gen.MOST_WORK, 0, gen.MOST_OUTPUT, label, FILE, first, second)
             check(gen.answer_of(case).refusal == refusals[size], call, size, first.hex(), second.hex())
-    for call in gen.CALL_NAMES:
+    for call in gen.CALLS:
         for size, work, refusal in gen.WORD_EDGES:
             case = gen.Case(call, size, C, work, 7, 400, 0, FILE, *gen.good_inputs(call))
             check(gen.answer_of(case).refusal == refusal, call, size, work)
@@ -442,7 +443,7 @@ def classes_by_hand():
             output, work = gen.OUTPUT_FILL[:case.out_len], [case.work_fill] * case.work_len
             check(answer.value == 0 and ref.output_after(answer, output) == output)
             check(ref.work_after(gen.limits_of(case), answer, work) == [0] * words + work[words:])
-    for call in gen.CALL_NAMES:
+    for call in gen.CALLS:
         check({18, 1, 0, 5} <= {gen.answer_of(case).refusal for case in made.all if case.call == call})
 
 
@@ -516,7 +517,7 @@ def spellings_by_hand():
         made.add(call, first, second, **options)
         answer = gen.answer_of(made.all[-1])
         check(answer == told, told, answer, call, first.hex(), second.hex(), options)
-    for call in set(gen.CALL_NAMES) - {gen.DOCUMENT_READS, gen.SAMPLE}:
+    for call in set(gen.CALLS) - {gen.DOCUMENT_READS, gen.SAMPLE}:
         check(6 in {gen.answer_of(case).refusal for case in made.all if case.call == call}, call)
     # An addition spelled as the old table gives the same bytes, and so does the sample that a document is added through.
     for old, addition, *_ in gen.spelled_widenings():
@@ -533,7 +534,8 @@ def spellings_by_hand():
 
 def respelled_alike():
     """Over all made cases: letters in the other case, of the same class, change no verdict and no refusal, and of a written table only
-    the spelling of its names, which is the first one met: the old table's, or else that of the addition's first label or node."""
+    the spelling of its names, which is the first one met: the old table's, or else that of the addition's first label or node. Pages have
+    the letters of their table."""
     for number, case in enumerate(made_cases()):
         if len(case.classes) != 256:
             continue
@@ -542,6 +544,10 @@ def respelled_alike():
         for other in {case._replace(second=both.second), both}:
             found = gen.answer_of(other)
             check(found[:2] == answer[:2], case, other)
+            if case.call == gen.PAGES:
+                check(found.written.lower() == answer.written.lower(), case, other)
+                check(not found.written or lines_on(found.written) == lister_lines(gen.limits_of(other), other.classes, other.first), other)
+                continue
             check(gen.in_small_letters(found.written) == gen.in_small_letters(answer.written), case, other)
             met = {}
             for name in gen.names_of_case(other):
@@ -661,7 +667,7 @@ def text_by_hand():
         made.add(call, first, second, **options)
         answer = gen.answer_of(made.all[-1])
         check(answer == told, told, answer, call, first.hex(), second.hex(), options)
-    for call in gen.CALL_NAMES:
+    for call in gen.CALLS:
         check({0, 4} <= {gen.answer_of(case).refusal for case in made.all if case.call == call}, call)
     # In bytes: P1's rule for text, and P2's node with it.
     marked, held = bytes.fromhex('10000161 110001 00 130003000001 1F0000'), bytes.fromhex('3200020061 3F0000')
@@ -698,8 +704,11 @@ def lister_with_marks():
 def marks_seen_by_letting_in_alone():
     """Over all made cases, with other marks: the same refusal; of what is written the same bytes but for the tags of rules; the same value
     but for letting in, which more marks in the table never make a no, and more in the document never a yes. With all of them it is as
-    with none, and so is what is written, all its rules for text. XML text has no marks: no mark of the table changes its verdict."""
+    with none, and so is what is written, all its rules for text. XML text has no marks: no mark of the table changes its verdict. (Pages
+    show the marks: see below.)"""
     for turn, case in enumerate(made_cases()):
+        if case.call == gen.PAGES:
+            continue
         numbers, plain = Numbers(54000, turn), gen.answer_of(with_marks(case, gen.without_marks))
         marked = with_marks(case, lambda data: gen.with_other_marks(numbers, data, 50))
         every, own, answer = gen.answer_of(with_marks(case, gen.with_all_marks)), gen.answer_of(case), gen.answer_of(marked)
@@ -802,6 +811,150 @@ def xml_as_files():
     return counts
 
 
+# ---------------------------------------------------------------- printed pages
+
+def lines_on(pages):
+    """The lister's lines, from the pages alone: "Joining the columns' texts, less padding, with a space gives the lister's text for that
+    rule." Its first row is one with a t in column 1, for later ones have a digit there or nothing."""
+    rules = []
+    for row in pages.split(b'\n')[:-1]:
+        if row[:1] == b't':
+            rules.append([b'', b'', b''])
+        for number, piece in enumerate((row[0:3], row[4:27], row[28:72])):
+            if piece != b' ' * len(piece):
+                rules[-1][number] += piece
+    return [b' '.join(text_.rstrip(b' ') for text_ in texts) for texts in rules]
+
+
+def lister_lines(limits, classes, data):
+    """The lister's lines for the rules of a table that reads."""
+    read = ref.read_table(limits, classes, data)
+    return [b't%d ' % rule.type + read.labels[rule.label] + b' ' + ref.content_text(rule.content).encode('ascii') + b'#' * rule.text
+            for rule in read.rules]
+
+
+def pages_of(data, limits=ref.LARGE, classes=C):
+    return ref.pages(limits, classes, data, gen.MOST_OUTPUT, limits.words)
+
+
+def pages_by_hand():
+    made = gen.Cases()
+    for told, call, first, second, options in gen.page_edges():
+        made.add(call, first, second, **options)
+        answer = gen.answer_of(made.all[-1])
+        check(call == gen.PAGES and answer == told, told, answer, first.hex(), options)
+    # 13 and 14 are never given, 11 is of documents, 16 and 17 of XML text.
+    check({gen.answer_of(case).refusal for case in made.all} == {*range(13), 15, 18} - {11})
+    # In bytes: a page of one rule, and one whose three texts go on.
+    blank, line = b' ' * 72, b'\n'
+    page = b't0  a                       ()                                          \n' + (blank + line) * 59
+    check(pages_of(gen.P1) == (0, 4380, page))
+    page = (b't12 abcdefghijklmnopqrstuvw (t0,t1,t2,t3,t4,t5,t6,t7,t8,t9,t0,t1,t2,t3)*\n'
+            b'7   x                       #                                           \n' + (blank + line) * 58)
+    a_table = table([], [(127, gen.NAME_23 + 'x', any_of(gen.in_order(14)), TEXT)])
+    check(pages_of(a_table) == (0, 4380, page))
+    check(pages_of(E) == (0, 0, b'') and ref.pages(L, C, E, 0, W) == (0, 0, b''))
+    for size, a_table, rows, length in gen.LARGEST:
+        limits = ref.SETS[size]
+        found = ref.pages(limits, C, a_table, length, limits.words)
+        check(len(a_table) <= 32768 and found.value == length == len(found.written), size)
+        taken = [row for row in found.written.split(line) if row.strip()]
+        check(len(taken) == rows and found.written == line.join(taken) + (line + blank) * (length // 73 - rows) + line, size)
+        check(ref.pages(limits, C, a_table, length - 1, limits.words) == (15, 0, b''), size)
+    check(gen.LARGEST[-1][3] == ref.MOST_PAGES <= gen.MOST_OUTPUT)
+    # The printing program.
+    check(ref.print_out(gen.P1) == pages_of(gen.P1).written and ref.print_out(E) == b'', 'printing')
+    for data, refusal in ((b'', 3), (gen.flat_table(65), 7), (gen.label('\xe9') + E, 5), (gen.P1 + b'\x00', 12)):
+        check(ref.print_out(data) == b'refused %d\n' % refusal, 'printing')
+    check(ref.print_out(gen.LARGEST[1][1]) == pages_of(gen.LARGEST[1][1], L).written, 'printing')
+
+
+def pages_of_all_tables():
+    """Over the tables of a share of all made cases and of random ones that read, at their own size: whole pages of rows of 72, the
+    lister's lines from them, columns 4 and 28 empty; what has no rule changes nothing, nor does a larger size; each rule has the same
+    rows, whatever comes before it; marks put # at the ends of contents."""
+    counts = {'tables printed': 0, 'pages': 0}
+    cases = made_cases()[::7] + [case for case in made_cases() if case.call == gen.PAGES] + random_pages(2, 300)
+    asked = {(gen.limits_of(case), case.classes, data) for case in cases if ref.loads(case.classes)
+             for data in ((case.first,) if case.call not in gen.BY_TABLE else (case.first, case.second))}
+    for limits, classes, data in sorted(asked):
+        answer = pages_of(data, limits, classes)
+        reads = ref.table_reads(limits, classes, data, limits.words)
+        check(answer.refusal == reads.refusal, data)
+        if reads.refusal:
+            continue
+        read, written = ref.read_table(limits, classes, data), answer.written
+        counts['tables printed'] += 1
+        counts['pages'] += len(written) // 4380
+        check(len(written) % 4380 == 0 and bool(written) == bool(read.rules) and len(written) <= ref.MOST_PAGES, data)
+        rows = [written[at:at + 73] for at in range(0, len(written), 73)]
+        check(all(row[72:] == b'\n' and b'\n' not in row[:72] and row[3:4] == row[27:28] == b' ' for row in rows), data)
+        check(lines_on(written) == lister_lines(limits, classes, data), data)
+        taken = [row for row in rows if row.strip(b' \n')]
+        check(rows == taken + [b' ' * 72 + b'\n'] * (len(rows) - len(taken)) and len(rows) - len(taken) < 60, data)
+        check(limits == ref.LARGE or pages_of(data, ref.LARGE, classes) == answer, data)
+        # Other starts, and none of the labels without a rule.
+        for starts in ([], [limits.rules - 1, 0]):
+            found = pages_of(ref.table_bytes(read._replace(starts=starts)), limits, classes)
+            check(found == answer or len(starts) > len(read.starts) and found.refusal == 2, data)
+        used = {rule.label for rule in read.rules}
+        if len(used) < len(read.labels):
+            left = ref.with_used_labels(read)
+            if [rule.type for rule in left.rules] == [rule.type for rule in read.rules]:
+                check(pages_of(ref.table_bytes(left), limits, classes).written == written, data)
+        # Rule by rule, each on paper of its own.
+        alone = [pages_of(ref.table_bytes(read._replace(rules=[rule])), limits, classes).written for rule in read.rules]
+        pieces = [[page[at:at + 73] for at in range(0, len(page), 73) if page[at:at + 72].strip(b' ')] for page in alone]
+        check([row for piece in pieces for row in piece] == taken, data)
+        for rule, piece in zip(read.rules, pieces):
+            lengths = len('t%d' % rule.type), len(read.labels[rule.label]), len(ref.content_text(rule.content)) + rule.text
+            check(len(piece) == max(-(-length // width) for length, width in zip(lengths, (3, 23, 44))), data)
+        # With all marks and with none: the same lines but for #.
+        with_all, with_none = (lines_on(pages_of(marked, limits, classes).written)
+                               for marked in (gen.with_all_marks(data), gen.without_marks(data)))
+        check([line + b'#' for line in with_none] == with_all, data)
+        check(all(line in pair for line, *pair in zip(lines_on(written), with_all, with_none)), data)
+    return counts
+
+
+def random_pages(seed, count):
+    made = gen.Cases()
+    for turn in range(count):
+        gen.random_pages(made, Numbers(seed, turn, gen.PAGES_CHOICE))
+    return made.all
+
+
+def longest_pages():
+    """The most rows that a table of a size has, by trying all lengths of its contents. The most characters of a content of so many bytes
+    have empties, of three characters a byte with their comma, in sequences of up to 255; a type, with its comma, has two bytes and four
+    characters, or five at the large size, and makes a further sequence needless at times; nothing else has more than one a byte."""
+    for limits, (_, _, rows, length) in zip(ref.SETS, gen.LARGEST):
+        type_length = len('t%d' % (limits.rules - 1))
+        least = {}      # rows -> the least bytes of a content, its # beside it
+        for sequences, types, empties in itertools.product(range(6), range(6), range(1020)):
+            leaves, size = empties + types, empties + 2 * types + 2 * sequences
+            if size <= 1024 and (sequences < leaves <= 254 * sequences + 1):
+                here = -(-(3 * empties + (type_length + 1) * types + 2 * sequences - 1 + 1) // 44)
+                least[here] = min(least.get(here, 1024), size)
+        check(max(least) == 70 and least[70] == 1018)
+        most = 0
+        for name in (1, 24, 47):        # one name for all rules, of the least length that has one, two or three rows
+            room = 32768 - 3 - 3 - name
+            of_one = {}                 # rows of a rule -> its least bytes
+            for here, size in least.items():
+                taken = max(here, -(-name // 23), -(-type_length // 3))
+                of_one[taken] = min(of_one.get(taken, room), 5 + size)
+            cost, rules = [of_one.get(taken, room + 1) if taken else 0 for taken in range(71)], 1
+            while rules < limits.rules:         # of twice as many rules: each number of rows in two parts
+                parts = [cost[max(0, taken - len(cost) + 1):taken + 1] for taken in range(2 * len(cost) - 1)]
+                cost = [min(map(sum, zip(part, reversed(part)))) for part in parts]
+                while cost[-1] > room:
+                    cost.pop()
+                rules *= 2
+            most = max(most, len(cost) - 1)
+        check(rows <= most and -(-most // 60) * 60 * 73 == length, limits, most)
+
+
 # ---------------------------------------------------------------- other facts
 
 def numbers_by_hand():
@@ -874,6 +1027,9 @@ def main():
     xml_by_hand()
     counts = xml_against_expat()
     counts.update(xml_as_files())
+    pages_by_hand()
+    counts.update(pages_of_all_tables())
+    longest_pages()
     counts.update(added_through_samples())
     small_samples(('a', 'b'), 5, 7)
     small_samples(with_text(('a', 'b')), 4, 5)

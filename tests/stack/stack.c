@@ -17,7 +17,7 @@ struct call {
     size_t classes_length, first_length, second_length, label;
 };
 
-static uint8_t out[COGARRUNE_MOST_BYTES];
+static uint8_t out[COGARRUNE_PAGES_BYTES_LARGE]; /* enough for any table too */
 static uint32_t work[COGARRUNE_WORDS_LARGE];
 
 #define LENT c->size, c->classes, c->classes_length
@@ -43,6 +43,7 @@ static void *run(void *given)
     case 9: cogarrune_widen_local_by_document(AND_DOCUMENT, OUT, WORK); break;
     case 10: cogarrune_widen_single_type_by_table(TWO_TABLES, OUT, WORK); break;
     case 11: cogarrune_widen_single_type_by_document(AND_DOCUMENT, OUT, WORK); break;
+    case 12: cogarrune_pages(FIRST, OUT, WORK); break;
     }
     return NULL;
 }

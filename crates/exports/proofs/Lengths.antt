@@ -1,5 +1,6 @@
--- The values of the calls that write a table: a table that is given has at most 32,768 bytes, so no length written reaches 2^32.
---   sampled-value, widened-value
+-- The values of the calls that write: a table that is given has at most 32,768 bytes, and pages at most 183,960, so no length written
+-- reaches 2^32.
+--   sampled-value, widened-value, most-below
 use Prim.Native.Nat.{ℕ, _≤_, _<_}
 use native.Mathlib.Omega.{arith}
 use mathlib.Core.Bool.{Bool, true, false}
@@ -30,6 +31,7 @@ use Rattle.grammar.specs.declared.Refusal.the-variants.{ResultTooLarge, OutputT
 use Rattle.theory.proofs.bytes.OutcomeLaws.{was-given, had-no-fault, given-eq}
 use Rattle.theory.proofs.bytes.NumberedTable.{table-small}
 use Rattle.theory.proofs.theorems.WidenLeast as widening
+use Rattle.pages.specs.MostBytes.{mostBytes}
 
 -- the value told for an outcome is below 2^32
 abbrev Below : Outcome (List ℕ) → Type 0
@@ -111,3 +113,9 @@ widened-value size classes kind source old addition out work left kept n s =
     let same = ap (λ (a : After Numbers). a .answer .value) (s .settled) in
     let below = widening-below (sizeLimits size) (size-input size) classes kind source old addition out work in
     omega arith
+
+-- and that of pages
+pub most-below : (size : Size) {n : ℕ} → n ≤ mostBytes size → n < 4294967296
+most-below Small h = omega arith
+most-below Standard h = omega arith
+most-below Large h = omega arith

@@ -39,7 +39,7 @@ pub fn of_verdict(answer: Verdict) -> u64
     }
 }
 
-// The answer of a call that writes a table.
+// The answer of a call that writes.
 pub fn of_written(answer: Written) -> u64
     ensures { λ r. ⌜ r ≡ told (writtenNumbers answer) ⌝ }
 {

@@ -1,7 +1,7 @@
 // The public calls for C and Rust. The first number picks the limits: 0 the small ones, 2 the large ones, any other the standard ones;
 // then come the classes. Before a document stands its format: 1 XML text, any other number a document file.
 // A slice is a pointer and a length; every answer is one number: the refusal's number times 2^32, and the value (1 for yes and readable,
-// 0 for no, the length of a table written, offset times 65,536 and length for a name).
+// 0 for no, the length of a table or of pages written, offset times 65,536 and length for a name).
 mod answers;
 
 use crate::answers::of_place;
@@ -12,6 +12,7 @@ use crate::answers::of_written;
 use documents::calls::document_reads;
 use documents::documents::format_numbered;
 use grammar::Refusal;
+use pages::calls::pages;
 use reader::calls::table_reads;
 use reader::label_places::find_label;
 use reader::limits::limits_of;
@@ -25,12 +26,14 @@ use widening::calls::widen_local_by_document;
 use widening::calls::widen_local_by_table;
 use widening::calls::widen_single_type_by_document;
 use widening::calls::widen_single_type_by_table;
+ghost use Prim.Native.Nat.{_≤_};
 ghost use mathlib.Core.List.{[]};
 ghost use Rattle.grammar.specs.LimitSets.{sizeLimits, sizeNumbered};
 ghost use Rattle.grammar.specs.Documents.{formatNumbered};
 ghost use Rattle.grammar.specs.Kinds.{local, singleType};
 ghost use Rattle.grammar.specs.Calls.{after};
-ghost use Rattle.grammar.specs.Promises.{TableReading, DocumentReading, NamePlace, Membership, KindTest, Sampling, Widening};
+ghost use Rattle.grammar.specs.Promises.{TableReading, DocumentReading, NamePlace, Membership, KindTest, Paging, Sampling, Widening};
+ghost use Rattle.pages.specs.MostBytes.{mostBytes};
 ghost use Rattle.grammar.specs.declared.Source.the-variants.{Table as aTable, Document as aDocument};
 ghost use Rattle.exports.specs.Exported.{parted};
 
@@ -139,6 +142,22 @@ pub extern "C" fn cogarrune_is_single_type(
         (after (parted r) [] (now (work .exit))) ⌝ }
 {
     of_verdict(is_single_type(size_numbered(size), classes, table, work))
+}
+
+// Writes the rules of a table as printed pages.
+#[no_mangle]
+pub extern "C" fn cogarrune_pages(
+    size: u32,
+    classes: &[u8],
+    table: &[u8],
+    out: &mut [u8],
+    work: &mut [u32],
+) -> u64
+    ensures { λ r. ⌜ Paging (sizeLimits (sizeNumbered size)) (now (classes .entry)) (now (table .entry)) (now (out .entry))
+        (now (work .entry)) (after (parted r) (now (out .exit)) (now (work .exit))) ⌝ }
+    ensures most { λ r. ⌜ parted r .value ≤ mostBytes (sizeNumbered size) ⌝ }
+{
+    of_written(pages(size_numbered(size), classes, table, out, work))
 }
 
 // Writes the sample table of a document.

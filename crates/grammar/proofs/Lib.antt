@@ -2,6 +2,7 @@ pub mod Builders
 pub mod PaperTables
 pub mod PaperCases
 pub mod ListerExample
+pub mod PageExamples
 pub mod Edges
 pub mod RefusalOrder
 pub mod ClassRules

@@ -30,6 +30,7 @@ use Rattle.grammar.specs.Kinds.{local}
 use Rattle.grammar.specs.Least.{byDocument}
 use Rattle.grammar.specs.Widen.{widen}
 use Rattle.grammar.specs.declared.Format.the-variants.{DocumentFile}
+use Rattle.grammar.specs.declared.Refusal.{Refusal}
 
 abbrev pub Text : Type 0
 Text = List ℕ
@@ -101,10 +102,14 @@ unfolding joinedOf startLine ruleLine ascii
 localText g = ascii "local\n" ++ joinedOf startLine (g .starts) ++ joinedOf (ruleLine g) (g .rules)
 
 -- A refusal prints one line only.
+unfoldable pub refusalLine : Refusal → Text
+unfolding decimal number ascii
+refusalLine r = ascii "refused " ++ decimal (number r) ++ ascii "\n"
+
 unfoldable pub outcomeText : Outcome Table → Text
-unfolding localText decimal number ascii
+unfolding localText refusalLine
 outcomeText (given g) = localText g
-outcomeText (refused r) = ascii "refused " ++ decimal (number r) ++ ascii "\n"
+outcomeText (refused r) = refusalLine r
 
 -- What the lister prints for the bytes of `old.tbl` and `new.doc`, widened to local; a file that cannot be read counts as no bytes.
 unfoldable pub listing : Limits → Classes → List ℕ → List ℕ → Text

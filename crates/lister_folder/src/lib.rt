@@ -1,4 +1,5 @@
 // What the lister prints for the files of the folder where it runs.
+use files::read_file;
 use grammar::Format;
 use grammar::Size;
 use grammar::Written;
@@ -41,24 +42,6 @@ pub fn list(old: &[u8], document: &[u8], out: &mut [u8], work: &mut [u32], text:
         Written::Refused(refusal) => refusal_line(refusal, text),
         Written::Length(n) => list_bytes(&classes, &out[0..n], text),
     }
-}
-
-// The bytes of a file, as far as there is room. A file that cannot be read counts as no bytes.
-fn read_file(name: &[u8], space: &mut [u8]) -> usize
-    ensures { λ r. ⌜ r ≤ length (now (space .exit)) ⌝ }
-{
-    let file = os::open_read(name);
-    if file < 0 {
-        return 0;
-    }
-    let n = io::read_full(file, space);
-    let mut after = [0u8; 1];
-    let end = libc::read(file, &mut after);
-    libc::close(file);
-    if end < 0 {
-        return 0;
-    }
-    n
 }
 
 // Prints what the files `old.tbl` and `new.doc` give.

@@ -6,7 +6,7 @@ use native.Mathlib.Omega.{arith}
 use mathlib.Core.Bool.{true, false}
 use mathlib.Core.List.{List, [], _∷_, _++_}
 use mathlib.Core.Logic.{_⊎_, inl, inr}
-use mathlib.Core.Path.{_≡_, refl, sym, _∙_, ap}
+use mathlib.Core.Path.{_≡_, sym, _∙_, ap}
 use lib.ListN.{length, length-append}
 use lib.Dec.{ltb}
 use borrow.Author.Tests.{ltb-true, ltb-false, lt-ltb, le-ltb}
@@ -34,14 +34,7 @@ use Rattle.grammar.specs.declared.Refusal.the-variants.{
 }
 use Rattle.grammar.specs.Listing.{digitsWithin, decimal, typeText}
 use Rattle.theory.proofs.lists.BoolLaws.{passes-or-fails}
-
-digits-one : (n k : ℕ) → ltb k 10 ≡ true → digitsWithin (suc n) k ≡ (0x30 + k) ∷ []
-unfolding digitsWithin
-digits-one n k t = rw (t, digitsWithin)
-
-digits-more : (n k : ℕ) → ltb k 10 ≡ false → digitsWithin (suc n) k ≡ digitsWithin n (k / 10) ++ ((0x30 + k % 10) ∷ [])
-unfolding digitsWithin
-digits-more n k t = rw (t, digitsWithin)
+use Rattle.theory.proofs.bytes.ListedTexts.{digits-one, digits-more, type-is}
 
 pub decimal-one : (k : ℕ) → k < 10 → decimal k ≡ (0x30 + k) ∷ []
 unfolding decimal
@@ -86,10 +79,6 @@ one-longer k most others = go (passes-or-fails (ltb k 10))
 pub decimal-size : (k : ℕ) → k < 1000 → length (decimal k) ≤ 3
 decimal-size k h =
     one-longer k 2 (λ l. one-longer (k / 10) 1 (λ l. one-longer (k / 10 / 10) 0 (λ l. absurd (omega arith))))
-
-pub type-is : (k : ℕ) → typeText k ≡ 0x74 ∷ decimal k
-unfolding typeText
-type-is k = refl
 
 pub type-size : (k : ℕ) → k < 128 → length (typeText k) ≤ 4
 type-size k h = omega (arith, decimal-size k (omega arith), ap length (type-is k))

@@ -1,4 +1,5 @@
 -- The lines of a table that was read:
+--   joined-place : lists joined one by one
 --   name-stands, name-size : a label's name ; content-stands, content-asks, content-put, content-size : a rule's content
 --   rule-type-is, rule-type-size, rule-label-is, line-joined : a rule's line ; start-line-size : a start's line
 --   starts-next, lines-next : one line more
@@ -44,7 +45,8 @@ use Rattle.lister_lines.specs.Printing.{Printable, Printed}
 use Rattle.lister_lines.proofs.DecimalLaws.{type-size}
 use Rattle.lister_lines.proofs.RoomLaws.{content-short}
 
-joined-place : {A : Type 0} (f : A → Text) (xs : List A) (i : ℕ) (d : A) → i < length xs
+-- what the elements before a place give, and the one there
+pub joined-place : {A B : Type 0} (f : A → List B) (xs : List A) (i : ℕ) (d : A) → i < length xs
     → joinedOf f (take i xs) ++ f (getD xs i d) ≡ joinedOf f (take (i + 1) xs)
 joined-place f xs i d h =
     sym (ap (λ (n : ℕ). joinedOf f (take n xs)) (add-one i) ∙ ap (joinedOf f) (take-suc xs i d h) ∙ joined-end f (take i xs) (getD xs i d))

@@ -29,7 +29,7 @@ use Rattle.grammar.specs.declared.Format.the-variants.{DocumentFile}
 use Rattle.grammar.specs.declared.Size.the-variants.{Standard}
 use Rattle.grammar.specs.declared.SizeLimits.{SizeLimits}
 use Rattle.grammar.specs.declared.Source.the-variants.{Document as aDocument}
-use Rattle.grammar.specs.Listing.{outcomeText, listing}
+use Rattle.grammar.specs.Listing.{refusalLine, outcomeText, listing}
 use Rattle.grammar.specs.declared.Refusal.{Refusal}
 use Rattle.grammar.specs.declared.Refusal.the-variants.{OutputTooShort}
 use Rattle.grammar.specs.declared.Written.{Written}
@@ -58,7 +58,7 @@ pub standard-read : (l : SizeLimits) → limitsOf l ≡ sizeLimits Standard → 
     → readTable (limitsOf l) classes s ≡ readTable standard classes s
 standard-read l same classes s = ap (λ (lim : Limits). readTable lim classes s) (same ∙ standard-size)
 
-refused-eq : {A : Type 0} {q r : Refusal} → _≡_ {A = Outcome A} (refused q) (refused r) → q ≡ r
+pub refused-eq : {A : Type 0} {q r : Refusal} → _≡_ {A = Outcome A} (refused q) (refused r) → q ≡ r
 refused-eq e = cc
 
 module _ (classes : Classes) (load : Loads classes) (old document out work : List ℕ) (words : 16384 ≤ length work)
@@ -160,8 +160,9 @@ module _ (classes : Classes) (load : Loads classes) (old document out work : Lis
     unfolding wrote
     out-left = ap (λ (a : After Numbers). a .out) kept
 
-    pub list-refused : {text more : List ℕ} {end : ℕ} (r : Refusal) → answer ≡ Unwritten r → Put text 0 (outcomeText (refused r)) more end
+    pub list-refused : {text more : List ℕ} {end : ℕ} (r : Refusal) → answer ≡ Unwritten r → Put text 0 (refusalLine r) more end
         → Put text 0 (listing standard classes old document) more end
+    unfolding outcomeText
     list-refused r e p = put-as (sym (listing-refused r (was-unwritten called r (ap writtenNumbers (sym e) ∙ so)))) p
 
     module _ (n : ℕ) (e : answer ≡ Length n) where

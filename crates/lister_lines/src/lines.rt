@@ -27,9 +27,8 @@ ghost use lib.ListN.{length, getD};
 ghost use Rattle.grammar.specs.Lists.{joinedOf};
 ghost use Rattle.grammar.specs.Limits.{standard, large, nameLimit};
 ghost use Rattle.grammar.specs.Names.{Loads};
-ghost use Rattle.grammar.specs.Outcome.{refused};
 ghost use Rattle.grammar.specs.ReadTable.{readTable};
-ghost use Rattle.grammar.specs.Listing.{contentText, textMark, startLine, ruleLine, localText, outcomeText};
+ghost use Rattle.grammar.specs.Listing.{contentText, textMark, startLine, ruleLine, localText, refusalLine, outcomeText};
 ghost use Rattle.reader.specs.Held.{SomeHeld};
 ghost use Rattle.reader.specs.TableIndex.{labelCount, ruleCount};
 ghost use Rattle.union.specs.PairNumbers.{ruleNumbered};
@@ -37,7 +36,7 @@ ghost use Rattle.writer.specs.Writing.{Put};
 ghost use Rattle.lister_lines.specs.Printing.{TextPut};
 
 // A label's name.
-fn put_name(table: &[u8], index: &[u16; 899], label: usize, text: &mut [u8], at: usize) -> usize
+pub fn put_name(table: &[u8], index: &[u16; 899], label: usize, text: &mut [u8], at: usize) -> usize
     requires { ⌜ SomeHeld large (now table) (now index) × (label < labelCount (now index))
         × (at + nameLimit ≤ length (now text)) ⌝ }
     ensures { λ r. ⌜ TextPut (now (table .entry)) (now (index .entry)) (λ g. getD (g .labels) label []) nameLimit (now (text .entry)) at
@@ -49,7 +48,13 @@ fn put_name(table: &[u8], index: &[u16; 899], label: usize, text: &mut [u8], at:
 }
 
 // The content of a rule.
-fn put_rule_content(table: &[u8], index: &[u16; 899], i: usize, text: &mut [u8], at: usize) -> usize
+pub fn put_rule_content(
+    table: &[u8],
+    index: &[u16; 899],
+    i: usize,
+    text: &mut [u8],
+    at: usize,
+) -> usize
     requires { ⌜ SomeHeld large (now table) (now index) × (i < ruleCount (now index)) × (at + 3071 ≤ length (now text)) ⌝ }
     ensures { λ r. ⌜ TextPut (now (table .entry)) (now (index .entry)) (λ g. contentText (ruleNumbered g i .content)) 3071
         (now (text .entry)) at (now (text .exit)) r ⌝ }
@@ -61,7 +66,13 @@ fn put_rule_content(table: &[u8], index: &[u16; 899], i: usize, text: &mut [u8],
 }
 
 // # behind the content of a rule for text.
-fn put_rule_mark(table: &[u8], index: &[u16; 899], i: usize, text: &mut [u8], at: usize) -> usize
+pub fn put_rule_mark(
+    table: &[u8],
+    index: &[u16; 899],
+    i: usize,
+    text: &mut [u8],
+    at: usize,
+) -> usize
     requires { ⌜ SomeHeld large (now table) (now index) × (i < ruleCount (now index)) × (at + 1 ≤ length (now text)) ⌝ }
     ensures { λ r. ⌜ TextPut (now (table .entry)) (now (index .entry)) (λ g. textMark (ruleNumbered g i .text)) 1
         (now (text .entry)) at (now (text .exit)) r ⌝ }
@@ -141,8 +152,8 @@ fn list_table(table: &[u8], index: &[u16; 899], text: &mut [u8]) -> usize
 
 // The line of a refusal.
 pub fn refusal_line(refusal: Refusal, text: &mut [u8]) -> usize
-    requires { ⌜ 404000 ≤ length (now text) ⌝ }
-    ensures { λ r. ⌜ Put (now (text .entry)) 0 (outcomeText (refused refusal)) (now (text .exit)) r ⌝ }
+    requires { ⌜ 12 ≤ length (now text) ⌝ }
+    ensures { λ r. ⌜ Put (now (text .entry)) 0 (refusalLine refusal) (now (text .exit)) r ⌝ }
 {
     let number = put_bytes(text, 0, b"refused ");
     let end = put_decimal(text, number, number_of(refusal) as usize);

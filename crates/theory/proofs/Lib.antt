@@ -18,5 +18,5 @@ pub mod matching
 pub mod emission
 -- reading and writing, and what stays within the limits
 pub mod bytes
--- what widening gives is least, and reads back; P1 to P8
+-- what widening gives is least, and reads back; from printed pages the lister's texts come back; P1 to P8
 pub mod theorems

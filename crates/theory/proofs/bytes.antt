@@ -9,6 +9,8 @@ pub mod TextElements
 pub mod TextWithin
 pub mod ReadWithin
 pub mod ClassLaws
+pub mod ListedTexts
+pub mod PageRows
 pub mod WrittenBytes
 pub mod DocumentWithin
 pub mod TreeRead

@@ -4,6 +4,7 @@ pub mod WideningTheorem
 pub mod LeastLaws
 pub mod WideningCorollaries
 pub mod AnswerNumbers
+pub mod PageTheorem
 pub mod CallPromises
 pub mod SizedPromises
 pub mod AnyLimits

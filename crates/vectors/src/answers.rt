@@ -10,6 +10,7 @@ use grammar::Reading;
 use grammar::Size;
 use grammar::Verdict;
 use grammar::Written;
+use pages::calls::pages;
 use reader::calls::label_name;
 use reader::calls::table_reads;
 use reader::limits::size_numbered;
@@ -184,6 +185,7 @@ pub fn answer(
             widened(asked, classes, first, second, out, work),
             byte_sum(out),
         ),
+        12 => of_written(pages(size, classes, first, out, work), byte_sum(out)),
         _ => Told {
             refusal: 99,
             value: 0,

@@ -82,12 +82,12 @@ fn run(
 fn run_lent(asked: Asked, classes: &[u8], words: usize, word: u32, bytes: usize) -> bool {
     let mut first = [0u8; 65600];
     let mut second = [0u8; 65600];
-    let mut out = [0u8; 33000];
+    let mut out = [0u8; 190000];
     let mut work = [0u32; 32900];
     if 32900 < words {
         return false;
     }
-    if 33000 < bytes {
+    if 190000 < bytes {
         return false;
     }
     let n = read_input(&mut first);

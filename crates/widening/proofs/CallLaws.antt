@@ -12,7 +12,7 @@ use Rattle.grammar.specs.Tree.{Tree}
 use Rattle.grammar.specs.Table.{Table}
 use Rattle.grammar.specs.Kinds.{Kind}
 use Rattle.grammar.specs.Outcome.{Outcome, given, refused, _>>=_, _>>_, turnBack}
-use Rattle.grammar.specs.Answers.{Numbers, writtenNumbers, numbersOf, written}
+use Rattle.grammar.specs.Answers.{writtenNumbers, written}
 use Rattle.grammar.specs.ReadTable.{readTable}
 use Rattle.grammar.specs.Documents.{readDocument}
 use Rattle.grammar.specs.Widen.{widen, sampleTable}
@@ -35,37 +35,22 @@ use Rattle.grammar.specs.declared.Refusal.the-variants.{WorkTooShort, BadClasse
 use Rattle.grammar.specs.declared.Written.{Written}
 use Rattle.grammar.specs.declared.Written.the-variants.{Refused}
 use Rattle.theory.proofs.bytes.NumberedTable.{sized-agree}
-use Rattle.theory.proofs.theorems.AnswerNumbers.{written-numbers}
 use Rattle.theory.proofs.theorems.CallPromises.{lent-short, lent-enough, loaded, loaded-then, sampling, widening}
 use Rattle.reader.proofs.AnswerLaws.{both-then-last}
-use Rattle.reader.proofs.WorkLaws.{work-kept}
+use Rattle.writer.proofs.WroteLaws.{wrote-as, wrote-short}
 use Rattle.widening.specs.Drafting.{sampleOf, sampledFrom, widenedBy, widenedFrom, HandedOver}
 
 module _ (l : SizeLimits) where
   abbrev lim : Limits
   lim = limitsOf l
 
-  -- what a call leaves, by its outcome
   module _ (o : Outcome (List ℕ)) (out work : List ℕ) where
-    left-as : (answer : Written) (left workLeft : List ℕ) → answer ≡ written o → left ≡ outAfter o out → workLeft ≡ workAfter lim work
-        → after (writtenNumbers answer) left workLeft ≡ wrote lim o out work
-    unfolding wrote
-    left-as answer left workLeft a l w =
-        ap (λ (n : Numbers). after n left workLeft) (ap writtenNumbers a ∙ written-numbers o)
-        ∙ ap (λ (x : List ℕ). after (numbersOf length o) x workLeft) l
-        ∙ ap (λ (x : List ℕ). after (numbersOf length o) (outAfter o out) x) w
-
-    left-short : o ≡ refused WorkTooShort → length work < lim .words → after (writtenNumbers (Refused WorkTooShort)) out work ≡ wrote lim o out work
-    unfolding written outAfter
-    left-short e h =
-        left-as (Refused WorkTooShort) out work (sym (ap written e)) (sym (ap (λ (x : Outcome (List ℕ)). outAfter x out) e)) (work-kept lim work h)
-
     -- what was made in a draft is handed over
     left-handed : (table : Outcome Table) → o ≡ (table >>= writtenTo out) → (answer : Written) (left workLeft : List ℕ)
         → HandedOver table out left answer → workLeft ≡ workAfter lim work
         → after (writtenNumbers answer) left workLeft ≡ wrote lim o out work
     left-handed table e answer left workLeft d w =
-        left-as answer left workLeft (d .0 ∙ sym (ap written e)) (d .1 ∙ sym (ap (λ (x : Outcome (List ℕ)). outAfter x out) e)) w
+        wrote-as lim o out work answer left workLeft (d .0 ∙ sym (ap written e)) (d .1 ∙ sym (ap (λ (x : Outcome (List ℕ)). outAfter x out) e)) w
 
   -- steps in a row, and the last of them apart
   then-last : {A B C : Type 0} (x : Outcome A) (f : A → Outcome B) (k : B → Outcome C) → (x >>= λ a. (f a >>= k)) ≡ ((x >>= f) >>= k)
@@ -90,7 +75,7 @@ module _ (l : SizeLimits) where
     unfolding documentSample documentReads
     sample-unanswered h =
         sampling lim classes (sized-agree l) format document out work _
-        (left-short _ out work
+        (wrote-short lim _ out work
         (ap (λ (o : Outcome Tree). o >>= sample-steps) (lent-short lim work (loaded classes (readDocument lim classes format document)) h))
         h)
 
@@ -119,7 +104,7 @@ module _ (l : SizeLimits) where
     unfolding widened tableReads
     widening-unanswered h =
         widening lim classes (sized-agree l) kind source old addition out work _
-        (left-short _ out work
+        (wrote-short lim _ out work
         (ap (λ (o : Outcome Table). o >>= widening-steps) (lent-short lim work (loaded classes (readTable lim classes old)) h))
         h)
 

@@ -1,3 +1,4 @@
 pub mod PutLaws
 pub mod TableLaws
 pub mod TableSize
+pub mod WroteLaws

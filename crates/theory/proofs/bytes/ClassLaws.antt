@@ -1,6 +1,7 @@
 -- Names and the classes of their bytes.
 --     all-classed      classes that load are 256
 --     name-small       a name under so many classes is of bytes
+--     never-named      no name has a byte that is never in names
 --     table-letters    a table whose names are names under them is one whose names are names where every byte is a letter
 use Prim.Native.Nat.{ℕ, zero, suc, _≤_, _<_}
 use native.Mathlib.Omega.{arith}
@@ -11,15 +12,49 @@ use mathlib.Core.Path.{_≡_, refl, ap, _∙_}
 use lib.ListN.{length, getD, getD-replicate}
 use lib.Dec.{eqb, leb}
 use borrow.Author.Tests.{eqb-true, leb-true}
-use Rattle.grammar.specs.Lists.{allPass, anyPass}
+use Rattle.grammar.specs.Lists.{allPass, anyPass, isIn}
 use Rattle.grammar.specs.Limits.{Limits}
 use Rattle.grammar.specs.Names.{Name, Classes, isName, neverInNames, loads, Loads}
 use Rattle.grammar.specs.Table.{Table}
 use Rattle.grammar.specs.WithinLimits.{TableWithin}
 use Rattle.theory.specs.Conditions.{allLetters}
 use Rattle.theory.proofs.lists.BoolLaws.{and-left, and-right, and-intro}
-use Rattle.theory.proofs.lists.ListLaws.{all-at, all-of}
+use Rattle.theory.proofs.lists.ListLaws.{all-at, all-of, in-mem}
 use Rattle.theory.proofs.bytes.FieldBytes.{AreBytes}
+
+-- what loading asks of the bytes that are never in names
+never-class : (classes : Classes) → Loads classes → (b : ℕ) → isIn b neverInNames ≡ true → getD classes b 0 ≡ 0
+unfolding loads
+never-class classes l b e =
+    eqb-true (getD classes b 0) 0
+    (all-at (λ c. eqb (getD classes c 0) 0)
+    (and-right (eqb (length classes) 256 && allPass (λ c. leb c 2) classes && anyPass (λ c. eqb c 2) classes)
+    (allPass (λ c. eqb (getD classes c 0) 0) neverInNames)
+    l)
+    (in-mem b neverInNames e))
+
+pub never-named : (classes : Classes) → Loads classes → (n : Name) → isName classes n ≡ true → (b : ℕ) → isIn b neverInNames ≡ true
+    → List·Memᴰ b n → ⊥
+unfolding isName
+never-named classes l [] e b never m = elim m [ ]
+never-named classes l (c ∷ cs) e b never m = ⊎-elim first later (List·Memᴰ·cases-cons m)
+  where
+    first : b ≡ c → ⊥
+    first q =
+        let zero-class = never-class classes l b never in
+        let two = eqb-true (getD classes c 0) 2 (and-left (eqb (getD classes c 0) 2) (allPass (λ c. leb 1 (getD classes c 0)) cs) e) in
+        let same = ap (λ (x : ℕ). getD classes x 0) q in
+        omega arith
+
+    later : List·Memᴰ b cs → ⊥
+    later i =
+        let zero-class = never-class classes l b never in
+        let one =
+        leb-true 1 (getD classes b 0)
+        (all-at (λ c. leb 1 (getD classes c 0))
+        (and-right (eqb (getD classes c 0) 2) (allPass (λ c. leb 1 (getD classes c 0)) cs) e)
+        i) in
+        omega arith
 
 pub all-classed : (classes : Classes) → Loads classes → length classes ≡ 256
 unfolding loads

@@ -3,7 +3,7 @@
 --       → readText lim classes (textBytes d) ≡ given d
 use Prim.Native.Nat.{ℕ, suc, _+_, _≤_}
 use native.Mathlib.Omega.{arith}
-use mathlib.Core.Bool.{Bool, true, false, not, _&&_, _||_, true≢false}
+use mathlib.Core.Bool.{Bool, true, false, not, _||_}
 use mathlib.Core.List.{
   List,
   [],
@@ -14,19 +14,18 @@ use mathlib.Core.List.{
   List·Memᴰ,
   List·Memᴰ·head,
   List·Memᴰ·tail,
-  List·Memᴰ·cases-cons,
   Memᴰ·append-left,
   Memᴰ·append-right,
 }
 use mathlib.Core.Option.{Option, some as just}
 use mathlib.Core.Logic.{⊎-elim}
 use mathlib.Core.Path.{_≡_, refl, sym, _∙_, ap, ap₂, subst}
-use lib.ListN.{length, length-append, getD}
-use lib.Dec.{eqb, leb, ltb}
-use borrow.Author.Tests.{eqb-true, leb-true, lt-leb, le-ltb}
-use Rattle.grammar.specs.Lists.{allPass, anyPass, isIn, sameNumbers}
+use lib.ListN.{length, length-append}
+use lib.Dec.{eqb, ltb}
+use borrow.Author.Tests.{eqb-true, lt-leb, le-ltb}
+use Rattle.grammar.specs.Lists.{isIn, sameNumbers}
 use Rattle.grammar.specs.Limits.{Limits}
-use Rattle.grammar.specs.Names.{Name, Classes, isName, neverInNames, loads, Loads}
+use Rattle.grammar.specs.Names.{Name, Classes, isName, neverInNames, Loads}
 use Rattle.grammar.specs.Tree.{Tree, node, Forest, []ᵗ, _∷ᵗ_, trees, depth, depthOf}
 use Rattle.grammar.specs.Outcome.{Outcome, given}
 use Rattle.grammar.specs.declared.Refusal.the-variants.{InputTooLong, BadEndTag}
@@ -62,13 +61,14 @@ use Rattle.grammar.specs.ReadText.{
   readText,
   readTags,
 }
-use Rattle.theory.proofs.lists.BoolLaws.{and-left, and-right, or-cases, or-false, false-of}
-use Rattle.theory.proofs.lists.ListLaws.{Each, all-at, in-mem, same-numbers-refl}
+use Rattle.theory.proofs.lists.BoolLaws.{or-cases, or-false, false-of}
+use Rattle.theory.proofs.lists.ListLaws.{Each, same-numbers-refl}
 use Rattle.theory.proofs.bytes.OutcomeLaws.{given-then, no-fault}
 use Rattle.theory.proofs.bytes.TextTags.{tags-end, tags-next}
 use Rattle.theory.proofs.bytes.TextWithin.{Plain, Good, element-read}
 use Rattle.theory.proofs.bytes.TextElements.{followed-trees}
 use Rattle.theory.proofs.bytes.ReadSteps.{name-has-bytes}
+use Rattle.theory.proofs.bytes.ClassLaws.{never-named}
 
 -- no byte of a name ends it
 abbrev NoEnd : Name → Type 0
@@ -98,37 +98,8 @@ never-ends b e =
     (never-as b greaterThan refl)
     (or-cases (isWhite b || eqb b slash) (eqb b greaterThan) e)
 
-module _ (classes : Classes) (l : Loads classes) where
-  never-class : (b : ℕ) → endsName b ≡ true → getD classes b 0 ≡ 0
-  unfolding loads
-  never-class b e =
-      eqb-true (getD classes b 0) 0
-      (all-at (λ c. eqb (getD classes c 0) 0)
-      (and-right (eqb (length classes) 256 && allPass (λ c. leb c 2) classes && anyPass (λ c. eqb c 2) classes)
-      (allPass (λ c. eqb (getD classes c 0) 0) neverInNames)
-      l)
-      (in-mem b neverInNames (never-ends b e)))
-
-  name-no-end : (name : Name) → isName classes name ≡ true → NoEnd name
-  unfolding isName
-  name-no-end [] e = absurd (true≢false (sym e))
-  name-no-end (b ∷ bs) e =
-      λ c m. false-of (endsName c) (λ t. ⊎-elim (first c (never-class c t)) (later c (never-class c t)) (List·Memᴰ·cases-cons m))
-    where
-      first : (c : ℕ) → getD classes c 0 ≡ 0 → c ≡ b → ⊥
-      first c z q =
-          let two = eqb-true (getD classes b 0) 2 (and-left (eqb (getD classes b 0) 2) (allPass (λ c. leb 1 (getD classes c 0)) bs) e) in
-          let same = ap (λ (x : ℕ). getD classes x 0) q in
-          omega arith
-
-      later : (c : ℕ) → getD classes c 0 ≡ 0 → List·Memᴰ c bs → ⊥
-      later c z i =
-          let one =
-          leb-true 1 (getD classes c 0)
-          (all-at (λ c. leb 1 (getD classes c 0))
-          (and-right (eqb (getD classes b 0) 2) (allPass (λ c. leb 1 (getD classes c 0)) bs) e)
-          i) in
-          omega arith
+name-no-end : (classes : Classes) → Loads classes → (name : Name) → isName classes name ≡ true → NoEnd name
+name-no-end classes l name e b m = false-of (endsName b) (λ t. never-named classes l name e b (never-ends b t) m)
 
 module _ (rest : List ℕ) where
   name-front : (name : Name) → NoEnd name → nameFront (name ++ (greaterThan ∷ rest)) ≡ name

@@ -327,6 +327,11 @@ module _ {A : Type 0} (P : A → Type 0) where
   pub each-end : (xs : List A) (x : A) → Each xs → P x → Each (xs ++ (x ∷ []))
   each-end xs x h p = each-append xs (x ∷ []) h (each-cons x [] p each-none)
 
+  -- so many times one element
+  pub each-replicate : (n : ℕ) (x : A) → P x → Each (replicate n x)
+  each-replicate zero x p = each-none
+  each-replicate (suc n) x p = each-cons x (replicate n x) p (each-replicate n x p)
+
 -- numbers
 pub in-mem : (n : ℕ) (ns : List ℕ) → isIn n ns ≡ true → List·Memᴰ n ns
 unfolding isIn

@@ -1,7 +1,7 @@
 -- The limits that the code has room for, and what is promised under them.
 --     size-within       the three sizes are within
 --     others-within     and so is any other set with the words of the largest and no limit above its limits, zeros included
---     demands           under any four limits an answer that is settled decides membership and kind, and writes a sample or a least table
+--     demands           under any four limits an answer that is settled decides membership and kind, and writes pages, a sample or a least table
 use native.Mathlib.Omega.{arith}
 use mathlib.Core.List.{List}
 use mathlib.Core.Path.{_≡_, ap}
@@ -11,15 +11,15 @@ use Rattle.grammar.specs.LimitSets.{sizeLimits, limitsOf, Within}
 use Rattle.grammar.specs.Names.{Classes}
 use Rattle.grammar.specs.Kinds.{Kind}
 use Rattle.grammar.specs.Answers.{Numbers, bit}
-use Rattle.grammar.specs.Calls.{After, answered, wrote, tableLetsIn, tableIsOfKind, documentSample, widened}
-use Rattle.grammar.specs.Promises.{Membership, KindTest, Sampling, Widening}
+use Rattle.grammar.specs.Calls.{After, answered, wrote, tableLetsIn, tableIsOfKind, tablePages, documentSample, widened}
+use Rattle.grammar.specs.Promises.{Membership, KindTest, Paging, Sampling, Widening}
 use Rattle.grammar.specs.declared.Size.{Size}
 use Rattle.grammar.specs.declared.Size.the-variants.{Small, Standard, Large}
 use Rattle.grammar.specs.declared.SizeLimits.{SizeLimits}
 use Rattle.grammar.specs.declared.Format.{Format}
 use Rattle.grammar.specs.declared.Source.{Source}
 use Rattle.theory.proofs.bytes.NumberedTable.{sized-agree}
-use Rattle.theory.proofs.theorems.CallPromises.{membership, kind-test, sampling, widening}
+use Rattle.theory.proofs.theorems.CallPromises.{membership, kind-test, paging, sampling, widening}
 
 four : (l : SizeLimits) (rules nodes levels words : ℕ) → limitsOf l ≡ limitsFor rules nodes levels words
     → rules ≤ 128 → nodes ≤ 2048 → levels ≤ 64 → 12288 ≤ words → Within l
@@ -46,6 +46,8 @@ pub record Demands (lim : Limits) (classes : Classes) : Type 0 where
       → Membership lim classes table format document work left
   pub is-of-kind : (kind : Kind) (table work : List ℕ) (left : After Numbers)
       → left ≡ answered lim bit (tableIsOfKind lim classes kind table work) work → KindTest lim classes kind table work left
+  pub prints : (table out work : List ℕ) (left : After Numbers) → left ≡ wrote lim (tablePages lim classes table out work) out work
+      → Paging lim classes table out work left
   pub samples : (format : Format) (document out work : List ℕ) (left : After Numbers)
       → left ≡ wrote lim (documentSample lim classes format document out work) out work
       → Sampling lim classes format document out work left
@@ -59,6 +61,7 @@ demands l classes =
     record {
       lets-in = membership lim classes;
       is-of-kind = kind-test lim classes;
+      prints = paging lim classes;
       samples = sampling lim classes (sized-agree l);
       widens = widening lim classes (sized-agree l);
     }

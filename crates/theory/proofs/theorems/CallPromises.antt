@@ -1,6 +1,6 @@
 -- What a call leaves keeps its promises (grammar's Promises), for any limits and classes: `settled` gives the rest, by the theorems on
--- membership, kinds and widening.
---     membership, kind-test, sampling, widening
+-- membership, kinds, pages and widening.
+--     membership, kind-test, paging, sampling, widening
 use Prim.Native.Nat.{ℕ, _≤_, _<_}
 use native.Mathlib.Omega.{arith}
 use mathlib.Core.Bool.{Bool, true, false, not, true≢false}
@@ -10,7 +10,7 @@ use mathlib.Core.Path.{_≡_, refl, sym, _∙_, ap, subst}
 use lib.Dec.{ltb}
 use lib.ListN.{length, take, drop}
 use lib.Seq.{take-append-seam}
-use borrow.Author.Tests.{lt-ltb, le-ltb}
+use borrow.Author.Tests.{lt-ltb, le-ltb, not-false}
 use Rattle.grammar.specs.Limits.{Limits, LimitsAgree}
 use Rattle.grammar.specs.Names.{Classes, loads, Loads}
 use Rattle.grammar.specs.Tree.{Tree}
@@ -25,11 +25,14 @@ use Rattle.grammar.specs.WriteTable.{tableBytes}
 use Rattle.grammar.specs.Membership.{letsIn}
 use Rattle.grammar.specs.KindTests.{isOfKind}
 use Rattle.grammar.specs.Widen.{widen, sampleTable}
+use Rattle.grammar.specs.Pages.{pageLayout, pages}
+use Rattle.grammar.specs.ReadPages.{textsShown}
 use Rattle.grammar.specs.Claim.{WritesLeast}
 use Rattle.grammar.specs.Answers.{Numbers, refusedBy, numbersOf, bit}
 use Rattle.grammar.specs.Calls.{
   workTooShort,
   outAfter,
+  roomFor,
   writtenTo,
   After,
   answered,
@@ -38,11 +41,12 @@ use Rattle.grammar.specs.Calls.{
   documentReads,
   tableLetsIn,
   tableIsOfKind,
+  tablePages,
   documentSample,
   readAddition,
   widened,
 }
-use Rattle.grammar.specs.Promises.{Decides, Membership, KindTest, Sampling, Widening}
+use Rattle.grammar.specs.Promises.{Decides, Membership, KindTest, Paging, Sampling, Widening}
 use Rattle.grammar.specs.declared.Format.{Format}
 use Rattle.grammar.specs.declared.Source.{Source}
 use Rattle.grammar.specs.declared.Refusal.the-variants.{WorkTooShort, BadClasses, NoDocument, OutputTooShort}
@@ -50,10 +54,12 @@ use Rattle.theory.proofs.bytes.OutcomeLaws.{given-then, no-fault, was-g
 use Rattle.theory.proofs.theorems.AnswerNumbers.{numbers-given, numbers-refused}
 use Rattle.theory.proofs.matching.Membership.{lets-in}
 use Rattle.theory.proofs.tables.KindTests.{is-local, is-single-type}
+use Rattle.theory.proofs.bytes.ReadWithin.{read-within}
 use Rattle.theory.proofs.bytes.TreeRead.{tree-within}
 use Rattle.theory.proofs.sample.SampleDocument.{sample-lets-in}
 use Rattle.theory.proofs.theorems.ResultWithin.{sample-read-back}
 use Rattle.theory.proofs.theorems.WidenLeast.{sampled}
+use Rattle.theory.proofs.theorems.PageTheorem.{pages-come-back}
 use Rattle.theory.proofs.theorems.WideningTheorem.{widening-theorem, thirteen}
 
 -- a test that decides a fact
@@ -80,6 +86,11 @@ of-kind : (kind : Kind) (g : Table) → (isOfKind kind g ≡ true) ↔ OfKind ki
 unfolding isOfKind
 of-kind local g = is-local g
 of-kind singleType g = is-single-type g
+
+-- the columns of a page have room
+page-widths : (1 ≤ pageLayout .type) × (1 ≤ pageLayout .name) × (1 ≤ pageLayout .content)
+unfolding pageLayout
+page-widths = (omega arith, omega arith, omega arith)
 
 -- reading with the working memory lent
 module _ (lim : Limits) (work : List ℕ) {A : Type 0} (o : Outcome A) where
@@ -118,20 +129,24 @@ module _ (lim : Limits) (classes : Classes) (work : List ℕ) {A : Type 0} (o : 
   pub lent-loaded : lim .words ≤ length work → Loads classes → lent lim work (loaded classes o) ≡ o
   lent-loaded h l = lent-enough lim work (loaded classes o) h ∙ loaded-is classes o l
 
-  -- what was given in the end was read
-  lent-given : {B : Type 0} (next : A → Outcome B) (b : B) → (lent lim work (loaded classes o) >>= next) ≡ given b → (a : A) → o ≡ given a
-      → next a ≡ given b
-  lent-given next b e a p =
+  -- what was given in the end was read, under classes that load
+  lent-given : {B : Type 0} (next : A → Outcome B) (b : B) → (lent lim work (loaded classes o) >>= next) ≡ given b
+      → Loads classes × ((a : A) → o ≡ given a → next a ≡ given b)
+  lent-given next b e =
       let (x, q, n) = was-given (lent lim work (loaded classes o)) next b e in
       let under = had-no-fault (workTooShort lim work) WorkTooShort (loaded classes o) x q .1 in
-      let same = given-eq (sym (had-no-fault (not (loads classes)) BadClasses o x under .1) ∙ p) in
-      subst (λ (y : A). next y ≡ given b) same n
+      let (no-fault-found, read) = had-no-fault (not (loads classes)) BadClasses o x under in
+      (not-false (loads classes) no-fault-found, λ a p. subst (λ (y : A). next y ≡ given b) (given-eq (sym read ∙ p)) n)
 
--- what is written is a table's bytes, and stands at the front of the output
+-- what is written had room, as a table's bytes have, and stands at the front of the output
+room-bytes : (out bytes written : List ℕ) → roomFor out bytes ≡ given written → bytes ≡ written
+unfolding roomFor
+room-bytes out bytes written e =
+    given-eq (had-no-fault (ltb (length out) (length bytes)) OutputTooShort (given bytes) written e .1)
+
 written-bytes : (out : List ℕ) (g : Table) (bytes : List ℕ) → writtenTo out g ≡ given bytes → tableBytes g ≡ bytes
 unfolding writtenTo
-written-bytes out g bytes e =
-    given-eq (had-no-fault (ltb (length out) (length (tableBytes g))) OutputTooShort (given (tableBytes g)) bytes e .1)
+written-bytes out g bytes e = room-bytes out (tableBytes g) bytes e
 
 module _ (lim : Limits) (o : Outcome (List ℕ)) (out work : List ℕ) (left : After Numbers) (settled : left ≡ wrote lim o out work) where
   wrote-numbers : left .answer ≡ numbersOf length o
@@ -152,7 +167,7 @@ module _ (lim : Limits) (o : Outcome (List ℕ)) (out work : List ℕ) (left : A
       (sym (ap (λ (n : ℕ). take n (left .out)) value ∙ ap (take (length bytes)) front ∙ take-append-seam bytes (drop (length bytes) out)))
 
 module _ (lim : Limits) (classes : Classes) where
-  -- membership and kind
+  -- membership, kind and pages
   pub membership : (table : List ℕ) (format : Format) (document work : List ℕ) (left : After Numbers)
       → left ≡ answered lim bit (tableLetsIn lim classes table format document work) work → Membership lim classes table format document work left
   unfolding answered tableLetsIn tableReads numbersOf
@@ -180,6 +195,21 @@ module _ (lim : Limits) (classes : Classes) where
             (lent-loaded lim classes work (readTable lim classes table) h l ∙ p));
       }
 
+  pub paging : (table out work : List ℕ) (left : After Numbers) → left ≡ wrote lim (tablePages lim classes table out work) out work
+      → Paging lim classes table out work left
+  unfolding tablePages tableReads
+  paging table out work left s =
+      record {
+        settled = s;
+        comes-back = λ z g p.
+            let bytes = take (left .answer .value) (left .out) in
+            let (l, printed) =
+            lent-given lim classes work (readTable lim classes table) (λ g. roomFor out (pages pageLayout g)) bytes
+            (wrote-bytes lim (tablePages lim classes table out work) out work left s z) in
+            ap (textsShown pageLayout) (sym (room-bytes out (pages pageLayout g) bytes (printed g p)))
+            ∙ pages-come-back pageLayout (page-widths .0) (page-widths .1) (page-widths .2) l g (read-within lim classes table g p);
+      }
+
   module _ (agree : LimitsAgree lim) where
     pub sampling : (format : Format) (document out work : List ℕ) (left : After Numbers)
         → left ≡ wrote lim (documentSample lim classes format document out work) out work → Sampling lim classes format document out work left
@@ -191,7 +221,7 @@ module _ (lim : Limits) (classes : Classes) where
               let bytes = take (left .answer .value) (left .out) in
               let f =
               lent-given lim classes work (readDocument lim classes format document) (λ d. (sampleTable lim d >>= λ g. writtenTo out g)) bytes
-              (wrote-bytes lim (documentSample lim classes format document out work) out work left s z) d p in
+              (wrote-bytes lim (documentSample lim classes format document out work) out work left s z) .1 d p in
               let (g, q, w) = was-given (sampleTable lim d) (λ g. writtenTo out g) bytes f in
               ap (readTable lim classes) (sym (written-bytes out g bytes w))
               ∙ sample-read-back lim classes agree d (tree-within lim classes format document d p) g q
@@ -210,7 +240,7 @@ module _ (lim : Limits) (classes : Classes) where
         writes-least bytes e =
             let f =
             lent-given lim classes work (readTable lim classes old)
-            (λ g. (readAddition lim classes source addition >>= λ a. (widen lim kind g a >>= λ r. writtenTo out r))) bytes e g p in
+            (λ g. (readAddition lim classes source addition >>= λ a. (widen lim kind g a >>= λ r. writtenTo out r))) bytes e .1 g p in
             let (r, n, w) =
             was-given (widen lim kind g a) (λ r. writtenTo out r) bytes
             (sym (given-then (readAddition lim classes source addition) a (λ a. (widen lim kind g a >>= λ r. writtenTo out r)) q) ∙ f) in

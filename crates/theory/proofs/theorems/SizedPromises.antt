@@ -17,6 +17,7 @@ use Rattle.grammar.specs.Promises.{
   NamePlace,
   Membership,
   KindTest,
+  Paging,
   Sampling,
   Widening,
 }
@@ -40,6 +41,9 @@ module _ {lim lim′ : Limits} (same : lim ≡ lim′) {classes : Classes} where
 
   pub kind-sized : {kind : Kind} {table work : List ℕ} {left : After Numbers} → KindTest lim classes kind table work left → KindTest lim′ classes kind table work left
   kind-sized {kind} {table} {work} {left} w = subst (λ (l : Limits). KindTest l classes kind table work left) same w
+
+  pub paging-sized : {table out work : List ℕ} {left : After Numbers} → Paging lim classes table out work left → Paging lim′ classes table out work left
+  paging-sized {table} {out} {work} {left} w = subst (λ (l : Limits). Paging l classes table out work left) same w
 
   pub sampling-sized : {format : Format} {document out work : List ℕ} {left : After Numbers} → Sampling lim classes format document out work left
       → Sampling lim′ classes format document out work left

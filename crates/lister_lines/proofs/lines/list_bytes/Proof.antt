@@ -26,6 +26,7 @@ list-table-requires c κs =
     (some-roomier (within-large (limits .ensures .1)) (found .some), start .pre .1)
 
 returns : tie.Need-returns
+unfolding outcomeText
 returns c =
     let start = c .before .before .before .before .before .before .before .before .before .before .before .before .before in
     let limits = c .before .before .before .before .before .before .before .before .before .limits-of in

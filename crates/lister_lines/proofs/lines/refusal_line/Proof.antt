@@ -5,7 +5,7 @@ use mathlib.Core.List.{_++_}
 use mathlib.Core.Path.{subst}
 use borrow.Author.Needs.{needs}
 use Rattle.grammar.specs.Ascii.{ascii}
-use Rattle.grammar.specs.Listing.{decimal, outcomeText}
+use Rattle.grammar.specs.Listing.{decimal, refusalLine}
 use Rattle.writer.specs.Writing.{Put}
 use Rattle.writer.proofs.PutLaws.{put-join}
 use Rattle.lister_lines.proofs.DecimalLaws.{decimal-size, number-small}
@@ -35,7 +35,7 @@ put-byte-requires c κs =
     omega arith
 
 returns : tie.Need-returns
-unfolding outcomeText
+unfolding refusalLine
 returns c =
     subst (λ (k : ℕ). Put (c .before .before .before .before .before .before .before .before .before .before .before .before .before .before .before .args .text .now) 0 (ascii "refused " ++ decimal k ++ ascii "\n") (c .before .before .put-byte .last .0) (c .before .before .put-byte .result))
     (c .before .before .before .before .before .before .before .number-of .ensures)

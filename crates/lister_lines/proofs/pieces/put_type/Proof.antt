@@ -3,8 +3,8 @@ use native.Mathlib.Omega.{arith}
 use mathlib.Core.Path.{sym, ap}
 use lib.ListN.{length}
 use borrow.Author.Needs.{needs}
+use Rattle.theory.proofs.bytes.ListedTexts.{type-is}
 use Rattle.writer.proofs.PutLaws.{put-join}
-use Rattle.lister_lines.proofs.DecimalLaws.{type-is}
 use Rattle.lister_lines.proofs.PrintSteps.{put-as}
 use Rattle.lister_lines.proofs.pieces.put_type.Statement.{statement}
 use Rattle.lister_lines.proofs.pieces.put_type.Tie as tie
