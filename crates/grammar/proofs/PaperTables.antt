@@ -3,6 +3,7 @@ use Prim.Native.Nat.{ℕ}
 use mathlib.Core.List.{List, [], _∷_}
 use Rattle.grammar.specs.Content.{empty, type, sequence, choice, []ᶜ, _∷ᶜ_}
 use Rattle.grammar.specs.Tree.{Tree}
+use Rattle.grammar.specs.Stages.{emptyInput}
 use Rattle.grammar.specs.Table.{Table}
 use Rattle.grammar.proofs.Builders.{rule, startingAt0, tree}
 
@@ -24,7 +25,7 @@ p2Document = tree "a" []
 
 -- E: the end field alone
 unfoldable pub eBytes : List ℕ
-eBytes = 0x1F ∷ 0x00 ∷ 0x00 ∷ []
+eBytes = emptyInput .bytes
 
 -- P5: block[floor, lift], floor[door 1], lift[door 2], door 1[time], door 2[code], both leaves empty
 unfoldable pub p5Table : Table

@@ -1,4 +1,5 @@
--- What it is to be the least table of a kind that lets in all that an old table lets in and all that is added.
+-- What it is to be the least table of a kind over some documents, and over all that an old table lets in and all that is added.
+use mathlib.Core.Logic.{_⊎_}
 use Rattle.grammar.specs.Tree.{Tree, SameTree}
 use Rattle.grammar.specs.Table.{Table, DistinctNames}
 use Rattle.grammar.specs.Derivation.{LetsIn}
@@ -23,18 +24,20 @@ AddedItself (byDocument document) = λ d. SameTree document d
 abbrev pub LetsInAll : Table → (Tree → Type 0) → Type 0
 LetsInAll g Documents = (d : Tree) → Documents d → LetsIn g d
 
--- A rival is any table of the kind, of any size, that lets in the old and the added; no two of its labels have equal names. (A rule
--- whose label number is not among the labels derives nothing, so nothing is asked of it.)
-pub record Rival (kind : Kind) (old : Table) (addition : Addition) (rival : Table) : Type 0 where
+-- A rival is any table of the kind, of any size, that lets in these documents; no two of its labels have equal names. (A rule whose label
+-- number is not among the labels derives nothing, so nothing is asked of it.)
+pub record Rival (kind : Kind) (Documents : Tree → Type 0) (rival : Table) : Type 0 where
   pub names : DistinctNames rival
   pub of-kind : OfKind kind rival
-  pub keeps-old : LetsInAll rival (LetsIn old)
-  pub keeps-added : LetsInAll rival (Added addition)
+  pub keeps : LetsInAll rival Documents
 
--- Being of the kind, letting in the old and the added, an added document itself among these, and being least are one claim.
-pub record LeastWidening (kind : Kind) (old : Table) (addition : Addition) (result : Table) : Type 0 where
+-- The least table of a kind over some documents: being of the kind, letting in these, and being least are one claim.
+pub record Least (kind : Kind) (Documents : Tree → Type 0) (result : Table) : Type 0 where
   pub of-kind : OfKind kind result
-  pub keeps-old : LetsInAll result (LetsIn old)
-  pub keeps-added : LetsInAll result (Added addition)
+  pub keeps : LetsInAll result Documents
+  pub least : (rival : Table) → Rival kind Documents rival → LetsInAll rival (LetsIn result)
+
+-- A widening is least over the old and the added, and lets in an added document itself.
+pub record LeastWidening (kind : Kind) (old : Table) (addition : Addition) (result : Table) : Type 0 where
+  pub least : Least kind (λ d. LetsIn old d ⊎ Added addition d) result
   pub keeps-document : LetsInAll result (AddedItself addition)
-  pub least : (rival : Table) → Rival kind old addition rival → LetsInAll rival (LetsIn result)

@@ -39,3 +39,4 @@ pub mod ReadPages
 pub mod Answers
 pub mod Calls
 pub mod Promises
+pub mod Stages

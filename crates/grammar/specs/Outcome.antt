@@ -1,6 +1,7 @@
 -- The refusals with the paper's numbers, and outcomes: what was asked for, or the refusal.
 use Prim.Native.Nat.{ℕ}
 use mathlib.Core.Bool.{Bool, true, false}
+use mathlib.Core.Path.{_≡_}
 use Rattle.grammar.specs.declared.Refusal.{Refusal}
 use Rattle.grammar.specs.declared.Refusal.the-variants.{
   WorkTooShort,
@@ -64,6 +65,12 @@ number BadClasses = 18
 pub data Outcome (A : Type 0) : Type 0 where
   refused : Refusal → Outcome A
   given : A → Outcome A
+
+-- something was given, and it is as said
+pub record Gives {A : Type 0} (o : Outcome A) (Is : A → Type 0) : Type 0 where
+  pub thing : A
+  pub was-given : o ≡ given thing
+  pub is : Is thing
 
 infixl 20 _>>=_ _>>_
 -- go on with what was given; a refusal ends it

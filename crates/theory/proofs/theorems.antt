@@ -2,10 +2,12 @@ pub mod WidenLeast
 pub mod ResultWithin
 pub mod WideningTheorem
 pub mod LeastLaws
-pub mod WideningCorollaries
 pub mod AnswerNumbers
 pub mod PageTheorem
 pub mod CallPromises
+pub mod WidenedBytes
+pub mod StagesTheorem
+pub mod StageExamples
 pub mod SizedPromises
 pub mod AnyLimits
 pub mod PaperTheorem

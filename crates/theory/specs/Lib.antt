@@ -3,3 +3,4 @@ pub mod Conditions
 pub mod Marked
 pub mod MarkedWalk
 pub mod SamplePaths
+pub mod StageLaws

@@ -2,8 +2,9 @@
 use Prim.Native.Nat.{ℕ}
 use native.Mathlib.Omega.{arith}
 use mathlib.Core.Bool.{Bool, true, false}
-use mathlib.Core.Path.{_≡_, refl, ap}
-use Rattle.grammar.specs.Outcome.{Outcome, given, refused, _>>=_, _>>_, turnBack}
+use mathlib.Core.Logic.{_↔_}
+use mathlib.Core.Path.{_≡_, refl, sym, _∙_, ap, subst}
+use Rattle.grammar.specs.Outcome.{Outcome, given, refused, Gives, _>>=_, _>>_, turnBack}
 use Rattle.grammar.specs.declared.Refusal.{Refusal}
 
 pub given-then : {A B : Type 0} (o : Outcome A) (a : A) (next : A → Outcome B) → o ≡ given a → (o >>= next) ≡ next a
@@ -24,3 +25,16 @@ had-no-fault false r next b e = (refl, e)
 
 pub given-eq : {A : Type 0} {a b : A} → _≡_ {A = Outcome A} (given a) (given b) → a ≡ b
 given-eq e = cc
+
+-- only one thing was given
+pub gives-this : {A : Type 0} {o : Outcome A} (Is : A → Type 0) {a : A} → o ≡ given a → Gives o Is ↔ Is a
+gives-this Is {a} e =
+    (λ g. subst Is (given-eq (sym (g .was-given) ∙ e)) (g .is), λ i. record { thing = a; was-given = e; is = i })
+
+pub gives-then : {A B : Type 0} (o : Outcome A) (f : A → B) (Is : B → Type 0) → Gives (o >>= λ a. given (f a)) Is ↔ Gives o (λ a. Is (f a))
+gives-then o f Is = (
+  λ g.
+      let (a, p, q) = was-given o (λ a. given (f a)) (g .thing) (g .was-given) in
+      record { thing = a; was-given = p; is = subst Is (sym (given-eq q)) (g .is) },
+  λ g. record { thing = f (g .thing); was-given = given-then o (g .thing) (λ a. given (f a)) (g .was-given); is = g .is },
+)

@@ -2,10 +2,10 @@
 --     finished-least : LeastForm kind g form → LeastForm kind g (finished form)
 use mathlib.Core.Logic.{_↔_, Iff·trans}
 use Rattle.grammar.specs.Tree.{Tree}
-use Rattle.grammar.specs.Table.{Table, DistinctNames}
+use Rattle.grammar.specs.Table.{Table}
 use Rattle.grammar.specs.Derivation.{LetsIn}
 use Rattle.grammar.specs.Kinds.{Kind, local, singleType, OfKind}
-use Rattle.grammar.specs.Least.{LetsInAll}
+use Rattle.grammar.specs.Least.{Least}
 use Rattle.grammar.specs.UsedLabels.{withUsedLabels}
 use Rattle.grammar.specs.Tidy.{tidyTable}
 use Rattle.theory.specs.Conditions.{Labelled}
@@ -17,12 +17,10 @@ use Rattle.theory.proofs.steps.UsedLabelsDocuments.{
   used-labels-labelled,
 }
 
--- of the kind, letting in all that g lets in, and least so
+-- a labelled table, the least of the kind over the documents of g
 pub record LeastForm (kind : Kind) (g form : Table) : Type 0 where
   pub labelled : Labelled form
-  pub of-kind : OfKind kind form
-  pub keeps : LetsInAll form (LetsIn g)
-  pub least : (rival : Table) → DistinctNames rival → OfKind kind rival → LetsInAll rival (LetsIn g) → LetsInAll rival (LetsIn form)
+  pub least : Least kind (LetsIn g) form
 
 abbrev pub finished : Table → Table
 finished g = tidyTable (withUsedLabels g)
@@ -41,7 +39,10 @@ module _ (kind : Kind) (g form : Table) (f : LeastForm kind g form) where
   finished-least =
       record {
         labelled = tidy-labelled (withUsedLabels form) (used-labels-labelled form (f .labelled));
-        of-kind = finished-kind kind (f .of-kind);
-        keeps = λ d l. finished-documents d .1 (f .keeps d l);
-        least = λ rival names of-kind keeps d l. f .least rival names of-kind keeps d (finished-documents d .0 l);
+        least =
+            record {
+              of-kind = finished-kind kind (f .least .of-kind);
+              keeps = λ d l. finished-documents d .1 (f .least .keeps d l);
+              least = λ rival r d l. f .least .least rival r d (finished-documents d .0 l);
+            };
       }

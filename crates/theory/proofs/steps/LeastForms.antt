@@ -25,15 +25,21 @@ unfolding form
 least-form lim local g reduced few =
     record {
       labelled = local-form-labelled g;
-      of-kind = local-form-local g;
-      keeps = local-form-keeps g reduced;
-      least = local-form-least g reduced;
+      least =
+          record {
+            of-kind = local-form-local g;
+            keeps = local-form-keeps g reduced;
+            least = λ rival r. local-form-least g reduced rival (r .names) (r .of-kind) (r .keeps);
+          };
     }
 least-form lim singleType g reduced few =
     let enough = subst (λ (n : ℕ). n ≤ lim .types) (single-type-form-length lim g) few in
     record {
       labelled = single-type-form-labelled lim g reduced;
-      of-kind = single-type-form-kind lim g reduced enough;
-      keeps = single-type-form-keeps lim g reduced enough;
-      least = single-type-form-least lim g reduced enough;
+      least =
+          record {
+            of-kind = single-type-form-kind lim g reduced enough;
+            keeps = single-type-form-keeps lim g reduced enough;
+            least = λ rival r. single-type-form-least lim g reduced enough rival (r .names) (r .of-kind) (r .keeps);
+          };
     }

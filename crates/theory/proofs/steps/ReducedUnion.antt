@@ -5,7 +5,7 @@
 --     union-least         a table of a kind that lets in both tables' documents lets in those of the reduced union
 --     union-nothing       it has no start just where neither lets in a document
 use mathlib.Core.List.{[]}
-use mathlib.Core.Logic.{_↔_, _⊎_, ⊎-elim}
+use mathlib.Core.Logic.{_↔_, _⊎_}
 use mathlib.Core.Path.{_≡_}
 use Rattle.grammar.specs.Limits.{Limits}
 use Rattle.grammar.specs.Names.{Classes}
@@ -13,7 +13,7 @@ use Rattle.grammar.specs.Tree.{Tree}
 use Rattle.grammar.specs.Table.{Table, DistinctNames}
 use Rattle.grammar.specs.Derivation.{LetsIn}
 use Rattle.grammar.specs.Kinds.{Kind, local, singleType, OfKind, SingleType}
-use Rattle.grammar.specs.Least.{LetsInAll}
+use Rattle.grammar.specs.Least.{LetsInAll, Rival}
 use Rattle.grammar.specs.WithinLimits.{TableWithin}
 use Rattle.grammar.specs.Unite.{unite}
 use Rattle.grammar.specs.Normalise.{normalise}
@@ -84,12 +84,11 @@ module _ (lim : Limits) (classes : Classes) (old addition : Table) (old-within :
   union-keeps d l = reduce-documents normal normal-labelled d .1 (normal-keeps d l)
 
   -- a local table is single-type
-  pub union-least : (kind : Kind) (rival : Table) → DistinctNames rival → OfKind kind rival → LetsInAll rival (LetsIn old)
-      → LetsInAll rival (LetsIn addition) → LetsInAll rival (LetsIn (reducedUnion lim old addition))
+  pub union-least : (kind : Kind) (rival : Table) → Rival kind (λ d. LetsIn old d ⊎ LetsIn addition d) rival
+      → LetsInAll rival (LetsIn (reducedUnion lim old addition))
   unfolding reducedUnion
-  union-least kind rival names of-kind keeps-old keeps-added =
-      join-least united united-labelled rival names (single kind of-kind)
-      (λ d l. ⊎-elim (keeps-old d) (keeps-added d) (united-documents d .0 l))
+  union-least kind rival r =
+      join-least united united-labelled rival (r .names) (single kind (r .of-kind)) (λ d l. r .keeps d (united-documents d .0 l))
     where
       single : (kind : Kind) → OfKind kind rival → SingleType rival
       single local o = local-single-type rival o

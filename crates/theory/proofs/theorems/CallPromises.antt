@@ -130,13 +130,19 @@ module _ (lim : Limits) (classes : Classes) (work : List ℕ) {A : Type 0} (o : 
   lent-loaded h l = lent-enough lim work (loaded classes o) h ∙ loaded-is classes o l
 
   -- what was given in the end was read, under classes that load
-  lent-given : {B : Type 0} (next : A → Outcome B) (b : B) → (lent lim work (loaded classes o) >>= next) ≡ given b
-      → Loads classes × ((a : A) → o ≡ given a → next a ≡ given b)
-  lent-given next b e =
+  lent-read : {B : Type 0} (next : A → Outcome B) (b : B) → (lent lim work (loaded classes o) >>= next) ≡ given b
+      → Loads classes × ((a : A) × (o ≡ given a) × (next a ≡ given b))
+  lent-read next b e =
       let (x, q, n) = was-given (lent lim work (loaded classes o)) next b e in
       let under = had-no-fault (workTooShort lim work) WorkTooShort (loaded classes o) x q .1 in
       let (no-fault-found, read) = had-no-fault (not (loads classes)) BadClasses o x under in
-      (not-false (loads classes) no-fault-found, λ a p. subst (λ (y : A). next y ≡ given b) (given-eq (sym read ∙ p)) n)
+      (not-false (loads classes) no-fault-found, (x, read, n))
+
+  lent-given : {B : Type 0} (next : A → Outcome B) (b : B) → (lent lim work (loaded classes o) >>= next) ≡ given b
+      → Loads classes × ((a : A) → o ≡ given a → next a ≡ given b)
+  lent-given next b e =
+      let (l, (x, read, n)) = lent-read next b e in
+      (l, λ a p. subst (λ (y : A). next y ≡ given b) (given-eq (sym read ∙ p)) n)
 
 -- what is written had room, as a table's bytes have, and stands at the front of the output
 room-bytes : (out bytes written : List ℕ) → roomFor out bytes ≡ given written → bytes ≡ written
@@ -210,6 +216,45 @@ module _ (lim : Limits) (classes : Classes) where
             ∙ pages-come-back pageLayout (page-widths .0) (page-widths .1) (page-widths .2) l g (read-within lim classes table g p);
       }
 
+  -- a widening of its inputs' bytes, once working memory and classes are lent
+  abbrev pub fromBytes : Kind → Source → List ℕ → List ℕ → List ℕ → Outcome (List ℕ)
+  fromBytes kind source old addition out =
+      readTable lim classes old
+      >>= λ g. (readAddition lim classes source addition >>= λ a. (widen lim kind g a >>= λ r. writtenTo out r))
+
+  pub widened-lent : (kind : Kind) (source : Source) (old addition out work : List ℕ) → lim .words ≤ length work → Loads classes
+      → widened lim classes kind source old addition out work ≡ fromBytes kind source old addition out
+  unfolding widened tableReads
+  widened-lent kind source old addition out work h l =
+      ap
+      (λ (o : Outcome Table). o >>= λ g. (readAddition lim classes source addition >>= λ a. (widen lim kind g a >>= λ r. writtenTo out r)))
+      (lent-loaded lim classes work (readTable lim classes old) h l)
+
+  -- a widening that gave a table read both of its inputs
+  pub widening-read : (kind : Kind) (source : Source) (old addition out work : List ℕ) (left : After Numbers)
+      → Widening lim classes kind source old addition out work left → left .answer .refusal ≡ 0
+      → ((g : Table) × (readTable lim classes old ≡ given g)) × ((a : Addition) × (readAddition lim classes source addition ≡ given a))
+  unfolding widened tableReads
+  widening-read kind source old addition out work left w z =
+      let bytes = take (left .answer .value) (left .out) in
+      let (l, (g, p, n)) =
+      lent-read lim classes work (readTable lim classes old)
+      (λ g. (readAddition lim classes source addition >>= λ a. (widen lim kind g a >>= λ r. writtenTo out r))) bytes
+      (wrote-bytes lim (widened lim classes kind source old addition out work) out work left (w .settled) z) in
+      let (a, q, m) = was-given (readAddition lim classes source addition) (λ a. (widen lim kind g a >>= λ r. writtenTo out r)) bytes n in
+      ((g, p), (a, q))
+
+  -- and so did making a sample
+  pub sampling-read : (format : Format) (document out work : List ℕ) (left : After Numbers) → Sampling lim classes format document out work left
+      → left .answer .refusal ≡ 0 → (d : Tree) × (readDocument lim classes format document ≡ given d)
+  unfolding documentSample documentReads
+  sampling-read format document out work left w z =
+      let (l, (d, p, n)) =
+      lent-read lim classes work (readDocument lim classes format document) (λ d. (sampleTable lim d >>= λ g. writtenTo out g))
+      (take (left .answer .value) (left .out))
+      (wrote-bytes lim (documentSample lim classes format document out work) out work left (w .settled) z) in
+      (d, p)
+
   module _ (agree : LimitsAgree lim) where
     pub sampling : (format : Format) (document out work : List ℕ) (left : After Numbers)
         → left ≡ wrote lim (documentSample lim classes format document out work) out work → Sampling lim classes format document out work left
@@ -249,11 +294,11 @@ module _ (lim : Limits) (classes : Classes) where
 
         -- with enough working memory the outcome is that of widening
         widens : lim .words ≤ length work → Loads classes → outcome ≡ (widen lim kind g a >>= writtenTo out)
-        unfolding widened tableReads
         widens h l =
-            ap
+            widened-lent kind source old addition out work h l
+            ∙ ap
             (λ (o : Outcome Table). o >>= λ g. (readAddition lim classes source addition >>= λ a. (widen lim kind g a >>= λ r. writtenTo out r)))
-            (lent-loaded lim classes work (readTable lim classes old) h l ∙ p)
+            p
             ∙ ap (λ (o : Outcome Addition). o >>= λ a. (widen lim kind g a >>= λ r. writtenTo out r)) q
 
         -- 13 comes from widening alone

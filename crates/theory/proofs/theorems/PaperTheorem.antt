@@ -10,12 +10,12 @@ use Rattle.grammar.specs.Table.{Table, emptyTable}
 use Rattle.grammar.specs.Derivation.{LetsIn}
 use Rattle.grammar.specs.Kinds.{Kind, local, singleType}
 use Rattle.grammar.specs.Least.{byTable}
-use Rattle.grammar.specs.Outcome.{Outcome, given, _>>=_}
+use Rattle.grammar.specs.Outcome.{given}
 use Rattle.grammar.specs.Answers.{numberAfter}
 use Rattle.grammar.specs.ReadTable.{readTable}
 use Rattle.grammar.specs.ReadDocument.{readDocumentFile}
 use Rattle.grammar.specs.Widen.{widen}
-use Rattle.grammar.specs.Calls.{tableReads, readAddition, widened, writtenTo}
+use Rattle.grammar.specs.Calls.{widened}
 use Rattle.grammar.specs.declared.Source.the-variants.{Table as aTable}
 use Rattle.grammar.proofs.PaperTables.{
   p1Bytes,
@@ -36,7 +36,7 @@ use Rattle.grammar.proofs.PaperTables.{
 use Rattle.grammar.proofs.PaperCases as computed
 use Rattle.grammar.proofs.ClassRules.{ascii-load}
 use Rattle.theory.proofs.matching.Membership.{is-let-in, not-let-in}
-use Rattle.theory.proofs.theorems.CallPromises.{lent-loaded}
+use Rattle.theory.proofs.theorems.CallPromises.{widened-lent}
 
 -- the table that widening g by E to a kind gives
 pub record WidenedByE (kind : Kind) (g result : Table) : Type 0 where
@@ -60,13 +60,8 @@ pub record PaperTheorem : Type 0 where
 -- E by E, with enough working memory
 e-by-e : (kind : Kind) (out work : List ℕ) → 16384 ≤ length work
     → numberAfter (widened standard asciiClasses kind aTable eBytes eBytes out work) ≡ 13
-unfolding widened tableReads standard
-e-by-e kind out work h =
-    ap
-    (λ (o : Outcome Table).
-    numberAfter (o >>= λ g. (readAddition standard asciiClasses aTable eBytes >>= λ a. (widen standard kind g a >>= λ r. writtenTo out r))))
-    (lent-loaded standard asciiClasses work (readTable standard asciiClasses eBytes) h ascii-load)
-    ∙ both kind
+unfolding standard
+e-by-e kind out work h = ap numberAfter (widened-lent standard asciiClasses kind aTable eBytes eBytes out work h ascii-load) ∙ both kind
   where
     both : (kind : Kind) → numberAfter (computed.eByE kind out) ≡ 13
     both local = computed.p4-local out

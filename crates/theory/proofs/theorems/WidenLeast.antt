@@ -6,7 +6,7 @@ use Prim.Native.Nat.{ℕ, _≤_}
 use native.Mathlib.Omega.{arith}
 use mathlib.Core.Bool.{Bool, true, false, false≢true}
 use mathlib.Core.List.{List, [], _∷_}
-use mathlib.Core.Logic.{_↔_, _⊎_, inl, inr}
+use mathlib.Core.Logic.{_↔_, _⊎_, inr}
 use mathlib.Core.Path.{_≡_, refl, sym, subst}
 use lib.ListN.{length}
 use Rattle.grammar.specs.Limits.{Limits}
@@ -72,25 +72,21 @@ module _ (lim : Limits) (classes : Classes) (kind : Kind) (old addition : Table)
       let f = least-form lim kind reduced (reduced-union lim classes old addition old-within addition-within) (w .few) in
       subst (λ (g : Table). LeastForm kind reduced g) (sym (w .made)) (finished-least kind reduced (form lim kind reduced) f)
 
-  in-union : (d : Tree) → LetsIn old d ⊎ LetsIn addition d → LetsIn reduced d
-  in-union d = union-keeps lim classes old addition old-within addition-within d
-
   pub widened-by-table : (result : Table) → widenByTable lim kind old addition ≡ given result
       → LeastWidening kind old (byTable addition) result
   widened-by-table result e =
-      let f = result-least result e in
+      let f = result-least result e .least in
       record {
-        of-kind = f .of-kind;
-        keeps-old = λ d l. f .keeps d (in-union d (inl l));
-        keeps-added = λ d l. f .keeps d (in-union d (inr l));
-        keeps-document = λ d n. absurd n;
         least =
-            λ rival r d l.
-            f .least rival (r .names) (r .of-kind)
-            (union-least lim classes old addition old-within addition-within kind rival (r .names) (r .of-kind) (r .keeps-old)
-            (r .keeps-added))
-            d
-            l;
+            record {
+              of-kind = f .of-kind;
+              keeps = λ d l. f .keeps d (union-keeps lim classes old addition old-within addition-within d l);
+              least =
+                  λ rival r.
+                  let keeps = union-least lim classes old addition old-within addition-within kind rival r in
+                  f .least rival (record { names = r .names; of-kind = r .of-kind; keeps = keeps });
+            };
+        keeps-document = λ d n. absurd n;
       }
 
   -- 13 is given just where neither table lets in a document
@@ -127,12 +123,4 @@ module _ (lim : Limits) (classes : Classes) (kind : Kind) (old : Table) (d : Tre
       let w =
       subst (λ (g : Table). LeastWidening kind old (byTable g) result) (sampled lim d (a .0) (a .1))
       (widened-by-table lim classes kind old (a .0) old-within within result (a .2)) in
-      record {
-        of-kind = w .of-kind;
-        keeps-old = w .keeps-old;
-        keeps-added = w .keeps-added;
-        keeps-document = λ e same. w .keeps-added e (same-let-in (sample-lets-in d) same);
-        least =
-            λ rival r.
-            w .least rival (record { names = r .names; of-kind = r .of-kind; keeps-old = r .keeps-old; keeps-added = r .keeps-added });
-      }
+      record { least = w .least; keeps-document = λ e same. w .least .keeps e (inr (same-let-in (sample-lets-in d) same)) }

@@ -41,9 +41,9 @@ module _ (lim : Limits) (classes : Classes) (agree : LimitsAgree lim) (kind : Ki
       let old-within = read-within lim classes oldBytes old p in
       let addition-within = read-within lim classes addedBytes addition q in
       record {
-        result = result;
-        reads = result-read-back lim classes agree kind old addition old-within addition-within result e;
-        least = widened-by-table lim classes kind old addition old-within addition-within result e;
+        thing = result;
+        was-given = result-read-back lim classes agree kind old addition old-within addition-within result e;
+        is = widened-by-table lim classes kind old addition old-within addition-within result e;
       }
 
   by-document : (format : Format) (d : Tree) (result : Table) → readDocument lim classes format addedBytes ≡ given d
@@ -53,9 +53,9 @@ module _ (lim : Limits) (classes : Classes) (agree : LimitsAgree lim) (kind : Ki
       let old-within = read-within lim classes oldBytes old p in
       let within = tree-within lim classes format addedBytes d q in
       record {
-        result = result;
-        reads = document-result-read-back lim classes agree d within kind old old-within result e;
-        least = widened-by-document lim classes kind old d old-within (sample-within lim classes agree d within) result e;
+        thing = result;
+        was-given = document-result-read-back lim classes agree d within kind old old-within result e;
+        is = widened-by-document lim classes kind old d old-within (sample-within lim classes agree d within) result e;
       }
 
   thirteen-by-table : (addition : Table) → readTable lim classes addedBytes ≡ given addition
