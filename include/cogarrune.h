@@ -191,7 +191,12 @@ uint64_t cogarrune_sample(uint32_t size, const uint8_t *classes, size_t classes_
 
 /* Writes the least local (or single-type) table that lets in all that the old table and the addition let in. Value as for
  * cogarrune_sample. A document is added through its sample: the result lets in all that the sample lets in, the document among them, and
- * is least over the old table and the sample. */
+ * is least over the old table and the sample.
+ *
+ * A result can be widened again. As long as every call gives a table, the stages don't matter: in whatever order the additions come, and
+ * also as one table that lets in just what they do, the last result lets in the same documents and is least over the first table and
+ * all of them. Its bytes may differ, since types and labels are numbered as they are met. Widening a result by the empty table,
+ * 1F 00 00, changes no document let in. */
 uint64_t cogarrune_widen_local_by_table(uint32_t size, const uint8_t *classes, size_t classes_length, const uint8_t *old,
                                         size_t old_length, const uint8_t *addition, size_t addition_length, uint8_t *out,
                                         size_t out_length, uint32_t *work, size_t work_length);

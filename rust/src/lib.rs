@@ -13,6 +13,10 @@
 //! A document is added to a table through its [`sample`], in which a run of neighbours of one name is one or more of it: a list of nine
 //! cards lets in ten.
 //!
+//! A result can be widened again. As long as every call gives a table, the stages don't matter: in whatever order the additions come, and
+//! also as one table that lets in just what they do, the last result lets in the same documents and is least over the first table and
+//! all of them. Its bytes may differ, since types and labels are numbered as they are met.
+//!
 //! A rule with tag 13 (hexadecimal) in place of 12 is for nodes that may hold text, and a node with tag 32 in place of 30 does hold some;
 //! no node of XML text does. A node with text needs a rule for text; one without takes either. Widening keeps such marks: a result's
 //! rule is for text if one of the rules behind it is that has a document of its own.
