@@ -36,7 +36,7 @@ use Rattle.documents.specs.DocumentNodes.{DocumentReads, nodesIn}
 use Rattle.documents.specs.declared.documents.DocumentRead.{DocumentRead}
 use Rattle.documents.proofs.DocumentTrees.{complete}
 use Rattle.documents.proofs.DocumentAnswers.{document-tree, nodes-read, document-unread}
-use Rattle.validator.specs.KnownDocument.{KnownNodes}
+use Rattle.node_types.specs.KnownDocument.{KnownNodes}
 use Rattle.validator.specs.Deciding.{letsInOf, isOfKindOf}
 
 -- what a call leaves, by its outcome where there is enough working memory

@@ -1,5 +1,1 @@
-pub mod NodeTypes
-pub mod KnownDocument
 pub mod Deciding
-pub mod Chains
-pub mod LabelKeys

@@ -1,5 +1,4 @@
 // Reading the inputs of a call, and deciding.
-use crate::membership::lets_in_read;
 use documents::documents::read_nodes;
 use grammar::Format;
 use grammar::Reading;
@@ -8,6 +7,7 @@ use grammar::SizeLimits;
 use grammar::Verdict;
 use kinds::kinds::local_table;
 use kinds::kinds::single_type_table;
+use node_types::membership::lets_in_read;
 use reader::classes::classes_load;
 use reader::index::INDEX;
 use reader::tables::read_table;

@@ -12,7 +12,7 @@ use Rattle.theory.proofs.tables.RoomierLimits.{within-large}
 use Rattle.reader.proofs.TableFoundLaws.{table-found, some-roomier}
 use Rattle.documents.specs.declared.documents.DocumentRead.{DocumentRead}
 use Rattle.documents.specs.declared.documents.NodesRead.{NodesRead}
-use Rattle.validator.specs.KnownDocument.{indexOf}
+use Rattle.node_types.specs.KnownDocument.{indexOf}
 use Rattle.validator.proofs.VerdictLaws as laws
 use Rattle.validator.proofs.deciding.read_and_decide.Statement.{statement}
 use Rattle.validator.proofs.deciding.read_and_decide.Tie as tie
