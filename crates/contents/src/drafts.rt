@@ -4,7 +4,7 @@ use crate::limits::HEAD;
 use crate::limits::OPERANDS;
 use crate::limits::PRINTED;
 use crate::limits::PRINTS;
-use reader::numbers::wide;
+use basis::numbers::wide;
 use reader::operators::CHOICE_BYTE;
 use reader::operators::NONE_BYTE;
 ghost use Prim.Native.Nat.{_+_, _-_, _/_, _%_, _≤_};

@@ -1,6 +1,6 @@
 // The limits of results, once for the code of this crate. crates/grammar/specs/Limits.antt has them for the definitions.
-use reader::limits::CONTENT;
-use reader::limits::NESTING;
+use basis::limits::CONTENT;
+use basis::limits::NESTING;
 
 // Operands of a choice.
 pub const OPERANDS: usize = 255;

@@ -32,7 +32,7 @@ use Rattle.grammar.specs.declared.Refusal.the-variants.{BadField, BadName, BadT
 use Rattle.grammar.specs.declared.Reading.the-variants.{Readable, Refused as Unreadable}
 use Rattle.theory.proofs.lists.BoolLaws.{or-false}
 use Rattle.theory.proofs.bytes.FieldBytes.{fields-empty, fields-tag, fields-half, fields-front, fields-past}
-use Rattle.reader.proofs.FieldReading.{slice-part}
+use Rattle.basis.proofs.FromPlaces.{slice-part}
 use Rattle.documents.specs.DocumentNodes.{shapeOf, nodeFrom, outcomeOf}
 use Rattle.documents.specs.DocumentSteps.{endAnswer, badCounts, Sized, restOf, restWith}
 

@@ -31,7 +31,7 @@ use Rattle.grammar.specs.ReadText.{
 }
 use Rattle.theory.proofs.lists.BoolLaws.{and-right}
 use Rattle.theory.proofs.bytes.TextTags.{tags-end, tags-stray, tags-broken, tags-next}
-use Rattle.reader.proofs.FieldReading.{from-place}
+use Rattle.basis.proofs.FromPlaces.{from-place}
 use Rattle.documents.specs.declared.text.Tag.{Tag as TagHere}
 use Rattle.documents.specs.declared.text.Tag.the-variants.{NoMore, NotAllowed, Element, End}
 use Rattle.documents.specs.TextSteps.{endsTag, Forward, NameEnd, TagPlaces, elementTag, FrontSays, TagSays}

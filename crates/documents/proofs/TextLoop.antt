@@ -45,7 +45,7 @@ use Rattle.grammar.specs.declared.Reading.{Reading}
 use Rattle.grammar.specs.declared.Reading.the-variants.{Readable, Refused as Unreadable}
 use Rattle.theory.proofs.bytes.TextElements.{nodesRead, nodesOfRoot, nodesOpened}
 use Rattle.theory.proofs.bytes.TextWithin.{Allowed, element-was, kept-levels}
-use Rattle.reader.proofs.FieldReading.{slice-taken}
+use Rattle.basis.proofs.FromPlaces.{slice-taken}
 use Rattle.documents.specs.declared.text.Tag.{Tag as TagHere}
 use Rattle.documents.specs.declared.text.Tag.the-variants.{Element as ElementHere, End}
 use Rattle.documents.specs.DocumentNodes.{firstNodes, NodesIndexed, NodesFound, outcomeOf}

@@ -11,7 +11,7 @@ use lib.Seq.{slice, slice-empty, slice-cons}
 use borrow.Author.Tests.{ltb-true, ltb-false, leb-true, leb-false, eq-eqb, ne-eqb}
 use Rattle.grammar.specs.Lists.{sameNumbers}
 use Rattle.grammar.specs.ReadText.{isWhite, endsName, pastWhite, nameFront, pastName}
-use Rattle.reader.proofs.FieldReading.{from-place}
+use Rattle.basis.proofs.FromPlaces.{from-place}
 use Rattle.documents.specs.TextSteps.{NameEnd}
 
 module _ (s : List ℕ) (i : ℕ) where

@@ -1,13 +1,13 @@
 // The public call that reads a document. If it is lent too few words, it changes none; otherwise the words that it needs are zero after
 // it, and words beyond them never change.
 use crate::documents::read_document;
+use basis::classes::classes_load;
+use basis::limits::limits_of;
+use basis::work::clear_work;
 use grammar::Format;
 use grammar::Reading;
 use grammar::Refusal;
 use grammar::Size;
-use reader::classes::classes_load;
-use reader::limits::limits_of;
-use reader::work::clear_work;
 ghost use mathlib.Core.List.{[]};
 ghost use Rattle.grammar.specs.LimitSets.{sizeLimits};
 ghost use Rattle.grammar.specs.Answers.{readingNumbers};

@@ -13,13 +13,13 @@ use crate::documents::NodesRead;
 use crate::documents::put_node;
 use crate::text::Tag;
 use crate::text::tag_at;
+use basis::limits::CHILDREN;
+use basis::limits::NAME;
+use basis::names::is_name;
+use basis::numbers::wider;
 use grammar::Reading;
 use grammar::Refusal;
 use grammar::SizeLimits;
-use reader::limits::CHILDREN;
-use reader::limits::NAME;
-use reader::names::is_name;
-use reader::numbers::wider;
 
 // The same bytes.
 fn same_bytes(a: &[u8], b: &[u8]) -> bool

@@ -4,12 +4,12 @@ ghost use Rattle.grammar.specs.Answers.{refusedBy, readingNumbers, verdictNumbe
 ghost use Prim.Native.Nat.{ℕ};
 ghost use Rattle.reader.specs.declared.label_places.LabelFound.the-variants.{At};
 ghost use Rattle.exports.specs.Exported.{told, placeNumbers, ShortName};
+use basis::refusals::number_of;
 use grammar::Reading;
 use grammar::Refusal;
 use grammar::Verdict;
 use grammar::Written;
 use reader::label_places::LabelFound;
-use reader::refusals::number_of;
 
 // A refusal.
 pub fn of_refusal(refusal: Refusal) -> u64

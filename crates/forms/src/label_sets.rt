@@ -2,7 +2,7 @@
 use crate::set_words::Counted;
 use crate::set_words::put_some;
 use crate::set_words::set_number;
-use reader::numbers::wide;
+use basis::numbers::wide;
 use sets::eight::Set8;
 use union::fruitful::put_if;
 use union::productive::both;

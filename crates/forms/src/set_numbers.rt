@@ -1,6 +1,6 @@
 // The lists of the fruitful pairs by type, with the numbers of sets in place of pairs.
 use crate::label_sets::Numbers;
-use reader::numbers::wide;
+use basis::numbers::wide;
 use sets::eight::Set8;
 use union::lists::Lists;
 use union::lists::TypeLists;

@@ -2,7 +2,7 @@
 use crate::label_sets::labelled_pairs;
 use crate::set_words::Counted;
 use crate::set_words::add_set;
-use reader::numbers::wide;
+use basis::numbers::wide;
 use reducing::meeting::Met;
 use reducing::meeting::met_in_set;
 use reducing::meeting::set_of;

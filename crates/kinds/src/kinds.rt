@@ -1,6 +1,8 @@
 // The kinds of a table, by its index: local, and single-type.
 //
 // The types of one content, or the starts, are a set at the front of the lent words. Eight words have a bit for each value of a byte.
+use basis::numbers::wide;
+use basis::work::clear;
 use reader::index::content_from;
 use reader::index::content_to;
 use reader::index::rule_count;
@@ -8,11 +10,9 @@ use reader::index::rule_label;
 use reader::index::rule_type;
 use reader::index::start_count;
 use reader::index::start_type;
-use reader::numbers::wide;
 use reader::operators::CHOICE;
 use reader::operators::SEQUENCE;
 use reader::operators::TYPE;
-use reader::work::clear;
 use sets::words::has;
 use sets::words::put;
 ghost use mathlib.Core.Path.{_≡_};

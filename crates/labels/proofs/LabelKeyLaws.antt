@@ -14,7 +14,7 @@ use Rattle.grammar.specs.Names.{Name, smallLetter, sameName, SameName}
 use Rattle.grammar.specs.Table.{Table}
 use Rattle.theory.proofs.lists.BoolLaws.{false-of, passes-or-fails}
 use Rattle.theory.proofs.trees.NameLaws.{name-small-letters}
-use Rattle.reader.proofs.LetterLaws.{small-remainder}
+use Rattle.basis.proofs.LetterLaws.{small-remainder}
 use Rattle.reader.specs.TableIndex.{part, labelFrom, labelTo, labelCount, Indexes}
 use Rattle.labels.specs.Chains.{Keyed, PlaceFrom}
 use Rattle.labels.specs.LabelKeys.{nameKey, labelKey, LabelsChained}

@@ -1,7 +1,7 @@
 // Places below 128 that have keys, chained by their keys: from each place to the next one that has its key, and to the first of each key.
+use basis::numbers::wide;
 use reader::index::rule_count;
 use reader::index::rule_label;
-use reader::numbers::wide;
 ghost use mathlib.Core.Path.{_≡_};
 ghost use Prim.Native.Nat.{ℕ, _<_};
 ghost use lib.ListN.{getD};

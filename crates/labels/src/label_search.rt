@@ -1,10 +1,10 @@
 // The label that has a name, sought only among the labels that have the name's key.
 use crate::chains::chained;
+use basis::names::same_name;
+use basis::numbers::wide;
 use reader::index::label_count;
 use reader::index::label_from;
 use reader::index::label_to;
-use reader::names::same_name;
-use reader::numbers::wide;
 ghost use mathlib.Core.Path.{_≡_};
 ghost use Prim.Native.Nat.{ℕ, _<_};
 ghost use lib.ListN.{getD};

@@ -1,4 +1,6 @@
 // What the lister prints for the files of the folder where it runs.
+use basis::ascii::ASCII;
+use basis::limits::INPUT;
 use files::read_file;
 use grammar::Format;
 use grammar::Size;
@@ -7,8 +9,6 @@ use libc::STDOUT_FILENO;
 use lister_lines::limits::TEXT;
 use lister_lines::lines::list_bytes;
 use lister_lines::lines::refusal_line;
-use reader::ascii::ASCII;
-use reader::limits::INPUT;
 use widening::calls::widen_local_by_document;
 ghost use Prim.Native.Nat.{_≤_};
 ghost use lib.ListN.{length};

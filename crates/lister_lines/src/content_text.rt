@@ -2,7 +2,7 @@
 use crate::pieces::put_byte;
 use crate::pieces::put_bytes;
 use crate::pieces::put_type;
-use reader::numbers::wide;
+use basis::numbers::wide;
 use reader::operators::CHOICE;
 use reader::operators::EMPTY;
 use reader::operators::NONE;

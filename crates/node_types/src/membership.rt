@@ -2,6 +2,9 @@
 //
 // The nodes are gone through from the last to the first, with a stack of type sets in the lent words: a node takes the sets of its
 // children from the top, in order, and leaves its own. That one is made in the words before them, and then takes the last one's place.
+use basis::limits::CONTENT;
+use basis::numbers::wide;
+use basis::numbers::wider;
 use labels::chains::chained_rules;
 use labels::label_search::chained_labels;
 use labels::label_search::label_of;
@@ -11,9 +14,6 @@ use reader::index::rule_count;
 use reader::index::rule_type;
 use reader::index::start_count;
 use reader::index::start_type;
-use reader::limits::CONTENT;
-use reader::numbers::wide;
-use reader::numbers::wider;
 use reader::rules::for_text;
 use sets::four::Set4;
 use sets::words::has;

@@ -10,7 +10,7 @@ use mathlib.Core.Path.{_≡_, refl, sym, _∙_, ap, subst}
 use lib.ListN.{length, getD, take, drop, set, replicate}
 use lib.Seq.{take-suc, take-all, getD-take, getD-drop}
 use Rattle.grammar.specs.Listing.{Text}
-use Rattle.grammar.specs.Pages.{space, padded, lineOf}
+use Rattle.grammar.specs.Pages.{space, lineOf}
 use Rattle.theory.proofs.bytes.PageRows.{line-size}
 use Rattle.writer.specs.Writing.{Put}
 use Rattle.writer.proofs.PutLaws.{put-join, put-one}

@@ -1,11 +1,11 @@
 -- No table takes more pages than so many:
 --   rows-most : the rows of a table's rules ; pages-most : the bytes of its pages, by size ; with-most : of what the call answers
 -- A rule of a content of n bytes takes at most 3 + 67 (n - 1) / 1012 rows: 3, by its name, for one byte, and 70 for 1,013 bytes.
-use Prim.Native.Nat.{ℕ, zero, suc, _+_, _*_, _-_, _/_, _%_, _≤_, _<_, max}
+use Prim.Native.Nat.{ℕ, zero, suc, _+_, _*_, _-_, _/_, _≤_, max}
 use native.Mathlib.Omega.{arith}
 use mathlib.Core.Bool.{Bool, true, false, not}
 use mathlib.Core.List.{List, [], _∷_, _++_, List·Memᴰ, List·Memᴰ·head, List·Memᴰ·tail}
-use mathlib.Core.Path.{_≡_, refl, sym, _∙_, ap, subst}
+use mathlib.Core.Path.{_≡_, refl, sym, ap, subst}
 use lib.ListN.{length, getD, length-append}
 use lib.Dec.{ltb}
 use Rattle.grammar.specs.Lists.{joinedOf}

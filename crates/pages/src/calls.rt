@@ -1,16 +1,16 @@
 // The public call that prints. A call that is lent too few words changes none; otherwise the words that it needs are zero after it, and
 // words beyond them never change.
 use crate::sheets::put_pages;
+use basis::classes::classes_load;
+use basis::limits::limits_of;
+use basis::work::clear_work;
 use grammar::Reading;
 use grammar::Refusal;
 use grammar::Size;
 use grammar::SizeLimits;
 use grammar::Written;
-use reader::classes::classes_load;
 use reader::index::INDEX;
-use reader::limits::limits_of;
 use reader::tables::read_table;
-use reader::work::clear_work;
 ghost use Prim.Native.Nat.{_≤_};
 ghost use Rattle.grammar.specs.LimitSets.{limitsOf, sizeLimits, Within};
 ghost use Rattle.grammar.specs.Names.{Loads};

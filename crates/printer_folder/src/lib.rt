@@ -1,12 +1,12 @@
 // What the printer prints for the table of the folder where it runs.
+use basis::ascii::ASCII;
+use basis::limits::INPUT;
 use files::read_file;
 use grammar::Size;
 use grammar::Written;
 use libc::STDOUT_FILENO;
 use lister_lines::lines::refusal_line;
 use pages::calls::pages;
-use reader::ascii::ASCII;
-use reader::limits::INPUT;
 ghost use Prim.Native.Nat.{_≤_};
 ghost use lib.ListN.{length};
 ghost use Rattle.grammar.specs.Limits.{standard};

@@ -39,7 +39,7 @@ use Rattle.reader.specs.LabelPlaces.{LabelSought, labelPart, nameBegins}
 use Rattle.reader.proofs.AnswerLaws.{was-unreadable}
 use Rattle.reader.proofs.LabelParts.{are-bytes, label-unloaded, label-unread, label-past}
 use Rattle.reader.proofs.LabelPlaceLaws.{place-found}
-use Rattle.reader.proofs.WorkLaws.{work-kept}
+use Rattle.basis.proofs.WorkLaws.{work-kept}
 use Rattle.reader.proofs.TableFoundLaws.{table-found, some-roomier}
 
 -- What a call leaves, by its outcome

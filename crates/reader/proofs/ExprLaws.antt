@@ -56,7 +56,7 @@ use Rattle.theory.proofs.contents.ContentBytes.{
   unknown-operator,
 }
 use Rattle.reader.specs.ExprAt.{Placed, _upTo_, placed, inFront, exprAt, exprsAt}
-use Rattle.reader.proofs.FieldReading.{slice-part, from-place, from-place-two}
+use Rattle.basis.proofs.FromPlaces.{slice-part, from-place, from-place-two}
 
 -- the last byte
 last-place : (s : List ℕ) (at : ℕ) → at + 1 ≡ length s → drop at s ≡ getD s at 0 ∷ []

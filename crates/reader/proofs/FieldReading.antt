@@ -3,17 +3,17 @@
 --   field-none : fieldAt s at ≡ NoBytes → (length s ≤ at) × (fieldsOf (drop at s) ≡ noBytes)
 --   field-past : fieldAt s at ≡ PastEnd → (at < length s) × (fieldsOf (drop at s) ≡ pastEnd)
 use Prim.Native.Nat.{ℕ, _+_, _-_, _≤_, _<_}
-use native.Mathlib.Numerals.{add-one}
 use native.Mathlib.Omega.{arith}
 use mathlib.Core.Bool.{Bool, true, false}
 use mathlib.Core.List.{List, [], _∷_}
 use mathlib.Core.Path.{_≡_, refl, sym, _∙_, ap, ap₂}
 use lib.Dec.{leb}
-use lib.ListN.{length, getD, take, drop, drop-of-length-le, length-drop}
-use lib.Seq.{drop-cons, drop-drop, take-add, drop-at, length-take-le, slice}
+use lib.ListN.{length, getD, drop, drop-of-length-le, length-drop}
+use lib.Seq.{drop-drop, slice}
 use borrow.Author.Tests.{leb-true, leb-false, le-leb, lt-leb}
 use Rattle.grammar.specs.Fields.{noBytes, pastEnd, _then_, fieldsOf, fieldBytes}
 use Rattle.theory.proofs.bytes.FieldBytes.{fields-empty, fields-tag, fields-half, fields-front, fields-past}
+use Rattle.basis.proofs.FromPlaces.{slice-part, from-place, from-place-two}
 use Rattle.reader.specs.declared.fields.FieldAt.the-variants.{Found, NoBytes, PastEnd}
 use Rattle.reader.specs.FieldAt.{fieldAt, sizeAt}
 
@@ -31,29 +31,10 @@ module _ (s : List ℕ) (at : ℕ) where
   unfolding fieldAt
   at-found k = let h : at < length s = omega arith in rw (lt-leb (length s) at h, le-leb (at + 3 + sizeAt s at) (length s) k, fieldAt)
 
--- the part of a list that begins at a place, by its length
-pub slice-part : {A : Type 0} (f n : ℕ) (l : List A) → f ≤ length l → slice f (f + n) l ≡ take n (drop f l)
-slice-part f n l h = ap (drop f) (take-add f n l) ∙ drop-at (take f l) (take n (drop f l)) f (length-take-le f l h)
-
-pub slice-taken : {A : Type 0} (f t : ℕ) (l : List A) → f ≤ t → t ≤ length l → slice f t l ≡ take (t - f) (drop f l)
-slice-taken f t l p q =
-    let whole : t ≡ f + (t - f) = omega arith in
-    ap (λ (k : ℕ). slice f k l) whole ∙ slice-part f (t - f) l (omega arith)
-
 -- the bytes of a field
 pub field-length : (tag : ℕ) (value : List ℕ) → length (fieldBytes tag value) ≡ 3 + length value
 unfolding fieldBytes
 field-length tag value = omega arith
-
--- the bytes from a place on, the first of them apart
-pub from-place : (s : List ℕ) (at : ℕ) → at < length s → drop at s ≡ getD s at 0 ∷ drop (at + 1) s
-from-place s at h = rw add-one (drop-cons s at 0 h)
-
-pub from-place-two : (s : List ℕ) (at : ℕ) → at + 1 < length s → drop at s ≡ getD s at 0 ∷ getD s (at + 1) 0 ∷ drop (at + 2) s
-from-place-two s at h =
-    let two : at + 1 + 1 ≡ at + 2 = omega arith in
-    from-place s at (omega arith)
-    ∙ ap (λ (l : List ℕ). getD s at 0 ∷ l) (from-place s (at + 1) h ∙ ap (λ (n : ℕ). getD s (at + 1) 0 ∷ drop n s) two)
 
 module _ (s : List ℕ) (at : ℕ) where
   three : at + 3 ≤ length s → drop at s ≡ getD s at 0 ∷ getD s (at + 1) 0 ∷ getD s (at + 2) 0 ∷ drop (at + 3) s

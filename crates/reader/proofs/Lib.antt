@@ -1,11 +1,6 @@
 pub mod ExprLaws
 pub mod ExtentLaws
 pub mod ContentAtLaws
-pub mod ClassTable
-pub mod PlaceByPlace
-pub mod LoadedClasses
-pub mod LetterLaws
-pub mod NameReading
 pub mod FieldReading
 pub mod AnswerLaws
 pub mod TableIndexLaws
@@ -14,7 +9,6 @@ pub mod LabelSearch
 pub mod IndexedFaults
 pub mod TableSteps
 pub mod TableReading
-pub mod WorkLaws
 pub mod LabelParts
 pub mod TableFoundLaws
 pub mod LabelPlaceLaws

@@ -22,7 +22,7 @@ use Rattle.theory.proofs.bytes.OutcomeLaws.{no-fault}
 use Rattle.theory.proofs.bytes.ReadSteps.{empty-is}
 use Rattle.reader.specs.TableIndex.{part, Inside}
 use Rattle.reader.proofs.AnswerLaws.{fault}
-use Rattle.reader.proofs.FieldReading.{slice-part}
+use Rattle.basis.proofs.FromPlaces.{slice-part}
 
 none-of : {A : Type 0} (xs : List A) → isEmpty xs ≡ true → length xs ≡ 0
 none-of xs e = ap length (empty-is xs e)

@@ -1,13 +1,13 @@
 // The public calls that read a table. A call that is lent too few words changes none; otherwise the words that it needs are zero after
 // it, and words beyond them never change.
-use crate::classes::classes_load;
 use crate::index::INDEX;
 use crate::label_places::LabelFound;
 use crate::label_places::find_label;
-use crate::limits::limits_of;
-use crate::refusals::number_of;
 use crate::tables::read_table;
-use crate::work::clear_work;
+use basis::classes::classes_load;
+use basis::limits::limits_of;
+use basis::refusals::number_of;
+use basis::work::clear_work;
 use grammar::Reading;
 use grammar::Refusal;
 use grammar::Size;

@@ -1,6 +1,4 @@
 // Contents: exactly one expression, of known operators, counts of 2 or more and types in range, that nests no deeper than allowed.
-use crate::limits::NESTING;
-use crate::numbers::wide;
 use crate::operators::ANY_NUMBER;
 use crate::operators::CHOICE;
 use crate::operators::EMPTY;
@@ -8,6 +6,8 @@ use crate::operators::NONE;
 use crate::operators::OPTIONAL;
 use crate::operators::SEQUENCE;
 use crate::operators::TYPE;
+use basis::limits::NESTING;
+use basis::numbers::wide;
 use grammar::Refusal;
 use grammar::SizeLimits;
 ghost use mathlib.Core.Path.{_≡_};

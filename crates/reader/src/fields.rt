@@ -1,7 +1,7 @@
 // Fields: one tag byte, a two-byte length (high byte first), the value.
 ghost use mathlib.Core.Path.{_≡_};
 ghost use Rattle.reader.specs.FieldAt.{fieldAt};
-use crate::numbers::wide;
+use basis::numbers::wide;
 
 // What stands at a place of an input.
 pub enum FieldAt {

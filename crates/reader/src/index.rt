@@ -1,6 +1,6 @@
 // Where the labels, starts and rules of a table stand in its bytes, each in the order of the file: an index of seven rows of 128
 // numbers, and then how many labels, starts and rules there are.
-use crate::numbers::wider;
+use basis::numbers::wider;
 ghost use mathlib.Core.Path.{_≡_};
 ghost use Prim.Native.Nat.{_<_};
 ghost use lib.ListN.{length};

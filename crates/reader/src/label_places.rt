@@ -1,10 +1,10 @@
 // Where a label's name stands in its table.
-use crate::classes::classes_load;
 use crate::index::INDEX;
 use crate::index::label_count;
 use crate::index::label_from;
 use crate::index::label_to;
 use crate::tables::read_table;
+use basis::classes::classes_load;
 use grammar::Reading;
 use grammar::Refusal;
 use grammar::SizeLimits;

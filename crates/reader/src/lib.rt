@@ -1,19 +1,12 @@
-// Readers of tables, and what all readers share. Every byte string has the one answer that the written meaning gives it.
-pub mod ascii;
+// Readers of tables. Every byte string has the one answer that the written meaning gives it.
 pub mod calls;
-pub mod classes;
 pub mod expressions;
 pub mod fields;
 pub mod index;
 pub mod label_places;
 pub mod labels;
-pub mod limits;
-pub mod names;
-pub mod numbers;
 pub mod operators;
-pub mod refusals;
 pub mod rules;
 pub mod starts;
 pub mod tables;
 pub mod tags;
-pub mod work;

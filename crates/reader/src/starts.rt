@@ -9,7 +9,7 @@ use crate::index::add_start;
 use crate::index::rule_count;
 use crate::index::start_count;
 use crate::index::start_type;
-use crate::numbers::wide;
+use basis::numbers::wide;
 use grammar::Reading;
 use grammar::Refusal;
 use grammar::SizeLimits;

@@ -1,9 +1,9 @@
 // The pairs that reducing leaves: those that are reached from the pairs of the start types, by rounds until one adds nothing.
 use crate::meeting::met_set;
 use crate::meeting::with_part;
+use basis::numbers::wider;
 use reader::index::start_count;
 use reader::index::start_type;
-use reader::numbers::wider;
 use sets::eight::Set8;
 use sets::words::load_eight;
 use sets::words::store_eight;

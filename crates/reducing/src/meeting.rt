@@ -1,6 +1,6 @@
 // The pairs that are met in the contents of a set of pairs, once those are in normal form and reduced.
-use reader::numbers::wide;
-use reader::numbers::wider;
+use basis::numbers::wide;
+use basis::numbers::wider;
 use sets::eight::Set8;
 use sets::four::Set4;
 use union::lists::Lists;

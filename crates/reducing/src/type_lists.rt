@@ -1,5 +1,5 @@
 // The fruitful pairs of a union by type: for each type of the two tables a list.
-use reader::numbers::wide;
+use basis::numbers::wide;
 use sets::eight::Set8;
 use sets::words::load_eight;
 use union::fruitful::put_if;

@@ -1,9 +1,9 @@
 // The labels of a result: those that its sets have, in label order.
+use basis::numbers::wider;
 use forms::label_sets::set_label;
 use reader::index::label_count;
 use reader::index::label_from;
 use reader::index::label_to;
-use reader::numbers::wider;
 use reader::tags::LABEL_TAG;
 use sets::eight::Set8;
 use sets::words::load_eight;

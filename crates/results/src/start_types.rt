@@ -1,6 +1,6 @@
 // The start types of a result, a set of numbers in the words.
+use basis::numbers::wide;
 use forms::label_sets::Numbers;
-use reader::numbers::wide;
 use sets::eight::Set8;
 use sets::words::load_eight;
 use sets::words::store_eight;

@@ -1,5 +1,5 @@
 // The pairs of a union that are for text: those with a rule for text whose own content has alternatives.
-use reader::numbers::wide;
+use basis::numbers::wide;
 use reducing::type_lists::types_listed;
 use sets::eight::Set8;
 use union::fruitful::put_if;

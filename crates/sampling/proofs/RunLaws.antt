@@ -15,7 +15,7 @@ use Rattle.grammar.specs.ReadContent.{contentBytes, operandBytes}
 use Rattle.grammar.specs.Sample.{Run, withChild, runsOf, runContent, asSequence, sequenceOf}
 use Rattle.theory.specs.Alternatives.{onlyIf}
 use Rattle.theory.proofs.contents.CountedContents.{operands-count}
-use Rattle.reader.proofs.FieldReading.{from-place}
+use Rattle.basis.proofs.FromPlaces.{from-place}
 use Rattle.writer.specs.Writing.{Put}
 use Rattle.writer.proofs.PutLaws.{put-none, put-one, put-two, put-three, put-join, put-length}
 use Rattle.sampling.specs.SampleContents.{goesOn, run, runsBytes}

@@ -1,5 +1,5 @@
 // The limits of the bytes in which a rule is made. specs/SampleContents.antt has them for the contracts.
-use reader::limits::CONTENT;
+use basis::limits::CONTENT;
 
 // A rule: its type, its label and its content.
 pub const RULE: usize = 2 + CONTENT;

@@ -1,5 +1,5 @@
 // Numbering by first visit: the place of a node among those listed, told apart by a key and their names.
-use reader::names::same_name;
+use basis::names::same_name;
 ghost use Prim.Native.Nat.{_+_, _≤_, _<_};
 ghost use mathlib.Core.Path.{_≡_};
 ghost use mathlib.Core.Logic.{_⊎_};

@@ -1,5 +1,5 @@
 // The child sequence of a node, as a content: its children run by run.
-use reader::limits::CHILDREN;
+use basis::limits::CHILDREN;
 use reader::operators::EMPTY_BYTE;
 use reader::operators::ONE_OR_MORE_BYTE;
 use reader::operators::SEQUENCE_BYTE;

@@ -2,8 +2,8 @@
 use crate::places::KNOWN;
 use crate::productive::content_has;
 use crate::united::United;
-use reader::numbers::wide;
-use reader::numbers::wider;
+use basis::numbers::wide;
+use basis::numbers::wider;
 use sets::eight::Set8;
 use sets::words::store_eight;
 ghost use mathlib.Core.Path.{_≡_};

@@ -1,9 +1,9 @@
 // The labels of a union: the old names, then the addition's new names. Names stay where they stand in the bytes of their tables.
+use basis::numbers::wider;
 use reader::index::label_count;
 use reader::index::label_from;
 use reader::index::label_to;
 use reader::labels::name_place;
-use reader::numbers::wider;
 ghost use mathlib.Core.Path.{_≡_};
 ghost use mathlib.Core.List.{[]};
 ghost use Prim.Native.Nat.{_<_};

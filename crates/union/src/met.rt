@@ -2,8 +2,8 @@
 // table itself: a sequence with an operand that has no alternatives has none.
 use crate::productive::both;
 use crate::productive::either;
-use reader::numbers::wide;
-use reader::numbers::wider;
+use basis::numbers::wide;
+use basis::numbers::wider;
 use reader::operators::CHOICE;
 use reader::operators::EMPTY;
 use reader::operators::NONE;

@@ -1,6 +1,6 @@
 // Whether a content has alternatives: whether anything is left of it once the types that give nothing are gone. `types` from
 // `base` on is the set of the types that give something.
-use reader::numbers::wide;
+use basis::numbers::wide;
 use reader::operators::CHOICE;
 use reader::operators::EMPTY;
 use reader::operators::NONE;

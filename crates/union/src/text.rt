@@ -1,6 +1,6 @@
 // Whether a rule of a union is for text: its tag stands five bytes before its content, in the bytes of its own table.
 use crate::united::United;
-use reader::numbers::wider;
+use basis::numbers::wider;
 use reader::tags::TEXT_RULE_TAG;
 ghost use mathlib.Core.Path.{_≡_};
 ghost use Prim.Native.Nat.{_<_};

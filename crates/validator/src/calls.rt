@@ -3,12 +3,12 @@
 use crate::deciding::read_and_decide;
 use crate::deciding::read_and_test_local;
 use crate::deciding::read_and_test_single_type;
+use basis::limits::limits_of;
+use basis::work::clear_work;
 use grammar::Format;
 use grammar::Refusal;
 use grammar::Size;
 use grammar::Verdict;
-use reader::limits::limits_of;
-use reader::work::clear_work;
 ghost use mathlib.Core.List.{[]};
 ghost use Rattle.grammar.specs.LimitSets.{sizeLimits};
 ghost use Rattle.grammar.specs.Kinds.{local, singleType};

@@ -1,4 +1,5 @@
 // Reading the inputs of a call, and deciding.
+use basis::classes::classes_load;
 use documents::documents::read_nodes;
 use grammar::Format;
 use grammar::Reading;
@@ -8,7 +9,6 @@ use grammar::Verdict;
 use kinds::kinds::local_table;
 use kinds::kinds::single_type_table;
 use node_types::membership::lets_in_read;
-use reader::classes::classes_load;
 use reader::index::INDEX;
 use reader::tables::read_table;
 ghost use mathlib.Core.Path.{_≡_};

@@ -1,3 +1,3 @@
-// Membership and kind of tables and documents, over their readers.
+// The calls of membership and kind.
 pub mod calls;
 mod deciding;

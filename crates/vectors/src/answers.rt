@@ -4,6 +4,8 @@ ghost use Rattle.grammar.specs.Answers.{readingNumbers, verdictNumbers, written
 ghost use Rattle.vectors.specs.Checksum.{checksum};
 use crate::places::place_of;
 use crate::sums::byte_sum;
+use basis::limits::size_numbered;
+use basis::refusals::number_of;
 use documents::calls::document_reads;
 use documents::documents::format_numbered;
 use grammar::Reading;
@@ -13,8 +15,6 @@ use grammar::Written;
 use pages::calls::pages;
 use reader::calls::label_name;
 use reader::calls::table_reads;
-use reader::limits::size_numbered;
-use reader::refusals::number_of;
 use validator::calls::is_local;
 use validator::calls::is_single_type;
 use validator::calls::lets_in;

@@ -8,9 +8,9 @@ use crate::fills::fill_output;
 use crate::fills::fill_work;
 use crate::numbers::number;
 use crate::sums::word_sum;
+use basis::ascii::ASCII;
 use libc::STDIN_FILENO;
 use libc::STDOUT_FILENO;
-use reader::ascii::ASCII;
 
 // The next byte; 0 where the input has ended.
 fn read_byte() -> u8 {

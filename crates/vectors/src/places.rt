@@ -5,8 +5,8 @@ ghost use mathlib.Core.Bool.{true};
 ghost use Prim.Native.Nat.{_+_, _≤_, _<_};
 ghost use lib.ListN.{length};
 ghost use Rattle.vectors.specs.CaseFile.{NameAt};
-use reader::names::same_name;
-use reader::numbers::wide;
+use basis::names::same_name;
+use basis::numbers::wide;
 
 // A label field of this name starts at a place.
 fn label_here(table: &[u8], at: usize, name: &[u8]) -> bool

@@ -2,7 +2,7 @@
 //
 // One walk over the content for each child. The marks have one number for each byte of the content: at the first byte of an
 // expression 1 where the children so far can end that expression, else 0.
-use reader::numbers::wide;
+use basis::numbers::wide;
 use reader::operators::ANY_NUMBER;
 use reader::operators::CHOICE;
 use reader::operators::EMPTY;

@@ -3,14 +3,14 @@
 use crate::drafting::deliver;
 use crate::drafting::draft_sample;
 use crate::drafting::draft_widened;
+use basis::limits::INPUT;
+use basis::limits::limits_of;
+use basis::work::clear_work;
 use grammar::Format;
 use grammar::Refusal;
 use grammar::Size;
 use grammar::Source;
 use grammar::Written;
-use reader::limits::INPUT;
-use reader::limits::limits_of;
-use reader::work::clear_work;
 use results::widen::Kind;
 ghost use Rattle.grammar.specs.LimitSets.{sizeLimits};
 ghost use Rattle.grammar.specs.Kinds.{local, singleType};

@@ -1,4 +1,6 @@
 // A call's table made in a draft, so that a refusal leaves the output as it came, and handed over.
+use basis::classes::classes_load;
+use basis::limits::INPUT;
 use documents::documents::read_document;
 use grammar::Format;
 use grammar::Reading;
@@ -6,9 +8,7 @@ use grammar::Refusal;
 use grammar::SizeLimits;
 use grammar::Source;
 use grammar::Written;
-use reader::classes::classes_load;
 use reader::index::INDEX;
-use reader::limits::INPUT;
 use reader::tables::read_table;
 use results::widen::Kind;
 use results::widen::Made;

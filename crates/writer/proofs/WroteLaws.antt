@@ -11,7 +11,7 @@ use Rattle.grammar.specs.declared.Refusal.the-variants.{WorkTooShort}
 use Rattle.grammar.specs.declared.Written.{Written}
 use Rattle.grammar.specs.declared.Written.the-variants.{Refused}
 use Rattle.theory.proofs.theorems.AnswerNumbers.{written-numbers}
-use Rattle.reader.proofs.WorkLaws.{work-kept}
+use Rattle.basis.proofs.WorkLaws.{work-kept}
 
 module _ (lim : Limits) (o : Outcome (List ℕ)) (out work : List ℕ) where
   pub wrote-as : (answer : Written) (left workLeft : List ℕ) → answer ≡ written o → left ≡ outAfter o out → workLeft ≡ workAfter lim work

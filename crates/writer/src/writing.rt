@@ -1,5 +1,5 @@
 // Writing fields of a table into a draft.
-use reader::limits::INPUT;
+use basis::limits::INPUT;
 use reader::tags::RULE_TAG;
 use reader::tags::TEXT_RULE_TAG;
 ghost use Prim.Native.Nat.{_+_, _≤_, _<_};

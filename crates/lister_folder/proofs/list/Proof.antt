@@ -4,7 +4,7 @@ use Rattle.grammar.specs.Limits.{standard}
 use Rattle.grammar.specs.Names.{Classes, Loads}
 use Rattle.grammar.specs.Listing.{listing}
 use Rattle.grammar.proofs.ClassRules.{ascii-load}
-use Rattle.reader.proofs.ClassTable.{held, held-is}
+use Rattle.basis.proofs.ClassTable.{held, held-is}
 use Rattle.lister_lines.proofs.PrintSteps.{put-as}
 use borrow.Author.Needs.{needs}
 use Rattle.theory.proofs.theorems.SizedPromises.{widening-sized}

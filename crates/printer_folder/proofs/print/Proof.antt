@@ -1,11 +1,11 @@
 -- `print` meets its contract: the line of the call's refusal, or the pages that it wrote.
-use mathlib.Core.Path.{_≡_, sym, ap, subst}
+use mathlib.Core.Path.{sym, ap, subst}
 use Rattle.grammar.specs.Limits.{standard}
 use Rattle.grammar.specs.Names.{Classes, Loads}
 use Rattle.grammar.specs.Pages.{printing}
 use Rattle.grammar.proofs.ClassRules.{ascii-load}
 use Rattle.theory.proofs.theorems.SizedPromises.{paging-sized}
-use Rattle.reader.proofs.ClassTable.{held, held-is}
+use Rattle.basis.proofs.ClassTable.{held, held-is}
 use Rattle.lister_lines.proofs.PrintSteps.{put-as}
 use Rattle.lister_lines.proofs.ListingLaws.{standard-size}
 use borrow.Author.Needs.{needs}

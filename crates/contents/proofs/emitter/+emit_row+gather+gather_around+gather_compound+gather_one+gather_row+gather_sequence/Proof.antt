@@ -88,8 +88,8 @@ use Rattle.contents.proofs.drafts.finish.Reads as finish-reads
 use Rattle.contents.proofs.drafts.settle.Reads as settle-reads
 use Rattle.contents.proofs.emitter.gather_empty.Reads as gather-empty-reads
 use Rattle.contents.proofs.emitter.gather_type.Reads as gather-type-reads
-use Rattle.reader.proofs.numbers.wide.Reads as wide-reads
-use Rattle.reader.proofs.work.clear.Reads as clear-reads
+use Rattle.basis.proofs.numbers.wide.Reads as wide-reads
+use Rattle.basis.proofs.work.clear.Reads as clear-reads
 use Rattle.union.proofs.productive.content_has.Reads as content-has-reads
 use Rattle.union.proofs.productive.row_has.Reads as row-has-reads
 use Rattle.union.specs.Walks.{listOfType}

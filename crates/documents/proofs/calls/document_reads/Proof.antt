@@ -4,7 +4,7 @@ use native.Mathlib.Omega.{arith}
 use Rattle.grammar.specs.LimitSets.{limitsOf}
 use Rattle.theory.proofs.theorems.SizedPromises.{document-sized}
 use borrow.Author.Needs.{needs}
-use Rattle.reader.proofs.LoadedClasses.{does-load, does-not-load}
+use Rattle.basis.proofs.LoadedClasses.{does-load, does-not-load}
 use Rattle.documents.proofs.CallLaws.{document-unanswered, document-unloaded, document-answered}
 use Rattle.documents.proofs.calls.document_reads.Statement.{statement}
 use Rattle.documents.proofs.calls.document_reads.Tie as tie

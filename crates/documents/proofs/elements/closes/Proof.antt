@@ -5,7 +5,7 @@ use mathlib.Core.Path.{_≡_, sym, _∙_, ap, ap₂}
 use lib.ListN.{getD, take, drop}
 use lib.Seq.{slice}
 use Rattle.grammar.specs.Lists.{sameNumbers}
-use Rattle.reader.proofs.FieldReading.{slice-taken}
+use Rattle.basis.proofs.FromPlaces.{slice-taken}
 use Rattle.documents.specs.TextSteps.{innermost}
 use Rattle.documents.proofs.TextPlaces.{closes-outside, closes-inside}
 use borrow.Author.Needs.{needs}

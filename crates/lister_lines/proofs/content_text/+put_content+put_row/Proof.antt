@@ -41,7 +41,7 @@ use Rattle.lister_lines.proofs.content_text.marked.Reads as marked-read
 use Rattle.lister_lines.proofs.pieces.put_byte.Reads as put-byte-reads
 use Rattle.lister_lines.proofs.pieces.put_bytes.Reads as put-bytes-reads
 use Rattle.lister_lines.proofs.pieces.put_type.Reads as put-type-reads
-use Rattle.reader.proofs.numbers.wide.Reads as wide-reads
+use Rattle.basis.proofs.numbers.wide.Reads as wide-reads
 use Rattle.lister_lines.proofs.content_text.+put_content+put_row.{statement}
 use Rattle.lister_lines.proofs.content_text.+put_content+put_row.Tie.{close}
 

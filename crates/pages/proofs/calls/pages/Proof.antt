@@ -1,7 +1,7 @@
 -- `calls::pages` meets its contract: too few words, classes that do not load, or what the table gives.
 use Rattle.grammar.specs.LimitSets.{limitsOf}
 use Rattle.theory.proofs.theorems.SizedPromises.{paging-sized}
-use Rattle.reader.proofs.LoadedClasses.{does-load, does-not-load}
+use Rattle.basis.proofs.LoadedClasses.{does-load, does-not-load}
 use borrow.Author.Needs.{needs}
 use Rattle.pages.proofs.CallLaws.{unanswered, unloaded, answered}
 use Rattle.pages.proofs.MostPages.{with-most}

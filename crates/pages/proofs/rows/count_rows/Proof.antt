@@ -1,15 +1,14 @@
 -- `count_rows` meets its contract. The loop's invariant: the rows of the rules before `i` are counted.
-use Prim.Native.Nat.{ℕ, _+_, _-_, _*_, _≤_}
+use Prim.Native.Nat.{_-_, _*_, _≤_}
 use native.Mathlib.Omega.{arith}
-use mathlib.Core.Path.{_≡_, refl, sym, _∙_, ap}
+use mathlib.Core.Path.{_≡_, refl, _∙_, ap}
 use lib.ListN.{length}
 use borrow.Author.Needs.{needs}
 use Rattle.grammar.specs.Lists.{joinedOf}
 use Rattle.grammar.specs.Limits.{large}
-use Rattle.grammar.specs.Pages.{pageLayout, textsOf}
+use Rattle.grammar.specs.Pages.{textsOf}
 use Rattle.reader.specs.Held.{SomeHeld}
 use Rattle.union.specs.PairNumbers.{ruleNumbered}
-use Rattle.pages.specs.Printing.{TextsStand}
 use Rattle.pages.proofs.TextLaws.{places-inside}
 use Rattle.pages.proofs.SheetLaws.{rowsBefore, rows-all, rows-more}
 use Rattle.pages.proofs.rows.count_rows.Statement.{statement}

@@ -1,12 +1,12 @@
 -- `put_rules` meets its contract. The loop's invariant: the rows of the rules before `i` are written.
 use Prim.Native.Nat.{_+_, _-_, _*_, _≤_, _<_}
 use native.Mathlib.Omega.{arith}
-use mathlib.Core.Path.{_≡_, refl, sym, _∙_, ap, subst}
+use mathlib.Core.Path.{_≡_, refl, ap}
 use lib.ListN.{length}
 use borrow.Author.Needs.{needs}
-use Rattle.grammar.specs.Lists.{joinedOf, numbersBelow}
+use Rattle.grammar.specs.Lists.{joinedOf}
 use Rattle.grammar.specs.Limits.{large}
-use Rattle.grammar.specs.Pages.{pageLayout, textsOf, rowOf}
+use Rattle.grammar.specs.Pages.{textsOf}
 use Rattle.reader.specs.Held.{SomeHeld}
 use Rattle.union.specs.PairNumbers.{ruleNumbered}
 use Rattle.writer.specs.Writing.{Put}

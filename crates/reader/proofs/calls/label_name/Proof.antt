@@ -4,7 +4,7 @@ use mathlib.Core.Path.{refl}
 use Rattle.grammar.specs.LimitSets.{limitsOf}
 use Rattle.theory.proofs.theorems.SizedPromises.{part-sized}
 use Rattle.reader.proofs.CallLaws.{label-unanswered, label-refused, label-given}
-use Rattle.reader.proofs.WorkLaws.{work-kept}
+use Rattle.basis.proofs.WorkLaws.{work-kept}
 use borrow.Author.Needs.{needs}
 use Rattle.reader.proofs.calls.label_name.Statement.{statement}
 use Rattle.reader.proofs.calls.label_name.Tie as tie

@@ -1,7 +1,7 @@
 -- `calls::table_reads` meets its contract.
 use Rattle.reader.proofs.CallLaws.{table-unanswered, table-unloaded, table-answered}
 use Rattle.theory.proofs.bytes.ClassLaws.{all-classed}
-use Rattle.reader.proofs.LoadedClasses.{does-load, does-not-load}
+use Rattle.basis.proofs.LoadedClasses.{does-load, does-not-load}
 use native.Mathlib.Omega.{arith}
 use Rattle.grammar.specs.LimitSets.{limitsOf}
 use Rattle.theory.proofs.theorems.SizedPromises.{table-sized}

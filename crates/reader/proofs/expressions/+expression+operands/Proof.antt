@@ -34,7 +34,7 @@ use Rattle.reader.proofs.expressions.+expression+operands.Lts-operands 
 use Rattle.reader.proofs.expressions.deeper.Reads as deeper-reads
 use Rattle.reader.proofs.expressions.joined.Reads as joined-reads
 use Rattle.reader.proofs.expressions.type_number.Reads as type-number-reads
-use Rattle.reader.proofs.numbers.wide.Reads as wide-reads
+use Rattle.basis.proofs.numbers.wide.Reads as wide-reads
 use Rattle.reader.proofs.expressions.+expression+operands.{statement}
 use Rattle.reader.proofs.expressions.+expression+operands.Tie.{close}
 

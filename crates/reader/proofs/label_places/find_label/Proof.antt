@@ -1,7 +1,7 @@
 -- `label_places::find_label` meets its contract.
 use Rattle.reader.proofs.CallLaws.{table-there, find-unloaded, find-unread, find-past, find-at}
 use Rattle.theory.proofs.bytes.ClassLaws.{all-classed}
-use Rattle.reader.proofs.LoadedClasses.{does-load, does-not-load}
+use Rattle.basis.proofs.LoadedClasses.{does-load, does-not-load}
 use native.Mathlib.Omega.{arith}
 use Rattle.theory.proofs.tables.RoomierLimits.{within-large}
 use Rattle.reader.proofs.LabelPlaceLaws.{label-short}

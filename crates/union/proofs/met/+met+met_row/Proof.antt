@@ -22,7 +22,7 @@ use Rattle.union.proofs.met.met_sequence.Reads as met-sequence-reads
 use Rattle.union.proofs.met.met_type.Reads as met-type-reads
 use Rattle.union.proofs.productive.both.Reads as both-reads
 use Rattle.union.proofs.productive.either.Reads as either-reads
-use Rattle.reader.proofs.numbers.wide.Reads as wide-reads
+use Rattle.basis.proofs.numbers.wide.Reads as wide-reads
 use Rattle.union.proofs.met.+met+met_row.{statement}
 use Rattle.union.proofs.met.+met+met_row.Tie.{close}
 

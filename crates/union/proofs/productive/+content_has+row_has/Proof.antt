@@ -20,7 +20,7 @@ use Rattle.union.proofs.productive.+content_has+row_has.Lts-content_has
 use Rattle.union.proofs.productive.row_has.Reads as row-has
 use Rattle.union.proofs.productive.row_has.Kinds as row-has-kinds
 use Rattle.union.proofs.productive.+content_has+row_has.Lts-row_has as row-has-lts
-use Rattle.reader.proofs.numbers.wide.Reads as wide-reads
+use Rattle.basis.proofs.numbers.wide.Reads as wide-reads
 use Rattle.union.proofs.productive.type_has.Reads as type-has-reads
 use Rattle.union.proofs.productive.both.Reads as both-reads
 use Rattle.union.proofs.productive.either.Reads as either-reads

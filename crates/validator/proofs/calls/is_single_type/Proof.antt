@@ -6,7 +6,7 @@ use borrow.Author.Needs.{needs}
 use Rattle.grammar.specs.LimitSets.{limitsOf}
 use Rattle.grammar.specs.Kinds.{singleType}
 use Rattle.theory.proofs.theorems.SizedPromises.{kind-sized}
-use Rattle.reader.proofs.WorkLaws.{lent-cleared}
+use Rattle.basis.proofs.WorkLaws.{lent-cleared}
 use Rattle.validator.proofs.VerdictLaws as laws
 use Rattle.validator.proofs.calls.is_single_type.Statement.{statement}
 use Rattle.validator.proofs.calls.is_single_type.Tie as tie

@@ -5,7 +5,7 @@ use mathlib.Core.Path.{_∙_}
 use borrow.Author.Needs.{needs}
 use Rattle.grammar.specs.LimitSets.{limitsOf}
 use Rattle.theory.proofs.theorems.SizedPromises.{membership-sized}
-use Rattle.reader.proofs.WorkLaws.{lent-cleared}
+use Rattle.basis.proofs.WorkLaws.{lent-cleared}
 use Rattle.validator.proofs.VerdictLaws as laws
 use Rattle.validator.proofs.calls.lets_in.Statement.{statement}
 use Rattle.validator.proofs.calls.lets_in.Tie as tie

@@ -1,7 +1,7 @@
 -- `read_and_decide` meets its contract: the refusal of the table, else that of the document, else the test.
 -- what was read into arrays, as one record
 use Rattle.theory.proofs.bytes.ClassLaws.{all-classed}
-use Rattle.reader.proofs.LoadedClasses.{does-load, does-not-load}
+use Rattle.basis.proofs.LoadedClasses.{does-load, does-not-load}
 use Prim.Native.Nat.{ℕ}
 use native.Mathlib.Omega.{arith}
 use mathlib.Core.List.{List}

@@ -1,7 +1,7 @@
 -- `read_and_test_local` meets its contract: the refusal of the table, else the test.
 use native.Mathlib.Omega.{arith}
 use Rattle.theory.proofs.bytes.ClassLaws.{all-classed}
-use Rattle.reader.proofs.LoadedClasses.{does-load, does-not-load}
+use Rattle.basis.proofs.LoadedClasses.{does-load, does-not-load}
 use borrow.Author.Needs.{needs}
 use Rattle.grammar.specs.LimitSets.{limitsOf}
 use Rattle.grammar.specs.Kinds.{local}

@@ -1,6 +1,6 @@
 -- `read_and_test_single_type` meets its contract: the refusal of the table, else the test.
 use Rattle.theory.proofs.bytes.ClassLaws.{all-classed}
-use Rattle.reader.proofs.LoadedClasses.{does-load, does-not-load}
+use Rattle.basis.proofs.LoadedClasses.{does-load, does-not-load}
 use native.Mathlib.Omega.{arith}
 use borrow.Author.Needs.{needs}
 use lib.Seq.{length-take-le}

@@ -32,7 +32,7 @@ use Rattle.walks.proofs.matching.+each+in_turn+operand+operand_in_turn+
 use Rattle.walks.proofs.matching.pass.Reads as pass
 use Rattle.walks.proofs.matching.pass.Kinds as pass-kinds
 use Rattle.walks.proofs.matching.+each+in_turn+operand+operand_in_turn+pass.Lts-pass as pass-lts
-use Rattle.reader.proofs.numbers.wide.Reads as wide-reads
+use Rattle.basis.proofs.numbers.wide.Reads as wide-reads
 use Rattle.walks.proofs.matching.around_type.Reads as around-type-reads
 use Rattle.walks.proofs.matching.is_around_type.Reads as is-around-type-reads
 use Rattle.walks.proofs.matching.both.Reads as both-reads

@@ -4,7 +4,7 @@ use native.Mathlib.Omega.{arith}
 use mathlib.Core.Path.{_∙_}
 use Rattle.results.specs.Widened.{kindOf}
 use Rattle.widening.specs.Drafting.{widenedFrom}
-use Rattle.reader.proofs.WorkLaws.{lent-cleared}
+use Rattle.basis.proofs.WorkLaws.{lent-cleared}
 use Rattle.widening.proofs.CallLaws as laws
 use Rattle.widening.proofs.DraftLaws as drafts
 use Rattle.grammar.specs.LimitSets.{limitsOf}

@@ -1,5 +1,5 @@
 -- `draft_sample` meets its contract: the refusal of the classes, else what the document gives.
-use Rattle.reader.proofs.LoadedClasses.{does-load, does-not-load}
+use Rattle.basis.proofs.LoadedClasses.{does-load, does-not-load}
 use Rattle.widening.proofs.DraftLaws as laws
 use borrow.Author.Needs.{needs}
 use Rattle.widening.proofs.drafting.draft_sample.Statement.{statement}

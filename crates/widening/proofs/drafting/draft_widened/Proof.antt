@@ -2,7 +2,7 @@
 use Rattle.grammar.specs.declared.Source.the-variants.{Table as aTable, Document as aDocument}
 use native.Mathlib.Omega.{arith}
 use Rattle.theory.proofs.bytes.ClassLaws.{all-classed}
-use Rattle.reader.proofs.LoadedClasses.{does-load, does-not-load}
+use Rattle.basis.proofs.LoadedClasses.{does-load, does-not-load}
 use Rattle.results.specs.Widened.{kindOf}
 use Rattle.widening.proofs.DraftLaws as laws
 use Rattle.reader.proofs.TableFoundLaws.{table-found}
