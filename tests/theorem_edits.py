@@ -12,6 +12,7 @@ import pathlib, re, shutil, subprocess, sys, tempfile
 
 ROOT = pathlib.Path(__file__).resolve().parent.parent
 EDITS = ROOT / "crates/grammar/must-fail"
+COMPUTED = ("PaperTheorem", "StageExamples")
 NOT_OF_THE_THEORY = {
     "children_of_201": "a number of the standard limits; the theorems are for all limits that agree",
     "nesting_of_33": "a number of the standard limits; the theorems are for all limits that agree",
@@ -35,15 +36,15 @@ def pairs_of(edit):
 
 
 def copy_with(edit, copy):
-    """A repository of grammar, edited and without computed facts, and of theory without the paper's cases, which are computed too."""
+    """A repository of grammar, edited and without computed facts, and of theory without what stands on these."""
     for crate in ("grammar", "theory"):
         shutil.copytree(ROOT / "crates" / crate, copy / "crates" / crate, ignore=shutil.ignore_patterns("must-fail"))
     shutil.rmtree(copy / "crates/grammar/proofs")
     for file in (copy / "crates/theory/proofs").rglob("*.antt"):
-        if file.name == "PaperTheorem.antt":
+        if file.stem in COMPUTED:
             file.unlink()
         else:
-            file.write_text(re.sub(r"^pub mod PaperTheorem\n", "", file.read_text(), flags=re.M))
+            file.write_text(re.sub(rf"^pub mod ({'|'.join(COMPUTED)})\n", "", file.read_text(), flags=re.M))
     (copy / "crates.txt").write_text("grammar:\ntheory: grammar\n")
     for file, old, new in pairs_of(edit):
         spec = copy / "crates/grammar" / file
