@@ -39,10 +39,10 @@ use Rattle.reader.specs.Extents.{properAt}
 use Rattle.reader.specs.declared.expressions.Extent.the-variants.{Nowhere, Upto}
 use Rattle.reader.proofs.ExprLaws.{same-placed, expr-kept, expr-written, expr-bytes, expr-forward}
 use Rattle.reader.proofs.ExtentLaws.{proper-yes, proper-no, proper-sequence, proper-choice, proper-first}
-use Rattle.contents.specs.Drafts.{Kept}
+use Rattle.operands.specs.Drafts.{Kept}
 use Rattle.contents.specs.Completing.{Stored}
-use Rattle.contents.proofs.WideLaws.{one-long, one-wide, unfit-large}
-use Rattle.contents.proofs.EmitLaws.{fresh-row}
+use Rattle.operands.proofs.WideLaws.{one-long, one-wide, unfit-large}
+use Rattle.emitting.proofs.EmitLaws.{fresh-row}
 
 -- a proper content has no choice too wide
 module _ (lim : Limits) where

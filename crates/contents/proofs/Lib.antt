@@ -1,13 +1,3 @@
-pub mod RowLaws
-pub mod NoteLaws
-pub mod KeptLaws
-pub mod AmongLaws
-pub mod FinishLaws
-pub mod WideLaws
-pub mod GatherLaws
-pub mod TypesKeptLaws
-pub mod SourceLaws
-pub mod EmitLaws
 pub mod CompleteLaws
 pub mod AgreeLaws
 pub mod RuleLaws

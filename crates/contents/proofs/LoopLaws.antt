@@ -24,16 +24,16 @@ use Rattle.theory.proofs.emission.EmittedContent.{joined-map, joined-twice}
 use Rattle.theory.proofs.emission.GatheringLaws.{gather-nothing, gather-more, written-gathered}
 use Rattle.union.specs.Rounds.{contentOfRule}
 use Rattle.union.specs.PairNumbers.{ruleNumbered, contentsOfPair, contentsIn}
-use Rattle.contents.specs.declared.drafts.OperandRow.{OperandRow}
-use Rattle.contents.specs.declared.drafts.Gathering.{Gathering}
-use Rattle.contents.specs.declared.drafts.Gathering.the-variants.{TooLarge, Upto}
+use Rattle.operands.specs.declared.drafts.OperandRow.{OperandRow}
+use Rattle.operands.specs.declared.drafts.Gathering.{Gathering}
+use Rattle.operands.specs.declared.drafts.Gathering.the-variants.{TooLarge, Upto}
 use Rattle.contents.specs.declared.completing.ContentMade.{ContentMade}
 use Rattle.contents.specs.declared.completing.ContentMade.the-variants as made
-use Rattle.contents.specs.Drafts.{headedLength, reaching, Row, Kept, TooWide, GathersIn}
-use Rattle.contents.specs.Notes.{Registered, registerLength}
+use Rattle.operands.specs.Drafts.{headedLength, reaching, Row, Kept, TooWide, GathersIn}
+use Rattle.operands.specs.Notes.{Registered, registerLength}
 use Rattle.contents.specs.Completing.{Made}
-use Rattle.contents.proofs.WideLaws.{wide-gathered, too-large}
-use Rattle.contents.proofs.NoteLaws.{no-upto}
+use Rattle.operands.proofs.WideLaws.{wide-gathered, too-large}
+use Rattle.operands.proofs.NoteLaws.{no-upto}
 use Rattle.contents.specs.Joining.{Ready, contentRow, GathersRegistered}
 
 -- what is asked for, and what is not

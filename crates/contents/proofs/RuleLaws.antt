@@ -25,12 +25,12 @@ use Rattle.union.specs.Rounds.{contentOfRule}
 use Rattle.union.specs.PairNumbers.{ruleNumbered, noRule}
 use Rattle.union.proofs.ViewLaws.{content-is, seen}
 use Rattle.contents.specs.declared.joining.ResultTypes.{ResultTypes}
-use Rattle.contents.specs.declared.drafts.OperandRow.{OperandRow}
-use Rattle.contents.specs.declared.drafts.Gathering.{Gathering}
-use Rattle.contents.specs.declared.drafts.Gathering.the-variants.{TooLarge, Upto}
-use Rattle.contents.specs.Drafts.{Gathers, GathersWith, GathersIn}
-use Rattle.contents.specs.Notes.{Registered}
-use Rattle.contents.specs.Emitting.{Maps, Source}
+use Rattle.operands.specs.declared.drafts.OperandRow.{OperandRow}
+use Rattle.operands.specs.declared.drafts.Gathering.{Gathering}
+use Rattle.operands.specs.declared.drafts.Gathering.the-variants.{TooLarge, Upto}
+use Rattle.operands.specs.Drafts.{Gathers, GathersWith, GathersIn}
+use Rattle.operands.specs.Notes.{Registered}
+use Rattle.emitting.specs.Emitting.{Maps, Source}
 use Rattle.contents.specs.Joining.{Joining, Ready, GathersRegistered}
 use Rattle.contents.proofs.AgreeLaws.{alts-agree, nesting-renamed}
 

@@ -11,12 +11,12 @@ use Rattle.sets.specs.Sets.{member}
 use Rattle.union.specs.declared.united.United.{United}
 use Rattle.union.specs.View.{Views}
 use Rattle.union.specs.TypeLists.{ListsOf}
-use Rattle.contents.specs.declared.drafts.Gathering.{Gathering}
-use Rattle.contents.specs.declared.drafts.Gathering.the-variants.{Upto}
-use Rattle.contents.specs.declared.drafts.OperandRow.{OperandRow}
+use Rattle.operands.specs.declared.drafts.Gathering.{Gathering}
+use Rattle.operands.specs.declared.drafts.Gathering.the-variants.{Upto}
+use Rattle.operands.specs.declared.drafts.OperandRow.{OperandRow}
 use Rattle.contents.specs.declared.joining.ResultTypes.{ResultTypes}
-use Rattle.contents.specs.Drafts.{headedLength, Kept, GathersIn}
-use Rattle.contents.specs.Notes.{Registered, registerLength}
+use Rattle.operands.specs.Drafts.{headedLength, Kept, GathersIn}
+use Rattle.operands.specs.Notes.{Registered, registerLength}
 
 -- its contents nest no deeper than those of a table that was read
 abbrev pub Shallow : Table → Type 0

@@ -1,5 +1,2 @@
-pub mod Drafts
-pub mod Notes
-pub mod Emitting
 pub mod Completing
 pub mod Joining

@@ -1,14 +1,14 @@
 // The content that the gathered alternatives make, at the front of the draft; or that it is too large for a table.
-use crate::drafts::finish;
 use basis::limits::CONTENT;
 use basis::limits::NESTING;
 use basis::limits::limits_of;
 use grammar::Size;
+use operands::drafts::finish;
 use reader::expressions::Extent;
 use reader::expressions::expression;
 ghost use Rattle.grammar.specs.Content.{choiceOf};
 ghost use Rattle.theory.specs.Conditions.{Regular};
-ghost use Rattle.contents.specs.Drafts.{Kept};
+ghost use Rattle.operands.specs.Drafts.{Kept};
 ghost use Rattle.contents.specs.Completing.{Made};
 
 pub enum ContentMade {

@@ -2,14 +2,14 @@
 // `register` is that of the operands kept.
 use crate::completing::ContentMade;
 use crate::completing::complete;
-use crate::drafts::Gathering;
-use crate::drafts::OperandRow;
-use crate::emitter::gather;
-use crate::limits::HEAD;
-use crate::limits::HEADED;
-use crate::limits::REGISTER;
 use basis::numbers::wide;
 use basis::numbers::wider;
+use emitting::emitter::gather;
+use operands::drafts::Gathering;
+use operands::drafts::OperandRow;
+use operands::limits::HEAD;
+use operands::limits::HEADED;
+use operands::limits::REGISTER;
 use sets::eight::Set8;
 use union::lists::Lists;
 use union::lists::TypeLists;
@@ -24,9 +24,9 @@ ghost use Rattle.sets.specs.Sets.{member};
 ghost use Rattle.union.specs.PairNumbers.{contentsOfPair, contentsIn};
 ghost use Rattle.union.specs.Walks.{listOfType};
 ghost use Rattle.union.specs.Rounds.{contentOfRule};
-ghost use Rattle.contents.specs.Drafts.{draftLength, GathersIn};
-ghost use Rattle.contents.specs.Notes.{Registered};
-ghost use Rattle.contents.specs.Emitting.{Source};
+ghost use Rattle.operands.specs.Drafts.{draftLength, GathersIn};
+ghost use Rattle.operands.specs.Notes.{Registered};
+ghost use Rattle.emitting.specs.Emitting.{Source};
 ghost use Rattle.contents.specs.Completing.{Made};
 ghost use Rattle.contents.specs.Joining.{Joining, Ready, contentRow, GathersRegistered};
 

@@ -22,7 +22,7 @@ use Rattle.theory.proofs.lists.BoolLaws.{and-left, and-right, and-intro, same-t
 use Rattle.theory.proofs.lists.ListLaws.{any-of, any-found, at-mem, at-else}
 use Rattle.theory.proofs.emission.AlternativeLaws.{some-pairs, has-renamed}
 use Rattle.sets.specs.Sets.{nothing}
-use Rattle.contents.proofs.SourceLaws.{has-agrees}
+use Rattle.emitting.proofs.SourceLaws.{has-agrees}
 use Rattle.union.specs.declared.united.United.{United}
 use Rattle.union.specs.View.{firstIn, Views, RuleSeen}
 use Rattle.union.specs.Rounds.{puts, contentOfRule}

@@ -13,7 +13,7 @@ ghost use Rattle.grammar.specs.Lists.{keep, numbersBelow};
 ghost use Rattle.grammar.specs.WriteTable.{tableBytes};
 ghost use Rattle.sets.specs.Sets.{setOfEightAt};
 ghost use Rattle.union.specs.Places.{startTypesAt};
-ghost use Rattle.contents.specs.Drafts.{draftLength};
+ghost use Rattle.operands.specs.Drafts.{draftLength};
 ghost use Rattle.forms.specs.SetForms.{tableBySets, pairsWithin};
 ghost use Rattle.writer.specs.Tables.{TablePut};
 ghost use Rattle.results.specs.Results.{RulesWith, ResultFrom, ruleFrom, bodyBytes};

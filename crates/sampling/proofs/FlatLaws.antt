@@ -21,11 +21,11 @@ use Rattle.theory.proofs.emission.GatheringLaws.{written-gathered}
 use Rattle.theory.proofs.contents.CountedContents.{operands-count}
 use Rattle.reader.specs.ExprAt.{_upTo_, exprAt}
 use Rattle.reader.proofs.ExprLaws.{expr-written}
-use Rattle.contents.specs.Drafts.{Row, TooWide}
+use Rattle.operands.specs.Drafts.{Row, TooWide}
 use Rattle.sampling.specs.SampleContents.{sequenceIn, sequencesAmong}
 use Rattle.sampling.specs.SampleTable.{contentIn}
-use Rattle.contents.proofs.KeptLaws.{row-count}
-use Rattle.contents.proofs.WideLaws.{too-large}
+use Rattle.operands.proofs.KeptLaws.{row-count}
+use Rattle.operands.proofs.WideLaws.{too-large}
 
 record Flat (c : Content) : Type 0 where
   shallow : nesting c ≤ 3

@@ -20,14 +20,14 @@ use Rattle.theory.proofs.lists.DistinctLaws.{keep-append}
 use Rattle.theory.proofs.emission.GatheringLaws.{gathered-so, gather-nothing, gather-more}
 use Rattle.reader.specs.ExprAt.{_upTo_}
 use Rattle.reader.proofs.ExprLaws.{expr-of, exprs-none, exprs-kept}
-use Rattle.contents.specs.declared.drafts.Gathering.{Gathering}
-use Rattle.contents.specs.declared.drafts.Gathering.the-variants.{TooLarge, Upto}
-use Rattle.contents.specs.Drafts.{Row, Kept, Newest, TooWide, GathersWith, GathersIn}
-use Rattle.contents.specs.Notes.{Noted}
+use Rattle.operands.specs.declared.drafts.Gathering.{Gathering}
+use Rattle.operands.specs.declared.drafts.Gathering.the-variants.{TooLarge, Upto}
+use Rattle.operands.specs.Drafts.{Row, Kept, Newest, TooWide, GathersWith, GathersIn}
+use Rattle.operands.specs.Notes.{Noted}
 use Rattle.writer.specs.Writing.{Put}
-use Rattle.contents.proofs.NoteLaws.{noted-none}
-use Rattle.contents.proofs.WideLaws.{wide-gathered}
-use Rattle.contents.proofs.GatherLaws.{told-large, told-upto}
+use Rattle.operands.proofs.NoteLaws.{noted-none}
+use Rattle.operands.proofs.WideLaws.{wide-gathered}
+use Rattle.operands.proofs.GatherLaws.{told-large, told-upto}
 use Rattle.writer.proofs.PutLaws.{put-length, put-kept, put-there}
 use Rattle.sampling.specs.SampleContents.{operandsEnd, sequenceIn, sequencesAmong, sequenceRow, noSequences}
 

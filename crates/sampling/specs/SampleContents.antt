@@ -9,7 +9,7 @@ use Rattle.grammar.specs.Lists.{keep, numbersFrom}
 use Rattle.grammar.specs.Content.{Content, operands}
 use Rattle.grammar.specs.ReadContent.{operandBytes}
 use Rattle.grammar.specs.Sample.{Run, runContent, sequenceOf}
-use Rattle.contents.specs.declared.drafts.OperandRow.{OperandRow}
+use Rattle.operands.specs.declared.drafts.OperandRow.{OperandRow}
 
 -- A content is made in scratch bytes: where its operands end at most, where it ends, and how many bytes are lent.
 abbrev pub operandsEnd : ℕ

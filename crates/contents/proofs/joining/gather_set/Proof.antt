@@ -8,9 +8,9 @@ use borrow.Author.Needs.{needs}
 use borrow.Author.Tests.{not-true, not-false}
 use Rattle.sets.specs.Sets.{member}
 use Rattle.contents.proofs.CompleteLaws.{start-kept}
-use Rattle.contents.specs.Notes.{registerLength}
+use Rattle.operands.specs.Notes.{registerLength}
 use Rattle.contents.specs.Joining.{Joining, contentRow}
-use Rattle.contents.proofs.TypesKeptLaws.{registered-zeros}
+use Rattle.emitting.proofs.TypesKeptLaws.{registered-zeros}
 use Rattle.contents.proofs.joining.gather_set.Statement.{statement}
 use Rattle.contents.proofs.joining.gather_set.Tie as tie
 use Rattle.contents.proofs.LoopLaws.{

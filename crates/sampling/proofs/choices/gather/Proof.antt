@@ -9,8 +9,8 @@ use Rattle.grammar.specs.Limits.{operandLimit}
 use Rattle.grammar.specs.Lists.{numbersBelow}
 use Rattle.grammar.specs.Content.{Content}
 use Rattle.theory.specs.Alternatives.{gathered}
-use Rattle.contents.specs.Drafts.{Row}
-use Rattle.contents.specs.Notes.{Noted}
+use Rattle.operands.specs.Drafts.{Row}
+use Rattle.operands.specs.Notes.{Noted}
 use Rattle.sampling.specs.SampleContents.{operandsEnd, sequencesAmong}
 use Rattle.sampling.proofs.SequenceLaws.{among-start, among-noted, among-skip, newest-is, gather-stop, gather-next, gather-all}
 use Rattle.sampling.proofs.choices.gather.Statement.{statement}

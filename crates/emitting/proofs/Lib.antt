@@ -1,0 +1,3 @@
+pub mod TypesKeptLaws
+pub mod SourceLaws
+pub mod EmitLaws

@@ -1,0 +1,2 @@
+// The alternatives of a content, gathered into a row of operands.
+pub mod emitter;

@@ -1,0 +1,3 @@
+// Rows of operands in a draft.
+pub mod drafts;
+pub mod limits;
