@@ -1,14 +1,3 @@
-pub mod VisitedNodes
-pub mod NumberingLaws
-pub mod SampleByNodes
-pub mod FillLaws
-pub mod ParentLaws
-pub mod TypeLaws
-pub mod KidLaws
-pub mod RunLaws
-pub mod SequenceLaws
-pub mod FlatLaws
-pub mod TextLaws
 pub mod RuleLaws
 pub mod SampleWritten
 pub mod SampleIndexed

@@ -16,8 +16,7 @@ use Rattle.reader.proofs.ExprLaws.{expr-forward, expr-bytes}
 use Rattle.writer.specs.declared.writing.Drafted.{Drafted}
 use Rattle.writer.specs.declared.writing.Drafted.the-variants.{Length, TooLarge}
 use Rattle.writer.specs.Tables.{RulePuts}
-use Rattle.sampling.specs.SampleContents.{ruleEnd}
-use Rattle.sampling.specs.SampleTable.{ContentMade}
+use Rattle.sequences.specs.SampleContents.{ruleEnd, ContentMade}
 
 pub made-stop : (d : List ℕ) (c : Content) (r : Drafted) {stop : ℕ} → ContentMade d c r → r ≡ Length stop
     → (exprAt d 2 ≡ just (c upTo stop)) × (stop ≤ ruleEnd) × (contentTooLarge large c ≡ false)

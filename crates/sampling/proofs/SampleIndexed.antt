@@ -15,9 +15,10 @@ use Rattle.documents.specs.DocumentNodes.{nodeAt, nodesIn}
 use Rattle.documents.specs.NodeTrees.{treeCount, Enough}
 use Rattle.documents.proofs.DocumentAnswers.{nodes-count, node-held, document-tree}
 use Rattle.documents.proofs.DocumentTrees.{complete}
-use Rattle.sampling.specs.SampleNodes.{kidCount, CountedTree, Whole, TypedTo, nameIn, nameAt, markIn, markAt, parentsOf}
+use Rattle.paths.specs.SampleNodes.{kidCount, CountedTree, Whole, TypedTo, nameIn, nameAt, markAt, parentsOf}
+use Rattle.sequences.specs.SampleTexts.{markIn}
 use Rattle.sampling.specs.SampleTable.{HoldsNodes, SampleHeld, SampleReady}
-use Rattle.sampling.proofs.SampleByNodes.{kids-count}
+use Rattle.paths.proofs.SampleByNodes.{kids-count}
 
 module _ (lim : Limits) (s : List ℕ) (ix : DocumentIndex) (x : HoldsNodes lim s ix) where
   abbrev ns : List Node

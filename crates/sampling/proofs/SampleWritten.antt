@@ -50,29 +50,26 @@ use Rattle.theory.proofs.lists.DistinctLaws.{distinct-on}
 use Rattle.theory.proofs.emission.EmittedContent.{joined-map}
 use Rattle.writer.specs.declared.writing.Drafted.{Drafted}
 use Rattle.writer.specs.declared.writing.Drafted.the-variants.{Length, TooLarge}
-use Rattle.sampling.specs.SampleContents.{kidTypes, NodesHeld, sequenceIn, sequencesAmong}
+use Rattle.sequences.specs.SampleContents.{kidTypes, NodesHeld, sequenceIn, sequencesAmong, contentIn}
+use Rattle.sequences.specs.SampleTexts.{markIn, textIn, MarksHeld}
 use Rattle.writer.specs.Tables.{numberedField, rulesBytes, TablePut}
 use Rattle.writer.proofs.TableSize.{size-over, size-fits, types-over, content-over, bytes-over, all-fit}
 use Rattle.sampling.specs.SampleTable.{
-  contentIn,
-  textIn,
   ruleIn,
   labelField,
   startBytes,
   SampleHeld,
   SampleReady,
-  MarksHeld,
   RulesHeld,
   SampleDrafted,
 }
-use Rattle.sampling.specs.SampleNodes.{
+use Rattle.paths.specs.SampleNodes.{
   KeyAt,
   KeysAt,
   LabelledTo,
   nameIn,
   sameNameIn,
   nameAt,
-  markIn,
   markAt,
   parentAt,
   kidsOf,
@@ -88,8 +85,8 @@ use Rattle.sampling.specs.SampleNodes.{
   ruleOfNode,
   sampleOfNodes,
 }
-use Rattle.sampling.proofs.NumberingLaws.{place-agree}
-use Rattle.sampling.proofs.SampleByNodes.{sample-nodes, first-type}
+use Rattle.paths.proofs.NumberingLaws.{place-agree}
+use Rattle.paths.proofs.SampleByNodes.{sample-nodes, first-type}
 
 -- lists by places
 taken-at : (l : List ℕ) (c : ℕ) → c ≤ length l → take c l ≡ map (λ (t : ℕ). getD l t 0) (numbersBelow c)

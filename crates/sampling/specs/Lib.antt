@@ -1,3 +1,1 @@
-pub mod SampleNodes
-pub mod SampleContents
 pub mod SampleTable

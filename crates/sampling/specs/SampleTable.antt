@@ -1,19 +1,13 @@
 -- The table of a sample, by arrays: the rule of each type, and whether it is written.
 use Prim.Native.Nat.{ℕ, _≤_, _<_}
-use mathlib.Core.Bool.{Bool, true, false}
 use mathlib.Core.List.{List, [], _∷_, _++_}
-use mathlib.Core.Option.{some as just}
 use mathlib.Core.Path.{_≡_}
-use lib.Dec.{eqb}
 use lib.ListN.{length, getD, drop}
-use Rattle.grammar.specs.Lists.{anyPass, keep, numbersBelow}
-use Rattle.grammar.specs.Limits.{Limits, large, inputLimit, childLimit}
-use Rattle.grammar.specs.Content.{Content, choiceOf}
+use Rattle.grammar.specs.Limits.{Limits, inputLimit, childLimit}
 use Rattle.grammar.specs.Table.{Rule}
 use Rattle.grammar.specs.Fields.{fieldBytes}
 use Rattle.grammar.specs.ReadTable.{labelTag, startTag}
 use Rattle.grammar.specs.WriteTable.{tableBytes}
-use Rattle.grammar.specs.Size.{contentTooLarge}
 use Rattle.grammar.specs.Names.{Classes}
 use Rattle.grammar.specs.Outcome.{given, refused}
 use Rattle.grammar.specs.Tree.{Tree}
@@ -21,23 +15,16 @@ use Rattle.grammar.specs.Sample.{sample}
 use Rattle.grammar.specs.Widen.{sampleTable}
 use Rattle.grammar.specs.declared.Format.{Format}
 use Rattle.grammar.specs.declared.Refusal.the-variants.{ResultTooLarge}
-use Rattle.theory.specs.Alternatives.{gathered}
-use Rattle.reader.specs.ExprAt.{_upTo_, exprAt}
 use Rattle.documents.specs.declared.documents.DocumentIndex.{DocumentIndex}
 use Rattle.documents.specs.DocumentNodes.{nodesIn, readNodesAs, NodesIndexed}
 use Rattle.writer.specs.declared.writing.Drafted.{Drafted}
 use Rattle.writer.specs.declared.writing.Drafted.the-variants.{Length, TooLarge}
 use Rattle.writer.specs.Tables.{restBytes}
-use Rattle.sampling.specs.SampleNodes.{nameIn, markIn, markAt, kidsOf, Whole, TypedTo}
-use Rattle.sampling.specs.SampleContents.{NodesHeld, sequencesAmong, ruleEnd}
+use Rattle.paths.specs.SampleNodes.{nameIn, markAt, kidsOf, Whole, TypedTo}
+use Rattle.sequences.specs.SampleContents.{NodesHeld, contentIn}
+use Rattle.sequences.specs.SampleTexts.{markIn, textIn, MarksHeld}
 
--- the content of a type, whether any node of it holds text, and its rule
-abbrev pub contentIn : (parents types : List ℕ) → ℕ → ℕ → Content
-contentIn parents types n k = choiceOf (gathered [] (sequencesAmong parents types n k (numbersBelow n)))
-
-abbrev pub textIn : (shapes types : List ℕ) → ℕ → ℕ → Bool
-textIn shapes types n k = anyPass (markIn shapes) (keep (λ (j : ℕ). eqb (getD types j 0) k) (numbersBelow n))
-
+-- the rule of a type
 abbrev pub ruleIn : (shapes parents types labels : List ℕ) → ℕ → ℕ → Rule
 ruleIn shapes parents types labels n k =
     record {
@@ -46,18 +33,6 @@ ruleIn shapes parents types labels n k =
       content = contentIn parents types n k;
       text = textIn shapes types n k;
     }
-
--- the content stands in a draft from the second place on; or it is too large
-abbrev pub ContentMade : List ℕ → Content → Drafted → Type 0
-ContentMade draft c (Length stop) =
-    (exprAt draft 2 ≡ just (c upTo stop)) × (stop ≤ ruleEnd) × (contentTooLarge large c ≡ false)
-ContentMade draft c TooLarge = contentTooLarge large c ≡ true
-
--- the arrays hold the shapes and the types of nodes
-pub record MarksHeld (shapes types : List ℕ) (n : ℕ) : Type 0 where
-  pub few : n ≤ 2048
-  pub shapes-held : n ≤ length shapes
-  pub types-held : n ≤ length types
 
 -- the field of a label, by number
 abbrev pub labelField : (s names sizes firsts : List ℕ) → ℕ → List ℕ

@@ -10,10 +10,10 @@ ghost use lib.ListN.{length};
 ghost use Rattle.grammar.specs.Limits.{inputLimit};
 ghost use Rattle.grammar.specs.Lists.{joinedOf, numbersBelow};
 ghost use Rattle.writer.specs.Writing.{Puts};
-ghost use Rattle.sampling.specs.SampleContents.{scratchBytes};
+ghost use Rattle.sequences.specs.SampleContents.{scratchBytes};
 ghost use Rattle.writer.specs.Tables.{TablePut, restBytes};
 ghost use Rattle.sampling.specs.SampleTable.{ruleIn, labelField, RulesHeld, startBytes};
-ghost use Rattle.sampling.specs.SampleNodes.{KeysAt};
+ghost use Rattle.paths.specs.SampleNodes.{KeysAt};
 
 // Writes the labels: each first node's name.
 pub fn put_labels(

@@ -1,15 +1,15 @@
 // The rules of a sample, in the order of the types.
-use crate::choices::make_content;
-use crate::texts::type_text;
+use sequences::choices::make_content;
+use sequences::texts::type_text;
 use writer::writing::Drafted;
 use writer::writing::put_field;
 use writer::writing::rule_tag;
 ghost use Prim.Native.Nat.{_≤_, _<_};
 ghost use lib.ListN.{length};
 ghost use Rattle.grammar.specs.Limits.{inputLimit};
-ghost use Rattle.sampling.specs.SampleContents.{NodesHeld, scratchBytes};
+ghost use Rattle.sequences.specs.SampleContents.{NodesHeld, scratchBytes, contentIn};
 ghost use Rattle.writer.specs.Tables.{RulePuts, RulesPut};
-ghost use Rattle.sampling.specs.SampleTable.{contentIn, ruleIn, RulesHeld};
+ghost use Rattle.sampling.specs.SampleTable.{ruleIn, RulesHeld};
 
 // Writes the rule of a type.
 fn put_rule(

@@ -1,12 +1,12 @@
 // The sample of a document: one type for each path of names, written as a table.
 use crate::fields::put_labels;
 use crate::fields::put_start;
-use crate::labels::labels_of;
-use crate::limits::SCRATCH;
-use crate::parents::parents_of;
-use crate::paths::types_of;
 use documents::documents::DocumentIndex;
 use grammar::SizeLimits;
+use paths::labels::labels_of;
+use paths::parents::parents_of;
+use paths::paths::types_of;
+use sequences::limits::SCRATCH;
 use writer::writing::Drafted;
 ghost use Prim.Native.Nat.{_≤_};
 ghost use mathlib.Core.Path.{_≡_};

@@ -5,7 +5,7 @@ use mathlib.Core.Path.{_≡_}
 use lib.ListN.{length, length-set, set}
 use Rattle.grammar.specs.Limits.{standard, large}
 use Rattle.grammar.specs.Size.{contentTooLarge}
-use Rattle.sampling.specs.SampleTable.{contentIn}
+use Rattle.sequences.specs.SampleContents.{contentIn}
 use Rattle.writer.proofs.TableLaws.{rule-puts}
 use Rattle.sampling.proofs.RuleLaws.{made-stop, drafted-over, drafted-rule}
 use borrow.Author.Needs.{needs}

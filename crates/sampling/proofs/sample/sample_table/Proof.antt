@@ -8,8 +8,8 @@ use Rattle.sampling.proofs.sample.sample_table.Statement.{statement}
 use Rattle.sampling.proofs.sample.sample_table.Tie as tie
 use Rattle.sampling.proofs.sample.sample_table.Reads as reads
 use Rattle.sampling.proofs.sample.sample_table.Lts as lts
-use Rattle.sampling.proofs.parents.parents_of.Reads as parents-of-reads
-use Rattle.sampling.proofs.paths.types_of.Reads as types-of-reads
+use Rattle.paths.proofs.parents.parents_of.Reads as parents-of-reads
+use Rattle.paths.proofs.paths.types_of.Reads as types-of-reads
 use Rattle.sampling.proofs.sample.write_sample.Reads as write-sample-reads
 
 -- what is known at the start, after `parents_of` and after `types_of`

@@ -14,7 +14,7 @@ use Rattle.sampling.proofs.sample.write_sample.Statement.{statement}
 use Rattle.sampling.proofs.sample.write_sample.Tie as tie
 use Rattle.sampling.proofs.sample.write_sample.Reads as reads
 use Rattle.sampling.proofs.sample.write_sample.Lts as lts
-use Rattle.sampling.proofs.labels.labels_of.Reads as labels-of-reads
+use Rattle.paths.proofs.labels.labels_of.Reads as labels-of-reads
 use Rattle.sampling.proofs.fields.put_labels.Reads as put-labels-reads
 use Rattle.sampling.proofs.fields.put_start.Reads as put-start-reads
 

@@ -1,0 +1,5 @@
+pub mod KidLaws
+pub mod RunLaws
+pub mod SequenceLaws
+pub mod FlatLaws
+pub mod TextLaws

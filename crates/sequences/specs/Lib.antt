@@ -1,0 +1,2 @@
+pub mod SampleContents
+pub mod SampleTexts
