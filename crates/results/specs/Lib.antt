@@ -1,2 +1,2 @@
+pub mod PlanKind
 pub mod Results
-pub mod Widened

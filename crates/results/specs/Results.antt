@@ -29,7 +29,7 @@ use Rattle.forms.specs.SetForms.{setLabel, ruleBySet, pairsWithin}
 use Rattle.forms.specs.SetWords.{SetsHeld}
 use Rattle.writer.specs.Tables.{restBytes}
 use Rattle.results.specs.declared.plan.Plan.{Plan}
-use Rattle.results.specs.Widened.{kindOf}
+use Rattle.results.specs.PlanKind.{kindOf}
 
 -- the rule of a set, by its number
 abbrev pub resultRule : Table → List TypeSet → Kind → ℕ → Rule

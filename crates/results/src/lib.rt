@@ -1,9 +1,7 @@
-// The result of a widening by sets of pairs, written into a draft: labels used, starts, rules, and all steps together.
+// The result of a widening by sets of pairs, written into a draft: labels used, starts, rules.
 pub mod labels_used;
 pub mod plan;
 pub mod result;
 pub mod rules;
-pub mod start_types;
 pub mod starts;
 pub mod text_pairs;
-pub mod widen;

@@ -17,7 +17,7 @@ ghost use Rattle.operands.specs.Drafts.{draftLength};
 ghost use Rattle.forms.specs.SetForms.{tableBySets, pairsWithin};
 ghost use Rattle.writer.specs.Tables.{TablePut};
 ghost use Rattle.results.specs.Results.{RulesWith, ResultFrom, ruleFrom, bodyBytes};
-ghost use Rattle.results.specs.Widened.{kindOf};
+ghost use Rattle.results.specs.PlanKind.{kindOf};
 
 // Writes the starts, the rules and the end.
 fn put_body(

@@ -1,8 +1,8 @@
 // The rules of a result: one for each set of pairs, in the order of the sets.
 use crate::labels_used::label_place;
+use crate::plan::Kind;
 use crate::plan::Plan;
 use crate::text_pairs::has_text;
-use crate::widen::Kind;
 use contents::completing::ContentMade;
 use contents::joining::ResultTypes;
 use contents::joining::content_of_set;
@@ -36,7 +36,7 @@ ghost use Rattle.contents.specs.Completing.{Made};
 ghost use Rattle.writer.specs.Tables.{RulePuts, RulesPut, TablePut, restBytes};
 ghost use Rattle.forms.specs.SetForms.{pairsWithin};
 ghost use Rattle.results.specs.Results.{RulesFrom, RulesWith, ruleFrom};
-ghost use Rattle.results.specs.Widened.{kindOf};
+ghost use Rattle.results.specs.PlanKind.{kindOf};
 
 // The scratch bytes in which a rule is made: its type, its label, and the draft of its content.
 pub const SCRATCH: usize = 2 + DRAFT;

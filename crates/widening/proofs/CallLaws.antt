@@ -38,7 +38,7 @@ use Rattle.theory.proofs.bytes.NumberedTable.{sized-agree}
 use Rattle.theory.proofs.theorems.CallPromises.{lent-short, lent-enough, loaded, loaded-then, sampling, widening}
 use Rattle.reader.proofs.AnswerLaws.{both-then-last}
 use Rattle.writer.proofs.WroteLaws.{wrote-as, wrote-short}
-use Rattle.widening.specs.Drafting.{sampleOf, sampledFrom, widenedBy, widenedFrom, HandedOver}
+use Rattle.drafting.specs.Drafting.{sampleOf, sampledFrom, widenedBy, widenedFrom, HandedOver}
 
 module _ (l : SizeLimits) where
   abbrev lim : Limits

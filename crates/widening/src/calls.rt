@@ -1,24 +1,24 @@
 // The public calls that write a table. A call that is lent too few words changes none; otherwise the words that it needs are zero after
 // it, and words beyond them never change.
-use crate::drafting::deliver;
-use crate::drafting::draft_sample;
-use crate::drafting::draft_widened;
 use basis::limits::INPUT;
 use basis::limits::limits_of;
 use basis::work::clear_work;
+use drafting::drafting::deliver;
+use drafting::drafting::draft_sample;
+use drafting::drafting::draft_widened;
 use grammar::Format;
 use grammar::Refusal;
 use grammar::Size;
 use grammar::Source;
 use grammar::Written;
-use results::widen::Kind;
+use results::plan::Kind;
 ghost use Rattle.grammar.specs.LimitSets.{sizeLimits};
 ghost use Rattle.grammar.specs.Kinds.{local, singleType};
 ghost use Rattle.grammar.specs.Answers.{writtenNumbers};
 ghost use Rattle.grammar.specs.Calls.{after};
 ghost use Rattle.grammar.specs.Promises.{Sampling, Widening};
 ghost use Rattle.grammar.specs.declared.Source.the-variants.{Table as aTable, Document as aDocument};
-ghost use Rattle.results.specs.Widened.{kindOf};
+ghost use Rattle.results.specs.PlanKind.{kindOf};
 
 // The sample of a document, as a table.
 pub fn sample(

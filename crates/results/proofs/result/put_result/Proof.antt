@@ -15,7 +15,7 @@ use Rattle.writer.specs.declared.writing.Drafted.the-variants.{TooLarge}
 use Rattle.writer.specs.Tables.{TablePut}
 use Rattle.writer.proofs.TableLaws.{put-length-is, put-over, put-then}
 use Rattle.forms.specs.SetForms.{tableBySets, pairsWithin}
-use Rattle.results.specs.Widened.{kindOf}
+use Rattle.results.specs.PlanKind.{kindOf}
 use Rattle.results.specs.Results.{ruleFrom, labelsBytes, bodyBytes}
 use Rattle.results.proofs.SetLaws.{rules-stay}
 use Rattle.results.proofs.ResultLaws.{table-bytes}

@@ -6,8 +6,8 @@ use borrow.Author.Needs.{needs}
 use Rattle.grammar.specs.Lists.{isIn}
 use Rattle.union.specs.PairNumbers.{metIn}
 use Rattle.forms.specs.SetForms.{pairsWithin}
-use Rattle.results.specs.declared.widen.Kind.{Kind}
-use Rattle.results.specs.Widened.{kindOf}
+use Rattle.results.specs.declared.plan.Kind.{Kind}
+use Rattle.results.specs.PlanKind.{kindOf}
 use Rattle.results.proofs.rules.pairs_within.Statement.{statement}
 use Rattle.results.proofs.rules.pairs_within.Tie as tie
 

@@ -15,7 +15,7 @@ use Rattle.union.proofs.ViewLaws.{views-sized}
 use Rattle.writer.specs.Tables.{RulePuts}
 use Rattle.writer.proofs.TableLaws.{rule-puts}
 use Rattle.results.specs.Results.{ruleFrom}
-use Rattle.results.specs.Widened.{kindOf}
+use Rattle.results.specs.PlanKind.{kindOf}
 use Rattle.results.proofs.SetLaws.{set-held, set-room, set-eight, set-ascending, set-some, set-labelled, set-pairs, label-small, label-used, text-is, rule-is}
 use Rattle.results.proofs.ResultLaws.{rule-value, scratch-long, scratch-room, made-stored, made-over}
 use Rattle.results.proofs.rules.put_rule.Statement.{statement}

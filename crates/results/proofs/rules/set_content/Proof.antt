@@ -13,7 +13,7 @@ use Rattle.sets.proofs.SetLaws.{length-words}
 use Rattle.union.proofs.ViewLaws.{views-sized}
 use Rattle.contents.specs.Completing.{Made}
 use Rattle.forms.specs.SetForms.{pairsLabelled}
-use Rattle.results.specs.Widened.{kindOf}
+use Rattle.results.specs.PlanKind.{kindOf}
 use Rattle.results.proofs.SetLaws.{set-held, set-eight, content-is}
 use Rattle.results.proofs.ContentLaws.{all-labels, merged}
 use Rattle.results.proofs.rules.set_content.Statement.{statement}

@@ -1,7 +1,7 @@
 -- `calls::sample` meets its contract: too few words, or the sample made in a draft and handed over.
-use Rattle.widening.specs.Drafting.{sampledFrom}
+use Rattle.drafting.specs.Drafting.{sampledFrom}
 use Rattle.widening.proofs.CallLaws as laws
-use Rattle.widening.proofs.DraftLaws as drafts
+use Rattle.drafting.proofs.DraftLaws as drafts
 use Rattle.grammar.specs.LimitSets.{limitsOf}
 use Rattle.theory.proofs.theorems.SizedPromises.{sampling-sized}
 use borrow.Author.Needs.{needs}

@@ -2,11 +2,11 @@
 use Prim.Native.Nat.{_-_}
 use native.Mathlib.Omega.{arith}
 use mathlib.Core.Path.{_∙_}
-use Rattle.results.specs.Widened.{kindOf}
-use Rattle.widening.specs.Drafting.{widenedFrom}
+use Rattle.results.specs.PlanKind.{kindOf}
+use Rattle.drafting.specs.Drafting.{widenedFrom}
 use Rattle.basis.proofs.WorkLaws.{lent-cleared}
 use Rattle.widening.proofs.CallLaws as laws
-use Rattle.widening.proofs.DraftLaws as drafts
+use Rattle.drafting.proofs.DraftLaws as drafts
 use Rattle.grammar.specs.LimitSets.{limitsOf}
 use Rattle.theory.proofs.theorems.SizedPromises.{widening-sized}
 use borrow.Author.Needs.{needs}

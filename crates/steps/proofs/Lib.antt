@@ -1,0 +1,4 @@
+pub mod WidenLaws
+pub mod StartTypes
+pub mod ReducedLaws
+pub mod UnionLaws
