@@ -83,8 +83,8 @@ module _ (lim : Limits) (classes : Classes) where
   -- From the opening table by one input after the other, every widening gave a table, the last one this.
   pub data Stages (kind : Kind) (opening : List ℕ) : List Input → List ℕ → Type 0 where
     first : {input : Input} {result : List ℕ} → Widens kind opening input result → Stages kind opening (input ∷ []) result
-    next : {inputs : List Input} {input : Input} {before result : List ℕ} → Stages kind opening inputs before → Widens kind before input result
-        → Stages kind opening (inputs ++ input ∷ []) result
+    next : {inputs : List Input} {input : Input} {before result : List ℕ}
+        → Stages kind opening inputs before → Widens kind before input result → Stages kind opening (inputs ++ input ∷ []) result
 
   -- the documents of stages: those of the opening table, and those that any of the inputs adds
   abbrev pub OpeningOrAdded : List ℕ → List Input → Tree → Type 0

@@ -1,4 +1,4 @@
-// The limits of results, once for the code of this crate. crates/grammar/specs/Limits.antt has them for the definitions.
+// The limits of results, once for all code. crates/grammar/specs/Limits.antt has them for the definitions.
 use basis::limits::CONTENT;
 use basis::limits::NESTING;
 

@@ -1,6 +1,6 @@
--- Widening by stages: the stages don't matter. Laws of one kind, under some limits and classes, about the bytes that calls write. Their premise
--- is that every widening in the comparison gave a table (`Widens`); what is added, A or B, is a table or a document. They speak of the
--- documents let in and not of bytes, since type numbers may differ.
+-- Widening by stages: the stages don't matter. Laws of one kind, under some limits and classes, about the bytes that calls write. Their
+-- premise is that every widening in the comparison gave a table (`Widens`); what is added, A or B, is a table or a document. They speak of
+-- the documents let in and not of bytes, since type numbers may differ.
 use Prim.Native.Nat.{ℕ}
 use mathlib.Core.List.{List, List·Memᴰ}
 use mathlib.Core.Logic.{_↔_, _⊎_}

@@ -245,8 +245,9 @@ module _ (lim : Limits) (classes : Classes) where
       ((g, p), (a, q))
 
   -- and so did making a sample
-  pub sampling-read : (format : Format) (document out work : List ℕ) (left : After Numbers) → Sampling lim classes format document out work left
-      → left .answer .refusal ≡ 0 → (d : Tree) × (readDocument lim classes format document ≡ given d)
+  pub sampling-read : (format : Format) (document out work : List ℕ) (left : After Numbers)
+      → Sampling lim classes format document out work left → left .answer .refusal ≡ 0
+      → (d : Tree) × (readDocument lim classes format document ≡ given d)
   unfolding documentSample documentReads
   sampling-read format document out work left w z =
       let (l, (d, p, n)) =
@@ -296,8 +297,8 @@ module _ (lim : Limits) (classes : Classes) where
         widens : lim .words ≤ length work → Loads classes → outcome ≡ (widen lim kind g a >>= writtenTo out)
         widens h l =
             widened-lent kind source old addition out work h l
-            ∙ ap
-            (λ (o : Outcome Table). o >>= λ g. (readAddition lim classes source addition >>= λ a. (widen lim kind g a >>= λ r. writtenTo out r)))
+            ∙ given-then (readTable lim classes old) g
+            (λ g. (readAddition lim classes source addition >>= λ a. (widen lim kind g a >>= λ r. writtenTo out r)))
             p
             ∙ ap (λ (o : Outcome Addition). o >>= λ a. (widen lim kind g a >>= λ r. writtenTo out r)) q
 

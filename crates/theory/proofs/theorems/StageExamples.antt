@@ -40,7 +40,9 @@ widens : (kind : Kind) (old : List ℕ) → byP1 kind old ≡ given p1Bytes → 
 unfolding standard work
 widens kind old e =
     widens-given standard asciiClasses kind agree old (tableInput p1Bytes) p1Bytes work p1Bytes
-    (widened-lent standard asciiClasses kind aTable old p1Bytes p1Bytes work (let n = length-replicate {A = ℕ} 16384 0 in omega arith) ascii-load
+    (widened-lent standard asciiClasses kind aTable old p1Bytes p1Bytes work
+    (let n = length-replicate {A = ℕ} 16384 0 in omega arith)
+    ascii-load
     ∙ e)
 
 p1-by-p1 : (kind : Kind) → byP1 kind p1Bytes ≡ given p1Bytes

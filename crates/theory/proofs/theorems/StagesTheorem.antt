@@ -57,7 +57,8 @@ module _ (lim : Limits) (classes : Classes) (kind : Kind) where
   )
 
   one-more : (opening : List ℕ) (inputs : List Input) (input : Input) (d : Tree)
-      → (OpeningOrAdded lim classes opening inputs d ⊎ AddedBy lim classes input d) ↔ OpeningOrAdded lim classes opening (inputs ++ input ∷ []) d
+      → (OpeningOrAdded lim classes opening inputs d ⊎ AddedBy lim classes input d)
+      ↔ OpeningOrAdded lim classes opening (inputs ++ input ∷ []) d
   one-more opening inputs input d = (
     ⊎-elim (⊎-map (λ l. l) (λ (i, m, l). (i, Memᴰ·append-left (input ∷ []) m, l)))
         (λ l. inr (input, Memᴰ·append-right inputs (List·Memᴰ·head refl), l)),
@@ -71,9 +72,12 @@ module _ (lim : Limits) (classes : Classes) (kind : Kind) where
   -- After any number of stages the last table is least over the opening table and all additions,
   stages-least : {opening last : List ℕ} {inputs : List Input} → Stages lim classes kind opening inputs last
       → ReadsLeast lim classes kind (OpeningOrAdded lim classes opening inputs) last
-  stages-least {opening} {last} (first {input = input} w) = reads-over lim classes kind last (widens-least lim classes kind w) (one-input opening input)
+  stages-least {opening} {last} (first {input = input} w) =
+      reads-over lim classes kind last (widens-least lim classes kind w) (one-input opening input)
   stages-least {opening} {last} (next {inputs = inputs} {input = input} {before = before} s w) =
-      reads-over lim classes kind last (reads-further lim classes kind before last (stages-least s) (widens-least lim classes kind w)) (one-more opening inputs input)
+      reads-over lim classes kind last
+      (reads-further lim classes kind before last (stages-least s) (widens-least lim classes kind w))
+      (one-more opening inputs input)
 
   -- and lets in each added document itself.
   stages-keep : {opening last : List ℕ} {inputs : List Input} → Stages lim classes kind opening inputs last → (input : Input)
@@ -87,10 +91,12 @@ module _ (lim : Limits) (classes : Classes) (kind : Kind) where
       (List·Memᴰ·append-cases inputs m))
 
   -- two widenings, one after the other
-  two-widenings : {old afterA afterAB : List ℕ} {A B : Input} → Widens lim classes kind old A afterA → Widens lim classes kind afterA B afterAB
+  two-widenings : {old afterA afterAB : List ℕ} {A B : Input} → Widens lim classes kind old A afterA
+      → Widens lim classes kind afterA B afterAB
       → ReadsLeast lim classes kind (λ d. LetInBy lim classes old d ⊎ (AddedBy lim classes A d ⊎ AddedBy lim classes B d)) afterAB
   two-widenings {afterA = afterA} {afterAB = afterAB} w w′ =
-      reads-over lim classes kind afterAB (reads-further lim classes kind afterA afterAB (widens-least lim classes kind w) (widens-least lim classes kind w′))
+      reads-over lim classes kind afterAB
+      (reads-further lim classes kind afterA afterAB (widens-least lim classes kind w) (widens-least lim classes kind w′))
       (λ d. (⊎-elim (⊎-map (λ l. l) inl) (λ l. inr (inr l)), ⊎-elim (λ l. inl (inl l)) (⊎-map inr (λ l. l))))
 
   pub stages-theorem : StageLaws lim classes kind

@@ -1,10 +1,10 @@
 -- Least tables by their bytes, and one widening by the bytes that its call wrote.
 --     table-adds, document-adds, empty-adds-none    the documents that an input adds
---     reads-inclusive, reads-alike                  over more documents the least table lets in more, over the same the same
---     reads-over, reads-further                     the documents put in another way; a least table and more
---     widens-least, widens-keep                     demand 3: what a widening wrote is least over what it read, and lets in an added document itself
---     already-wide                                  a table of the kind that lets in the addition already lets in just what its widening does
---     widens-given                                  what the definition of a call gives, some call gave
+--     reads-inclusive, reads-alike    over more documents the least table lets in more, over the same the same
+--     reads-over, reads-further       the documents put in another way; a least table and more
+--     widens-least, widens-keep       demand 3: what a widening wrote is least over what it read; it lets in an added document itself
+--     already-wide                    a table of the kind that lets in the addition already lets in just what its widening does
+--     widens-given                    what the definition of a call gives, some call gave
 use Prim.Native.Nat.{ℕ}
 use mathlib.Core.List.{List, List·Memᴰ·not-nil}
 use mathlib.Core.Logic.{_↔_, _⊎_, inl, inr, ⊎-elim, ⊎-map, Iff·rfl, Iff·symm, Iff·trans}
@@ -135,7 +135,9 @@ module _ (lim : Limits) (classes : Classes) (kind : Kind) where
         }
 
     pub widens-keep : (d : Tree) → LetInBy lim classes old d ⊎ DocumentOf lim classes input d → LetInBy lim classes result d
-    widens-keep d (inl l) = record { thing = widens-least .thing; was-given = widens-least .was-given; is = widens-least .is .keeps d (inl l) }
+    widens-keep d (inl l) =
+        let r = widens-least in
+        record { thing = r .thing; was-given = r .was-given; is = r .is .keeps d (inl l) }
     widens-keep d (inr l) =
         let r = demanded in
         record {
