@@ -1,7 +1,7 @@
 /* Cogarrune: schema tables for card lists, as verified software. The calls of crates/exports for C.
  *
- * Link target/staticlib/libexports.a (`rt staticlib exports`). The library has no state, allocates nothing, and calls nothing but memcpy,
- * memmove and memset. It may be used from several threads as long as they share no `out` and no `work`. A call takes up to
+ * Link crates/exports/out/libexports.a (`rt lib` in crates/exports). The library has no state, allocates nothing, and calls nothing but
+ * memcpy, memmove and memset. It may be used from several threads as long as they share no `out` and no `work`. A call takes up to
  * COGARRUNE_STACK_BYTES bytes of stack.
  *
  * Slices. Each is a pointer and a length; a length counts bytes for `uint8_t` and words for `uint32_t`. A pointer must be good for

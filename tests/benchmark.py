@@ -1,5 +1,5 @@
 #!/usr/bin/env python3
-"""Membership and widening, measured: the proved program crates/vectors (target/bin/vectors, made by `rt check vectors`) on growing
+"""Membership and widening, measured: the proved program crates/vectors (its out/vectors, made by `rt run`) on growing
 inputs. Not part of the gate; a test never looks at time.
 
 Prints, for each input, the time of one call less that of a call on the smallest inputs at the same size (the program fills and sums the
@@ -233,10 +233,10 @@ def main():
     parser = argparse.ArgumentParser(description=__doc__.split("\n")[0])
     parser.add_argument("--seconds", type=float, default=2.0, help="least time spent on each input")
     parser.add_argument("--instructions", action="store_true", help="count instructions (valgrind) in place of time")
-    parser.add_argument("--program", type=pathlib.Path, default=ROOT / "target/bin/vectors")
+    parser.add_argument("--program", type=pathlib.Path, default=ROOT / "crates/vectors/out/vectors")
     args = parser.parse_args()
     if not args.program.exists():
-        sys.exit("build it first: rt check vectors")
+        sys.exit("build it first: cd crates/vectors && rt run </dev/null")
     measure = lambda one: instructions(args.program, one) if args.instructions else measured(args.program, one, args.seconds)
     membership(measure, args.instructions)
     widening(measure, args.instructions)

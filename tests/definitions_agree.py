@@ -22,18 +22,19 @@ BadTree BytesAfterEnd NoDocument ResultTooLarge OutputTooShort""".split(), 1))
 REFUSALS.update({16: "BadText", 17: "BadEndTag", 18: "BadClasses"})
 HEAD = """use Prim.Native.Nat.{ℕ}
 use mathlib.Core.Bool.{true, false}
-use mathlib.Core.List.{List, [], _∷_}
-use mathlib.Core.Path.{_≡_, refl}
+use mathlib.Core.List.{List, [], ◌∷◌}
+use mathlib.Core.Path.{◌≡◌, refl}
 use lib.ListN.{replicate}
-use Rattle·grammar·specs.specs.Limits.{small, standard, large}
-use Rattle·grammar·specs.specs.Names.{asciiClasses}
-use Rattle·grammar·specs.specs.Kinds.{local, singleType}
-use Rattle·grammar·specs.specs.Outcome.{given, refused}
-use Rattle·grammar·specs.specs.Calls.{tableReads, documentReads, labelName, tableLetsIn, tableIsOfKind, tablePages, documentSample, widened}
-use Rattle·grammar·specs.specs.declared.Source.the-variants.{Table as aTable, Document as aDocument}
-use Rattle·grammar·specs.specs.declared.Format.the-variants.{DocumentFile, XmlText}
-use Rattle·grammar·specs.specs.Answers.{numberAfter}
-use Rattle·grammar·specs.specs.declared.Refusal.the-variants.{%s}
+use Rattle.grammar.specs.Limits.{small, standard, large}
+use Rattle.grammar.specs.Names.{ascii_classes}
+use Rattle.grammar.specs.Kinds.{local, single_type}
+use Rattle.grammar.specs.Outcome.{given, refused}
+use Rattle.grammar.specs.Calls.{table_reads, document_reads, label_name, table_lets_in, table_is_of_kind}
+use Rattle.grammar.specs.Calls.{table_pages, document_sample, widened}
+use Rattle.grammar.specs.declared.Source.TheVariants.{Table as a_table, Document as a_document}
+use Rattle.grammar.specs.declared.Format.TheVariants.{DocumentFile, XmlText}
+use Rattle.grammar.specs.Answers.{number_after}
+use Rattle.grammar.specs.declared.Refusal.TheVariants.{%s}
 
 smallWork : List ℕ
 smallWork = replicate 12288 0
@@ -45,8 +46,8 @@ largeWork : List ℕ
 largeWork = replicate 32768 0
 """ % ", ".join(REFUSALS.values())
 LIMITS = ("small", "standard", "large")
-DECISIONS = {4: ("tableLetsIn", ""), 5: ("tableIsOfKind", "local "), 6: ("tableIsOfKind", "singleType ")}
-WIDENINGS = {8: "local aTable", 9: "local (aDocument {})", 10: "singleType aTable", 11: "singleType (aDocument {})"}
+DECISIONS = {4: ("table_lets_in", ""), 5: ("table_is_of_kind", "local "), 6: ("table_is_of_kind", "single_type ")}
+WIDENINGS = {8: "local a_table", 9: "local (a_document {})", 10: "single_type a_table", 11: "single_type (a_document {})"}
 
 
 def numbers(values):
@@ -65,26 +66,26 @@ def equation(case, refusal, value):
     """The definition that the equation computes, and the equation."""
     call, a, b, lent = case.call, numbers(case.first), numbers(case.second), f"(replicate {case.out_len} 0)"
     limits = LIMITS[case.size]
-    classes = "asciiClasses" if case.classes == reference.ASCII else numbers(case.classes)
+    classes = "ascii_classes" if case.classes == reference.ASCII else numbers(case.classes)
     fixed, work = f"{limits} {classes}", f"{limits}Work"
     text = "XmlText" if generate.is_text(case) else "DocumentFile"
     refused = f"refused {REFUSALS.get(refusal)}"
     if call == 1:
-        return "tableReads", f"numberAfter (tableReads {fixed} {a} {work}) ≡ {refusal}"
+        return "table_reads", f"number_after (table_reads {fixed} {a} {work}) ≡ {refusal}"
     if call == 2:
-        return "documentReads", f"numberAfter (documentReads {fixed} {text} {a} {work}) ≡ {refusal}"
+        return "document_reads", f"number_after (document_reads {fixed} {text} {a} {work}) ≡ {refusal}"
     if call == 3:
         given = f"given (record {{ from = {value // 65536}; size = {value % 65536} }})"
-        return "labelName", f"labelName {fixed} {a} {case.label} {work} ≡ {refused if refusal else given}"
+        return "label_name", f"label_name {fixed} {a} {case.label} {work} ≡ {refused if refusal else given}"
     if call in DECISIONS:
         name, kind = DECISIONS[call]
         inputs = f"{a} {text} {b}" if call == 4 else kind + a
         return name, f"{name} {fixed} {inputs} {work} ≡ {refused if refusal else 'given ' + ('true' if value else 'false')}"
     told = refused if refusal else "given " + numbers(generate.answer_of(case).written)
     if call == generate.PAGES:
-        return "tablePages", f"tablePages {fixed} {a} {lent} {work} ≡ {told}"
+        return "table_pages", f"table_pages {fixed} {a} {lent} {work} ≡ {told}"
     if call == 7:
-        return "documentSample", f"documentSample {fixed} {text} {a} {lent} {work} ≡ {told}"
+        return "document_sample", f"document_sample {fixed} {text} {a} {lent} {work} ≡ {told}"
     return "widened", f"widened {fixed} {WIDENINGS[call].format(text)} {a} {b} {lent} {work} ≡ {told}"
 
 
@@ -117,7 +118,7 @@ def main():
         copy = pathlib.Path(made)
         program = ROOT / "tests/second_validator/generate.py"
         subprocess.run([sys.executable, program, "--write", copy, "--seed", str(args.seed)], check=True, stdout=subprocess.DEVNULL)
-        shutil.copytree(ROOT / "crates/grammar", copy / "crates/grammar", ignore=shutil.ignore_patterns("must-fail", "proofs"))
+        shutil.copytree(ROOT / "crates/grammar", copy / "crates/grammar", ignore=shutil.ignore_patterns("must-fail", "proofs", "out"))
         (copy / "crates.txt").write_text("grammar:\n")
         proofs = copy / "crates/grammar/proofs"
         proofs.mkdir()
@@ -125,14 +126,14 @@ def main():
         for case in chosen(copy, args.most, args.each, args.seed):
             name, statement = equation(*case)
             limits = LIMITS[case[0].size]
-            opened = f"{name} {limits} asciiClasses {limits}Work numberAfter"
+            opened = f"{name} {limits} ascii_classes {limits}Work number_after"
             texts.append(f"case{count} : {statement}\nunfolding {opened}\ncase{count} = refl\n")
             count += 1
         files = [texts[i : i + 60] for i in range(0, count, 60)]
         for number, file in enumerate(files):
             (proofs / f"Cases{number}.antt").write_text(HEAD + "\n" + "\n".join(file))
         (proofs / "Lib.antt").write_text("".join(f"pub mod Cases{n}\n" for n in range(len(files))))
-        run = subprocess.run(["rt", "check"], cwd=copy, capture_output=True, text=True)
+        run = subprocess.run(["rt", "check"], cwd=copy / "crates/grammar", capture_output=True, text=True)
         refused = [line for line in (run.stdout + run.stderr).split("\n") if "error:" in line]
         unfinished = [line for line in refused if "stopped at the step limit" in line]
         wrong = [line for line in refused if line not in unfinished]

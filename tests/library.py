@@ -1,6 +1,6 @@
 """The static library of crate exports, called from Python (ctypes).
 
-    library = Library()                 builds the archive (`rt staticlib exports`) and loads it
+    library = Library()                 builds the archive (`rt lib` in crates/exports) and loads it
     build_archive(crate)                the archive of another crate's exported functions; build_shared(crate) to load it
     library.calls                       the numbers of the calls that it has (tests/second_validator/README.md)
     library.run(case)                   (refusal, value, output slice, working slice) of a case of generate.py
@@ -16,7 +16,8 @@ import subprocess
 import sys
 
 ROOT = os.path.dirname(os.path.dirname(os.path.abspath(__file__)))
-ARCHIVE = os.path.join(ROOT, 'target', 'staticlib', 'libexports.a')
+CRATES = os.path.join(ROOT, 'crates')
+ARCHIVE = os.path.join(CRATES, 'exports', 'out', 'libexports.a')
 
 sys.dont_write_bytecode = True
 sys.path.insert(0, os.path.join(ROOT, 'tests', 'second_validator'))
@@ -33,15 +34,21 @@ def loaded(name, path):
 
 
 def newest(folder):
-    """When a file below the folder was last changed."""
-    return max(os.path.getmtime(os.path.join(place, name)) for place, _, names in os.walk(folder) for name in names)
+    """When a file of the crates below the folder was last changed, apart from what rt makes in their out/."""
+    changed = 0
+    for place, folders, names in os.walk(folder):
+        if 'out' in folders:
+            folders.remove('out')
+        changed = max([changed, *(os.path.getmtime(os.path.join(place, name)) for name in names)])
+    return changed
 
 
 def build_archive(crate='exports'):
     """The path of the crate's archive, from proved crates; it is made anew where a crate changed since."""
-    archive = os.path.join(os.path.dirname(ARCHIVE), 'lib%s.a' % crate)
-    if not os.path.exists(archive) or newest(os.path.join(ROOT, 'crates')) >= os.path.getmtime(archive):
-        run = subprocess.run(['rt', 'staticlib', crate], cwd=ROOT, stdout=subprocess.PIPE, stderr=subprocess.STDOUT)
+    folder = os.path.join(CRATES, crate)
+    archive = os.path.join(folder, 'out', 'lib%s.a' % crate)
+    if not os.path.exists(archive) or newest(CRATES) >= os.path.getmtime(archive):
+        run = subprocess.run(['rt', 'lib'], cwd=folder, stdout=subprocess.PIPE, stderr=subprocess.STDOUT)
         if run.returncode != 0:
             sys.exit(run.stdout.decode()[-2000:])
     return archive

@@ -38,7 +38,7 @@ def pairs_of(edit):
 def copy_with(edit, copy):
     """A repository of grammar, edited and without computed facts, and of theory without what stands on these."""
     for crate in ("grammar", "theory"):
-        shutil.copytree(ROOT / "crates" / crate, copy / "crates" / crate, ignore=shutil.ignore_patterns("must-fail"))
+        shutil.copytree(ROOT / "crates" / crate, copy / "crates" / crate, ignore=shutil.ignore_patterns("must-fail", "out"))
     shutil.rmtree(copy / "crates/grammar/proofs")
     for file in (copy / "crates/theory/proofs").rglob("*.antt"):
         if file.stem in COMPUTED:
@@ -57,14 +57,19 @@ def try_edit(edit):
     with tempfile.TemporaryDirectory() as made:
         copy = pathlib.Path(made)
         copy_with(edit, copy)
-        run = subprocess.run(["rt", "check"], cwd=copy, capture_output=True, text=True)
+        run = None
+        for crate in ("grammar", "theory"):
+            if run is None or run.returncode == 0:
+                run = subprocess.run(["rt", "check"], cwd=copy / "crates" / crate, capture_output=True, text=True)
+                checked = crate
     reason = NOT_OF_THE_THEORY.get(edit)
     if run.returncode == 0:
         return bool(reason), f"not of the theory: {reason}" if reason else "NOT REFUSED"
-    first = re.search(r"crates/(\S+?):\d+:\d+: error: `([^`]+)`", run.stdout + run.stderr)
-    if not first or not first.group(1).startswith("theory/"):
-        return False, "refused outside the theory: " + (first.group(1) if first else "?")
-    return not reason, f"refused at `{first.group(2)}` of {first.group(1)}" + (", though it is listed as not of the theory" if reason else "")
+    first = re.search(r"^\./(\S+?):\d+:\d+: error: `([^`]+)`", run.stdout + run.stderr, flags=re.M)
+    if not first or checked != "theory":
+        return False, f"refused outside the theory: {checked}, " + (first.group(1) if first else "?")
+    listed = ", though it is listed as not of the theory" if reason else ""
+    return not reason, f"refused at `{first.group(2)}` of theory/{first.group(1)}" + listed
 
 
 def main():

@@ -1,8 +1,8 @@
 /* Does a table let in a document? lets_in TABLE DOCUMENT, or lets_in --xml TABLE TEXT for a document as XML text. Prints yes, no or
  * refused N.
  *
- *     rt staticlib exports
- *     cc -Iinclude -o lets_in examples/c/lets_in.c target/staticlib/libexports.a
+ *     (cd crates/exports && rt lib)
+ *     cc -Iinclude -o lets_in examples/c/lets_in.c crates/exports/out/libexports.a
  *     ./lets_in examples/cards/old.tbl examples/cards/new.doc
  *     ./lets_in --xml examples/xml/old.tbl examples/xml/list.xml
  */

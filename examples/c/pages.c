@@ -1,7 +1,7 @@
 /* A table on printed pages: pages TABLE prints them to standard output, or one line refused N.
  *
- *     rt staticlib exports
- *     cc -Iinclude -o pages examples/c/pages.c target/staticlib/libexports.a
+ *     (cd crates/exports && rt lib)
+ *     cc -Iinclude -o pages examples/c/pages.c crates/exports/out/libexports.a
  *     ./pages examples/cards/old.tbl
  */
 #include <stdio.h>

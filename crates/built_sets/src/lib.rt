@@ -1,5 +1,7 @@
 // Sets built from numbers and asked, by value and in lent words. For tests: no call of the product uses them.
 // A number counts by its remainder by 128, and a base by its remainder by 4, so that a caller from C can break nothing.
+#![tactic(auto)]
+
 ghost use Rattle.std.specs.Prelude.{◌≡◌, ◌+◌, ◌%◌, ◌≤◌, length, replicate};
 ghost use Rattle.grammar.specs.Lists.{is_in};
 ghost use Rattle.sets.specs.Sets.{member, put_all, HasJust, OthersKept};

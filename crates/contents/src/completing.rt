@@ -9,7 +9,7 @@ use grammar::Size;
 use operands::drafts::finish;
 use reader::expressions::{Extent, expression};
 
-#[derive(Drop)]
+#[derive(Clone, Copy)]
 pub enum ContentMade {
     TooLarge,
     Upto { end: usize },

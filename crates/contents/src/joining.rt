@@ -24,7 +24,7 @@ use union::lists::{Lists, TypeLists};
 use union::united::United;
 
 // The result types of each type of the union, and the set of the types that have some.
-#[derive(Drop)]
+#[derive(Clone, Copy)]
 pub struct ResultTypes {
     pub types: Set8,
     pub lists: TypeLists,

@@ -14,7 +14,6 @@ use Rattle.grammar.specs.Limits.{Limits, child_limit}
 use Rattle.grammar.specs.Names.{Name, Classes, is_name}
 use Rattle.grammar.specs.Tree.{Tree}
 use Rattle.grammar.specs.Outcome.{Outcome, given, refused, ◌>>=◌, ◌>>◌, turn_back}
-use Rattle.grammar.specs.ReadDocument.{Node}
 use Rattle.grammar.specs.WriteDocument.{nodes_of}
 use Rattle.grammar.specs.ReadText.{
   start_tag,

@@ -29,7 +29,7 @@ pub fn format_numbered(number: u32) -> Format
 }
 
 // What the next field says.
-#[derive(Drop)]
+#[derive(Clone, Copy)]
 enum Step {
     // A node: where its name begins and ends, and its shape.
     Node(usize, usize, usize),
@@ -39,7 +39,7 @@ enum Step {
 
 // The nodes of a document in file order: where each name stands, and the shape of each: how many children it has, and 256 more if it
 // holds text.
-#[derive(Drop)]
+#[derive(Clone, Copy)]
 pub struct DocumentIndex {
     pub names: [u16; 2048],
     pub sizes: [u16; 2048],
@@ -48,14 +48,14 @@ pub struct DocumentIndex {
 }
 
 // Whether a document reads, and its nodes if it does.
-#[derive(Drop)]
+#[derive(Clone, Copy)]
 pub struct DocumentRead {
     pub answer: Reading,
     pub index: DocumentIndex,
 }
 
 // Whether a document reads, and how many nodes it has.
-#[derive(Drop)]
+#[derive(Clone, Copy)]
 pub struct NodesRead {
     pub answer: Reading,
     pub nodes: usize,

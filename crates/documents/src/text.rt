@@ -10,7 +10,7 @@ const SLASH: u8 = 0x2F;
 const GREATER_THAN: u8 = 0x3E;
 
 // What stands next in a text. A name is told by where it begins and ends, and then where the text goes on behind the tag.
-#[derive(Drop)]
+#[derive(Clone, Copy)]
 pub enum Tag {
     // No more but white space.
     NoMore,

@@ -28,7 +28,7 @@ use Rattle.grammar.specs.Content.{
   operands,
 }
 use Rattle.grammar.specs.ReadContent.{is_proper, are_proper, counted, single, operators}
-use Rattle.theory.specs.Alternatives.{alts, alts_of_each, around, one_content, has_alts, all_have_alts, one_has_alts, some_left}
+use Rattle.theory.specs.Alternatives.{alts, alts_of_each, one_content, has_alts, all_have_alts, one_has_alts, some_left}
 use Rattle.theory.proofs.Lists.BoolLaws.{and_intro}
 use Rattle.theory.proofs.Emission.AlternativeLaws.{around_has, around_has_not}
 use Rattle.reader.specs.ExprAt.{◌up_to◌, placed, expr_at, exprs_at}

@@ -23,7 +23,7 @@ use sets::words::{has, put};
 use union::productive::{content_has, row_has};
 
 // Where the operands of an expression end in the draft, and where the source goes on; or they do not fit.
-#[derive(Drop)]
+#[derive(Clone, Copy)]
 pub enum Emitted {
     TooLarge,
     Upto { next: usize, end: usize },

@@ -1,2 +1,4 @@
 // The alternatives of a content, gathered into a row of operands.
+#![tactic(auto)]
+
 pub mod emitter;

@@ -2,6 +2,8 @@
 // then come the classes. Before a document stands its format: 1 XML text, any other number a document file.
 // A slice is a pointer and a length; every answer is one number: the refusal's number times 2^32, and the value (1 for yes and readable,
 // 0 for no, the length of a table or of pages written, offset times 65,536 and length for a name).
+#![tactic(auto)]
+
 mod answers;
 
 ghost use Rattle.std.specs.Prelude.{◌≤◌, []};

@@ -1,20 +1,52 @@
 // Files of the folder where a program runs.
+#![tactic(auto)]
+
 ghost use Rattle.std.specs.Prelude.{◌≤◌, length};
 
-// The bytes of a file, as far as there is room. A file that cannot be read counts as no bytes.
-pub fn read_file(name: &[u8], space: &mut [u8]) -> usize
+use std::fs;
+use std::io::Read;
+use std::rt::Files;
+
+// Fills the space from its front, until it is full, the file ends or a read fails; says how many bytes were read.
+fn fill<F: Read>(file: &mut F, space: &mut [u8]) -> usize
     ensures { result ≤ length space.new }
 {
-    let file = os::open_read(name);
-    if file < 0 {
-        return 0;
-    }
-    let n = io::read_full(file, space);
-    let mut after = [0u8; 1];
-    let end = libc::read(file, &mut after);
-    libc::close(file);
-    if end < 0 {
-        return 0;
+    let mut n: usize = 0;
+    while n < space.len() {
+        match file.read(&mut space[n..]) {
+            Ok(more) => {
+                if more == 0 {
+                    return n;
+                }
+                n += more;
+            }
+            Err(_) => return n,
+        }
     }
     n
+}
+
+// The bytes of an open file, as far as there is room; none if it cannot be read past them.
+fn read_open<F: Read + Drop>(mut file: F, space: &mut [u8]) -> usize
+    ensures { result ≤ length space.new }
+{
+    let n = fill(&mut file, space);
+    let mut after = [0u8; 1];
+    match file.read(&mut after) {
+        Ok(_) => n,
+        Err(_) => 0,
+    }
+}
+
+// The bytes of a file, as far as there is room. A file that cannot be read counts as no bytes.
+pub fn read_file<R: Files>(rt: &R, name: &[u8], space: &mut [u8]) -> usize
+    ensures { result ≤ length space.new }
+{
+    match str::from_utf8(name) {
+        Ok(name) => match fs::open(rt, name) {
+            Ok(file) => read_open(file, space),
+            Err(_) => 0,
+        },
+        Err(_) => 0,
+    }
 }

@@ -18,7 +18,7 @@ use union::productive::both;
 use union::united::United;
 
 // A number for each label, or for each pair.
-#[derive(Drop)]
+#[derive(Clone, Copy)]
 pub struct Numbers {
     pub of: [u8; 256],
 }

@@ -1,4 +1,5 @@
 // The sets of pairs that are the types of a result, of either kind.
+#![tactic(auto)]
 
 // Sets of pairs in lent words.
 pub mod set_words;

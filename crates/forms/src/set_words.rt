@@ -11,7 +11,7 @@ use sets::eight::Set8;
 use sets::words::{load_eight, store_eight};
 
 // How many sets stand in the words; or there are more than a table may have types.
-#[derive(Drop)]
+#[derive(Clone, Copy)]
 pub enum Counted {
     TooMany,
     Count(usize),

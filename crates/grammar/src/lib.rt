@@ -1,8 +1,9 @@
 // The answers of the public calls, whose cases crates/grammar/specs gives numbers and values, the sorts of addition, the formats of a
 // document, and the sizes that a call can be asked for.
+#![tactic(auto)]
 
 // Why a call turned its input back, by number. (The order in which the reasons are tried is that of crates/grammar/specs.)
-#[derive(Drop)]
+#[derive(Clone, Copy)]
 pub enum Refusal {
     WorkTooShort,
     InputTooLong,
@@ -25,14 +26,14 @@ pub enum Refusal {
 }
 
 // Does an input read?
-#[derive(Drop)]
+#[derive(Clone, Copy)]
 pub enum Reading {
     Readable,
     Refused(Refusal),
 }
 
 // Membership and kind.
-#[derive(Drop)]
+#[derive(Clone, Copy)]
 pub enum Verdict {
     Yes,
     No,
@@ -40,28 +41,28 @@ pub enum Verdict {
 }
 
 // How many bytes of a finished table, or of its pages, were written.
-#[derive(Drop)]
+#[derive(Clone, Copy)]
 pub enum Written {
     Length(usize),
     Refused(Refusal),
 }
 
 // What a document is read as.
-#[derive(Drop)]
+#[derive(Clone, Copy)]
 pub enum Format {
     DocumentFile,
     XmlText,
 }
 
 // What an addition is read as.
-#[derive(Drop)]
+#[derive(Clone, Copy)]
 pub enum Source {
     Table,
     Document(Format),
 }
 
 // The three sets of limits: those of a small site, those that are meant where nothing is said, those of a large one.
-#[derive(Drop)]
+#[derive(Clone, Copy)]
 pub enum Size {
     Small,
     Standard,
@@ -69,7 +70,7 @@ pub enum Size {
 }
 
 // The limits that a size sets. Labels, starts and types are limited as rules are.
-#[derive(Drop)]
+#[derive(Clone, Copy)]
 pub struct SizeLimits {
     pub rules: usize,
     pub nodes: usize,

@@ -1,2 +1,4 @@
 // The kinds of a table that was read.
+#![tactic(auto)]
+
 pub mod kinds;

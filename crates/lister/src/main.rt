@@ -1,6 +1,9 @@
 // The lister: prints the local widening of the table `old.tbl` by the document `new.doc`, both in the folder where it runs.
-use lister_folder::list_folder;
+#![tactic(auto)]
 
-fn main() {
-    list_folder();
+use lister_folder::list_folder;
+use std::io;
+
+fn main(rt: HostRuntime) -> io::Result<()> {
+    list_folder(&rt)
 }

@@ -1,4 +1,6 @@
 // What the lister prints for the files of the folder where it runs.
+#![tactic(auto)]
+
 ghost use Rattle.std.specs.Prelude.{◌≤◌, length};
 ghost use Rattle.grammar.specs.Limits.{standard, input_limit};
 ghost use Rattle.grammar.specs.Names.{ascii_classes};
@@ -9,9 +11,10 @@ use basis::ascii::ASCII;
 use basis::limits::INPUT;
 use files::read_file;
 use grammar::{Format, Size, Written};
-use libc::STDOUT_FILENO;
 use lister_lines::limits::TEXT;
 use lister_lines::lines::{list_bytes, refusal_line};
+use std::io;
+use std::rt::Files;
 use widening::calls::widen_local_by_document;
 
 // Bytes of a file that are read: one more than it may have shows that it is too long.
@@ -42,14 +45,14 @@ pub fn list(old: &[u8], document: &[u8], out: &mut [u8], work: &mut [u32], text:
 }
 
 // Prints what the files `old.tbl` and `new.doc` give.
-pub fn list_folder() {
+pub fn list_folder<R: Files + Print>(rt: &R) -> io::Result<()> {
     let mut old = [0u8; FILE];
     let mut document = [0u8; FILE];
     let mut out = [0u8; INPUT];
     let mut work = [0u32; WORDS];
     let mut text = [0u8; TEXT];
-    let n = read_file(b"old.tbl", &mut old);
-    let m = read_file(b"new.doc", &mut document);
+    let n = read_file(rt, b"old.tbl", &mut old);
+    let m = read_file(rt, b"new.doc", &mut document);
     let end = list(&old[0..n], &document[0..m], &mut out, &mut work, &mut text);
-    io::write_all(STDOUT_FILENO, &text[0..end]);
+    rt.write_all(&text[0..end])
 }

@@ -8,7 +8,7 @@ use basis::numbers::wide;
 use reader::operators::{CHOICE, EMPTY, NONE, SEQUENCE, TYPE};
 
 // Where a content ends, and where its text ends.
-#[derive(Drop)]
+#[derive(Clone, Copy)]
 pub struct Ends {
     pub content: usize,
     pub text: usize,

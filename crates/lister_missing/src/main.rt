@@ -1,6 +1,9 @@
 // The lister on a folder that has no document.
-use lister_folder::list_folder;
+#![tactic(auto)]
 
-fn main() {
-    list_folder();
+use lister_folder::list_folder;
+use std::io;
+
+fn main(rt: HostRuntime) -> io::Result<()> {
+    list_folder(&rt)
 }

@@ -33,7 +33,7 @@ use sets::words::{has, put, store};
 use walks::matching::matches;
 
 // Where the set of a node stands in the lent words; behind it stand those of so many children. And whether the node holds text.
-#[derive(Drop)]
+#[derive(Clone, Copy)]
 struct NodeSets {
     at: usize,
     children: usize,

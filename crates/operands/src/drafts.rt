@@ -14,7 +14,7 @@ use basis::numbers::wide;
 use reader::operators::{CHOICE_BYTE, NONE_BYTE};
 
 // The operands after gathering, and where the source goes on; or they do not fit.
-#[derive(Drop)]
+#[derive(Clone, Copy)]
 pub enum Gathering {
     TooLarge,
     Upto {
@@ -25,7 +25,7 @@ pub enum Gathering {
 }
 
 // The operands of an expression: where the first begins in the draft, how many there are, where they end, and where they must end.
-#[derive(Drop)]
+#[derive(Clone, Copy)]
 pub struct OperandRow {
     pub base: usize,
     pub count: usize,

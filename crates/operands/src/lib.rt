@@ -1,3 +1,5 @@
 // Rows of operands in a draft.
+#![tactic(auto)]
+
 pub mod drafts;
 pub mod limits;

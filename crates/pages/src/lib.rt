@@ -1,4 +1,6 @@
 // A table on printed pages.
+#![tactic(auto)]
+
 pub mod calls;
 mod lines;
 mod rows;

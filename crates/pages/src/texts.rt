@@ -15,7 +15,7 @@ use reader::index::{rule_label, rule_type};
 pub const TEXTS: usize = 3139;
 
 // Where the name and the content begin, and where the content ends. The type begins at 0.
-#[derive(Drop)]
+#[derive(Clone, Copy)]
 pub struct TextPlaces {
     pub name: usize,
     pub content: usize,

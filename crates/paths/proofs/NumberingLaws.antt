@@ -3,7 +3,7 @@
 --   number_new, number_old : one more element is new where its place is past the end, else the distinct ones stay
 --   number_stays   : the place found then is the place in the end
 --   place_map, place_agree : numbers of images, and by tests that agree
-use Prim.Native.Nat.{ℕ, ◌+◌, ◌-◌, ◌≤◌, ◌<◌}
+use Prim.Native.Nat.{ℕ, ◌+◌, ◌≤◌, ◌<◌}
 use native.Mathlib.Omega.{arith}
 use native.Mathlib.Numerals.{add-one}
 use mathlib.Core.Bool.{Bool, true, false}

@@ -5,7 +5,7 @@ ghost use Rattle.paths.specs.SampleNodes.{KeysAt, LabelledTo};
 use crate::numbering::{find, next_count};
 
 // The label of each type, and the first node of each label.
-#[derive(Drop)]
+#[derive(Clone, Copy)]
 pub struct Labels {
     pub of: [u8; 128],
     pub firsts: [u16; 128],

@@ -5,7 +5,7 @@ ghost use Rattle.paths.specs.SampleNodes.{Whole, above_in, TypedTo};
 use crate::numbering::{find, next_count};
 
 // The type of each node, and the first node of each type.
-#[derive(Drop)]
+#[derive(Clone, Copy)]
 pub struct Types {
     pub of: [u16; 2048],
     pub firsts: [u16; 2048],

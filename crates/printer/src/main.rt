@@ -1,6 +1,9 @@
 // The printer: prints the pages of the table `old.tbl` of the folder where it runs.
-use printer_folder::print_folder;
+#![tactic(auto)]
 
-fn main() {
-    print_folder();
+use printer_folder::print_folder;
+use std::io;
+
+fn main(rt: HostRuntime) -> io::Result<()> {
+    print_folder(&rt)
 }

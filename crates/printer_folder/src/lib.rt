@@ -1,4 +1,6 @@
 // What the printer prints for the table of the folder where it runs.
+#![tactic(auto)]
+
 ghost use Rattle.std.specs.Prelude.{◌≤◌, length};
 ghost use Rattle.grammar.specs.Limits.{standard};
 ghost use Rattle.grammar.specs.Names.{ascii_classes};
@@ -9,9 +11,10 @@ use basis::ascii::ASCII;
 use basis::limits::INPUT;
 use files::read_file;
 use grammar::{Size, Written};
-use libc::STDOUT_FILENO;
 use lister_lines::lines::refusal_line;
 use pages::calls::pages;
+use std::io;
+use std::rt::Files;
 
 // Bytes of a file that are read: one more than it may have shows that it is too long.
 const FILE: usize = INPUT + 1;
@@ -34,11 +37,11 @@ pub fn print(table: &[u8], out: &mut [u8], work: &mut [u32]) -> usize
 }
 
 // Prints what the file `old.tbl` gives.
-pub fn print_folder() {
+pub fn print_folder<R: Files + Print>(rt: &R) -> io::Result<()> {
     let mut table = [0u8; FILE];
     let mut out = [0u8; PAGES];
     let mut work = [0u32; WORDS];
-    let n = read_file(b"old.tbl", &mut table);
+    let n = read_file(rt, b"old.tbl", &mut table);
     let end = print(&table[0..n], &mut out, &mut work);
-    io::write_all(STDOUT_FILENO, &out[0..end]);
+    rt.write_all(&out[0..end])
 }

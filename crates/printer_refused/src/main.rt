@@ -1,6 +1,9 @@
 // The printer on a table that is turned back.
-use printer_folder::print_folder;
+#![tactic(auto)]
 
-fn main() {
-    print_folder();
+use printer_folder::print_folder;
+use std::io;
+
+fn main(rt: HostRuntime) -> io::Result<()> {
+    print_folder(&rt)
 }

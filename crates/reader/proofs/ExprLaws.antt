@@ -3,8 +3,7 @@
 --   `expr_counted`, `expr_single` (`expr_unnumbered`, `expr_uncounted` where the bytes stop), `exprs_none`, `exprs_stop`, `exprs_more`.
 -- * Where a content is known to stand: the place after it (`expr_forward`) and its bytes (`expr_bytes`, `expr_written`, and back
 --   `written_expr`); what its operator's byte says (`operator_known`, `alone_was`, `numbered_was`, `counted_was`, `single_was`), and
---   that a number or a count is there (`number_inside`, `count_inside`); its parts by cases of
---   the content (`expr-parts`); the first of so many (`exprs_first`, `exprs_end`).
+--   that a number or a count is there (`number_inside`, `count_inside`); the first of so many (`exprs_first`, `exprs_end`).
 -- * The same bytes elsewhere are the same content: `expr_kept`, `exprs_kept`.
 use Prim.Native.Nat.{ℕ, zero, suc, ◌+◌, ◌-◌, ◌≤◌, ◌<◌}
 use native.Mathlib.Omega.{arith}

@@ -2,7 +2,7 @@
 --   field_found : field_at s at ≡ Found tag from to → FoundField s at tag from to
 --   field_none : field_at s at ≡ NoBytes → (length s ≤ at) × (fields_of (drop at s) ≡ no_bytes)
 --   field_past : field_at s at ≡ PastEnd → (at < length s) × (fields_of (drop at s) ≡ past_end)
-use Prim.Native.Nat.{ℕ, ◌+◌, ◌-◌, ◌≤◌, ◌<◌}
+use Prim.Native.Nat.{ℕ, ◌+◌, ◌≤◌, ◌<◌}
 use native.Mathlib.Omega.{arith}
 use mathlib.Core.Bool.{Bool, true, false}
 use mathlib.Core.List.{List, [], ◌∷◌}

@@ -11,13 +11,13 @@ use basis::numbers::wide;
 use grammar::{Refusal, SizeLimits};
 
 // Where proper expressions end and how deep they nest, or that none stand there.
-#[derive(Drop)]
+#[derive(Clone, Copy)]
 pub enum Extent {
     Nowhere,
     Upto { next: usize, nesting: usize },
 }
 
-#[derive(Drop)]
+#[derive(Clone, Copy)]
 pub enum ContentAnswer {
     Fine,
     Refused(Refusal),

@@ -5,7 +5,7 @@ ghost use Rattle.reader.specs.FieldAt.{field_at};
 use basis::numbers::wide;
 
 // What stands at a place of an input.
-#[derive(Drop)]
+#[derive(Clone, Copy)]
 pub enum FieldAt {
     // A whole field: its tag, where its value begins and where it ends.
     Found(u8, usize, usize),

@@ -12,7 +12,7 @@ use basis::classes::classes_load;
 use grammar::{Reading, Refusal, SizeLimits};
 
 // Where a label's name stands, or why there is none.
-#[derive(Drop)]
+#[derive(Clone, Copy)]
 pub enum LabelFound {
     At(usize, usize),
     Refused(Refusal),

@@ -1,4 +1,6 @@
 // Readers of tables. Every byte string has the one answer that the written meaning gives it.
+#![tactic(auto)]
+
 pub mod calls;
 pub mod expressions;
 pub mod fields;

@@ -19,7 +19,7 @@ use union::met::met;
 use union::united::United;
 
 // Pairs, each once, in the order in which they are met.
-#[derive(Drop)]
+#[derive(Clone, Copy)]
 pub struct Met {
     pub numbers: [u8; 256],
     pub count: usize,

@@ -1,4 +1,6 @@
 // The result of a widening by sets of pairs, written into a draft: labels used, starts, rules.
+#![tactic(auto)]
+
 pub mod labels_used;
 pub mod plan;
 pub mod result;

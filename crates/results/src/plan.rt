@@ -4,7 +4,7 @@ use union::lists::TypeLists;
 use union::united::United;
 
 // The kind of the result.
-#[derive(Drop)]
+#[derive(Clone, Copy)]
 pub enum Kind {
     Local,
     SingleType,
@@ -12,7 +12,7 @@ pub enum Kind {
 
 // Beside the bytes of the two tables and the sets in the words: the union, how many labels it has, its fruitful pairs by type, its pairs
 // for text, how many sets there are, and the kind.
-#[derive(Drop)]
+#[derive(Clone, Copy)]
 pub struct Plan {
     pub union: United,
     pub labels: usize,

@@ -11,7 +11,7 @@ use basis::limits::CHILDREN;
 use reader::operators::{EMPTY_BYTE, ONE_OR_MORE_BYTE, SEQUENCE_BYTE, TYPE_BYTE};
 
 // The types of a node's children, in order, and how many there are.
-#[derive(Drop)]
+#[derive(Clone, Copy)]
 struct Kids {
     of: [u8; CHILDREN],
     count: usize,

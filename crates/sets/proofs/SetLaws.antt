@@ -26,22 +26,7 @@ use lib.Seq.{
   drop-append-add,
 }
 use borrow.Author.Tests.{eqb-true, eqb-false, eq-eqb, ne_eqb}
-use Rattle.sets.specs.Sets.{
-  bit_of,
-  member,
-  put_at,
-  words_at,
-  set_of_eight_at,
-  store_at,
-  union_of,
-  nothing,
-  add,
-  in_either,
-  Compares,
-  Empties,
-  OthersKept,
-  KeptAround,
-}
+use Rattle.sets.specs.Sets.{bit_of, member, put_at, words_at, set_of_eight_at, store_at, union_of, nothing, add, in_either, Compares, Empties, KeptAround}
 use Rattle.sets.proofs.BitLaws.{bit_or_lem, bit_one, bit_zero, bits_differ, one_shifted}
 
 -- ---- one number more

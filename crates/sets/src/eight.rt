@@ -2,7 +2,7 @@
 ghost use Rattle.std.specs.Prelude.{◌≡◌, ◌<◌, replicate};
 ghost use Rattle.sets.specs.Sets.{member, put_at, union_of, Empties, Compares};
 
-#[derive(Drop)]
+#[derive(Clone, Copy)]
 pub struct Set8 {
     pub words: [u32; 8],
 }

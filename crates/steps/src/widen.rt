@@ -33,7 +33,7 @@ use union::united::{Union, unite_tables};
 use writer::writing::Drafted;
 
 // How far a result is written; or no document is derived; or the result is too large.
-#[derive(Drop)]
+#[derive(Clone, Copy)]
 pub enum Made {
     Length(usize),
     NoDocument,

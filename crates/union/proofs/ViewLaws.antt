@@ -1,4 +1,4 @@
--- Laws of the united view: the rule of a number (`seen`), its content (`content-seen`), that the view's numbers are small
+-- Laws of the united view: the rule of a number (`seen`), its content (`content_is`), that the view's numbers are small
 -- (`views_sized`), where a rule of the table stands (`rule_seen`), a content in its source (`source_so`, `source_there`,
 -- `source_has`, `addition_has`), and its tag (`tag_so`).
 use Prim.Native.Nat.{ℕ, ◌+◌, ◌-◌, ◌/◌, ◌%◌, ◌<◌}

@@ -12,7 +12,7 @@ use reader::index::{label_count, label_from, label_to};
 use reader::labels::name_place;
 
 // Where names stand in the bytes of a table, in order: where each begins, and 128 numbers later where it ends.
-#[derive(Drop)]
+#[derive(Clone, Copy)]
 pub struct Names {
     pub places: [u16; 256],
     pub count: usize,

@@ -1,4 +1,6 @@
 // The union of two tables by its rules and pairs: walks over source contents, the united view, the fruitful pairs.
+#![tactic(auto)]
+
 pub mod fruitful;
 pub mod labels;
 pub mod lists;

@@ -12,7 +12,7 @@ use sets::four::Set4;
 
 // Whether a content has alternatives, how many numbers stand in the list after it, the place after it, and types whose pairs are
 // all in the list.
-#[derive(Drop)]
+#[derive(Clone, Copy)]
 pub struct MetOne {
     pub has: bool,
     pub count: usize,
@@ -21,7 +21,7 @@ pub struct MetOne {
 }
 
 // The same for contents one after the other: whether all have alternatives, and whether one has.
-#[derive(Drop)]
+#[derive(Clone, Copy)]
 pub struct MetRow {
     pub all: bool,
     pub one: bool,

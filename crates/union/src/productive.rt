@@ -13,14 +13,14 @@ use reader::operators::{CHOICE, EMPTY, NONE, ONE_OR_MORE, SEQUENCE, TYPE};
 use sets::words::has;
 
 // Whether the content at a place has alternatives, and the place after it.
-#[derive(Drop)]
+#[derive(Clone, Copy)]
 pub struct Productive {
     pub has: bool,
     pub next: usize,
 }
 
 // Whether all contents of a row have, whether one has, and the place after them.
-#[derive(Drop)]
+#[derive(Clone, Copy)]
 pub struct ProductiveRow {
     pub all: bool,
     pub one: bool,

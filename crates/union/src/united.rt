@@ -15,7 +15,7 @@ use reader::index::{CONTENT_FROM, CONTENT_TO, rule_count, rule_label, rule_type}
 
 // Old rules come first. A type of the addition counts from 128 on. `firsts` has the number of the first rule of each rule's pair; the
 // content of a rule stands in the bytes of its own table.
-#[derive(Drop)]
+#[derive(Clone, Copy)]
 pub struct United {
     pub rules: usize,
     pub old_rules: usize,
@@ -27,7 +27,7 @@ pub struct United {
 }
 
 // A union: its rules, and where its new labels stand in the addition's bytes. The old labels stand where the old index says.
-#[derive(Drop)]
+#[derive(Clone, Copy)]
 pub struct Union {
     pub rules: United,
     pub new_names: Names,

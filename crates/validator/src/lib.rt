@@ -1,3 +1,5 @@
 // The calls of membership and kind.
+#![tactic(auto)]
+
 pub mod calls;
 mod deciding;

@@ -19,7 +19,7 @@ use widening::calls::{
 };
 
 // A case's call, and the numbers that the call takes: the size, the caller's label and the format of the document.
-#[derive(Drop)]
+#[derive(Clone, Copy)]
 pub struct Asked {
     pub call: u8,
     pub size: u32,
@@ -28,7 +28,7 @@ pub struct Asked {
 }
 
 // A refusal's number or 0, the value, and the checksum of what was written or, for a name, of the part that came back.
-#[derive(Drop)]
+#[derive(Clone, Copy)]
 pub struct Told {
     pub refusal: u32,
     pub value: u64,

@@ -16,7 +16,7 @@ use borrow.Author.Tests.{ne_eqb}
 use Rattle.grammar.specs.Limits.{Limits}
 use Rattle.grammar.specs.Content.{Content, none, empty, type, sequence, choice, any_number, one_or_more, optional, Contents, []ᶜ, ◌∷ᶜ◌}
 use Rattle.grammar.specs.ReadContent.{content_bytes, operand_bytes, operators}
-use Rattle.theory.specs.Marked.{nullable, run}
+use Rattle.theory.specs.Marked.{run}
 use Rattle.theory.specs.MarkedWalk.{Walked, walk, walk_in_turn, walk_each, walks, is_marked}
 use Rattle.theory.proofs.Matching.MarkedPass.{no_marks, walk-nullable, walks_run}
 use Rattle.reader.specs.ExprAt.{◌up_to◌, expr_at, exprs_at}

@@ -18,7 +18,7 @@ use sets::words::has;
 
 // What the walk over an expression gives back: the place after it, whether it matches no children at all, and whether the children so
 // far, the last one included, can end it.
-#[derive(Drop)]
+#[derive(Clone, Copy)]
 pub struct Passed {
     pub next: usize,
     pub nullable: bool,
@@ -97,8 +97,8 @@ fn typed(
 ) -> Passed
     requires { (at + 1 < length content.now) × (get_or content.now (at + 1) 0 < 128)
         × (WalkRoom content.now marks.old words.now base) }
-    ensures { walked marks.exit.now result ≡ ended at (record {
-      marks = marks.entry.now;
+    ensures { walked marks.new result ≡ ended at (record {
+      marks = marks.old;
       next = at + 2;
       nullable = false;
       final = incoming && set_at words.now base (get_or content.now (at + 1) 0);

@@ -1,2 +1,4 @@
 // Fields of a table written into a draft, one after the other.
+#![tactic(auto)]
+
 pub mod writing;

@@ -10,7 +10,7 @@ use basis::limits::INPUT;
 use reader::tags::{RULE_TAG, TEXT_RULE_TAG};
 
 // How far a draft is written; or it does not fit a file.
-#[derive(Drop)]
+#[derive(Clone, Copy)]
 pub enum Drafted {
     Length(usize),
     TooLarge,

@@ -36,6 +36,7 @@ matched_none L = (λ l. ([], l, have_none), λ r. go r.0 r.1 r.2)
   where
     go : (w : List ℕ) → L w → HaveTypes [] w → L []
     go [] l have_none = l
+    go (_ ∷ _) l none = elim none [ ]
 
 matched_next : (L : Language) (has : ℕ → Bool) (children : List (ℕ → Bool))
     → Matched (AfterChild has L) children ↔ Matched L (has ∷ children)
@@ -45,6 +46,7 @@ matched_next L has children = (
 )
   where
     go : (w : List ℕ) → L w → HaveTypes (has ∷ children) w → Matched (AfterChild has L) children
+    go [] l none = elim none [ ]
     go (k ∷ w) l (have_next h t) = (w, (k, h, l), t)
 
 matched_same : (L M : Language) (children : List (ℕ → Bool)) → ((w : List ℕ) → L w ↔ M w) → Matched L children ↔ Matched M children
@@ -89,6 +91,8 @@ picks_have (picks_next m p) = have_next (mem_in m) (picks_have p)
 
 have_picks : (us : List (List ℕ)) (w : List ℕ) → HaveTypes (map holds us) w → Picks us w
 have_picks [] [] have_none = picks_none
+have_picks [] (k ∷ w) none = elim none [ ]
+have_picks (types ∷ us) [] none = elim none [ ]
 have_picks (types ∷ us) (k ∷ w) (have_next h t) = picks_next (in_mem k types h) (have_picks us w t)
 
 matched_picked : (L : Language) (us : List (List ℕ)) → Matched L (map holds us) ↔ Picked L us

@@ -87,6 +87,8 @@ mutual
 
   picks_derive_all : (ts : Forest) (g : Table) (w : List ℕ) → Picks (types_of_all g ts) w → DerivesAll g w ts
   picks_derive_all []ᵗ g [] picks_none = derives_none
+  picks_derive_all []ᵗ g (k ∷ w) none = elim none [ ]
+  picks_derive_all (t ∷ᵗ ts) g [] none = elim none [ ]
   picks_derive_all (t ∷ᵗ ts) g (k ∷ w) (picks_next m p) = derives_next (types_derive_it t g k m) (picks_derive_all ts g w p)
 
 -- a type that derives a tree is among its types

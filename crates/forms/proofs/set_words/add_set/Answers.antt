@@ -1,0 +1,36 @@
+-- `add_set` meets its contract.
+use native.Mathlib.Omega.{arith}
+use mathlib.Core.List.{List}
+use mathlib.Core.Path.{subst}
+use Rattle.grammar.specs.SingleTypeForm.{TypeSet}
+use Rattle.forms.specs.SetWords.{SetsCounted}
+use Rattle.forms.proofs.SetWordLaws.{old_put, new_put, few_put}
+use Rattle.forms.proofs.set_words.add_set.Goals as goal
+
+pub set_number-requires : goal.set_number-requires
+set_number-requires c =
+    let few = c.requires.1.few in
+    record { few = omega arith; room = c.requires.1.room; eight = c.requires.1.eight }
+
+pub returns-then-set_number-count : goal.returns-then-set_number-count
+returns-then-set_number-count c = (
+  λ sets s held counted is ascending once.
+      old_put held c.args.count counted c.args.set.words (record { is = is; ascending = ascending })
+      once c.args.most c.requires.1.few c.set_number.result
+      (c.set_number.ensures.0 sets s held counted is ascending) c.if-set_number-count.true,
+  few_put c.args.most c.args.count c.requires.1.few,
+)
+
+pub put_set-requires : goal.put_set-requires
+put_set-requires c = c.requires
+
+pub returns : goal.returns
+returns c = (
+  λ sets s held counted is ascending once.
+      subst (λ (l : List TypeSet). SetsCounted c.args.most c.put_set.new.words l c.put_set.result)
+      (new_put held c.args.count counted c.args.set.words (record { is = is; ascending = ascending }) once
+      c.set_number.result
+      (c.set_number.ensures.0 sets s held counted is ascending) c.if-set_number-count.false)
+      (c.put_set.ensures.0 sets s held counted is ascending),
+  c.put_set.ensures.1,
+)

@@ -1,0 +1,18 @@
+-- `list_table` meets its contract.
+use native.Mathlib.Omega.{arith}
+use Rattle.grammar.specs.Listing.{local_text}
+use Rattle.writer.proofs.PutLaws.{put_join}
+use Rattle.lister_lines.proofs.lines.list_table.Goals as goal
+
+pub put_starts-rules-requires : goal.put_starts-rules-requires
+put_starts-rules-requires c = (c.requires.0, omega arith)
+
+pub put_rules-requires : goal.put_rules-requires
+put_rules-requires c = (c.requires.0, omega arith)
+
+pub returns : goal.returns
+unfolding local_text
+returns c =
+    let first = c.put_bytes-starts.ensures in
+    let a = first.next_is in
+    record { put = λ f. put_join (put_join first (c.put_starts-rules.ensures.put f)) (c.put_rules.ensures.put f); short = omega arith }

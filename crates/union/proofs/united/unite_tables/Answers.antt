@@ -1,0 +1,27 @@
+-- `unite_tables` meets its contract.
+use native.Mathlib.Omega.{arith}
+use Rattle.union.proofs.UnionLaws.{united_labels_lem}
+use Rattle.union.proofs.united.unite_tables.Goals as goal
+
+pub new_rules-all-requires : goal.new_rules-all-requires
+new_rules-all-requires c =
+    let y = c.requires.1.held in (
+      record {
+        first = c.requires.0.table;
+        second = c.requires.1.table;
+        so = record { old_table = c.requires.0.held.indexes; addition = y; new_names = c.new_names-fresh.ensures _ _ c.requires.0.held.indexes y.indexes };
+      },
+      omega arith,
+      omega arith,
+    )
+
+pub returns : goal.returns
+returns c =
+    λ g h x y.
+    let fresh = c.new_names-fresh.ensures g h x.indexes y.indexes in
+    record {
+      rules =
+          c.new_rules-all.ensures g h (record { old_table = x.indexes; addition = y; new_names = fresh }) (c.old_rules-v.ensures.0 _ _ g x);
+      new_names = fresh;
+      labels = united_labels_lem g h;
+    }
