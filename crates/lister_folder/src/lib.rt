@@ -44,7 +44,7 @@ pub fn list(old: &[u8], document: &[u8], out: &mut [u8], work: &mut [u32], text:
     }
 }
 
-// Prints what the files `old.tbl` and `new.doc` give.
+// Prints what the files `old.tbl` and `new.doc` give. The only error is that of the write; a part of the text may then be printed.
 pub fn list_folder<R: Files + Print>(rt: &R) -> io::Result<()> {
     let mut old = [0u8; FILE];
     let mut document = [0u8; FILE];

@@ -36,7 +36,7 @@ pub fn print(table: &[u8], out: &mut [u8], work: &mut [u32]) -> usize
     }
 }
 
-// Prints what the file `old.tbl` gives.
+// Prints what the file `old.tbl` gives. The only error is that of the write; a part of the pages may then be printed.
 pub fn print_folder<R: Files + Print>(rt: &R) -> io::Result<()> {
     let mut table = [0u8; FILE];
     let mut out = [0u8; PAGES];

@@ -1,5 +1,5 @@
 -- The child sequences of the nodes of a type, gathered node by node.
---   among-none, among-one, among_next : the sequences among no node, one node, one node more
+--   among_other, among_own, among_next : the sequences among one node of another type, among one of the type, with one node more
 --   among_skip : a node of another type; newest_is : a sequence written after the operands
 --   gather_stop, gather_next, gather_all : step by step
 use Prim.Native.Nat.{ℕ, ◌+◌, ◌≤◌, ◌<◌}

@@ -2,8 +2,6 @@
 --   none_derived   where no start pair is fruitful, no document is derived
 --   too_many       where there are more sets than the limit on types, the result is too large
 --   put_widens     where the table by sets is drafted, it is the result; where it cannot be, the result is too large
---   local-starts   the start types of the local form, from the start pairs and the numbers of the labels
---   first-starts   those of the single-type form: the numbers of the first sets
 use Prim.Native.Nat.{ℕ, ◌+◌, ◌≤◌, ◌<◌}
 use native.Mathlib.Omega.{arith}
 use mathlib.Core.Bool.{Bool, true, false}

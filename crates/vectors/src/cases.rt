@@ -158,6 +158,7 @@ fn run_under<R: Print, F: Read>(
 }
 
 // Reads a case and runs it; false after the last one. The number 2^32 - 1 of classes stands for those of the base, which do not follow.
+// The only error is that of a write: the input then stands behind the case, of whose line a part may be printed.
 pub fn run_next<R: Print, F: Read>(rt: &R, input: &mut F) -> io::Result<bool> {
     let call = read_byte(input);
     if call == 0 {

@@ -1,6 +1,5 @@
 -- A tree that is read from a text is within the limits of trees, and has no text marks.
---     text-within    read_text lim classes bytes ≡ given d → TreeWithin lim classes d
---     text-plain     … → no node of d holds text
+--     text_kept      read_text lim classes bytes ≡ given d → TreeKept d: TreeWithin lim classes d, and no node of d holds text
 -- `Kept` is what holds of all that is read, tag by tag (`tag_kept`).
 use Prim.Native.Nat.{ℕ, suc, ◌+◌, ◌≤◌, ◌<◌}
 use native.Mathlib.Omega.{arith}

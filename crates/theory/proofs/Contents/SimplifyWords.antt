@@ -6,7 +6,7 @@
 --     simplify_clean    simplify c is none, or it is clean
 --     clean_word        a clean content has a word
 --     clean_standing    every type that stands in a clean content stands in a word of it (all types of a word of a content stand
---                       in the content: word-stands of Standing)
+--                       in the content: word_stands of Standing)
 --     prune_standing    every type that stands in a pruned content stands in a word of it, and is known
 use Prim.Native.Nat.{ℕ}
 use mathlib.Core.Bool.{Bool, true, false, not, false≢true}
