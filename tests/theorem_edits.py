@@ -6,7 +6,7 @@ computed facts beside them. This command tries all of them against the theorems:
 crates/theory over the edited definitions. Prints, for each edit, the first statement refused. An edit of something that no
 theorem is about stands below with the reason, and must pass.
 
-    python3 tests/theorem_edits.py [NAME..]        (all edits by default; some 10 s each with the older kit)
+    python3 tests/theorem_edits.py [NAME..]        (all edits by default; some 15 s each)
 """
 import pathlib, re, shutil, subprocess, sys, tempfile
 

@@ -1,5 +1,6 @@
 -- What reading a document found: the nodes that the index holds, and whether they are the document's.
-use Rattle.std.specs.Prelude.{ℕ, zero, suc, ◌+◌, ◌%◌, ◌≤◌, ◌<◌, Bool, true, false, List, [], ◌∷◌, ◌++◌, ◌≡◌, leb, length, get_or, take, drop}
+use Rattle.std.specs.Prelude.{ℕ, zero, suc, ◌+◌, ◌%◌, ◌≤◌, ◌<◌}
+use Rattle.std.specs.Prelude.{Bool, true, false, List, [], ◌∷◌, ◌++◌, ◌≡◌, leb, length, get_or, take, drop}
 use Rattle.grammar.specs.Limits.{Limits, child_limit}
 use Rattle.grammar.specs.Names.{Classes}
 use Rattle.grammar.specs.Outcome.{Outcome, given, refused, ◌>>=◌}

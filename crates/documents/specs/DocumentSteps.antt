@@ -1,5 +1,6 @@
 -- The steps of reading a document: the next field, and the open levels after a node.
-use Rattle.std.specs.Prelude.{ℕ, zero, suc, ◌-◌, ◌%◌, ◌≤◌, ◌<◌, Bool, true, false, ◌||◌, List, [], ◌∷◌, ◌≡◌, eqb, leb, ltb, length, get_or, drop}
+use Rattle.std.specs.Prelude.{ℕ, zero, suc, ◌-◌, ◌%◌, ◌≤◌, ◌<◌}
+use Rattle.std.specs.Prelude.{Bool, true, false, ◌||◌, List, [], ◌∷◌, ◌≡◌, eqb, leb, ltb, length, get_or, drop}
 use Rattle.grammar.specs.Limits.{Limits, child_limit}
 use Rattle.grammar.specs.Names.{Classes}
 use Rattle.grammar.specs.Fields.{Field, Fields, fields_of}

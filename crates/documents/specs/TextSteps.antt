@@ -1,5 +1,6 @@
 -- The steps of reading XML text, as places: the next tag, and an element among those that are open.
-use Rattle.std.specs.Prelude.{ℕ, zero, suc, ◌+◌, ◌-◌, ◌≤◌, ◌<◌, Bool, true, false, not, ◌&&◌, ◌||◌, List, ◌≡◌, eqb, leb, length, get_or, set, take, drop}
+use Rattle.std.specs.Prelude.{ℕ, zero, suc, ◌+◌, ◌-◌, ◌≤◌, ◌<◌}
+use Rattle.std.specs.Prelude.{Bool, true, false, not, ◌&&◌, ◌||◌, List, ◌≡◌, eqb, leb, length, get_or, set, take, drop}
 use Rattle.std.proofs.Math.Option.{none as nothing, some as just}
 use Rattle.std.proofs.Math.Seq.{slice}
 use Rattle.grammar.specs.Lists.{same_numbers}
@@ -73,7 +74,8 @@ abbrev pub TagSays : List ℕ → ℕ → TagHere → Type 0
 TagSays s at NoMore = tags_of (drop at s) ≡ no_more
 TagSays s at NotAllowed = tags_of (drop at s) ≡ not_allowed
 TagSays s at (Element from to next stays) =
-    TagPlaces s (at + 1) from to next × (stays ≤ 1) × (tags_of (drop at s) ≡ (element_tag stays (slice from to s) then tags_of (drop next s)))
+    TagPlaces s (at + 1) from to next × (stays ≤ 1)
+    × (tags_of (drop at s) ≡ (element_tag stays (slice from to s) then tags_of (drop next s)))
 TagSays s at (End from to next) =
     TagPlaces s (at + 1) from to next × (tags_of (drop at s) ≡ (end_tag (slice from to s) then tags_of (drop next s)))
 

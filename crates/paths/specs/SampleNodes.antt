@@ -1,6 +1,7 @@
 -- A document's nodes in file order: the parent of each, and the visit that comes to each. The nodes still to come are told apart by
 -- what their parents left for them, nearest first: a node takes what stands first, and leaves its own, once for each child.
-use Rattle.std.specs.Prelude.{ℕ, zero, suc, ◌+◌, ◌-◌, ◌%◌, ◌≤◌, ◌<◌, Bool, false, ◌&&◌, List, [], ◌∷◌, ◌++◌, map, ◌≡◌, eqb, length, get_or, take, drop, replicate}
+use Rattle.std.specs.Prelude.{ℕ, zero, suc, ◌+◌, ◌-◌, ◌%◌, ◌≤◌, ◌<◌}
+use Rattle.std.specs.Prelude.{Bool, false, ◌&&◌, List, [], ◌∷◌, ◌++◌, map, ◌≡◌, eqb, length, get_or, take, drop, replicate}
 use Rattle.grammar.specs.Lists.{any_pass, keep, distinct, place, numbers_from, numbers_below}
 use Rattle.grammar.specs.Names.{Name, same_name}
 use Rattle.grammar.specs.Content.{Content, choice_of}

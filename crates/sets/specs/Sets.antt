@@ -1,5 +1,6 @@
 -- Sets of small numbers as bits of words of 32 bits: number k of the set at base stands in word base + k / 32, as bit k % 32.
-use Rattle.std.specs.Prelude.{ℕ, zero, suc, ◌+◌, ◌*◌, ◌/◌, ◌%◌, ◌^◌, ◌<◌, List, [], ◌∷◌, ◌++◌, Bool, true, false, ◌||◌, ◌≡◌, eqb, length, get_or, set, take, drop}
+use Rattle.std.specs.Prelude.{ℕ, zero, suc, ◌+◌, ◌*◌, ◌/◌, ◌%◌, ◌^◌, ◌<◌}
+use Rattle.std.specs.Prelude.{List, [], ◌∷◌, ◌++◌, Bool, true, false, ◌||◌, ◌≡◌, eqb, length, get_or, set, take, drop}
 use Rattle.std.specs.Int.Bits.{bit_or}
 use Rattle.grammar.specs.Lists.{is_in}
 
