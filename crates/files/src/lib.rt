@@ -1,19 +1,22 @@
-// Files of the folder where a program runs.
+// Files of the folder where a program runs, and what a reader gives.
 #![tactic(auto)]
 
-ghost use Rattle.std.specs.Prelude.{◌≤◌, length};
+ghost use Rattle.std.specs.Prelude.{◌≤◌, length, take};
+ghost use Rattle.std.specs.Io.KnownBytes.{Consumes};
 
 use std::fs;
 use std::io::Read;
 use std::rt::Files;
 
-// Fills the space from its front, until it is full, the file ends or a read fails; says how many bytes were read.
-fn fill<F: Read>(file: &mut F, space: &mut [u8]) -> usize
-    ensures { result ≤ length space.new }
+// Fills the space from its front, until it is full, the reader ends or a read fails; says how many bytes were read. Where the bytes that
+// the reader has left are known, those in front of the space are the next of them, and it has lost no other.
+pub fn fill<R: Read>(reader: &mut R, space: &mut [u8]) -> usize
+    ensures within { result ≤ length space.new }
+    ensures bytes { Consumes (R.remaining reader.old) (R.remaining reader.new) (take result space.new) }
 {
     let mut n: usize = 0;
     while n < space.len() {
-        match file.read(&mut space[n..]) {
+        match reader.read(&mut space[n..]) {
             Ok(more) => {
                 if more == 0 {
                     return n;

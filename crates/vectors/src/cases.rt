@@ -6,27 +6,9 @@ use crate::fills::{fill_output, fill_work};
 use crate::numbers::number;
 use crate::sums::word_sum;
 use basis::ascii::ASCII;
+use files::fill;
 use std::io;
 use std::io::Read;
-
-// Fills the space from its front, until it is full or the input has ended or fails; says how many bytes were read.
-fn fill<F: Read>(input: &mut F, space: &mut [u8]) -> usize
-    ensures { result ≤ length space.new }
-{
-    let mut n: usize = 0;
-    while n < space.len() {
-        match input.read(&mut space[n..]) {
-            Ok(more) => {
-                if more == 0 {
-                    return n;
-                }
-                n += more;
-            }
-            Err(_) => return n,
-        }
-    }
-    n
-}
 
 // The next byte; 0 where the input has ended.
 fn read_byte<F: Read>(input: &mut F) -> u8 {
